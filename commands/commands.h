@@ -53,7 +53,6 @@ uint32_t report(const struct text *log, struct text *answered);
 uint32_t simulate(const struct text *log, struct text *answered);
 
 /* frames.c */
-bool read_hex(const char *word, size_t digits, uint8_t *bytes);
 uint32_t frame(const char *word, struct text *answered);
 uint32_t spell(char **words, int count, struct text *answered);
 

@@ -42,7 +42,7 @@ static void put_reply(struct text *answered, const struct vicinity_reply *reply)
 }
 
 /* The bytes that a word writes in hex digits; false if it doesn't. */
-bool read_hex(const char *word, size_t digits, uint8_t *bytes)
+static bool read_hex(const char *word, size_t digits, uint8_t *bytes)
 {
     static const char all[] = "0123456789ABCDEF0123456789abcdef";
     for (size_t i = 0; i < digits; i++) {

@@ -39,22 +39,16 @@ static uint32_t put_wrong(struct text *answered, const struct vicinity_answer *a
 uint32_t expect(const struct text *text, const char *file, struct surveys *told, struct text *answered)
 {
     struct vicinity_answer answer = {0};
-    vicinity_check((const uint8_t *)text->bytes, text->len, &answer);
-    if (answer.kind == VICINITY_REFUSED || answer.kind == VICINITY_NO_ANSWER)
-        return put_wrong(answered, &answer, file);
-    const char *at = text->bytes, *end = at + text->len;
-    for (uint32_t line = 2; (at = memchr(at, '\n', (size_t)(end - at))) && ++at < end; line++) {
-        uint8_t bytes[8] = {0};
-        uint64_t uid = 0;
-        if (memchr("TSCRDF", *at, 6))
-            return put_refused(answered, line, file, "NotListed");
-        if (*at == 'U' && read_hex(at + 2, 16, bytes)) {
-            for (size_t i = 0; i < sizeof bytes; i++)
-                uid = uid << 8 | bytes[i];
-            append(&told->expected, &uid, sizeof uid);
-        }
+    struct text *uids = &told->expected;
+    size_t room = 0, needed = 1;
+    while (room < needed) {
+        if (!make_room(uids, needed * sizeof(uint64_t)))
+            return NO_ANSWER;
+        room = uids->room / sizeof(uint64_t);
+        vicinity_listed((const uint8_t *)text->bytes, text->len, &answer, (uint64_t *)uids->bytes, room, &needed);
     }
-    return WHOLE;
+    uids->len = needed * sizeof(uint64_t);
+    return put_wrong(answered, &answer, file);
 }
 
 /* How many bytes of a log come before its list. */
@@ -114,7 +108,7 @@ const struct vicinity_mask *masks_of(const struct surveys *told, uint32_t log, s
     return (const struct vicinity_mask *)told->masks.bytes + start;
 }
 
-/* Whether no array was refused memory. An empty one gets some, since no call takes NULL. */
+/* Whether no array was refused memory. An empty one gets some. */
 bool has_memory(struct surveys *told)
 {
     return make_room(&told->expected, 0) && make_room(&told->shown, 0) && make_room(&told->masks, 0) &&

@@ -95,7 +95,9 @@ static int run(const char *command, char **words, int count)
 
 int main(int argc, char **argv)
 {
+#ifdef SIGPIPE
     signal(SIGPIPE, SIG_IGN); /* so that a write into a closed pipe fails */
+#endif
     for (int i = 0; i < argc; i++)
         if (!is_utf8(argv[i]))
             return no_answer("usage");

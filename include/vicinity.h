@@ -11,7 +11,8 @@
  *   `certain` and `masks`, they point to `certain_count` numbers and `mask_count` structs.
  * - A buffer stands before its `room`, and has that many writable elements: numbers, structs or
  *   bytes. `needed` points to one number, and any other pointer to a struct to one struct.
- * - All pointers are aligned, and none is NULL, even where the length is 0.
+ * - All pointers are aligned, and none is NULL. Only a pointer before a length, count or room of 0
+ *   may be any, NULL included: nothing is there.
  * - What is written overlaps nothing else that is passed.
  * - While the call runs, no other thread writes what it reads, or reads or writes what it writes.
  * - malloc, realloc and free belong to one allocator, which aligns to 16 bytes.
@@ -36,8 +37,8 @@ extern "C" {
 #define VICINITY_INTERFACE 1u
 
 /* The version of this header, as text and as a number like that of vicinity_version(). */
-#define VICINITY_VERSION "1.1.0"
-#define VICINITY_VERSION_NUMBER 10100u
+#define VICINITY_VERSION "1.2.0"
+#define VICINITY_VERSION_NUMBER 10200u
 
 /*
  * The kinds of answers. Compare the kind with VICINITY_COMPLETE: complete is 1 as a kind and 0 as a
@@ -51,7 +52,8 @@ enum vicinity_kind {
     VICINITY_UNSETTLED = 4, /* all UIDs of the mask may be there, none is listed; status 1 */
     VICINITY_DOUBTFUL = 5, /* the listed `uid` may be missing; status 1 */
     VICINITY_IMPOSSIBLE = 6, /* the lines up to `line` contradict each other; status 2 */
-    VICINITY_REFUSED = 7 /* the text is not a log: `line` has `fault`; status 3 */
+    VICINITY_REFUSED = 7, /* the text is not a log: `line` has `fault`; status 3 */
+    VICINITY_LISTED = 12 /* of vicinity_listed alone: the text lists `count` UIDs; status 0 */
 };
 
 /* The first fault of a text that is not a log, in the order in which a line's faults are tested. */
@@ -67,6 +69,7 @@ enum vicinity_fault {
     VICINITY_FAULT_SLOT_OUTSIDE_ROUND = 8,
     VICINITY_FAULT_ENTRY_AFTER_LIST = 9,
     VICINITY_FAULT_DUPLICATE_LISTED = 10,
+    VICINITY_FAULT_NOT_LISTED = 11, /* of vicinity_listed alone: the line has no `U` */
     /* of the frame on a T or R line */
     VICINITY_FAULT_FRAME_SHORT = 101,
     VICINITY_FAULT_FRAME_CRC = 102,
@@ -106,7 +109,7 @@ struct vicinity_answer {
     uint32_t mask_len;   /* in bits, 0 to 56 */
     uint64_t mask_value; /* below two to the power of mask_len */
     uint64_t uid;        /* its top byte is E0 */
-    char text[64]; /* the line that `vicinity check` prints, LF included, then zeros */
+    char text[64]; /* the line that `vicinity check` prints, or "listed N"; LF, then zeros */
 };
 
 /* The kinds of findings. The first four have the numbers that they have as answers. */
@@ -267,9 +270,34 @@ uint32_t vicinity_open_masks(const uint8_t *text, size_t text_len, struct vicini
                              struct vicinity_mask *masks, size_t room, size_t *needed);
 
 /*
+ * Judges a log once, and writes what vicinity_certain and vicinity_open_masks write, each into a
+ * buffer of its own with its own number of elements.
+ */
+uint32_t vicinity_survey(const uint8_t *text, size_t text_len, struct vicinity_answer *answer,
+                         uint64_t *certain, size_t certain_room, size_t *certain_needed,
+                         struct vicinity_mask *masks, size_t mask_room, size_t *masks_needed);
+
+/*
+ * Lists the UIDs of a text that has the header and `U` lines alone, comments aside, in rising
+ * order: a list of what is expected, as vicinity_reconcile takes it. The kind is VICINITY_LISTED,
+ * and `count` and `*needed` are how many there are. If `room` is at least that, they are at the
+ * start of `uids`; otherwise nothing is written there: call again with a larger buffer.
+ *
+ * Any other text is VICINITY_REFUSED, and `*needed` is 0: at its first fault if it is not a log,
+ * otherwise with VICINITY_FAULT_NOT_LISTED at the first of its lines that lists no UID.
+ */
+uint32_t vicinity_listed(const uint8_t *text, size_t text_len, struct vicinity_answer *answer,
+                         uint64_t *uids, size_t room, size_t *needed);
+
+/*
  * Reconciles the logs of many fields with the UIDs that are expected, in any order. `certain` and
- * `masks` are what vicinity_certain and vicinity_open_masks wrote for each log, in any order, also
- * repeatedly. A UID is possible if it is among `certain` or in one of the masks.
+ * `masks` are what vicinity_survey wrote for each log, in any order, also repeatedly. A UID is
+ * possible if it is among `certain` or in one of the masks.
+ *
+ * Every log has to be possible: its status is 0 or 1. Of any other, nothing was written, and
+ * without it the answer would be about the other logs alone: stop, or add the mask of length 0 and
+ * value 0 to `masks` for it. Then any UID may be in its field, and the answer is never
+ * VICINITY_COMPLETE.
  *
  * The answer and the findings are those of `vicinity reconcile`, without logs, lines and open
  * masks, which the caller has: first the absent UIDs, then the unlisted ones, the unsettled mask

@@ -1,5 +1,7 @@
-"""What pip calls to build the package (PEP 517). It needs only Python: nothing is downloaded, and nothing is left here."""
+"""What pip calls to build the package (PEP 517). It needs only Python: nothing is downloaded, and nothing is left here. The
+same files make the same bytes."""
 import base64
+import gzip
 import hashlib
 import io
 import os
@@ -8,38 +10,48 @@ import tarfile
 import zipfile
 
 HERE = os.path.dirname(os.path.abspath(__file__))
+LICENSES = ("LICENSE-APACHE", "LICENSE-MIT")
+ABOUT = ("README.md", *LICENSES)
+SCRIPTS = "[console_scripts]\nvicinity-logs = vicinity.__main__:entry\n"
+#: The library in a wheel of its own for a kind of machine.
+LIBRARY = "vicinity/libvicinity.so.1"
+EXECUTABLE, PLAIN = 0o755, 0o644
 
 
 def _project():
     """The strings of pyproject.toml, which Python can read itself from 3.11 on."""
-    with open(os.path.join(HERE, "pyproject.toml"), encoding="utf-8") as file:
-        return dict(re.findall(r'^([a-z-]+) = "(.*)"$', file.read(), re.MULTILINE))
+    return dict(re.findall(r'^([a-z-]+) = "(.*)"$', _content("pyproject.toml").decode(), re.MULTILINE))
 
 
 def _metadata():
-    project = _project()
-    return ("Metadata-Version: 2.1\nName: {name}\nVersion: {version}\nSummary: {description}\nLicense: {license}\n"
-            "Requires-Python: {requires-python}\n".format(**project))
+    fields = ("Metadata-Version: 2.1\nName: {name}\nVersion: {version}\nSummary: {description}\n"
+              "License: {license}\nRequires-Python: {requires-python}\n").format(**_project())
+    files = "".join(f"License-File: {name}\n" for name in LICENSES)
+    return f"{fields}{files}Description-Content-Type: text/markdown\n\n".encode() + _content("README.md")
 
 
 def _modules():
-    names = sorted(os.listdir(os.path.join(HERE, "vicinity")))
-    return [f"vicinity/{name}" for name in names if name.endswith((".py", ".typed"))]
+    found = (os.path.relpath(os.path.join(folder, name), HERE)
+             for folder, _, names in os.walk(os.path.join(HERE, "vicinity")) for name in names)
+    return sorted(name for name in found if name.endswith((".py", ".typed")))
 
 
-def _wheel(folder, files):
+def _wheel(folder, files, tag="any"):
     """Writes a wheel of files, by their names, with its metadata."""
     full = "{name}-{version}".format(**_project())
     about = f"{full}.dist-info"
-    files = {**files, f"{about}/METADATA": _metadata().encode(),
-             f"{about}/WHEEL": b"Wheel-Version: 1.0\nGenerator: backend.py\nRoot-Is-Purelib: true\nTag: py3-none-any\n"}
+    is_pure = "true" if tag == "any" else "false"
+    said = f"Wheel-Version: 1.0\nGenerator: backend.py\nRoot-Is-Purelib: {is_pure}\nTag: py3-none-{tag}\n"
+    files = {**files, **{f"{about}/{name}": _content(name) for name in LICENSES},
+             f"{about}/METADATA": _metadata(), f"{about}/WHEEL": said.encode(),
+             f"{about}/entry_points.txt": SCRIPTS.encode()}
     record = "".join(f"{name},sha256={_sum(content)},{len(content)}\n" for name, content in files.items())
     files[f"{about}/RECORD"] = f"{record}{about}/RECORD,,\n".encode()
-    name = f"{full}-py3-none-any.whl"
+    name = f"{full}-py3-none-{tag}.whl"
     with zipfile.ZipFile(os.path.join(folder, name), "w", zipfile.ZIP_DEFLATED) as wheel:
         for member, content in files.items():
             information = zipfile.ZipInfo(member)
-            information.external_attr = 0o644 << 16
+            information.external_attr = (EXECUTABLE if member == LIBRARY else PLAIN) << 16
             wheel.writestr(information, content, zipfile.ZIP_DEFLATED)
     return name
 
@@ -57,16 +69,24 @@ def build_wheel(wheel_directory, config_settings=None, metadata_directory=None):
     return _wheel(wheel_directory, {name: _content(name) for name in _modules()})
 
 
+def build_wheel_with(wheel_directory, library, tag):
+    """A wheel with the library in it, for the machines of a tag such as manylinux2014_x86_64."""
+    with open(library, "rb") as file:
+        return _wheel(wheel_directory, {**{name: _content(name) for name in _modules()}, LIBRARY: file.read()}, tag)
+
+
 def build_editable(wheel_directory, config_settings=None, metadata_directory=None):
     return _wheel(wheel_directory, {"vicinity.pth": f"{HERE}\n".encode()})
 
 
 def build_sdist(sdist_directory, config_settings=None):
     full = "{name}-{version}".format(**_project())
-    with tarfile.open(os.path.join(sdist_directory, f"{full}.tar.gz"), "w:gz") as archive:
-        for name in ["pyproject.toml", "backend.py", *_modules()]:
-            archive.add(os.path.join(HERE, name), f"{full}/{name}")
-        information = tarfile.TarInfo(f"{full}/PKG-INFO")
-        information.size = len(_metadata())
-        archive.addfile(information, io.BytesIO(_metadata().encode()))
-    return f"{full}.tar.gz"
+    files = {name: _content(name) for name in ["pyproject.toml", "backend.py", *ABOUT, *_modules()]}
+    name = f"{full}.tar.gz"
+    with open(os.path.join(sdist_directory, name), "wb") as out, gzip.GzipFile("", "wb", fileobj=out, mtime=0) as packed:
+        with tarfile.open(fileobj=packed, mode="w", format=tarfile.PAX_FORMAT) as archive:
+            for member, content in {**files, "PKG-INFO": _metadata()}.items():
+                information = tarfile.TarInfo(f"{full}/{member}")
+                information.size, information.mode = len(content), PLAIN
+                archive.addfile(information, io.BytesIO(content))
+    return name

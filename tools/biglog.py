@@ -3,8 +3,9 @@
 
     biglog.py SHAPE SIZE [SEED] [--refused]
 
---refused adds a last line with a fault, so that the time of `vicinity check` is the time of reading alone. Without
-words it lists the shapes. SIZE counts what the shape is made of; a log has at most 1,000,000 lines.
+--refused adds a last line with a fault, so that the time of `vicinity check` is the time of reading
+alone. Without words it lists the shapes. SIZE counts what the shape is made of; a log has at most
+1,000,000 lines.
 """
 import random
 import sys
@@ -73,7 +74,8 @@ def new_tags(random_, size):
 
 
 def search(tags):
-    """Sixteen-slot rounds, one digit deeper on each collision, a Stay Quiet on each reply, until all is silent."""
+    """Sixteen-slot rounds, one digit deeper on each collision, a Stay Quiet on each reply, until
+    all is silent."""
     asked = [(EVERYONE, tags)]
     while asked:
         (length, value), here = asked.pop()
@@ -122,7 +124,8 @@ def session_late(random_, size):
 
 @shape
 def deep(random_, size):
-    """Each of SIZE tags asked by a mask of 56 bits and silenced, then no tag is left: complete SIZE."""
+    """Each of SIZE tags asked by a mask of 56 bits and silenced, then no tag is left: complete
+    SIZE."""
     tags = new_tags(random_, size)
     for uid in tags:
         yield from (ask(low(uid, BITS)), reply(uid), silence(uid))
@@ -163,7 +166,8 @@ def collision_storm(random_, size):
 
 def nested(random_, size, lengths, outcome):
     value = random_.getrandbits(36)
-    yield from (silence(0xE0 << BITS | high << 36 | value) for high in random_.sample(range(1 << 20), size))
+    yield from (silence(0xE0 << BITS | high << 36 | value)
+                for high in random_.sample(range(1 << 20), size))
     for length in lengths:
         yield from (ask(low(value, length)), outcome)
 
@@ -188,8 +192,10 @@ def nest_coll(random_, size):
 
 @shape
 def nest_quiet(random_, size):
-    """Version 2. SIZE Stay Quiet of the first UIDs of the masks of 0 to 36 zeros, then a collision and a D in each."""
-    yield from (silence(0xE0 << BITS | int(format(place, "020b")[::-1], 2) << 36) for place in range(size))
+    """Version 2. SIZE Stay Quiet of the first UIDs of the masks of 0 to 36 zeros, then a collision
+    and a D in each."""
+    yield from (silence(0xE0 << BITS | int(format(place, "020b")[::-1], 2) << 36)
+                for place in range(size))
     for length in range(37):
         yield from (ask((length, 0)), "C", ask((length, 0)), "D")
     yield from (ask((BITS, 1)), "C")
@@ -220,7 +226,8 @@ def heard_turns(random_, size):
 
 @shape
 def quiet_polls(random_, size):
-    """Ten tags are silenced, and the first by low bits answers each of SIZE open rounds: impossible at line 13."""
+    """Ten tags are silenced, and the first by low bits answers each of SIZE open rounds: impossible
+    at line 13."""
     tags = [at_key(place << 40) for place in range(1, 11)]
     yield from map(silence, tags)
     for _ in range(size):
@@ -230,8 +237,10 @@ def quiet_polls(random_, size):
 
 @shape
 def quiet_answers(random_, size):
-    """A silenced tag answers SIZE open rounds, others are silenced before and in between: impossible early."""
-    yield from (silence(at_key(1 << 40)), *(silence(at_key(2 << 40 | place)) for place in range(size // 25)))
+    """A silenced tag answers SIZE open rounds, others are silenced before and in between:
+    impossible early."""
+    yield from (silence(at_key(1 << 40)),
+                *(silence(at_key(2 << 40 | place)) for place in range(size // 25)))
     for number in range(size):
         yield from (ask(EVERYONE), reply(at_key(1 << 40)))
         if number % 25 == 24:
@@ -239,8 +248,10 @@ def quiet_answers(random_, size):
 
 
 def apart(random_, size):
-    """The tags of SIZE keys, no two of them adjoining, in no order; and two whose keys adjoin after them."""
-    return [at_key(2 * place) for place in random_.sample(range(size), size)], at_key(2 * size), at_key(2 * size + 1)
+    """The tags of SIZE keys, no two of them adjoining, in no order; and two whose keys adjoin after
+    them."""
+    keys = random_.sample(range(size), size)
+    return [at_key(2 * key) for key in keys], at_key(2 * size), at_key(2 * size + 1)
 
 
 def in_nested_rounds(*outcomes):
@@ -252,7 +263,8 @@ def in_nested_rounds(*outcomes):
 
 @shape
 def nest_singles_late(random_, size):
-    """Version 2. SIZE tags apart, left by silent nested rounds and Quiet again amid C and D: impossible at the end."""
+    """Version 2. SIZE tags apart, left by silent nested rounds and Quiet again amid C and D:
+    impossible at the end."""
     tags, one, two = apart(random_, size)
     yield from map(silence, [*tags, one, two])
     yield from in_nested_rounds("S")
@@ -264,7 +276,8 @@ def nest_singles_late(random_, size):
 
 @shape
 def nest_scattered_late(random_, size):
-    """Version 2. SIZE tags apart, Quiet in nested rounds that one answers, then in others with D: impossible at the end."""
+    """Version 2. SIZE tags apart, Quiet in nested rounds that one answers, then in others with D:
+    impossible at the end."""
     tags, _, two = apart(random_, size)
     yield from map(silence, tags)
     yield from in_nested_rounds(reply(two))
@@ -274,7 +287,8 @@ def nest_scattered_late(random_, size):
 
 @shape
 def nest_unmet_late(random_, size):
-    """Version 2. SIZE tags apart, Quiet amid nested C, replies and D; F, then S leaves each C one tag: impossible there."""
+    """Version 2. SIZE tags apart, Quiet amid nested C, replies and D; F, then S leaves each C one
+    tag: impossible there."""
     tags, one, two = apart(random_, size)
     yield from map(silence, tags)
     yield from in_nested_rounds("C")
@@ -287,22 +301,26 @@ def nest_unmet_late(random_, size):
 
 
 def half_heard(random_, size, length, mask_of, slots=8):
-    """SIZE rounds of sixteen slots, in which one tag answers in each of so many; then the round is left."""
+    """SIZE rounds of sixteen slots, in which one tag answers in each of so many; then the round is
+    left."""
     for number in range(size):
         value = mask_of(number)
         yield ask((length, value), 16)
         for slot in range(slots):
-            yield reply(0xE0 << BITS | value | slot << length | random_.getrandbits(52 - length) << length + 4)
+            yield reply(0xE0 << BITS | value | slot << length
+                        | random_.getrandbits(52 - length) << length + 4)
 
 
 @shape
 def eight_replies(random_, size):
-    """SIZE rounds of sixteen slots, far apart, a reply in the slots 0 to 7: unlisted, with the most open ranges."""
+    """SIZE rounds of sixteen slots, far apart, a reply in the slots 0 to 7: unlisted, with the most
+    open ranges."""
     return half_heard(random_, size, 28, lambda number: at_key(number << 34) & (1 << 28) - 1)
 
 
 def ended_late(lines):
-    """These lines, and a collision where the last reply alone could be: impossible in the last line."""
+    """These lines, and a collision where the last reply alone could be: impossible in the last
+    line."""
     for line in lines:
         yield line
     # the last line is a reply
@@ -321,13 +339,15 @@ def replies_listed(random_, size):
     """The same without the collision, and the tags heard are listed in no order: unsettled 1 01."""
     lines = list(eight_replies(random_, size))
     yield from lines
-    found = [int.from_bytes(bytes.fromhex(line[6:22]), "little") for line in lines if line[0] == "R"]
+    found = [int.from_bytes(bytes.fromhex(line[6:22]), "little")
+             for line in lines if line[0] == "R"]
     yield from map(claim, random_.sample(found, len(found)))
 
 
 @shape
 def all_heard_hidden(random_, size):
-    """Version 2. SIZE rounds of random masks, a reply in each slot, then D and S in one mask: impossible at that S."""
+    """Version 2. SIZE rounds of random masks, a reply in each slot, then D and S in one mask:
+    impossible at that S."""
     yield from half_heard(random_, size, 40, lambda number: random_.getrandbits(40), slots=16)
     for mask, outcome in ((BITS, 1), "D"), ((BITS, 1), "S"), ((BITS, 2), "S"):
         yield from (ask(mask), outcome)
@@ -335,7 +355,8 @@ def all_heard_hidden(random_, size):
 
 @shape
 def all_silent(random_, size):
-    """An open collision, then SIZE rounds of silent slots over all UIDs, in no order: a conflict of all slots."""
+    """An open collision, then SIZE rounds of silent slots over all UIDs, in no order: a conflict of
+    all slots."""
     yield from (ask(EVERYONE), "C")
     length = size.bit_length() - 1
     halved = size - (1 << length)
@@ -351,19 +372,23 @@ def half_heard_anywhere(random_, size):
 
 @shape
 def sixteen_late(random_, size):
-    """SIZE rounds of random masks of 40 bits, a reply in the slots 0 to 7, a collision: impossible at the end."""
+    """SIZE rounds of random masks of 40 bits, a reply in the slots 0 to 7, a collision: impossible
+    at the end."""
     return ended_late(half_heard_anywhere(random_, size))
 
 
 @shape
 def listed_scattered(random_, size):
-    """SIZE such rounds without the collision, then as many other UIDs as lines, listed in no order: unlisted."""
+    """SIZE such rounds without the collision, then as many other UIDs as lines, listed in no order:
+    unlisted."""
     yield from half_heard_anywhere(random_, size)
-    yield from map(claim, {0xE0 << BITS | random_.getrandbits(BITS) | 8 << 40 for _ in range(9 * size)})
+    yield from map(claim,
+                   {0xE0 << BITS | random_.getrandbits(BITS) | 8 << 40 for _ in range(9 * size)})
 
 
 def truly(random_, tags, size, cycles):
-    """Random rounds of one slot and Stay Quiet, answered as these tags would, and perhaps a few field cycles."""
+    """Random rounds of one slot and Stay Quiet, answered as these tags would, and perhaps a few
+    field cycles."""
     lengths = (8, 12, 14, 16, 18, 20, 24, 32, 40, BITS)
     inside = {length: {} for length in lengths}
     for uid in tags:
@@ -380,7 +405,8 @@ def truly(random_, tags, size, cycles):
             yield "F"
         else:
             mask = low(uid, random_.choice(lengths))
-            yield from (ask(mask), heard([uid for uid in inside[mask[0]][mask] if uid not in silenced]))
+            yield from (ask(mask),
+                        heard([uid for uid in inside[mask[0]][mask] if uid not in silenced]))
     yield from map(claim, sorted(tags))
 
 
@@ -398,7 +424,8 @@ def mix_cycles(random_, size):
 
 @shape
 def storm_cycles(random_, size):
-    """Version 2. SIZE Stay Quiet and a silent open round, then SIZE times: a field cycle and a silent open round."""
+    """Version 2. SIZE Stay Quiet and a silent open round, then SIZE times: a field cycle and a
+    silent open round."""
     yield from map(silence, new_tags(random_, size))
     yield from (ask(EVERYONE), "S")
     for _ in range(size):
@@ -407,7 +434,8 @@ def storm_cycles(random_, size):
 
 @shape
 def quiet_cycles(random_, size):
-    """Version 2. SIZE Stay Quiet and an open collision; for half of them a field cycle, it again, and a collision."""
+    """Version 2. SIZE Stay Quiet and an open collision; for half of them a field cycle, it again,
+    and a collision."""
     tags = new_tags(random_, size)
     yield from map(silence, tags)
     yield from (ask(EVERYONE), "C")
@@ -417,7 +445,8 @@ def quiet_cycles(random_, size):
 
 @shape
 def jump_cycles(random_, size):
-    """Version 2. SIZE / 2 times: a field cycle, and silent rounds of 56 bits at both ends of the order of low bits."""
+    """Version 2. SIZE / 2 times: a field cycle, and silent rounds of 56 bits at both ends of the
+    order of low bits."""
     tags = sorted(new_tags(random_, size), key=lambda uid: bin(uid)[:1:-1])
     for first, last in zip(tags[: size // 2], reversed(tags)):
         yield from ("F", ask(low(first, BITS)), "S", ask(low(last, BITS)), "S")
@@ -425,7 +454,8 @@ def jump_cycles(random_, size):
 
 @shape
 def sim_session(random_, size):
-    """For simulate: SIZE / 20 tags, SIZE rounds of sixteen slots around them, a Stay Quiet after every tenth."""
+    """For simulate: SIZE / 20 tags, SIZE rounds of sixteen slots around them, a Stay Quiet after
+    every tenth."""
     tags = new_tags(random_, max(size // 20, 1))
     for number in range(size):
         uid = random_.choice(tags)

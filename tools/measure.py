@@ -1,9 +1,9 @@
 #!/usr/bin/env python3
 """Measures the built program on large logs:  measure.py [--runs N] SHAPE SIZE [SHAPE SIZE ..]
 
-The shapes are those of biglog.py; those that begin with `sim-` are given to `simulate`, the others to `check`. For each
-it prints the number of lines, the least and the most processor seconds of N runs (3), the most memory, and what was
-answered.
+The shapes are those of biglog.py; those that begin with `sim-` are given to `simulate`, the others
+to `check`. For each it prints the number of lines, the least and the most processor seconds of N
+runs (3), the most memory, and what was answered.
 """
 import os
 import subprocess
@@ -20,7 +20,8 @@ def once(command, path):
         child = subprocess.Popen([PROGRAM, command, path], stdout=out)
         _, _, usage = os.wait4(child.pid, 0)
         out.seek(0)
-        return usage.ru_utime + usage.ru_stime, usage.ru_maxrss / 1024, out.readline().decode().strip()
+        line = out.readline().decode().strip()
+        return usage.ru_utime + usage.ru_stime, usage.ru_maxrss / 1024, line
 
 
 def main():
@@ -33,14 +34,16 @@ def main():
     print("| command and log | lines | processor | memory | answer |\n|---|---|---|---|---|")
     for shape, size in zip(words[::2], words[1::2]):
         with tempfile.NamedTemporaryFile() as log:
-            subprocess.run([os.path.join(TOP, "tools/biglog.py"), shape, size], stdout=log, check=True)
+            subprocess.run([os.path.join(TOP, "tools/biglog.py"), shape, size], stdout=log,
+                           check=True)
             with open(log.name, "rb") as text:
                 lines = sum(1 for _ in text)
             command = "simulate" if shape.startswith("sim-") else "check"
             tried = [once(command, log.name) for _ in range(runs)]
         seconds = [second for second, _, _ in tried]
         print("| `%s`, %s %s | %d | %.2f to %.2f s | %d MB | `%s` |" % (
-            command, shape, size, lines, min(seconds), max(seconds), max(mb for _, mb, _ in tried), tried[0][2]))
+            command, shape, size, lines, min(seconds), max(seconds), max(mb for _, mb, _ in tried),
+            tried[0][2]))
 
 
 if __name__ == "__main__":

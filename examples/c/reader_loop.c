@@ -1,70 +1,159 @@
-/* A reader's loop: rounds over a field of tags, each noted in a log, until the checker calls the list complete.
+/* A reader's search: rounds over a field of tags, each noted in a log, until the checker calls the list complete.
  *
  *     reader_loop [TAGS]
  *
- * After a collision, the mask of its slot is asked. The checker is called only when no collision is left, since each call
- * reads the log from its beginning; then the mask of its answer `unsettled` is asked. If that is the same mask as before, a
- * tag was silenced before it was heard, and wakes up in a field cycle. `slot_gave` stands for the reader's chip: here it
- * asks a simulated field. */
+ * Each tag that was heard is silenced, and the mask of each slot in which tags collided is asked in sixteen slots. When no
+ * collision is left, all tags are asked once more, in one slot, until none answers: who answers there was hidden by a
+ * stronger reply, or came later. Only then is the checker asked, since each call reads the log from its beginning. At
+ * `unsettled` a tag was silenced before it was heard: the field is switched off and on, and the mask of the answer is asked.
+ * `transceive` and `cycle` are the one place for a chip: here they simulate a field. */
 #include "vicinity.h"
 
 #include <stdio.h>
 #include <stdlib.h>
 #include <string.h>
 
-enum { MOST_TAGS = 20000, MOST_ROUNDS = 20000, TEXT_ROOM = 1 << 24, SLOTS = 16 };
+enum { MOST_TAGS = 20000, MOST_ROUNDS = 20000, TEXT_ROOM = 1 << 24, SLOTS = 16, LINK = 2 };
 
-static uint64_t field[MOST_TAGS], silenced; /* what the reader doesn't know: its tags, and one that is Quiet */
+/* What the reader doesn't know: the tags of its field, and which of them are Quiet. */
+static struct { uint64_t uid; int quiet; } field[MOST_TAGS];
 static size_t tags;
+
+/* What it knows: the tags that it heard, the masks that are left to ask, and the log. */
 static uint64_t heard[MOST_TAGS];
 static size_t count;
-static struct vicinity_mask collided[MOST_TAGS * SLOTS];
-static size_t collisions;
+static struct vicinity_mask to_ask[MOST_TAGS * SLOTS];
+static size_t masks, rounds, cycles, calls;
 static char text[TEXT_ROOM] = VICINITY_HEADER_LINE;
 static size_t len = sizeof VICINITY_HEADER_LINE - 1;
+
+/* What a slot held: the letter of its line, and the frame of a reply. */
+struct slot {
+    char letter;
+    struct vicinity_frame reply;
+};
+
+/* Whether a UID lies in a mask. */
+static int lies_in(uint64_t uid, const struct vicinity_mask *mask)
+{
+    return mask->len == 0 || uid << (64 - mask->len) == mask->value << (64 - mask->len);
+}
+
+/* What a chip reports of the slot of a mask. */
+static struct slot listen(const struct vicinity_mask *mask)
+{
+    struct slot held = {'S', {0}};
+    for (size_t i = 0; i < tags; i++) {
+        if (!field[i].quiet && lies_in(field[i].uid, mask)) {
+            held.letter = held.letter == 'S' ? 'R' : 'C';
+            vicinity_write_response(0, 0, field[i].uid, &held.reply);
+        }
+    }
+    return held;
+}
+
+/* Sends a request, and returns how many slots it opened and what they held. */
+static uint32_t transceive(const struct vicinity_frame *frame, struct slot held[SLOTS])
+{
+    struct vicinity_request request;
+    struct vicinity_mask mask;
+    if (vicinity_read_request(frame->bytes, frame->len, &request))
+        abort();
+    for (size_t i = 0; i < tags && request.slots == 0; i++)
+        field[i].quiet |= field[i].uid == request.uid;
+    for (uint32_t k = 0; k < request.slots; k++) {
+        vicinity_slot_mask(request.slots, request.mask_len, request.mask_value, k, &mask);
+        held[k] = listen(&mask);
+    }
+    return request.slots;
+}
 
 /* Adds one line to the log. */
 static void note(char letter, const struct vicinity_frame *frame)
 {
-    static const struct vicinity_frame none;
     struct vicinity_line line;
-    frame = frame ? frame : &none;
     if (vicinity_write_line((uint8_t)letter, frame->bytes, frame->len, 0, &line) || len + line.len > TEXT_ROOM)
         abort();
     memcpy(text + len, line.text, line.len);
     len += line.len;
 }
 
-/* How many tags answer in a slot, and the reply if there is one: what a chip reports. */
-static size_t slot_gave(const struct vicinity_mask *slot, struct vicinity_frame *reply)
+/* Switches the field off and on: all tags are Ready. */
+static void cycle(void)
 {
-    size_t answering = 0;
-    for (size_t i = 0; i < tags; i++) {
-        if (field[i] != silenced && field[i] << (64 - slot->len) == slot->value << (64 - slot->len)) {
-            vicinity_write_response(0, 0, field[i], reply);
-            answering++;
-        }
-    }
-    return answering;
+    static const struct vicinity_frame none;
+    for (size_t i = 0; i < tags; i++)
+        field[i].quiet = 0;
+    note('F', &none);
+    cycles++;
 }
 
-/* Asks the tags of a mask in sixteen slots, and logs the request and what was read in each slot. */
-static void ask(uint32_t mask_len, uint64_t mask_value)
+/* Silences the tag of a reply, which was heard. */
+static void silence(const struct vicinity_frame *frame)
+{
+    struct vicinity_reply reply;
+    struct vicinity_frame request;
+    size_t i = 0;
+    if (vicinity_read_response(frame->bytes, frame->len, &reply))
+        return;
+    vicinity_write_stay_quiet(LINK, reply.uid, &request);
+    transceive(&request, NULL);
+    note('T', &request);
+    while (i < count && heard[i] != reply.uid)
+        i++;
+    if (i == count && count < MOST_TAGS)
+        heard[count++] = reply.uid;
+}
+
+/* One round over a mask, noted in the log. Returns whether any tag answered. */
+static int ask(uint32_t slots, const struct vicinity_mask *mask)
 {
     struct vicinity_frame frame;
-    struct vicinity_mask slot;
-    struct vicinity_reply reply;
-    if (vicinity_write_inventory(2, SLOTS, mask_len, mask_value, &frame))
+    struct slot held[SLOTS];
+    int answered = 0;
+    if (vicinity_write_inventory(LINK, slots, mask->len, mask->value, &frame))
         abort();
+    transceive(&frame, held);
     note('T', &frame);
-    for (uint32_t k = 0; k < SLOTS; k++) {
-        vicinity_slot_mask(SLOTS, mask_len, mask_value, k, &slot);
-        size_t answering = slot_gave(&slot, &frame);
-        note(answering == 0 ? 'S' : answering == 1 ? 'R' : 'C', answering == 1 ? &frame : NULL);
-        if (answering > 1 && collisions < MOST_TAGS * SLOTS)
-            collided[collisions++] = slot;
-        if (answering == 1 && !vicinity_read_response(frame.bytes, frame.len, &reply) && count < MOST_TAGS)
-            heard[count++] = reply.uid;
+    for (uint32_t k = 0; k < slots; k++) {
+        const struct vicinity_frame none = {0};
+        note(held[k].letter, held[k].letter == 'R' ? &held[k].reply : &none);
+        answered |= held[k].letter != 'S';
+    }
+    for (uint32_t k = 0; k < slots; k++) {
+        if (held[k].letter == 'R')
+            silence(&held[k].reply);
+        if (held[k].letter == 'C' && masks < MOST_TAGS * SLOTS)
+            vicinity_slot_mask(slots, mask->len, mask->value, k, &to_ask[masks++]);
+    }
+    rounds++;
+    return answered;
+}
+
+/* Asks the tags of a mask in sixteen slots, and those of each slot in which tags collided. */
+static void ask_on(const struct vicinity_mask *mask)
+{
+    for (to_ask[0] = *mask, masks = 1; masks > 0 && rounds < MOST_ROUNDS;) {
+        const struct vicinity_mask next = to_ask[--masks];
+        ask(SLOTS, &next);
+    }
+}
+
+/* The search. */
+static void find_all(struct vicinity_answer *answer)
+{
+    const struct vicinity_mask all = {0};
+    do
+        ask_on(&all);
+    while (ask(1, &all) && rounds < MOST_ROUNDS);
+    for (;;) {
+        vicinity_check_listed((const uint8_t *)text, len, heard, count, answer);
+        calls++;
+        if (answer->kind != VICINITY_UNSETTLED || rounds >= MOST_ROUNDS)
+            return;
+        const struct vicinity_mask named = {0, answer->mask_len, answer->mask_value};
+        cycle();
+        ask_on(&named);
     }
 }
 
@@ -78,37 +167,19 @@ int main(int argc, char **argv)
 {
     struct vicinity_answer answer;
     struct vicinity_frame frame;
-    struct vicinity_mask named = {0, 65, 0}; /* by the last answer; none at first */
-    size_t rounds = 0, cycles = 0, calls = 1;
     tags = argc == 2 ? count_in(argv[1]) : argc < 2 ? 40 : MOST_TAGS + 1;
     if (vicinity_interface() != VICINITY_INTERFACE || tags > MOST_TAGS) {
         fprintf(stderr, "reader_loop [TAGS], at most %d, over an interface %d\n", MOST_TAGS, VICINITY_INTERFACE);
         return 4;
     }
     for (size_t i = 0; i < tags; i++)
-        field[i] = UINT64_C(0xE0) << 56 | (i + 1) * UINT64_C(0x9E3779B97F4A7C15) >> 8;
-    if (tags > 0) { /* a tag was silenced before it was heard */
-        silenced = field[0];
-        vicinity_write_stay_quiet(2, silenced, &frame);
+        field[i].uid = UINT64_C(0xE0) << 56 | (i + 1) * UINT64_C(0x9E3779B97F4A7C15) >> 8;
+    if (tags > 0) { /* a tag is silenced before it was heard */
+        vicinity_write_stay_quiet(LINK, field[0].uid, &frame);
+        transceive(&frame, NULL);
         note('T', &frame);
     }
-    vicinity_check_listed((const uint8_t *)text, len, heard, count, &answer);
-    while (answer.kind == VICINITY_UNSETTLED && rounds < MOST_ROUNDS) {
-        if (answer.mask_len == named.len && answer.mask_value == named.value) {
-            note('F', NULL);
-            silenced = 0;
-            cycles++;
-        }
-        named.len = answer.mask_len;
-        named.value = answer.mask_value;
-        ask(answer.mask_len, answer.mask_value);
-        for (rounds++; collisions > 0 && rounds < MOST_ROUNDS; rounds++) {
-            collisions--;
-            ask(collided[collisions].len, collided[collisions].value);
-        }
-        vicinity_check_listed((const uint8_t *)text, len, heard, count, &answer);
-        calls++;
-    }
+    find_all(&answer);
     printf("%.*s after %zu rounds, %zu field cycles and %zu calls of the checker\n",
            (int)strcspn(answer.text, "\n"), answer.text, rounds, cycles, calls);
     return answer.kind == VICINITY_COMPLETE && count == tags ? 0 : 1;

@@ -1,3 +1,7 @@
 module vicinity-check
 
 go 1.19
+
+require vicinity v1.2.0
+
+replace vicinity => ../../bindings/go

@@ -3,13 +3,12 @@
 package main
 
 import (
+	"errors"
 	"fmt"
 	"io"
 	"os"
-	"strconv"
-	"strings"
 
-	"vicinity-check/vicinity"
+	"vicinity"
 )
 
 func read() ([]byte, error) {
@@ -19,61 +18,45 @@ func read() ([]byte, error) {
 	return io.ReadAll(os.Stdin)
 }
 
-// split returns a text without the lines of its list, and the UIDs on these; false if a line isn't a UID.
-func split(text []byte) ([]byte, []uint64, bool) {
-	rest, list, found := strings.Cut(string(text), "\nU ")
-	if !found {
-		return text, nil, true
+func check(text []byte) (int, error) {
+	answer, population, err := vicinity.Explain(text)
+	if err != nil {
+		return 0, err
 	}
-	var uids []uint64
-	for _, digits := range strings.Split(strings.TrimSuffix(list, "\n"), "\nU ") {
-		uid, err := strconv.ParseUint(digits, 16, 64)
-		if err != nil {
-			return text, nil, false
-		}
-		uids = append(uids, uid)
+	fmt.Println(answer)
+	for _, uid := range population {
+		fmt.Fprintln(os.Stderr, "U", uid)
 	}
-	return []byte(rest + "\n"), uids, true
+	return answer.Status, nil
 }
 
-// check passes the list separately.
-func check(text []byte) (vicinity.Answer, error) {
-	rest, uids, found := split(text)
-	if !found || len(uids) == 0 {
-		return vicinity.Check(text)
-	}
-	return vicinity.CheckListed(rest, uids)
-}
-
-// reconcile compares the list of a text with what logs say of their fields.
 func reconcile(list []byte, logs []string) (int, error) {
+	expected, err := vicinity.Listed(list)
+	if err != nil {
+		return 0, err
+	}
 	var surveys []vicinity.Survey
 	for _, log := range logs {
 		text, err := os.ReadFile(log)
 		if err != nil {
-			return 4, err
+			return 0, err
 		}
-		answer, survey, err := vicinity.SurveyOf(text)
+		survey, err := vicinity.SurveyOf(text)
 		if err != nil {
-			return 4, err
-		}
-		if answer.Status > 1 {
-			fmt.Println(answer.Text)
-			return answer.Status, nil
+			return 0, err
 		}
 		surveys = append(surveys, survey)
 	}
-	_, expected, _ := split(list)
 	answer, findings, err := vicinity.Reconcile(expected, surveys)
 	if err != nil {
-		return 4, err
+		return 0, err
 	}
-	fmt.Println(answer.Text)
+	fmt.Println(answer)
 	for _, it := range findings {
-		if it.Kind == vicinity.Unsettled {
-			fmt.Fprintf(os.Stderr, "%s %d %X\n", it.Kind, it.Mask.Len, it.Mask.Value)
+		if it.Kind == vicinity.FindingUnsettled {
+			fmt.Fprintln(os.Stderr, it.Kind, it.Mask)
 		} else {
-			fmt.Fprintf(os.Stderr, "%s %016X\n", it.Kind, it.UID)
+			fmt.Fprintln(os.Stderr, it.Kind, it.UID)
 		}
 	}
 	return answer.Status, nil
@@ -82,24 +65,12 @@ func reconcile(list []byte, logs []string) (int, error) {
 func run() (int, error) {
 	text, err := read()
 	if err != nil {
-		return 4, err
+		return 0, err
 	}
 	if len(os.Args) > 2 {
 		return reconcile(text, os.Args[2:])
 	}
-	answer, err := check(text)
-	if err != nil {
-		return 4, err
-	}
-	_, population, err := vicinity.Explain(text)
-	if err != nil {
-		return 4, err
-	}
-	fmt.Println(answer.Text)
-	for _, uid := range population {
-		fmt.Fprintf(os.Stderr, "U %016X\n", uid)
-	}
-	return answer.Status, nil
+	return check(text)
 }
 
 func main() {
@@ -107,8 +78,18 @@ func main() {
 		os.Exit(4)
 	}
 	status, err := run()
-	if err != nil {
+	var refused *vicinity.RefusedError
+	var impossible *vicinity.ImpossibleError
+	switch {
+	case errors.As(err, &refused):
+		fmt.Println(refused)
+		status = 3
+	case errors.As(err, &impossible):
+		fmt.Println(impossible)
+		status = 2
+	case err != nil:
 		fmt.Fprintln(os.Stderr, err)
+		status = 4
 	}
 	os.Exit(status)
 }

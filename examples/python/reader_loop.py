@@ -1,71 +1,143 @@
-"""A reader's loop: rounds over a field of tags, each noted in a log, until the checker calls the list complete.
+"""A reader's search: rounds over a field of tags, each noted in a log, until the checker calls the
+list complete.
 
-    reader_loop.py [TAGS]
+    reader_loop.py [TAGS] [--capture P] [--seed N]
 
-After a collision, the tags of its slot are asked again, by four more bits. The checker is called only when no collision is
-left, since each call reads the log from its beginning. Then it says what to ask: the mask of its answer `unsettled`, whose
-UIDs may be there and aren't listed. If that is the same mask as before, a tag was silenced before it was heard, and the
-field is switched off and on. Here the field is simulated. A real reader sends the frames and logs what comes back, in the
-same lines: frames, masks of slots and lines come from the library."""
+After a collision, the tags of its slot are asked again, by four more bits. Each tag that was heard
+is silenced. When no collision is left, all tags are asked once more, in one slot, until none
+answers: who answers there was hidden by a stronger reply, or came later. Only then is the checker
+asked, since each call reads the log from its beginning. At `unsettled` a tag was silenced before it
+was heard: the field is switched off and on, and the mask of the answer is asked.
+
+`Field.transceive` is the one place for a chip: here it simulates a field. With --capture P, a
+strong reply hides the others of its slot with this probability. The log then says that one tag
+answered, and a later line contradicts it: the answer is `impossible`, not `complete` with a tag
+missing. Frames, masks of slots and lines come from the library."""
+import argparse
 import random
 import sys
 
 import vicinity
 
+ALL = vicinity.Mask(0, 0)
+LINK = 2
 MOST_ROUNDS = 20_000
 
 
-def round_over(field, mask, lines, heard):
-    """Asks the tags of a mask in sixteen slots, logs the request and what was read in each slot, and returns the masks of
-    the slots in which tags collided."""
-    collided = []
-    lines.append(vicinity.write_line("T", vicinity.write_inventory(2, 16, mask)))
-    asked = [uid for uid in field if uid % (1 << mask.length) == mask.value]
-    for slot in range(16):
-        in_slot = vicinity.slot_mask(16, mask, slot)
-        answering = [uid for uid in asked if uid % (1 << in_slot.length) == in_slot.value]
+def lies_in(uid, mask):
+    return uid % (1 << mask.length) == mask.value
+
+
+class Field:
+    """A simulated field of tags, in place of a reader's chip."""
+
+    def __init__(self, uids, capture, rng):
+        self.uids, self.capture, self.rng = uids, capture, rng
+        self.cycle()
+
+    def cycle(self):
+        """Switches the field off and on: all tags are Ready."""
+        self.ready = set(self.uids)
+
+    def transceive(self, frame):
+        """Sends a request. Returns each slot's letter, and the frame of a reply."""
+        request = vicinity.read_request(frame)
+        if request.slots == 0:
+            self.ready.discard(request.uid)
+            return []
+        asked = sorted(uid for uid in self.ready if lies_in(uid, request.mask))
+        masks = [vicinity.slot_mask(request.slots, request.mask, k) for k in range(request.slots)]
+        return [self.slot([uid for uid in asked if lies_in(uid, mask)]) for mask in masks]
+
+    def slot(self, answering):
+        """What a chip reports of the slot in which these tags answer."""
         if not answering:
-            lines.append(vicinity.write_line("S"))
-        elif len(answering) == 1:
-            lines.append(vicinity.write_line("R", vicinity.write_response(0, 0, answering[0])))
-            heard.add(answering[0])
-        else:
-            lines.append(vicinity.write_line("C"))
-            collided.append(in_slot)
-    return collided
+            return "S", b""
+        if len(answering) == 1 or self.rng.random() < self.capture:
+            return "R", vicinity.write_response(0, 0, self.rng.choice(answering))
+        return "C", b""
 
 
-def find_all(field, silenced):
-    """The tags of a field, the lines of a log which shows that these are all, and how many rounds and calls of the checker
-    it took. At first, one tag of the field is silenced and hasn't been heard."""
-    lines = [vicinity.HEADER_LINE, vicinity.write_line("T", vicinity.write_stay_quiet(2, silenced))]
-    heard, to_ask, named, calls = set(), [], None, 0
-    awake = field - {silenced}
-    for rounds in range(MOST_ROUNDS + 1):
-        if not to_ask:
-            answer, calls = vicinity.check_listed(b"".join(lines), heard), calls + 1
-            if answer.kind is not vicinity.Kind.UNSETTLED:
-                break
-            mask = vicinity.Mask(answer.mask_len, answer.mask_value)
-            if mask == named:
-                lines.append(vicinity.write_line("F"))
-                awake = field
-            to_ask, named = [mask], mask
-        to_ask += round_over(awake, to_ask.pop(), lines, heard)
-    return answer, heard, lines, rounds, calls
+class Search:
+    """One session: the lines of its log, and the UIDs that were heard."""
+
+    def __init__(self, field):
+        self.field, self.heard, self.rounds, self.calls = field, set(), 0, 0
+        self.lines = [vicinity.HEADER_LINE]
+
+    def send(self, frame):
+        """Sends a request, and notes it and what each slot held."""
+        slots = self.field.transceive(frame)
+        self.lines.append(vicinity.write_line("T", frame))
+        self.lines += [vicinity.write_line(letter, reply) for letter, reply in slots]
+        return slots
+
+    def ask(self, slots, mask):
+        """One round. Silences each tag that was heard, and returns the letter of each slot."""
+        self.rounds += 1
+        held = self.send(vicinity.write_inventory(LINK, slots, mask))
+        for letter, reply in held:
+            if letter == "R":
+                uid = vicinity.read_response(reply).uid
+                self.send(vicinity.write_stay_quiet(LINK, uid))
+                self.heard.add(uid)
+        return [letter for letter, _ in held]
+
+    def ask_on(self, mask):
+        """Asks the tags of a mask in sixteen slots, and those of each slot with a collision."""
+        to_ask = [mask]
+        while to_ask and self.rounds < MOST_ROUNDS:
+            mask = to_ask.pop()
+            for slot, letter in enumerate(self.ask(16, mask)):
+                if letter == "C":
+                    to_ask.append(vicinity.slot_mask(16, mask, slot))
+
+    def check(self):
+        self.calls += 1
+        return vicinity.check_listed(b"".join(self.lines), self.heard)
+
+    def run(self):
+        """Searches, and returns the checker's answer."""
+        self.ask_on(ALL)
+        while self.ask(1, ALL) != ["S"] and self.rounds < MOST_ROUNDS:
+            self.ask_on(ALL)
+        answer = self.check()
+        while answer.kind is vicinity.Kind.UNSETTLED and self.rounds < MOST_ROUNDS:
+            self.field.cycle()
+            self.lines.append(vicinity.write_line("F"))
+            self.ask_on(vicinity.Mask(answer.mask_len, answer.mask_value))
+            answer = self.check()
+        return answer
 
 
-def main(count, seed):
-    rng = random.Random(seed)
-    field = {0xE0 << 56 | rng.randrange(1 << 56) for _ in range(count)}
-    answer, heard, lines, rounds, calls = find_all(field, min(field, default=0xE0 << 56))
-    print(f"{answer} after {rounds} rounds and {len(lines) + len(heard)} lines, {calls} calls of the checker")
-    return 0 if answer.is_complete and heard == field else 1
+class Words(argparse.ArgumentParser):
+    def error(self, message):
+        self.exit(4, f"{self.format_usage()}{message}\n")
+
+
+def count(word):
+    if not word.isdecimal():
+        raise argparse.ArgumentTypeError(f"{word!r} is not a number")
+    return int(word)
+
+
+def main():
+    words = Words(description="A search over a simulated field, one tag of which is Quiet.")
+    words.add_argument("tags", type=count, nargs="?", default=40)
+    words.add_argument("--capture", type=float, default=0.0, metavar="P")
+    words.add_argument("--seed", type=int, default=7)
+    given = words.parse_args()
+    rng = random.Random(given.seed)
+    uids = {0xE0 << 56 | rng.randrange(1 << 56) for _ in range(given.tags)}
+    search = Search(Field(uids, given.capture, rng))
+    if uids:
+        # a tag is silenced before it was heard
+        search.send(vicinity.write_stay_quiet(LINK, min(uids)))
+    answer = search.run()
+    print(f"{answer} after {search.rounds} rounds and {len(search.lines)} lines,"
+          f" {search.calls} calls of the checker")
+    return 0 if answer.is_complete and search.heard == uids else 1
 
 
 if __name__ == "__main__":
-    words = sys.argv[1:] or ["40"]
-    if len(words) > 1 or not words[0].isdecimal():
-        print("reader_loop.py [TAGS]", file=sys.stderr)
-        sys.exit(4)
-    sys.exit(main(int(words[0]), 7))
+    sys.exit(main())

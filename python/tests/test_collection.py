@@ -10,21 +10,20 @@ import sys
 import unittest
 from unittest import mock
 
+from cases import (A, ALL, B, COLLECTION, FORMS_OF_RECONCILE, FULL, HEARD_A, HEARD_B, LIST_A,
+                   LIST_B, NAMES, NOTHING, SHELVES, SILENCE_A, SIXTEEN, TOP, Command, command,
+                   frame, here, least, log)
 import vicinity
-import test_commands
-from test_commands import FULL, Command, command
-from test_vicinity import A, ALL, B, HEARD_A, HEARD_B, LIST_A, LIST_B, SILENCE_A, SIXTEEN, TOP, frame, log
-from vicinity import Fault, FindingKind, Kind, Mask, collection, reconciled, surveys
-from vicinity.catalogue import Wrong, catalogue
-from vicinity._command import NoAnswer
+from vicinity import Fault, FindingKind, Kind, Mask
+from vicinity.collections import surveys
+from vicinity.commands import forms
+from vicinity.collections.catalogue import catalogue
+from vicinity.collections.collection import Collection
+from vicinity._process import NoAnswer
 
 PROGRAM = next(filter(os.path.exists, (os.environ.get("VICINITY", ""), os.path.join(TOP, "crates/vicinity/out/vicinity"),
                                        os.path.join(TOP, "out/release/vicinity"))), None)
-COLLECTION = os.path.join(TOP, "examples/collection")
-SHELVES = [os.path.join(COLLECTION, f"shelf-{letter}.log") for letter in "abc"]
-FORMS = ([], ["--csv"], ["--json"], ["--page"])
 CASES = 300
-NOTHING = log(ALL + b"S\n")
 #: What was worked out by hand for the three shelves: the Time Machine stands on shelf A, Walden nowhere, and the reader of
 #: shelf C asked for no UID that ends in E or F.
 LINES = """absent E00401502B91C435
@@ -34,14 +33,6 @@ open 4 0F in {c}
 doubtful E00401506D9320CE in {c}
 """
 WHERE = {"Walden": ("missing", "", ""), "The Time Machine": ("there", "a", ""), "Ulysses": ("not provable", "", "c")}
-
-
-def here(form, expected, *logs, column=None, jobs=1):
-    """What the command writes, also to standard error, and its status, without a process of its own."""
-    with mock.patch.object(reconciled, "write") as write, mock.patch.object(reconciled, "complain") as complain:
-        status = reconciled.reconciled(form, expected, column, logs, jobs)
-        said = "".join(piece for call in write.call_args_list for piece in call[0][0])
-        return said, "".join(call[0][0] for call in complain.call_args_list), status
 
 
 class Calls(unittest.TestCase):
@@ -146,8 +137,10 @@ class TheProgram(Command):
             pool = [0xE0 << 56 | rng.getrandbits(5) << 51 | rng.choice((0, 1 << 20, 7 << 30)) | rng.getrandbits(5)
                     for _ in range(9)]
             pool = sorted(set(pool))
-            names = [f"{name}.log" for name in range(rng.randint(0, 4))]
+            names = [f"{name}.log" for name in range(rng.randint(1, 4))]
             texts = [random_log(rng, pool) for _ in names]
+            if number % 10 == 0:  # in the fields of which there is one tag at most
+                texts = [log(ALL + rng.choice((b"S\n", HEARD_A, HEARD_B))) for _ in names]
             for name, text in zip(names, texts):
                 self.write(name, text)
             expected = rng.sample(pool, rng.randint(0, len(pool)))
@@ -155,7 +148,7 @@ class TheProgram(Command):
                 expected = sorted({uid for text in texts for uid in vicinity.survey(text).certain})
             self.write("expected", log(b"".join(vicinity.write_line("U", uid=uid) for uid in expected)))
             ran = subprocess.run([PROGRAM, "reconcile", "expected", *names], capture_output=True)
-            said, _, status = here("lines", "expected", *names)
+            said, _, status = here("lines", "expected", *names, options=["--strict"])
             self.assertEqual((said, status), (ran.stdout.decode(), ran.returncode), number)
             for word in met:
                 met[word] += bool(re.search(rf"^{word}\b", said, re.M))
@@ -191,17 +184,20 @@ class Reconcile(Command):
         self.assertEqual((errors, status, said.count(b"\n")), (b"", 1, 1))
         told = json.loads(said)
         items, logs = told.pop("items"), told.pop("logs")
-        self.assertEqual(told, {"status": 1, "kind": "absent", "uid": "E00401502B91C435",
-                                "unsettled": {"mask_len": 4, "mask_value": "F"}})
+        counts = {"there": 10, "misplaced": 0, "missing": 1, "not provable": 1, "unexpected": 0, "no tag": 0}
+        self.assertEqual(told, {"schema": 1, "status": 1, "kind": "absent", "uid": "E00401502B91C435", "counts": counts,
+                                "unsettled": {"mask_len": 4, "mask_value": "0F"}, "set_aside": []})
         self.assertEqual(len(items), 12)
         self.assertEqual(items[11], {"uid": "E00401506D9320CE", "state": "not provable", "certain_in": [],
                                      "may_be_in": [SHELVES[2]], "columns": {"title": "Ulysses", "shelf": "C"}})
-        masks = [{"mask_len": 4, "mask_value": "E"}, {"mask_len": 4, "mask_value": "F"}]
+        masks = [{"mask_len": 4, "mask_value": "0E"}, {"mask_len": 4, "mask_value": "0F"}]
         self.assertEqual(logs, [
-            {"file": SHELVES[0], "open": [], "more_open": False, "list": {"status": 0, "kind": "complete", "count": 4}},
-            {"file": SHELVES[1], "open": [], "more_open": False, "list": {"status": 0, "kind": "complete", "count": 3}},
-            {"file": SHELVES[2], "open": masks, "more_open": False,
-             "list": {"status": 1, "kind": "unsettled", "mask_len": 4, "mask_value": "E"}}])
+            {"file": SHELVES[0], "certain": 4, "open": [], "more_open": False,
+             "list": {"status": 0, "kind": "complete", "count": 4}},
+            {"file": SHELVES[1], "certain": 3, "open": [], "more_open": False,
+             "list": {"status": 0, "kind": "complete", "count": 3}},
+            {"file": SHELVES[2], "certain": 3, "open": masks, "more_open": False,
+             "list": {"status": 1, "kind": "unsettled", "mask_len": 4, "mask_value": "0E"}}])
 
     def test_page(self):
         said, errors, status = self.ask("--expected", os.path.join(COLLECTION, "catalogue.csv"), "--page", *SHELVES)
@@ -225,8 +221,8 @@ class Reconcile(Command):
         catalogue = self.catalogue("title;UID\n\u00c5;e0:04:01:00:00:00:00:a1\n")
         said, _, status = here("csv", catalogue, both, self.names[1], self.names[0])
         self.assertEqual((said, status), (
-            f"uid,title,state,certain in,may be in\nE0040100000000A1,\u00c5,there,{both}; {self.names[1]},\n"
-            f"E0040100000000B2,,unexpected,{both},\n", 1))
+            "title;UID;state;certain in;may be in\n"
+            f'\u00c5;e0:04:01:00:00:00:00:a1;there;"{both}; {self.names[1]}";\n;E0040100000000B2;unexpected;{both};\n', 1))
         said, _, _ = here("lines", catalogue, self.names[1], both)
         self.assertIn(f"unlisted E0040100000000B2\nby line 5 of {both}\n", said)
         page, _, _ = here("page", catalogue, both)
@@ -236,14 +232,14 @@ class Reconcile(Command):
         listed = self.write("listed", log(LIST_A))
         complete, refused, impossible = self.names[1], self.names[7], self.names[6]
         for logs, text, status in (
-                ([complete], "complete 1", 0), ([], "absent E0040100000000A1", 1),
+                ([complete], "complete 1", 0),
                 ([complete, impossible, refused], f"impossible at line 5 of {impossible}", 2),
                 ([complete, refused, "/nowhere"], f"refused at line 4 of {refused}: SlotOutsideRound", 3)):
             for jobs in "1", "3":
-                said, errors, ended = self.ask("--expected", listed, "--jobs", jobs, *logs)
+                said, errors, ended = self.ask("--expected", listed, "--strict", "--jobs", jobs, *logs)
                 self.assertEqual((said.decode(), errors, ended), (f"{text}\n", b"", status))
-        for form, jobs in zip(FORMS, "1233"):
-            ended = self.ask("--expected", listed, *form, "--jobs", jobs, complete, "/nowhere", refused)
+        for form, jobs in zip(FORMS_OF_RECONCILE, "1233"):
+            ended = self.ask("--expected", listed, "--strict", *form, "--jobs", jobs, complete, "/nowhere", refused)
             self.assertEqual(ended, (b"", b"vicinity: cannot read /nowhere: No such file or directory\n", 4))
             ended = self.ask("--expected", "/nowhere", *form, complete)
             self.assertEqual(ended, (b"", b"vicinity: cannot read /nowhere: No such file or directory\n", 4))
@@ -252,79 +248,69 @@ class Reconcile(Command):
         listed = self.write("listed", log(LIST_A))
         for name, told in ((self.names[7], {"status": 3, "kind": "refused", "line": 4, "fault": "SlotOutsideRound"}),
                            (self.names[6], {"status": 2, "kind": "impossible", "line": 5})):
-            said, errors, status = here("json", listed, self.names[1], name)
-            self.assertEqual((json.loads(said), errors, status), ({**told, "file": name}, "", told["status"]))
-            said, errors, status = here("csv", listed, self.names[1], name)
+            strict = ["--strict"]
+            said, errors, status = here("json", listed, self.names[1], name, options=strict)
+            self.assertEqual((json.loads(said), errors, status), ({"schema": 1, **told, "file": name}, "", told["status"]))
+            said, errors, status = here("csv", listed, self.names[1], name, options=strict)
             self.assertEqual((said, status), ("", told["status"]))
             self.assertRegex(errors, rf"\A{told['kind']} at line \d of {name}(: SlotOutsideRound)?\Z")
-            said, errors, status = here("page", listed, self.names[1], name)
+            said, errors, status = here("page", listed, self.names[1], name, options=strict)
             self.assertEqual((errors, status), ("", told["status"]))
             self.assertIn(f"No answer: {name}", said)
 
-    def test_a_list(self):
-        for lines, text in ((b"", "complete 0"), (b"# text\n\nU E0040100000000A1\r\n", "absent E0040100000000A1"),
-                            (LIST_A + LIST_A, "refused at line 3 of {}: DuplicateListed"),
-                            (b"U 010401000000A1E0\n", "refused at line 2 of {}: NotVicinity"),
-                            (ALL + LIST_A, "refused at line 2 of {}: NotListed"),
-                            (b"#\nX\n", "refused at line 3 of {}: UnknownEntry"),
-                            (b"F\n", "refused at line 2 of {}: UnknownEntry")):
-            listed = self.write("listed", log(lines))
-            status = 3 if text.startswith("refused") else int(not text.startswith("complete"))
-            self.assertEqual(here("lines", listed, self.names[0]), (f"{text.format(listed)}\n", "", status))
-            if status == 3:
-                self.assertEqual(here("json", listed, self.names[0]), ("", text.format(listed), 3))
-        listed = self.write("listed", b"vicinity-log 2\n\nF\n" + LIST_A)
-        self.assertEqual(here("lines", listed), (f"refused at line 3 of {listed}: NotListed\n", "", 3))
+    def test_logs_that_say_nothing(self):
+        listed = self.write("listed", log(LIST_A + LIST_B))
+        there, refused, impossible = self.names[1], self.names[7], self.names[6]
+        aside = (f"set aside: impossible at line 5 of {impossible} (count it again)",
+                 f"set aside: refused at line 4 of {refused}: SlotOutsideRound (correct it, or count it again)",
+                 "set aside: cannot read /nowhere: No such file or directory (make it readable, or count it again)")
+        for broken, said, status in ((impossible, aside[0], 2), (refused, aside[1], 3), ("/nowhere", aside[2], 4)):
+            for logs in ([there, broken], [broken, there]):
+                wanted = (f"{said}\nunsettled 2 00\nopen 0 - in {broken}\n"
+                          f"doubtful E0040100000000B2 in {broken}\n")
+                self.assertEqual(here("lines", listed, *logs), (wanted, "", status))
+                rows, errors, ended = here("csv", listed, *logs)
+                self.assertEqual((rows.splitlines()[1:], errors, ended), (
+                    [f"E0040100000000A1,there,{there},", f"E0040100000000B2,not provable,,{broken}"], said, status))
+                told = json.loads(here("json", listed, *logs)[0])
+                self.assertEqual((told["status"], told["file"], [it["file"] for it in told["set_aside"]]),
+                                 (status, broken, [broken]))
+                self.assertIn("1 log says nothing", here("page", listed, *logs)[0])
+        said, _, status = here("lines", listed, impossible, there, "/nowhere", refused)
+        self.assertEqual((said.splitlines()[:3], status), ([aside[0], aside[2], aside[1]], 4))
+
+    def test_complete_is_never_said_where_a_log_says_nothing(self):
+        for expected, logs in ((b"", [self.names[6]]), (LIST_A, [self.names[1], self.names[7]]),
+                               (LIST_A, [self.names[1], "/nowhere"])):
+            listed = self.write("listed", log(expected))
+            for form in ("lines", "csv", "json", "page"):
+                said, _, status = here(form, listed, *logs)
+                self.assertNotIn("omplete 1", said.replace("<code>complete 1</code>", "").replace("Not complete: 1", ""))
+                self.assertGreater(status, 1)
+        report = vicinity.reconcile([A], map(vicinity.survey, (log(ALL + HEARD_A), log(b"X\n"))), strict=False)
+        self.assertEqual(str(report), "unsettled 1 00")
+
+    def test_no_log_at_all(self):
         listed = self.write("listed", log(LIST_A))
-        self.assertEqual(here("lines", listed, column="uid"), ("", f"{listed} is a list, which has no columns", 3))
-
-    def test_catalogues(self):
-        for content, column in (
-                ("uid\nE0040100000000A1\n", None), ("Title, UID \r\n\"a\r\nb, c\",e0 04 01 00 00 00 00 a1\r\n", None),
-                ("\ufeffUid,x\nE0:04:01:00:00:00:00:A1,1\n\n,\n", None), ("tag;uid\nE0040100000000A1;1\n", "tag"),
-                ("x\tuid\n\tE0040100000000A1", None), ("uid,,\n E0040100000000A1 ,,\n", None)):
-            self.assertEqual(here("lines", self.catalogue(content), self.names[1], column=column), ("complete 1\n", "", 0))
-
-    def test_wrong_catalogues(self):
-        first = "uid,title\nE0040100000000A1,a\n"
-        for content, column, row, why in (
-                (first + "E00401000000B2,b\n", None, 3, "'E00401000000B2' isn't a UID"),
-                (first + ",b\n", None, 3, "'' isn't a UID"), (first + "x\n" * 3, None, 3, "'x' isn't a UID"),
-                (first + "\n\nA1000000000104E0,b\n", None, 5, "the opposite order"),
-                (first + "E0040100000000AG,b", None, 3, "isn't a UID"),
-                (first + "E0040100000000\ufb00,b", None, 3, "isn't a UID"),
-                (first + "\"x\ny\",b\ne0040100000000a1,c\n", None, 3, r"'x\\ny' isn't a UID"),
-                (first + "e0:04:01:00:00:00:00:a1,b\n", None, 3, "E0040100000000A1 is also in row 2"),
-                (first + "E0040100000000B2,b,c\n", None, 3, "it has 3 cells"),
-                (first, "shelf", 1, "no column is named shelf"),
-                (first, "UID", 1, "no column is named UID; the columns are: uid, title;"),
-                ("tag,title\nE0040100000000A1,a\n", None, 1, "no column is named uid"),
-                ("", None, 1, "the columns are: none"), ("uid,UID\n", None, 1, "two columns are named uid"),
-                ("uid,x,x\n", None, 1, "two columns are named x"),
-                (first.encode() + b"E0040100000000B2,\xff\n", None, 3, "it isn't UTF-8"),
-                (b"uid,\xff\n", None, 1, "it isn't UTF-8"),
-                (first + "E0040100000000B2,\"b\nE0040100000000B3,c\n", None, 3, "unexpected end of data"),
-                (first + "E0040100000000B2,\"b\"c\n", None, 3, "expected after")):
-            with self.assertRaisesRegex(Wrong, rf"\Aa\.csv, row {row}: .*{why}.*\Z", msg=content):
-                catalogue("a.csv", content if isinstance(content, bytes) else content.encode(), column)
-        wrong = self.catalogue(first + ",b\n")
-        for form in FORMS:
-            said, errors, status = self.ask("--expected", wrong, *form, self.names[1], "/nowhere")
-            self.assertEqual((said, status, errors.count(b"\n")), (b"", 3, 1))
-            self.assertRegex(errors.decode(), rf"\Avicinity: {re.escape(wrong)}, row 3: '' isn't a UID")
+        empty = self.write("empty", b"")
+        for words in ([], ["--logs-from", empty], ["--logs-from", "-"], ["--"]):
+            said, errors, status = self.ask("--expected", listed, *words)
+            self.assertEqual((said, status), (b"", 4), words)
+            self.assertIn(b"no logs: name at least one", errors)
 
     def test_words_that_are_no_command(self):
         listed = self.write("listed", log(LIST_A))
         for words in (["--jobs", "0"], ["--jobs", "x"], ["--jobs"], ["--csv", "--json"], ["--tabs"], ["--ascii"],
-                      ["--lines"], ["--expected"]):
+                      ["--json", "--lines"], ["--expected"], ["--surveys"], ["--places"]):
             said, errors, status = self.ask(self.names[1], "--expected", listed, *words)
             self.assertEqual((said, errors[:10], b"\nusage: " in errors, status), (b"", b"vicinity: ", True, 4), words)
         self.assertEqual(self.ask(listed)[::2], (b"", 4))
         for words in (["--csv"], ["--page"], ["--expected", listed], ["--column", "x"], ["--jobs", "2"]):
             said, errors, status = command("report", self.names[0], *words)
-            self.assertEqual((said, b"only for reconcile" in errors, status), (b"", True, 4), words)
+            self.assertEqual((said, b"unrecognized arguments: --" in errors, status), (b"", True, 4), words)
         self.assertEqual(command("--expected", listed, self.names[1], "--jobs", "1")[2], 4)
-        self.assertEqual(command("--expected", listed, "reconcile", "--", self.names[1]), (b"complete 1\n", b"", 0))
+        self.assertEqual(self.ask(self.names[1], "--expected", listed, "--", self.names[0])[2], 0)
+        self.assertEqual(self.ask("--exp", listed, self.names[1])[2], 4)
 
     def test_logs_that_cannot_be_read_twice(self):
         catalogue = self.catalogue("uid\nE0040100000000B2\n")
@@ -342,17 +328,16 @@ class Reconcile(Command):
     def test_a_file_that_only_this_process_has_open(self):
         with open(self.names[1], "rb") as file, mock.patch.object(surveys, "ProcessPoolExecutor", None):
             name = f"/dev/fd/{file.fileno()}"
-            said = here("lines", self.catalogue("uid\n"), name, jobs=2)
+            said = here("lines", self.catalogue("uid\n"), name, options=["--jobs", "2"])
         self.assertEqual(said, (f"unlisted E0040100000000A1\nby line 3 of {name}\n", "", 1))
 
     def test_a_log_that_changes_meanwhile(self):
         name = self.write("a.log", log(ALL + HEARD_A))
-        read = surveys.Surveys([name], 1)
-        found = collection.Collection(reconciled.Catalogue("", []), [name], read)
+        found = Collection(catalogue("", b"vicinity-log 1\n"), surveys.Surveys([name]), {})
         for text in (NOTHING, b""):
             self.write("a.log", text)
             with self.assertRaisesRegex(NoAnswer, "a.log has changed since"):
-                list(reconciled.as_lines(found))
+                list(forms.as_lines(found))
 
     def test_jobs_keep_the_order(self):
         names = [self.write(f"{number}.log", NOTHING if number % 3 else log(ALL + HEARD_A)) for number in range(60)]
@@ -369,7 +354,7 @@ class Surroundings(Command):
 
     def test_standard_output_that_takes_nothing(self):
         for redirected, why in ((">&-", "Bad file descriptor"), (">/dev/full", FULL)):
-            for form in FORMS:
+            for form in FORMS_OF_RECONCILE:
                 ended = command("reconcile", "--expected", self.listed, *form, self.names[1], redirected=redirected)
                 self.assertEqual(ended, (b"", f"vicinity: write failed: {why}\n".encode(), 4), form)
 
@@ -383,13 +368,17 @@ class Surroundings(Command):
     def test_memory_that_is_refused(self):
         large = self.write("large.log", b"")
         os.truncate(large, 200_000_000)
-        for form, jobs in zip(FORMS, "1122"):
-            said = command("reconcile", "--expected", self.listed, *form, "--jobs", jobs, self.names[1], large,
-                           limit=test_commands.least() + 100_000)
+        for form, jobs in zip(FORMS_OF_RECONCILE, "1122"):
+            words = ["--expected", self.listed, *form, "--jobs", jobs, self.names[1], large]
+            limit = least() + 100_000
+            said = command("reconcile", "--strict", *words, limit=limit)
             self.assertEqual(said, (b"", f"vicinity: out of memory: {large}\n".encode(), 4))
+            said, errors, status = command("reconcile", *words, limit=limit)
+            self.assertEqual((f"out of memory: {large}".encode() in (errors if form == ["--csv"] else said), status),
+                             (True, 4))
 
     def test_names(self):
-        for name, shown in test_commands.Names.NAMES.items():
+        for name, shown in NAMES.items():
             path, where = os.path.join(os.fsencode(self.folder), name), os.path.join(self.folder, shown)
             with open(path, "wb") as file:
                 file.write(log(SILENCE_A + ALL + HEARD_B))
@@ -398,16 +387,18 @@ class Surroundings(Command):
                                     f"doubtful E0040100000000A1 in {where}\n".encode(), b"", 1))
             name = os.fsdecode(path)
             rows = list(csv.reader(io.StringIO(here("csv", self.listed, name)[0])))
-            self.assertEqual(rows[1:], [["E0040100000000A1", "not provable", "", where],
-                                        ["E0040100000000B2", "unexpected", where, ""]])
+            cell = where.replace(";", "\\x3b")
+            self.assertEqual(rows[1:], [["E0040100000000A1", "not provable", "", cell],
+                                        ["E0040100000000B2", "unexpected", cell, ""]])
             told = json.loads(here("json", self.listed, name)[0])
             self.assertEqual(told["items"][0]["may_be_in"], [name])
             self.assertNotRegex(here("page", self.listed, name)[0], "[\0-\x08\x0b-\x1f\x7f-\x9f\u2028\u202e\udcff]")
-            self.assertEqual(here("lines", name), (f"refused at line 2 of {where}: NotListed\n", "", 3))
-            self.assertEqual(here("lines", name, column="x")[1], f"{where} is a list, which has no columns")
+            self.assertEqual(here("lines", name, "x"), (f"refused at line 2 of {where}: NotListed\n", "", 3))
+            said = here("lines", name, "x", options=["--column", "x"])[1]
+            self.assertEqual(said, f"{where} is a list, which has no columns")
             with open(path, "wb") as file:
                 file.write(b"uid\nx\n")
-            self.assertEqual(here("lines", name)[1].split(", row 2")[0], where)
+            self.assertEqual(here("lines", name, "x")[1].split(", row 2")[0], where)
 
     def test_progress(self):
         code = ("import os, pty, subprocess, sys\nours, theirs = pty.openpty()\n"

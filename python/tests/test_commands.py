@@ -1,62 +1,17 @@
 """What `python3 -m vicinity` writes, and its status, also where memory, streams and names are hostile."""
-import contextlib
 import json
 import os
-import pty
 import signal
 import subprocess
 import sys
-import tempfile
 import unittest
 
+from cases import (ALL, ANSWERS, FULL, HEARD_A, LIST_A, NAMES, SIXTEEN, Command, command, least, log,
+                   on_a_terminal)
 import vicinity
-from test_vicinity import ALL, ANSWERS, log
 
 COMPLETE = log(ALL + b"S\n")
 FORMS = ([], ["--tabs"], ["--json"], ["show"], ["page"])
-FULL = "No space left on device"
-
-
-def command(*words, given=b"", redirected="", limit="unlimited", **env):
-    """What `python3 -m vicinity` writes, and its status; with its streams redirected as a shell does it, and with at most
-    so many KiB of address space."""
-    script = f'ulimit -v {limit}; exec "$@" {redirected}'
-    ran = subprocess.run(["sh", "-c", script, "sh", sys.executable, "-m", "vicinity", *words], input=given,
-                         capture_output=True, env={**os.environ, **env})
-    return ran.stdout, ran.stderr, ran.returncode
-
-
-def on_a_terminal(*words, **env):
-    """What a terminal gets."""
-    ours, theirs = pty.openpty()
-    subprocess.run([sys.executable, "-m", "vicinity", *words], stdin=theirs, stdout=theirs, env={**os.environ, **env})
-    os.close(theirs)
-    told = b""
-    with open(ours, "rb", buffering=0) as file, contextlib.suppress(OSError):
-        while piece := file.read(4096):
-            told += piece
-    return told
-
-
-def least():
-    """How many KiB of address space the commands take by themselves."""
-    code = ("import vicinity.__main__, vicinity.draw, vicinity.reconciled; vicinity.check(b'')\n"
-            "with open('/proc/self/status') as file: print(*(it.split()[1] for it in file if it.startswith('VmPeak')))")
-    return int(subprocess.run([sys.executable, "-c", code], capture_output=True).stdout)
-
-
-class Command(unittest.TestCase):
-    def setUp(self):
-        folder = tempfile.TemporaryDirectory()
-        self.addCleanup(folder.cleanup)
-        self.folder = folder.name
-        self.names = [self.write(f"{number}.log", log(lines)) for number, (lines, *_) in enumerate(ANSWERS)]
-
-    def write(self, name, text):
-        name = os.path.join(self.folder, name)
-        with open(name, "wb") as file:
-            file.write(text)
-        return name
 
 
 class Answers(Command):
@@ -93,14 +48,15 @@ class Answers(Command):
             {"status": 0, "kind": "complete", "count": 1},
             {"status": 1, "kind": "absent", "uid": "E0040100000000A1"},
             {"status": 1, "kind": "unlisted", "uid": "E0040100000000A1"},
-            {"status": 1, "kind": "unsettled", "mask_len": 56, "mask_value": "040100000000A1".lstrip("0")},
+            {"status": 1, "kind": "unsettled", "mask_len": 56, "mask_value": "040100000000A1"},
             {"status": 1, "kind": "doubtful", "uid": "E0040100000000A1"},
             {"status": 2, "kind": "impossible", "line": 5},
             {"status": 3, "kind": "refused", "line": 4, "fault": "SlotOutsideRound"},
             {"status": 3, "kind": "refused", "line": 2, "fault": "Crc"},
             {"status": 4, "kind": "no answer", "error": "cannot read /nowhere.log: No such file or directory"},
         ]
-        self.assertEqual([{key: it[key] for key in it if key != "file"} for it in found], wanted)
+        self.assertEqual([{key: it[key] for key in it if key not in ("file", "schema")} for it in found], wanted)
+        self.assertEqual({it["schema"] for it in found}, {1})
         self.assertEqual(status, 4)
 
     def test_no_library(self):
@@ -124,8 +80,9 @@ class Words(Command):
         shown = command("show", "--ascii", self.names[0])
         self.assertEqual(shown[1:], (b"", 0))
         self.assertTrue(shown[0].isascii())
-        for words in (["--ascii", "show", self.names[0]], ["show", self.names[0], "--ascii"]):
-            self.assertEqual(command(*words), shown)
+        self.assertEqual(command("show", self.names[0], "--ascii"), shown)
+        self.assertEqual(command("check", self.names[0], "--tabs", self.names[1]),
+                         command("--tabs", self.names[0], self.names[1]))
         self.assertEqual(command(self.names[0], "--tabs"), command("--tabs", self.names[0]))
 
     def test_a_name_that_begins_with_a_dash(self):
@@ -136,14 +93,73 @@ class Words(Command):
     def test_help_and_version(self):
         said, errors, status = command("--help")
         self.assertEqual((errors, status), (b"", 0))
-        for words in ("show LOG", "page LOG", "--tabs", "--json", "--ascii"):
-            self.assertIn(words, said.decode())
+        for name in ("check", "report", "reconcile", "survey", "compare", "show", "page"):
+            self.assertIn(f"    {name}", said.decode())
+            there, errors, status = command(name, "--help")
+            self.assertEqual((there.split()[4].decode(), errors, status), (name, b"", 0))
+        self.assertIn("--tabs", command("check", "--help")[0].decode())
         self.assertEqual(command("--version"), (f"{vicinity.__version__}\n".encode(), b"", 0))
 
     def test_colours(self):
         for colours, env in ((True, {}), (True, {"NO_COLOR": ""}), (False, {"NO_COLOR": "1"})):
             self.assertEqual(b"\33[" in on_a_terminal("show", self.names[1], **env), colours, env)
         self.assertNotIn(b"\33", command("show", self.names[1])[0])
+        self.assertNotIn(b"\33", on_a_terminal("show", self.names[1], TERM="dumb"))
+
+    def test_a_locale_without_unicode(self):
+        for locale, is_ascii in (("C", True), ("POSIX", True), ("C.UTF-8", False)):
+            said = command("show", self.names[6], LC_ALL=locale)[0]
+            self.assertEqual(said.isascii(), is_ascii, locale)
+        self.assertEqual(command("show", self.names[6], LC_ALL="C")[0], command("show", "--ascii", self.names[6])[0])
+
+    def test_a_text_that_ends_in_the_middle_of_a_line(self):
+        for lines, is_cut in ((ALL + HEARD_A[:-5], True), (ALL + HEARD_A[:-5] + b"\n", False),
+                              (ALL + b"X\n" + ALL, False), (b"T 26010", True)):
+            told = json.loads(command("report", "--json", self.write("cut.log", log(lines)))[0])
+            self.assertEqual((told["kind"], "was it cut?" in told["sentence"]), ("refused", is_cut), lines)
+        self.assertNotIn(b"was it cut?", command("report", "--json", self.write("empty.log", b""))[0])
+
+    def test_a_last_round_that_does_not_ask_all(self):
+        last = vicinity.write_line("T", vicinity.write_inventory(2, 1, vicinity.Mask(8, 0xB2))) + b"S\n"
+        for before, missed in ((ALL + b"S\n", "stronger replies hid"), (b"", "no earlier round asked"),
+                               (SIXTEEN + b"S\n" * 15, "no earlier round asked"), (SIXTEEN + b"S\n" * 16, "stronger")):
+            said = command("report", self.write("some.log", log(before + last)))[0].decode()
+            self.assertIn(f"the last round didn't ask all tags: one that {missed}", said)
+        self.assertNotIn("last round", command("report", self.write("some.log", log(last + ALL + b"S\n")))[0].decode())
+
+    def test_what_the_program_does_too(self):
+        name = self.names[5]
+        self.assertEqual(command("explain", name), (b"doubtful E0040100000000A1\npopulation 0\n", b"", 1))
+        self.assertEqual(command("explain", self.names[3]),
+                         (b"unlisted E0040100000000A1\npopulation 1\nU E0040100000000A1\n", b"", 1))
+        self.assertEqual(command("explain", self.names[0]), (b"complete 0\n", b"", 0))
+        self.assertEqual(command("simulate", self.write("asked", log(ALL + LIST_A))), (log(ALL + HEARD_A + LIST_A), b"", 0))
+        self.assertEqual(command("simulate", name), (b"refused at line 4: OutcomeGiven\n", b"", 3))
+
+    def test_frames_in_words(self):
+        for digits, lines, status in (
+                ("2202A1000000000104E0662A", ["request stay-quiet link 2 uid E0040100000000A1",
+                                              "response flags 22 dsfid 02 uid E0040100000000A1"], 0),
+                ("260107614C5D", ["request inventory link 2 slots 1 mask 7 61", "response refused Length"], 0),
+                ("060100cd09", ["request inventory link 2 slots 16 mask 0 -", "response refused Length"], 0),
+                ("260100F60B", ["request refused Crc", "response refused Length"], 3),
+                ("26010", ["request refused Hex", "response refused Hex"], 3),
+                ("26 01", ["request refused Hex", "response refused Hex"], 3),
+                ("\uff12" * 2, ["request refused Hex", "response refused Hex"], 3),
+                ("00" * 65, ["request refused LineTooLong", "response refused LineTooLong"], 3)):
+            self.assertEqual(command("frame", digits), ("".join(f"{it}\n" for it in lines).encode(), b"", status), digits)
+
+    def test_options_are_not_abbreviated(self):
+        self.assertEqual(command("check", "--tab", self.names[0])[::2], (b"", 4))
+        self.assertEqual(command("show", "--asc", self.names[0])[::2], (b"", 4))
+
+    def test_logs_that_are_named_in_a_file(self):
+        wanted = command(*self.names)
+        for listed in ("\0".join(self.names), "\n".join(self.names)):
+            for words in ([], ["check"]):
+                self.assertEqual(command(*words, "--logs-from", "-", given=listed.encode()), wanted)
+        said = command("report", self.names[0], "--logs-from", self.write("names", os.fsencode(self.names[2])))
+        self.assertEqual(said, command("report", self.names[0], self.names[2]))
 
 
 class Memory(Command):
@@ -216,24 +232,15 @@ class Streams(Command):
         self.assertEqual((*ran.communicate(), ran.returncode), (b"", b"", -signal.SIGINT))
 
     def test_a_defect_is_no_answer(self):
-        code = "import sys; from vicinity._command import run; sys.exit(run(lambda: 1 // 0))"
+        code = "import sys; from vicinity._process import run; sys.exit(run(lambda: 1 // 0))"
         ran = subprocess.run([sys.executable, "-c", code], capture_output=True)
         self.assertEqual((ran.stdout, ran.stderr, ran.returncode),
                          (b"", b"vicinity: ZeroDivisionError: integer division or modulo by zero\n", 4))
 
 
 class Names(Command):
-    NAMES = {
-        b"a: complete 4.log": "a: complete 4.log",
-        b"a\nb.log: complete 1\n.log": r"a\nb.log: complete 1\n.log",
-        b"a\tb\\c.log": r"a\tb\\c.log",
-        b"\33]0;owned\7\33[2J\r.log": r"\x1b]0;owned\x07\x1b[2J\x0d.log",
-        b"\xff.log": r"\xff.log",
-        "\u00e9\u6f22\u202e\u0085\u2028.log".encode(): "\u00e9\u6f22" r"\xe2\x80\xae\xc2\x85\xe2\x80\xa8.log",
-    }
-
     def test_they_stay_in_their_line(self):
-        for name, shown in self.NAMES.items():
+        for name, shown in NAMES.items():
             path, where = os.path.join(os.fsencode(self.folder), name), os.path.join(self.folder, shown)
             missing = f"cannot read {where}: No such file or directory"
             self.assertEqual(command(path), (b"", f"vicinity: {missing}\n".encode(), 4))
@@ -249,7 +256,7 @@ class Names(Command):
                 self.assertNotRegex(said.decode(), "[\0-\x08\x0b-\x1f\x7f-\x9f\u2028\u202e]|&#5[5-7][0-9]{3};")
 
     def test_printf_gives_them_back(self):
-        for name in self.NAMES:
+        for name in NAMES:
             path = os.path.join(os.fsencode(self.folder), name)
             shown = command("--tabs", path)[0].split(b"\t")[0]
             given = subprocess.run(["bash", "-c", 'printf %b "$1"', "bash", shown], capture_output=True).stdout

@@ -4,50 +4,14 @@ import os
 import re
 import subprocess
 import sys
+import tempfile
 import threading
 import unittest
 
+from cases import (A, ALL, ANSWERS, B, HEARD_A, HEARD_B, LIST_A, LIST_B, SILENCE_A, SIXTEEN, TOP,
+                   frame, log)
 import vicinity
-from vicinity import Fault, Kind
-
-TOP = os.path.dirname(os.path.dirname(os.path.dirname(os.path.abspath(__file__))))
-ALL = b"T 260100F60A\n"
-SIXTEEN = b"T 060100CD09\n"
-A, B = 0xE0040100000000A1, 0xE0040100000000B2
-HEARD_A = b"R 0000A1000000000104E06745\n"
-HEARD_B = b"R 0000B2000000000104E0CF94\n"
-SILENCE_A = b"T 2202A1000000000104E0662A\n"
-LIST_A = b"U E0040100000000A1\n"
-LIST_B = b"U E0040100000000B2\n"
-
-# what is after the header, the answer, and the tags that show it
-ANSWERS = [
-    (ALL + b"S\n", dict(kind=Kind.COMPLETE, status=0, count=0), "complete 0", []),
-    (ALL + HEARD_A + LIST_A, dict(kind=Kind.COMPLETE, status=0, count=1), "complete 1", []),
-    (ALL + b"S\n" + LIST_A, dict(kind=Kind.ABSENT, status=1, uid=A), "absent E0040100000000A1", []),
-    (ALL + HEARD_A, dict(kind=Kind.UNLISTED, status=1, uid=A), "unlisted E0040100000000A1", [A]),
-    (SILENCE_A + ALL + b"S\n", dict(kind=Kind.UNSETTLED, status=1, mask_len=56, mask_value=0x040100000000A1),
-     "unsettled 56 040100000000A1", [A]),
-    (SILENCE_A + ALL + b"S\n" + LIST_A, dict(kind=Kind.DOUBTFUL, status=1, uid=A), "doubtful E0040100000000A1", []),
-    (ALL + b"S\n" + ALL + b"C\n", dict(kind=Kind.IMPOSSIBLE, status=2, line=5), "impossible at line 5", []),
-    (ALL + b"S\nS\n", dict(kind=Kind.REFUSED, status=3, line=4, fault=Fault.SLOT_OUTSIDE_ROUND),
-     "refused at line 4: SlotOutsideRound", []),
-    (b"T 260100F60B\n", dict(kind=Kind.REFUSED, status=3, line=2, fault=Fault.FRAME_CRC), "refused at line 2: Crc", []),
-]
-
-
-def log(lines):
-    return b"vicinity-log 1\n" + lines
-
-
-def frame(content):
-    """The digits of a frame, with its CRC: ISO/IEC 13239, 16-bit FCS."""
-    register = 0xFFFF
-    for byte in content:
-        register ^= byte
-        for _ in range(8):
-            register = register >> 1 ^ (0x8408 if register & 1 else 0)
-    return (content + (register ^ 0xFFFF).to_bytes(2, "little")).hex().upper().encode()
+from vicinity import Fault, Kind, _calls, _native
 
 
 class Frames(unittest.TestCase):
@@ -62,10 +26,36 @@ class Frames(unittest.TestCase):
         self.assertEqual(vicinity.read_response(bytes.fromhex("0000A1000000000104E06745")), (0, 0, A))
 
     def test_faults_of_frames(self):
-        for call, frame in ((vicinity.read_request, "260100F60B"), (vicinity.read_response, "0000A1000000000104E06744")):
+        for call, digits in ((vicinity.read_request, "260100F60B"),
+                             (vicinity.read_response, "0000A1000000000104E06744")):
             with self.assertRaises(vicinity.FrameFault) as raised:
-                call(bytes.fromhex(frame))
+                call(bytes.fromhex(digits))
             self.assertIs(raised.exception.fault, Fault.FRAME_CRC)
+
+    def test_any_bytes_are_a_frame(self):
+        for kind in (bytearray, memoryview):
+            self.assertEqual(vicinity.read_request(kind(bytes.fromhex("260100F60A"))).link, 2)
+            self.assertEqual(vicinity.read_response(kind(bytes.fromhex("0000A1000000000104E06745"))).uid, A)
+            self.assertEqual(vicinity.add_crc(kind(bytes.fromhex("260100"))).hex().upper(), "260100F60A")
+            self.assertEqual(vicinity.write_line("T", kind(bytes.fromhex("260100F60A"))), ALL)
+        for call in (vicinity.read_request, vicinity.read_response, vicinity.add_crc):
+            with self.assertRaisesRegex(TypeError, "bytes, not str"):
+                call("260100F60A")
+
+    def test_sentences_of_what_is_wrong(self):
+        with self.assertRaisesRegex(vicinity.FrameFault, "Crc: the CRC doesn't match the bytes before it"):
+            vicinity.read_request(bytes.fromhex("260100F60B"))
+        with self.assertRaisesRegex(TypeError, "'E0040100000000A1' isn't a number, but str; parse_uid reads"):
+            vicinity.write_line("U", uid="E0040100000000A1")
+        for letter in ("", "TT", "\u00d4", None):
+            with self.assertRaisesRegex(ValueError, "WrongLetter: a line begins with T, S"):
+                vicinity.write_line(letter)
+
+    def test_uids_as_text(self):
+        self.assertEqual(vicinity.uid_text(A), "E0040100000000A1")
+        self.assertEqual(vicinity.parse_uid(vicinity.uid_text(A)), A)
+        with self.assertRaisesRegex(ValueError, "opposite order"):
+            vicinity.parse_uid("A1000000000104E0")
 
     def test_masks_of_slots(self):
         self.assertEqual(vicinity.slot_mask(16, vicinity.Mask(4, 1), 10), (8, 0xA1))
@@ -98,14 +88,15 @@ class Frames(unittest.TestCase):
                 (vicinity.write_stay_quiet, (0, -1), "-1 isn't a number of 64 bits")):
             with self.subTest(word), self.assertRaises(ValueError) as raised:
                 call(*given)
-            self.assertEqual(str(raised.exception), word)
+            self.assertRegex(str(raised.exception), rf"\A{word}(: [a-z].*)?\Z")
         for letter in ("", "TT", "\u00d4"):
             with self.assertRaises(ValueError):
                 vicinity.write_line(letter)
 
     def test_digits_of_masks(self):
-        for mask, digits in (((0, 0), ".."), ((8, 0xA1), "..A1"), ((7, 0x61), "..(110)1")):
-            self.assertEqual(str(vicinity.Mask(*mask)), digits)
+        for mask, digits, value in (((0, 0), "..", "-"), ((8, 0xA1), "..A1", "A1"), ((7, 0x61), "..(110)1", "61"),
+                                    ((4, 1), "..1", "01"), ((12, 0), "..000", "0000")):
+            self.assertEqual((str(vicinity.Mask(*mask)), vicinity.Mask(*mask).digits), (digits, value))
 
 
 class Calls(unittest.TestCase):
@@ -118,6 +109,28 @@ class Calls(unittest.TestCase):
                 self.assertEqual(vicinity.explain(log(lines)), (wanted, population))
                 self.assertEqual(str(wanted), text)
                 self.assertEqual(wanted.is_complete, wanted.status == 0)
+
+    def test_masks_of_answers(self):
+        self.assertEqual(vicinity.check(log(SIXTEEN + b"S\n" * 14)).mask, vicinity.Mask(4, 14))
+        self.assertEqual(vicinity.check(log(ALL + b"S\n")).mask, vicinity.Mask(0, 0))
+        self.assertEqual([it.mask for it in vicinity.report(log(SIXTEEN + b"S\n" * 14)).findings],
+                         [(4, 14), (4, 14), (4, 15)])
+
+    def test_arrays_for_the_library_are_aligned(self):
+        for numbers in ([], [A], [A] * 3):
+            self.assertEqual(ctypes.addressof(_calls._numbers(numbers)) % 8, 0)
+        for masks in ([], [vicinity.Mask(4, 1)]):
+            self.assertEqual(ctypes.addressof(_calls._masks(masks)) % 8, 0)
+
+    def test_the_page_of_a_log(self):
+        text = log(ALL + HEARD_A)
+        page = vicinity.page(text, "a <b>")
+        self.assertTrue(page.startswith("<!DOCTYPE html>"))
+        self.assertIn("a &lt;b&gt;", page)
+        self.assertEqual(page, vicinity.page(bytearray(text), "a <b>"))
+        shown = page._repr_html_()
+        self.assertRegex(shown, r'\A<iframe srcdoc="[^"]*" style="[^"]*"></iframe>\Z')
+        self.assertIn("&lt;!DOCTYPE html&gt;", shown)
 
     def test_kinds_and_faults_are_enums(self):
         answer = vicinity.check(b"")
@@ -260,7 +273,7 @@ class Calls(unittest.TestCase):
 
     def test_the_version_is_the_one_of_the_project(self):
         with open(os.path.join(TOP, "VERSION")) as file:
-            version = file.read().strip()
+            version = file.read().strip().replace("~dev", ".dev0")
         with open(os.path.join(TOP, "python/pyproject.toml")) as file:
             self.assertIn(f'version = "{version}"', file.read())
         self.assertEqual(vicinity.__version__, version)
@@ -281,10 +294,27 @@ class Library(unittest.TestCase):
         self.assertIn("LIBVICINITY", said)
         self.assertEqual(errors, "")
 
+    def test_an_empty_name_is_none(self):
+        with tempfile.TemporaryDirectory() as folder:
+            os.symlink(os.path.realpath(_native.library()._name), os.path.join(folder, _native.NAME))
+            said = self.run_python("import vicinity; print(vicinity.check(b''))", LIBVICINITY="", LD_LIBRARY_PATH=folder)
+        self.assertEqual(said, ("refused at line 1: Header\n", ""))
+
     def test_another_library_is_no_vicinity(self):
         said, _ = self.run_python("import vicinity\ntry: vicinity.check(b'')\nexcept (OSError, AttributeError) as it: "
                                   "print(type(it).__name__)", LIBVICINITY="libc.so.6")
         self.assertEqual(said, "OSError\n")
+
+    def test_a_processor_that_lacks_instructions(self):
+        flags = list(_native.X86_64_V2)
+        self.assertEqual(_native.lacking_of("x86_64", ["fpu", *flags]), [])
+        self.assertEqual(_native.lacking_of("x86_64", ["fpu", "cx16", "lahf_lm", "sse4_1", "ssse3"]), ["popcnt", "sse4_2"])
+        self.assertEqual(_native.lacking_of("aarch64", ["fp"]), [])
+        self.assertEqual(_native.lacking_of("x86_64", []), [])
+        code = ("from vicinity import _native\n_native._flags = lambda: ['fpu']\ntry: _native.library()\n"
+                "except OSError as it: print(it)")
+        if os.uname().machine == "x86_64":
+            self.assertIn("needs a processor with x86-64-v2: this one lacks cx16", self.run_python(code)[0])
 
     def test_an_older_library_is_told(self):
         code = ("import vicinity; from vicinity._native import CALLS; CALLS['later'] = []\n"

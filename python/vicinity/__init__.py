@@ -11,15 +11,19 @@ libvicinity.so.1: nothing is judged in Python. It is loaded on the first call; L
 `python3 -m vicinity FILE ..` answers for many files in one process; `python3 -m vicinity show LOG` and `page LOG` draw one;
 `python3 -m vicinity reconcile --expected FILE LOG ..` compares many with one list of what should be there.
 """
-from ._answers import Answer, Explanation, Fault, Finding, FindingKind, Kind, Report, Simulation, Survey
-from ._calls import (check, check_listed, explain, explain_into, explain_listed, reconcile, report, report_listed, simulate,
-                     simulate_into, survey)
-from .frames import (HEADER_LINE, FrameFault, Mask, Reply, Request, add_crc, read_request, read_response, slot_mask,
-                     write_inventory, write_line, write_response, write_stay_quiet)
+from ._answers import (Answer, Explanation, Fault, Finding, FindingKind, Kind, ListFault, Mask,
+                       Report, Simulation, Survey)
+from ._calls import (check, check_listed, explain, explain_into, explain_listed, listed, reconcile,
+                     report, report_listed, simulate, simulate_into, survey)
+from ._drawn import page
+from .frames import (HEADER_LINE, FrameFault, Reply, Request, add_crc, parse_uid, read_request,
+                     read_response, slot_mask, uid_text, write_inventory, write_line,
+                     write_response, write_stay_quiet)
 
 __all__ = ["Answer", "Explanation", "Fault", "Finding", "FindingKind", "FrameFault", "HEADER_LINE", "Kind",
-           "Mask", "Reply", "Report", "Request", "Simulation", "Survey", "add_crc", "check", "check_listed", "explain",
-           "explain_into", "explain_listed", "read_request", "read_response", "reconcile", "report", "report_listed",
-           "simulate", "simulate_into", "slot_mask", "survey", "write_inventory", "write_line", "write_response",
-           "write_stay_quiet"]
-__version__ = "1.1.0"
+           "ListFault", "Mask", "Reply", "Report", "Request", "Simulation", "Survey", "add_crc", "check",
+           "check_listed", "explain", "explain_into", "explain_listed", "listed", "page", "parse_uid",
+           "read_request", "read_response", "reconcile", "report", "report_listed", "simulate",
+           "simulate_into", "slot_mask", "survey", "uid_text", "write_inventory", "write_line",
+           "write_response", "write_stay_quiet"]
+__version__ = "1.2.0.dev0"

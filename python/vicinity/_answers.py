@@ -2,13 +2,28 @@
 from __future__ import annotations
 
 import enum
-from dataclasses import dataclass
-from typing import TYPE_CHECKING, NamedTuple
+from typing import NamedTuple
 
 from ._native import name_of
 
-if TYPE_CHECKING:
-    from .frames import Mask
+
+class Mask(NamedTuple):
+    """The UIDs whose `length` low bits, 0 to 64, are `value`."""
+
+    length: int
+    value: int
+
+    @property
+    def digits(self) -> str:
+        """The value as `vicinity spell` takes it: two hex digits for each byte that the bits need, or - if there is none."""
+        return f"{self.value:0{2 * ((self.length + 7) // 8)}X}" if self.length else "-"
+
+    def __str__(self) -> str:
+        """The last digits of these UIDs, with bits in parentheses if they don't fill a digit."""
+        digits, bits = divmod(self.length, 4)
+        low = f"{self.value & (1 << 4 * digits) - 1:0{digits}X}" if digits else ""
+        part = f"({self.value >> 4 * digits:0{bits}b})" if bits else ""
+        return f"..{part}{low}"
 
 
 class Kind(enum.IntEnum):
@@ -29,8 +44,8 @@ class Kind(enum.IntEnum):
 
 
 class Fault(enum.IntEnum):
-    """Why a text isn't a log. Those that begin with FRAME are about the frame of a T or R line, WRONG_MASK is about a mask
-    of a survey."""
+    """Why a text isn't a log. Those that begin with FRAME are about the frame of a T or R line, NOT_LISTED about a log that
+    should only list UIDs, WRONG_MASK about a mask of a survey."""
 
     NONE = 0
     TOO_MANY_LINES = 1
@@ -43,6 +58,7 @@ class Fault(enum.IntEnum):
     SLOT_OUTSIDE_ROUND = 8
     ENTRY_AFTER_LIST = 9
     DUPLICATE_LISTED = 10
+    NOT_LISTED = 11
     FRAME_SHORT = 101
     FRAME_CRC = 102
     FRAME_EXTENSION = 103
@@ -66,14 +82,13 @@ class Fault(enum.IntEnum):
         return name_of("fault", self)
 
 
-@dataclass(frozen=True)
-class Answer:
+class Answer(NamedTuple):
     """The answer to a text. Numbers that the kind doesn't use are 0."""
 
     kind: Kind
     status: int
     """The exit status of `vicinity check`, 0 to 3. Here 0 is complete."""
-    count: int
+    count: int  # type: ignore[assignment]
     """How many UIDs are listed, if the kind is COMPLETE."""
     line: int
     """The line, from 1, if the kind is IMPOSSIBLE or REFUSED."""
@@ -89,12 +104,25 @@ class Answer:
     """The line that `vicinity check` writes, without its LF."""
 
     @property
+    def mask(self) -> Mask:
+        """The mask, if the kind is UNSETTLED."""
+        return Mask(self.mask_len, self.mask_value)
+
+    @property
     def is_complete(self) -> bool:
         """Whether the list is complete."""
         return self.kind is Kind.COMPLETE
 
     def __str__(self) -> str:
         return self.text
+
+
+class ListFault(ValueError):
+    """A text isn't a list of UIDs: `answer` says at which line, and why."""
+
+    def __init__(self, answer: Answer):
+        super().__init__(str(answer))
+        self.answer = answer
 
 
 class Explanation(NamedTuple):
@@ -132,12 +160,16 @@ class Finding(NamedTuple):
     uid: int
     """The UID, if the kind is ABSENT, UNLISTED or DOUBTFUL."""
 
+    @property
+    def mask(self) -> Mask:
+        """The mask, if the kind is UNSETTLED or OPEN_MASK."""
+        return Mask(self.mask_len, self.mask_value)
+
     def __str__(self) -> str:
         """The line that `vicinity report` writes, without its LF, and the one that names the line that shows it, if one
         log does."""
         by_line = f"\nby line {self.line}" if self.line else ""
-        size = 2 * ((self.mask_len + 7) // 8)
-        mask = f"{self.mask_len} {self.mask_value:0{size}X}" if size else "0 -"
+        mask = f"{self.mask.length} {self.mask.digits}"
         return {
             FindingKind.ABSENT: f"absent {self.uid:016X}{by_line}",
             FindingKind.UNLISTED: f"unlisted {self.uid:016X}{by_line}",

@@ -5,43 +5,34 @@ import ctypes
 import mmap
 import struct
 from array import array
-from typing import TYPE_CHECKING, Any, Callable, Iterable, Union
+from typing import TYPE_CHECKING, Any, Callable, Iterable
 
-from ._answers import Answer, Explanation, Fault, Finding, FindingKind, Kind, Report, Simulation, Survey
-from ._native import AnswerStruct, FindingStruct, MaskStruct, library
-from .frames import Mask
+from ._answers import (Answer, Explanation, Fault, Finding, FindingKind, Kind, ListFault, Mask,
+                       Report, Simulation, Survey)
+from ._native import AnswerStruct, FindingStruct, MaskStruct, bytes_of, library
 
 if TYPE_CHECKING:
-    import mmap
-
-    BytesLike = Union[bytes, bytearray, memoryview, mmap.mmap]
+    from ._native import BytesLike
 
 FIRST_ROOM = 64
 #: struct vicinity_mask.
 PACKED_MASK = struct.Struct("IIQ")
 NO_ANSWER = 4
-
-
-def _bytes(text: BytesLike) -> bytes:
-    """The bytes of a text. Other threads run during a call, so anything that can change is copied."""
-    if isinstance(text, bytes):
-        return text
-    try:
-        return memoryview(text).tobytes()
-    except TypeError:
-        raise TypeError(f"the text of a log is bytes, not {type(text).__name__}") from None
+#: The kind of the answer to a list.
+LISTED = 12
 
 
 def _without_list(text: BytesLike) -> bytes:
     """The bytes of a text with a separate list, with an LF after its last line."""
-    text = _bytes(text)
+    text = bytes_of(text)
     return text if text.endswith(b"\n") else text + b"\n"
 
 
 def _numbers(uids: Iterable[int]) -> ctypes.Array[ctypes.c_uint64]:
     """UIDs as a C array. Raises OverflowError if a number doesn't fit into 64 bits."""
     numbers = array("Q", uids)
-    return (ctypes.c_uint64 * len(numbers)).from_buffer(numbers)
+    place = ctypes.c_uint64 * len(numbers)
+    return place.from_buffer(numbers) if numbers else place()  # what an empty array points to isn't aligned
 
 
 def _masks(masks: Iterable[Mask]) -> ctypes.Array[MaskStruct]:
@@ -50,7 +41,8 @@ def _masks(masks: Iterable[Mask]) -> ctypes.Array[MaskStruct]:
         packed = bytearray(b"".join([PACKED_MASK.pack(0, length, value) for length, value in masks]))
     except struct.error as error:
         raise OverflowError(str(error)) from None
-    return (MaskStruct * (len(packed) // PACKED_MASK.size)).from_buffer(packed)
+    place = MaskStruct * (len(packed) // PACKED_MASK.size)
+    return place.from_buffer(packed) if packed else place()
 
 
 def _answer(told: AnswerStruct) -> Answer:
@@ -65,7 +57,7 @@ def check(text: BytesLike) -> Answer:
 
     Raises TypeError if the text isn't bytes or similar, MemoryError if memory is refused, and OSError if the shared
     library can't be loaded."""
-    text = _bytes(text)
+    text = bytes_of(text)
     told = AnswerStruct()
     library().vicinity_check(text, len(text), ctypes.byref(told))
     return _answer(told)
@@ -74,7 +66,7 @@ def check(text: BytesLike) -> Answer:
 def explain_into(text: BytesLike, room: ctypes.Array[ctypes.c_uint64]) -> tuple[Answer, int]:
     """The answer to a text, and the number of UIDs in the counterexample. They are put at the start of the buffer `room` if
     they fit; otherwise it stays as it is. Raises what `check` raises."""
-    text = _bytes(text)
+    text = bytes_of(text)
     told, needed = AnswerStruct(), ctypes.c_size_t()
     library().vicinity_explain(text, len(text), ctypes.byref(told), room, len(room), ctypes.byref(needed))
     return _answer(told), needed.value
@@ -113,13 +105,13 @@ def _report(answer: Answer, found: list[FindingStruct]) -> Report:
 
 def explain(text: BytesLike) -> Explanation:
     """The answer to a text, and the UIDs of tags that show it. Raises what `check` raises."""
-    text = _bytes(text)
+    text = bytes_of(text)
     return Explanation(*_in_room(ctypes.c_uint64, library().vicinity_explain, text, len(text)))
 
 
 def report(text: BytesLike) -> Report:
     """The answer to a text, and every finding. Raises what `check` raises."""
-    text = _bytes(text)
+    text = bytes_of(text)
     return _report(*_in_room(FindingStruct, library().vicinity_report, text, len(text)))
 
 
@@ -157,35 +149,60 @@ def report_listed(text: BytesLike, uids: Iterable[int]) -> Report:
 def survey(text: BytesLike) -> Survey:
     """What a log says of its field: the UIDs that must be there, and all masks whose UIDs may be. Raises what `check`
     raises."""
-    text = _bytes(text)
+    text = bytes_of(text)
     places = FIRST_ROOM + 2 * text.count(b"\n")
-    answer, uids, count = _filled(ctypes.c_uint64, places, library().vicinity_certain, text, len(text))
-    if answer.status > 1:
-        return Survey(answer, [], [])
-    _, masks, left = _filled(MaskStruct, places, library().vicinity_open_masks, text, len(text))
-    return Survey(answer, uids[:count], [Mask(it.len, it.value) for it in masks[:left]])
+    uids, masks = _room(ctypes.c_uint64, places), _room(MaskStruct, places)
+    while True:
+        told, count, left = AnswerStruct(), ctypes.c_size_t(), ctypes.c_size_t()
+        library().vicinity_survey(text, len(text), ctypes.byref(told), uids, len(uids), ctypes.byref(count),
+                                  masks, len(masks), ctypes.byref(left))
+        if count.value <= len(uids) and left.value <= len(masks):
+            return Survey(_answer(told), uids[:count.value], [Mask(it.len, it.value) for it in masks[:left.value]])
+        uids, masks = _room(ctypes.c_uint64, count.value), _room(MaskStruct, left.value)
 
 
-def reconcile(expected: Iterable[int], surveys: Iterable[Survey]) -> Report:
+def listed(text: BytesLike) -> list[int]:
+    """The UIDs, in rising order, of a text that only lists UIDs: a list of what is expected.
+
+    Raises ListFault if the text is not a log or has other entries, and what `check` raises."""
+    text = bytes_of(text)
+    places = FIRST_ROOM + text.count(b"\n")
+    while True:
+        told, uids, needed = AnswerStruct(), _room(ctypes.c_uint64, places), ctypes.c_size_t()
+        library().vicinity_listed(text, len(text), ctypes.byref(told), uids, places, ctypes.byref(needed))
+        if told.kind != LISTED:
+            raise ListFault(_answer(told))
+        if needed.value <= places:
+            found: list[int] = uids[:needed.value]
+            return found
+        places = needed.value
+
+
+def reconcile(expected: Iterable[int], surveys: Iterable[Survey], *, strict: bool = True) -> Report:
     """The answer for many logs, of which these are the surveys, and every finding; `expected` are the UIDs that should be
-    in their fields, in any order. If a log is refused or impossible, the answer is that to the first one.
+    in their fields, in any order. If a log is refused or impossible, the answer is that to the first one; if it isn't
+    strict, any UID may be in the field of such a log, and the answer is never complete.
 
     Raises what `check` raises, and OverflowError if a UID or a mask doesn't fit into 64 bits."""
     found = list(surveys)
-    for one in found:
-        if one.answer.status > 1:
-            return Report(one.answer, [])
-    listed = _numbers(expected)
-    certain = _numbers(uid for one in found for uid in one.certain)
-    masks = _masks(mask for one in found for mask in one.open_masks)
-    return _report(*_in_room(FindingStruct, library().vicinity_reconcile, listed, len(listed), certain, len(certain), masks,
-                             len(masks)))
+    broken = [one for one in found if one.answer.status > 1]
+    if broken and strict:
+        return Report(broken[0].answer, [])
+    return reconcile_parts(expected, (uid for one in found for uid in one.certain),
+                           [*(mask for one in found for mask in one.open_masks), *[Mask(0, 0)] * bool(broken)])
+
+
+def reconcile_parts(expected: Iterable[int], certain: Iterable[int], masks: Iterable[Mask]) -> Report:
+    """What `reconcile` returns for all certain UIDs and open masks of some logs."""
+    listed, known, left = _numbers(expected), _numbers(certain), _masks(masks)
+    given = listed, len(listed), known, len(known), left, len(left)
+    return _report(*_in_room(FindingStruct, library().vicinity_reconcile, *given))
 
 
 def simulate_into(text: BytesLike, room: ctypes.Array[ctypes.c_uint8]) -> tuple[int, int]:
     """The status of `simulate` on a text, and the number of bytes that it writes. They are put at the start of the buffer
     `room` if they fit; otherwise it stays as it is. Raises what `check` raises."""
-    text = _bytes(text)
+    text = bytes_of(text)
     needed = ctypes.c_size_t()
     status = library().vicinity_simulate(text, len(text), room, len(room), ctypes.byref(needed))
     if status == NO_ANSWER:
@@ -196,7 +213,7 @@ def simulate_into(text: BytesLike, room: ctypes.Array[ctypes.c_uint8]) -> tuple[
 def simulate(text: BytesLike) -> Simulation:
     """The log that conforming tags would produce: the text has the requests, and lists the tags. Raises what `check`
     raises."""
-    text = _bytes(text)
+    text = bytes_of(text)
     places = FIRST_ROOM + 4 * len(text)
     while True:
         room = (ctypes.c_uint8 * places)()

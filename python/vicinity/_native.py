@@ -4,9 +4,16 @@ from __future__ import annotations
 import ctypes
 import functools
 import os
+from typing import TYPE_CHECKING, Sequence, Union
+
+if TYPE_CHECKING:
+    import mmap
+
+    BytesLike = Union[bytes, bytearray, memoryview, mmap.mmap]
 
 INTERFACE = 1
 NAME = "libvicinity.so.1"
+X86_64_V2 = ("cx16", "lahf_lm", "popcnt", "sse4_1", "sse4_2", "ssse3")
 
 
 class AnswerStruct(ctypes.Structure):
@@ -105,6 +112,8 @@ CALLS = {
     "report_listed": [*TEXT, *UIDS, *ANSWER, *FINDINGS],
     "certain": [*TEXT, *ANSWER, *POPULATION],
     "open_masks": [*TEXT, *ANSWER, *MASKS, ctypes.POINTER(SIZE)],
+    "survey": [*TEXT, *ANSWER, *POPULATION, *MASKS, ctypes.POINTER(SIZE)],
+    "listed": [*TEXT, *ANSWER, *POPULATION],
     "reconcile": [*UIDS, *UIDS, *MASKS, *ANSWER, *FINDINGS],
     "simulate": [*TEXT, ctypes.POINTER(ctypes.c_uint8), SIZE, ctypes.POINTER(SIZE)],
     "kind_name": [NUMBER, ctypes.POINTER(NameStruct)],
@@ -120,10 +129,39 @@ CALLS = {
 }
 
 
+def bytes_of(text: BytesLike) -> bytes:
+    """The bytes of a text or a frame. Other threads run during a call, so anything that can change is copied."""
+    if isinstance(text, bytes):
+        return text
+    try:
+        return memoryview(text).tobytes()
+    except TypeError:
+        raise TypeError(f"the text of a log, and a frame, are bytes, not {type(text).__name__}") from None
+
+
+def lacking_of(machine: str, flags: Sequence[str]) -> list[str]:
+    """What a processor with these flags lacks of x86-64-v2, without which the library would end the process."""
+    return [flag for flag in X86_64_V2 if flag not in flags] if machine == "x86_64" and flags else []
+
+
+def _flags() -> list[str]:
+    """The flags of the first processor, if the system tells them."""
+    try:
+        with open("/proc/cpuinfo", encoding="utf-8") as file:
+            return next((line.split()[2:] for line in file if line.startswith("flags")), [])
+    except OSError:
+        return []
+
+
 @functools.lru_cache(maxsize=None)
 def library() -> ctypes.CDLL:
-    """The library, loaded once: the file that LIBVICINITY names, or the installed one."""
-    name = os.environ.get("LIBVICINITY", NAME)
+    """The library, loaded once: the file that LIBVICINITY names, or the one that came with the package, or the installed
+    one."""
+    within = os.path.join(os.path.dirname(os.path.abspath(__file__)), NAME)
+    name = os.environ.get("LIBVICINITY") or (within if os.path.exists(within) else NAME)
+    lacking = lacking_of(os.uname().machine, _flags())
+    if lacking:
+        raise OSError(f"the library {name} needs a processor with x86-64-v2: this one lacks {', '.join(lacking)}")
     try:
         lib = ctypes.CDLL(name)
     except OSError as error:

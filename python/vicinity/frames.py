@@ -2,35 +2,56 @@
 from __future__ import annotations
 
 import ctypes
-from typing import Callable, NamedTuple, Union
+from typing import TYPE_CHECKING, Callable, NamedTuple, Union
 
-from ._answers import Fault
-from ._native import FrameStruct, LineStruct, MaskStruct, ReplyStruct, RequestStruct, library, name_of
+from ._answers import Fault, Mask
+from ._native import (FrameStruct, LineStruct, MaskStruct, ReplyStruct, RequestStruct, bytes_of,
+                      library, name_of)
+
+if TYPE_CHECKING:
+    from ._native import BytesLike
 
 HEADER_LINE = b"vicinity-log 2\n"
 """The first line of a log."""
+HEX = frozenset("0123456789ABCDEFabcdef")
+#: What may be among the digits of a UID beside spaces, as spreadsheets and library systems write it.
+BETWEEN_DIGITS = "-:\u2010\u2011\u2012\u2013"
+#: What is asked of a frame or a line that can't be made, by the name of the refusal.
+WANTED = {
+    "WrongLink": "a link is 0 to 3", "WrongSlots": "a round has 1 or 16 slots",
+    "WrongMask": "a mask has at most 64 bits, or 60 with sixteen slots, and its value no more bits than that",
+    "WrongSlot": "slots are counted from 0, and are fewer than the round has",
+    "WrongReply": "a reply has flags and a DSFID of one byte each, no error flag, and a UID that begins with E0",
+    "TooLong": "there are more bytes than fit", "WrongLetter": "a line begins with T, S, R, C, D, F or U",
+}
 
 
 class FrameFault(ValueError):
     """The first fault of a frame."""
 
     def __init__(self, fault: Fault):
-        super().__init__(fault.word)
+        from .sessions.faults import ADVICE  # needed only here
+
+        super().__init__(f"{fault.word}: {ADVICE[fault].wrong}")
         self.fault = fault
 
 
-class Mask(NamedTuple):
-    """The UIDs whose `length` low bits, 0 to 64, are `value`."""
+def uid_text(uid: int) -> str:
+    """A UID as 16 hex digits, E0 first."""
+    return f"{uid:016X}"
 
-    length: int
-    value: int
 
-    def __str__(self) -> str:
-        """The last digits of these UIDs, with bits in parentheses if they don't fill a digit."""
-        digits, bits = divmod(self.length, 4)
-        low = f"{self.value & (1 << 4 * digits) - 1:0{digits}X}" if digits else ""
-        part = f"({self.value >> 4 * digits:0{bits}b})" if bits else ""
-        return f"..{part}{low}"
+def parse_uid(text: str) -> int:
+    """The UID in a text: 16 hex digits in either case, E0 first. Colons, dashes and spaces may be among them, 0x or an
+    apostrophe before them. Raises ValueError if it isn't one."""
+    digits = "".join(it for it in text if not (it.isspace() or it in BETWEEN_DIGITS)).removeprefix("'")
+    digits = digits[2:] if digits[:2] in ("0x", "0X") else digits
+    is_long = len(digits) == 16 and HEX.issuperset(digits)
+    if is_long and digits[:2] in ("E0", "e0"):
+        return int(digits, 16)
+    is_turned = is_long and digits[-2:] in ("E0", "e0")
+    raise ValueError(f"{text!r} isn't a UID: 16 hex digits that begin with E0"
+                     + "; its bytes seem to be in the opposite order" * is_turned)
 
 
 class Request(NamedTuple):
@@ -50,18 +71,18 @@ class Reply(NamedTuple):
     uid: int
 
 
-def read_request(frame: bytes) -> Request:
+def read_request(frame: BytesLike) -> Request:
     """The fields of a request's frame, CRC included. Raises FrameFault if it isn't one."""
-    told = RequestStruct()
+    frame, told = bytes_of(frame), RequestStruct()
     fault = library().vicinity_read_request(frame, len(frame), ctypes.byref(told))
     if fault:
         raise FrameFault(Fault(fault))
     return Request(told.link, told.slots, Mask(told.mask_len, told.mask_value), told.uid)
 
 
-def read_response(frame: bytes) -> Reply:
+def read_response(frame: BytesLike) -> Reply:
     """The fields of a reply's frame, CRC included. Raises FrameFault if it isn't one."""
-    told = ReplyStruct()
+    frame, told = bytes_of(frame), ReplyStruct()
     fault = library().vicinity_read_response(frame, len(frame), ctypes.byref(told))
     if fault:
         raise FrameFault(Fault(fault))
@@ -71,7 +92,7 @@ def read_response(frame: bytes) -> Reply:
 def write_inventory(link: int, slots: int, mask: Mask = Mask(0, 0)) -> bytes:
     """The frame of an Inventory request, CRC included, with a link of 0 to 3 and 1 or 16 slots.
 
-    Raises ValueError, with the name of the refusal, if there is no such request."""
+    Raises ValueError, with the name of the refusal and what is asked, if there is no such request."""
     return _frame(library().vicinity_write_inventory, _number(link), _number(slots), _number(mask.length),
                   _number(mask.value, 64))
 
@@ -86,17 +107,20 @@ def write_response(flags: int, dsfid: int, uid: int) -> bytes:
     return _frame(library().vicinity_write_response, _number(flags), _number(dsfid), _number(uid, 64))
 
 
-def add_crc(content: bytes) -> bytes:
+def add_crc(content: BytesLike) -> bytes:
     """At most 14 bytes with their CRC after them: a frame whose CRC the reader's chip removed. Raises ValueError if there
     are more."""
+    content = bytes_of(content)
     return _frame(library().vicinity_add_crc, content, len(content))
 
 
-def write_line(letter: str, frame: bytes = b"", uid: int = 0) -> bytes:
+def write_line(letter: str, frame: BytesLike = b"", uid: int = 0) -> bytes:
     """A line of a log, with its LF: "T" or "R" with a frame of at most 63 bytes, which isn't judged, "U" with a UID, or only
-    "S", "C", "D" or "F". Raises ValueError, with the name of the refusal, if there is no such line."""
-    told = LineStruct()
-    (code,) = letter.encode("ascii")
+    "S", "C", "D" or "F". Raises ValueError, with the name of the refusal and what is asked, if there is no such line."""
+    frame, told = bytes_of(frame), LineStruct()
+    if not (isinstance(letter, str) and len(letter) == 1 and letter.isascii()):
+        raise ValueError(f"WrongLetter: {WANTED['WrongLetter']}, not {letter!r}")
+    code = ord(letter)
     _refuse(library().vicinity_write_line(code, frame, len(frame), _number(uid, 64), ctypes.byref(told)))
     return bytes(told.text)
 
@@ -120,11 +144,14 @@ def _frame(call: Callable[..., int], *given: Union[int, bytes]) -> bytes:
 
 def _refuse(fault: int) -> None:
     if fault:
-        raise ValueError(name_of("fault", fault))
+        name = name_of("fault", fault)
+        raise ValueError(f"{name}: {WANTED[name]}")
 
 
 def _number(number: int, bits: int = 32) -> int:
     """A number that fits what C takes."""
+    if not isinstance(number, int):
+        raise TypeError(f"{number!r} isn't a number, but {type(number).__name__}; parse_uid reads a UID from text")
     if not 0 <= number < 1 << bits:
         raise ValueError(f"{number} isn't a number of {bits} bits")
     return number

@@ -14,11 +14,13 @@ enum which {
     REPORT,
     CERTAIN,
     OPEN_MASKS,
+    SURVEY,
     RECONCILE,
     CHECK_LISTED,
     EXPLAIN_LISTED,
     REPORT_LISTED,
     SIMULATE,
+    LISTED,
     CALLS
 };
 
@@ -60,7 +62,7 @@ void __wrap_free(void *memory)
 struct given {
     struct vicinity_answer answer;
     uint64_t status;
-    size_t needed;
+    size_t needed, masks_needed;
     uint64_t room[PLACES];
     struct vicinity_finding findings[PLACES];
     struct vicinity_mask masks[PLACES];
@@ -88,6 +90,10 @@ static void call(enum which which, const uint8_t *text, size_t len, size_t numbe
     case OPEN_MASKS:
         given->status = vicinity_open_masks(text, len, &given->answer, given->masks, PLACES, &given->needed);
         break;
+    case SURVEY:
+        given->status = vicinity_survey(text, len, &given->answer, given->room, PLACES, &given->needed,
+                                        given->masks, PLACES, &given->masks_needed);
+        break;
     case RECONCILE:
         given->status = vicinity_reconcile(uids, 2, certain, certain_count, open_masks, mask_count, &given->answer,
                                            given->findings, PLACES, &given->needed);
@@ -105,6 +111,9 @@ static void call(enum which which, const uint8_t *text, size_t len, size_t numbe
         break;
     case SIMULATE:
         given->status = vicinity_simulate(text, len, given->filled, ROOM, &given->needed);
+        break;
+    case LISTED:
+        given->status = vicinity_listed(text, len, &given->answer, given->room, PLACES, &given->needed);
         break;
     default:
         given->status = vicinity_check(text, len, &given->answer);
@@ -131,6 +140,8 @@ static void none(enum which which, struct given *given)
     }
     given->status = 4;
     given->needed = 0;
+    if (which == SURVEY)
+        given->masks_needed = 0;
 }
 
 /* Removes the lines that begin with one of these letters from a text. */
@@ -175,8 +186,11 @@ int main(int argc, char **argv)
             return 1;
         for (int which = 0; which < CALLS; which++) {
             memcpy(changed, text, len);
-            /* a text to fill in has no slot lines, and a text judged with a separate list lists nothing */
-            const char *letters = which == SIMULATE ? "SRCD" : which < CHECK_LISTED ? "" : "U";
+            /* a text to fill in has no slot lines, a list only UIDs, a text with a separate list none */
+            const char *letters = which == SIMULATE       ? "SRCD"
+                                  : which == LISTED       ? "TSRCDF"
+                                  : which >= CHECK_LISTED ? "U"
+                                                          : "";
             size_t refusals = refuse_each((enum which)which, changed, without(letters, changed, len));
             if (refusals == 0)
                 return 1;

@@ -95,6 +95,73 @@ static int lists(enum which which, const uint8_t *text, size_t len, const struct
     return 1;
 }
 
+/* Whether a survey is what `lists` has put before the ends of memory, and each of its buffers gets its part, or nothing if it
+ * is one too small. */
+static int surveys(const uint8_t *text, size_t len, const struct vicinity_answer *answer)
+{
+    static uint8_t right[2][ROOM];
+    static const enum which parts[] = {CERTAIN, OPEN_MASKS};
+    size_t sizes[] = {listed[CERTAIN] * sizeof(uint64_t), listed[OPEN_MASKS] * sizeof(struct vicinity_mask)};
+    size_t needed[2];
+    for (int part = 0; part < 2; part++)
+        memcpy(right[part], ends[parts[part]] - sizes[part], sizes[part]);
+    for (int few = 0; few < 4; few++) {
+        struct vicinity_answer told;
+        size_t room[] = {listed[CERTAIN] - (few & 1), listed[OPEN_MASKS] - (few >> 1)};
+        if (room[0] > listed[CERTAIN] || room[1] > listed[OPEN_MASKS])
+            continue;
+        for (int part = 0; part < 2; part++)
+            memset(ends[parts[part]] - sizes[part], UNWRITTEN, sizes[part]);
+        vicinity_survey(text, len, &told, (uint64_t *)ends[CERTAIN] - room[0], room[0], &needed[0],
+                        (struct vicinity_mask *)ends[OPEN_MASKS] - room[1], room[1], &needed[1]);
+        if (memcmp(&told, answer, sizeof told) || needed[0] != listed[CERTAIN] || needed[1] != listed[OPEN_MASKS])
+            return 0;
+        for (int part = 0; part < 2; part++) {
+            int is_short = part ? few >> 1 : few & 1;
+            const uint8_t *given = ends[parts[part]] - sizes[part];
+            if (!is_short && memcmp(given, right[part], sizes[part]))
+                return 0;
+            for (size_t i = 0; is_short && i < sizes[part]; i++)
+                if (given[i] != UNWRITTEN)
+                    return 0;
+        }
+    }
+    return 1;
+}
+
+/* Whether the UIDs of a list go into a buffer that is large enough, and nothing into one that is one too small. */
+static int lists_uids(const uint8_t *text, size_t len, uint8_t *end)
+{
+    struct vicinity_answer told;
+    size_t needed, again;
+    vicinity_listed(text, len, &told, (uint64_t *)end, 0, &needed);
+    if (told.kind != VICINITY_LISTED)
+        return told.kind == VICINITY_REFUSED && needed == 0;
+    for (size_t places = needed ? needed - 1 : 0; places <= needed; places++) {
+        uint64_t *start = (uint64_t *)end - needed;
+        memset(start, UNWRITTEN, needed * sizeof *start);
+        if (vicinity_listed(text, len, &told, (uint64_t *)end - places, places, &again) != 0 || again != needed)
+            return 0;
+        for (size_t i = 0; i < needed; i++)
+            if ((start[i] >> 56 == 0xE0) != (places == needed))
+                return 0;
+    }
+    return told.count == needed;
+}
+
+/* Puts the header of a log and its list at the end of memory; how many bytes that is. */
+static size_t list_of(const uint8_t *text, size_t len, uint8_t *end)
+{
+    static const char header[] = "vicinity-log 2\n";
+    size_t start = 0;
+    while (start < len && memcmp(text + start, "\nU ", 3) != 0)
+        start++;
+    size_t kept = start < len ? len - start - 1 : 0, size = sizeof header - 1 + kept;
+    memcpy(end - size, header, sizeof header - 1);
+    memcpy(end - kept, text + len - kept, kept);
+    return size;
+}
+
 /* Whether a separate list gets the same answer when checked as when explained. It is `count` UIDs before the end of memory. */
 static int judges_listed(const uint8_t *text, size_t len, uint64_t *end, size_t count)
 {
@@ -171,10 +238,19 @@ int main(int argc, char **argv)
             for (int which = 0; which < CALLS; which++)
                 if (!lists((enum which)which, text_end - part, part, which == RECONCILE ? NULL : &answer))
                     return 1;
+            if (!surveys(text_end - part, part, &answer) || !lists_uids(text_end - part, part, room_end))
+                return 1;
             for (size_t places = 0; places <= PLACES; places++)
                 if (!explains(text_end - part, part, &answer, (uint64_t *)room_end, places) ||
                     !judges_listed(text_end - part, part, (uint64_t *)room_end, places))
                     return 1;
+        }
+        size_t size = list_of(text, len, text_end);
+        for (size_t part = 0; part <= size; part++, calls++) {
+            memmove(text_end - part, text_end - size, part);
+            if (!lists_uids(text_end - part, part, room_end))
+                return 1;
+            list_of(text, len, text_end);
         }
     }
     printf("%zu first parts, nothing read or written past its end\n", calls);

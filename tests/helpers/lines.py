@@ -1,22 +1,22 @@
 """Logs by the short names of their lines, and the rows of the files in tests/data/rows/."""
-import os
 import re
-import sys
 
-TOP = os.path.abspath(os.path.join(os.path.dirname(__file__), "../.."))
+from helpers.program import TOP
+
 SHORT = re.compile(r"([SCDF#])(\d*)")
 PART = re.compile(r'"([^"]*)"(?: \* (\d+))?')
 
 
 def rows(name):
     """The rows of a file in tests/data/rows/, each with its place."""
-    with open(os.path.join(TOP, "tests/data/rows", name)) as file:
-        for number, line in enumerate(file, 1):
-            if line.strip() and not line.startswith("#"):
-                yield f"tests/data/rows/{name}:{number}", line.rstrip("\n")
+    lines = (TOP / "tests/data/rows" / name).read_text().split("\n")
+    for number, line in enumerate(lines, 1):
+        if line.strip() and not line.startswith("#"):
+            yield f"tests/data/rows/{name}:{number}", line
 
 
-NAMES = {name: f"{letter} {digits}" for _, line in rows("lines") for name, letter, digits in [line.split()[:3]]}
+NAMES = {name: f"{letter} {digits}" for _, line in rows("lines") for name, letter,
+         digits in [line.split()[:3]]}
 
 
 def lines_of(name):
@@ -35,8 +35,7 @@ def text_of(lines):
 
 def spelled(parts):
     """The text of parts in quotation marks."""
-    if PART.sub("", parts).strip(" +"):
-        sys.exit(f"no text: {parts}")
+    assert not PART.sub("", parts).strip(" +"), f"no text: {parts}"
     return b"".join(part.encode().decode("unicode_escape").encode() * int(count or 1)
                     for part, count in PART.findall(parts))
 
@@ -45,7 +44,8 @@ def log_lines(given):
     """The lines of a log by its names, of which the first may be `V2`."""
     names = given.split()
     version = 2 if names[:1] == ["V2"] else 1
-    return [f"vicinity-log {version}"] + [line for name in names[version - 1:] for line in lines_of(name)]
+    return [f"vicinity-log {version}"] + [line for name in names[version - 1:]
+                                          for line in lines_of(name)]
 
 
 def log_of(given):

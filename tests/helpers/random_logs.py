@@ -1,6 +1,8 @@
-"""Random logs of both versions, as text and as lines, written from docs/LOG_FORMAT.md and FRAMES.md alone.
+"""Random logs of both versions, as text and as lines, written from docs/LOG_FORMAT.md and FRAMES.md
+alone.
 
-Most have first lines that leave eight UIDs that may be in the field, by silent slots and Stay Quiets.
+Most have first lines that leave eight UIDs that may be in the field, by silent slots and Stay
+Quiets.
 """
 import collections
 import sys
@@ -8,7 +10,8 @@ import sys
 UID_BITS = 56
 TOP_BYTE = 0xE0 << UID_BITS
 LEFT = 8
-# UIDs that have so many low bits in common are left by some hundred silent slots; others by Stay Quiets.
+# UIDs that have so many low bits in common are left by some hundred silent slots; others by Stay
+# Quiets.
 NEAR_BITS = 48
 # What share of the logs has no such first lines.
 OPEN_SHARE = 0.15
@@ -49,7 +52,8 @@ def spelled(line):
 
 
 def text_of(version, lines):
-    return "".join(f"{line}\n" for line in [f"vicinity-log {version}", *map(spelled, lines)]).encode()
+    return "".join(f"{line}\n" for line in [f"vicinity-log {version}",
+                                            *map(spelled, lines)]).encode()
 
 
 # Masks (docs/AIR.md).
@@ -60,7 +64,9 @@ def lies_in(uid, length, value):
 
 def slot_mask(ask, number):
     """The mask of a slot of a request."""
-    return (ask.length + 4, ask.value + number * 2**ask.length) if ask.sixteen else (ask.length, ask.value)
+    if ask.sixteen:
+        return ask.length + 4, ask.value + number * 2**ask.length
+    return ask.length, ask.value
 
 
 def hex_of(length, value):
@@ -77,7 +83,8 @@ def eight_uids(rng):
     """Eight UIDs: all that have the same low bits, or some of those, or any."""
     common = rng.choice((0, 4, 30, 48, 50, 51, 52, 53, 53, 53))
     value = rng.getrandbits(common)
-    return [TOP_BYTE | high << common | value for high in rng.sample(range(1 << min(UID_BITS - common, 40)), LEFT)]
+    return [TOP_BYTE | high << common | value
+            for high in rng.sample(range(1 << min(UID_BITS - common, 40)), LEFT)]
 
 
 def ruled_out(uids, length=0, value=0):
@@ -91,7 +98,8 @@ def ruled_out(uids, length=0, value=0):
 
 
 def opening(rng, version, uids):
-    """Lines that leave these UIDs and no other. Those that are silenced first aren't ruled out by silence."""
+    """Lines that leave these UIDs and no other. Those that are silenced first aren't ruled out by
+    silence."""
     near = len({uid % 2**NEAR_BITS for uid in uids}) == 1
     silenced = [uid for uid in uids if not near or rng.random() < rng.choice((0, 0, 0.3))]
     lines = [StayQuiet(uid) for uid in silenced]
@@ -109,7 +117,8 @@ def request(rng, uids):
     one, other = rng.sample(uids, 2)
     parting = next(bit for bit in range(UID_BITS) if (one ^ other) >> bit & 1)
     sixteen = rng.random() < 0.4
-    length = rng.choice((0, parting, parting, parting + 1, parting + 1, UID_BITS, rng.randint(0, 64)))
+    length = rng.choice((0, parting, parting, parting + 1, parting + 1, UID_BITS,
+                         rng.randint(0, 64)))
     length = max(0, min(length - rng.randint(0, 4), 60)) if sixteen else length
     return Ask(sixteen, length, one % 2**length if rng.random() < 0.97 else rng.getrandbits(length))
 
@@ -140,20 +149,23 @@ def rounds(rng, version, uids, silenced):
         else:
             ask = request(rng, uids)
             yield ask
-            for number in range(rng.choice((16, 16, 16, rng.randint(0, 16))) if ask.sixteen else rng.random() < 0.97):
+            for number in range(rng.choice((16, 16, 16, rng.randint(0, 16))) if ask.sixteen
+                                else rng.random() < 0.97):
                 mask = slot_mask(ask, number)
                 answering = [uid for uid in there - quiet if lies_in(uid, *mask)]
                 yield outcome(rng, version, uids, answering, noise)
         if rng.random() < 0.05:
             yield rng.choice(PASSED_OVER)
     forgotten, made_up = rng.choice(((0, 0), (0, 0), (0.4, 0), (0, 0.15), (0.1, 0.1)))
-    claimed = [uid for uid in uids if (rng.random() >= forgotten if uid in there else rng.random() < made_up)]
+    claimed = [uid for uid in uids
+               if (rng.random() >= forgotten if uid in there else rng.random() < made_up)]
     rng.shuffle(claimed)
     yield from map(Listed, claimed)
 
 
 def ended(lines):
-    """The rounds of a log that ends as a complete search does: each UID heard is silenced, and all is silent."""
+    """The rounds of a log that ends as a complete search does: each UID heard is silenced, and all
+    is silent."""
     heard = dict.fromkeys(line.uid for line in lines if isinstance(line, Reply))
     at = next((place for place, line in enumerate(lines) if isinstance(line, Listed)), len(lines))
     return lines[:at] + [StayQuiet(uid) for uid in heard] + [Ask(False, 0, 0), SILENT] + lines[at:]
@@ -165,7 +177,8 @@ def one_more(rng):
 
 
 def random_log(rng):
-    """A version, the UIDs that its first lines leave, none if there are no first lines, and all its lines."""
+    """A version, the UIDs that its first lines leave, none if there are no first lines, and all its
+    lines."""
     version, uids = rng.randint(1, 2), eight_uids(rng)
     if rng.random() < OPEN_SHARE:
         return version, [], list(rounds(rng, version, uids, ()))

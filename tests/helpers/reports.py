@@ -1,12 +1,14 @@
 """What `report` has to write of a log, written from docs/VERDICTS.md and COMMANDS.md alone.
 
-What is possible and certain comes from populations that were tried (oracle.py). For a log without first lines, and to see
-whether some lines of a log can be true together, one population is tried: all UIDs that silence and replies leave. More
-tags spoil no collision and no garbled slot, so where this one fails, each does.
+What is possible and certain comes from populations that were tried (oracle.py). For a log without
+first lines, and to see whether some lines of a log can be true together, one population is tried:
+all UIDs that silence and replies leave. More tags spoil no collision and no garbled slot, so where
+this one fails, each does.
 """
 import collections
 
-from helpers.random_logs import (COLLISION, FIELD_CYCLE, GARBLED, SILENT, TOP_BYTE, UID_BITS, Ask, Listed, Reply, StayQuiet,
+from helpers.random_logs import (COLLISION, FIELD_CYCLE, GARBLED, SILENT, TOP_BYTE, UID_BITS, Ask,
+                                 Listed, Reply, StayQuiet,
                                  hex_of, lies_in, slot_mask)
 
 MOST_OPEN = 16
@@ -14,7 +16,8 @@ Slot = collections.namedtuple("Slot", "number mask quiet line")
 
 
 def slots_of(lines):
-    """The slots of a log: the line's number, the mask, the UIDs that are Quiet, and what was read."""
+    """The slots of a log: the line's number, the mask, the UIDs that are Quiet, and what was
+    read."""
     ask, place, quiet, slots = None, 0, frozenset(), []
     for number, line in enumerate(lines, 2):
         if isinstance(line, Ask):
@@ -50,7 +53,8 @@ def as_uid(mask):
 
 
 def greatest(masks):
-    """The greatest masks all of whose UIDs are in some masks that are apart, by length and then by value."""
+    """The greatest masks all of whose UIDs are in some masks that are apart, by length and then by
+    value."""
     by_length = collections.defaultdict(set)
     for length, value in masks:
         by_length[length].add(value)
@@ -66,15 +70,17 @@ def greatest(masks):
 
 
 class Parts:
-    """All UIDs, in masks that are apart, of which each slot asks all UIDs or none. Sets of them are the bits of a number. A
-    part with more than one UID has three beside it that answer as it does."""
+    """All UIDs, in masks that are apart, of which each slot asks all UIDs or none. Sets of them are
+    the bits of a number. A part with more than one UID has three beside it that answer as it
+    does."""
 
     def __init__(self, slots, named=()):
         self.masks, self.spans = [], {}
         uids = {uid for slot in slots for uid in slot.quiet}
         uids.update(named, (slot.line.uid for slot in slots if isinstance(slot.line, Reply)))
         uids.update(slot.mask[1] for slot in slots if slot.mask[0] > UID_BITS)
-        self.divide(sorted({slot.mask for slot in slots if slot.mask[0] <= UID_BITS} | set(map(as_mask, uids))), 0, 0)
+        self.divide(sorted({slot.mask for slot in slots
+                            if slot.mask[0] <= UID_BITS} | set(map(as_mask, uids))), 0, 0)
         self.all = 2**len(self.masks) - 1
         self.answering = {slot: self.who_answers(slot) for slot in slots}
 
@@ -138,16 +144,20 @@ class Parts:
         needed = 0
         for slot in slots:
             there = self.answering[slot] & left
-            if slot.line != SILENT and bin(there).count("1") == (2 if slot.line == COLLISION else 1):
+            least = 2 if slot.line == COLLISION else 1
+            if slot.line != SILENT and bin(there).count("1") == least:
                 needed |= there
-        return [as_uid(mask) for place, mask in enumerate(self.masks) if needed >> place & 1 and mask[0] == UID_BITS]
+        return [as_uid(mask)
+                for place, mask in enumerate(self.masks) if needed >> place & 1
+                and mask[0] == UID_BITS]
 
 
 Known = collections.namedtuple("Known", "impossible possible certain")
 
 
 def known_of(lines):
-    """What is known of a log without first lines: its first impossible line, masks of what is possible, what is certain."""
+    """What is known of a log without first lines: its first impossible line, masks of what is
+    possible, what is certain."""
     slots = slots_of(lines)
     parts = Parts(slots, [line.uid for line in lines if isinstance(line, Listed)])
     number = parts.first_impossible(slots)
@@ -159,7 +169,8 @@ def known_of(lines):
 
 
 class Report:
-    """What has to be written of a log, line by line, and whether something else is right as well."""
+    """What has to be written of a log, line by line, and whether something else is right as
+    well."""
 
     def __init__(self, lines, known):
         self.lines, self.known, self.slots = lines, known, slots_of(lines)
@@ -239,14 +250,17 @@ class Report:
     def lines_for(self, uid):
         """The first reply of a UID, else the slots that need it."""
         heard = [slot.number for slot in self.slots if slot.line == Reply(uid)]
-        return heard[:1] or [slot.number for slot in self.slots if answers(slot, uid) and self.needs(slot)]
+        return heard[:1] or [slot.number for slot in self.slots
+                             if answers(slot, uid) and self.needs(slot)]
 
     def needs(self, slot):
         """Whether no more UIDs are left in a slot than it needs."""
-        there = [mask for mask in self.possible if mask[0] < UID_BITS or as_uid(mask) not in slot.quiet]
+        there = [mask for mask in self.possible if mask[0] < UID_BITS
+                 or as_uid(mask) not in slot.quiet]
         there = [mask for mask in there if lies_in(mask[1], *slot.mask) or slot.mask[0] > UID_BITS
                  and lies_in(as_uid(mask), *slot.mask)]
-        return slot.line in (COLLISION, GARBLED) and len(there) == (2 if slot.line == COLLISION else 1)
+        return slot.line in (COLLISION,
+                             GARBLED) and len(there) == (2 if slot.line == COLLISION else 1)
 
     # What contradicts itself in an impossible log.
 
@@ -277,7 +291,8 @@ class Report:
             against = [slot.number for slot in before if rules_out(slot, last.line.uid)]
             if against:
                 return [against[0], last.number]
-        heard = [slot.number for slot in before if isinstance(slot.line, Reply) and rules_out(last, slot.line.uid)]
+        heard = [slot.number for slot in before
+                 if isinstance(slot.line, Reply) and rules_out(last, slot.line.uid)]
         return [heard[0], last.number] if heard else None
 
     def conflict(self):
@@ -328,7 +343,8 @@ class AbsentIsDoubtful(Report):
 
 class QuietIsRuledOut(Report):
     def lines_against(self, uid):
-        return [slot.number for slot in self.slots if lacks_reply(slot, uid) and lies_in(uid, *slot.mask)]
+        return [slot.number for slot in self.slots
+                if lacks_reply(slot, uid) and lies_in(uid, *slot.mask)]
 
 
 class LastLineAgainst(Report):
@@ -366,7 +382,8 @@ class TwoReplies(Report):
     """Takes two replies of a UID for a conflict, where the second one is of a Quiet tag."""
     def conflict(self):
         uid = self.last().line.uid if self.silencers() else None
-        heard = [slot.number for slot in self.slots if slot.line == Reply(uid) and slot.number < self.number]
+        heard = [slot.number for slot in self.slots if slot.line == Reply(uid)
+                 and slot.number < self.number]
         return heard[-1:] + [self.number] if heard else super().conflict()
 
 

@@ -1,9 +1,9 @@
 //! Makes each call that takes memory and that no command makes, and prints how it answered:
 //! `right`, `memory` (refused memory, and the right answer when called again) or `wrong`.
 //!
-//! `tests/growths` runs it with one allocation refused, each in turn. With `planted` on standard
-//! input it makes calls that are deliberately wrong; with a log it judges that log, and the test
-//! counts how many times.
+//! `tests/test_growths.py` runs it with one allocation refused, each in turn. With `planted` on
+//! standard input it makes calls that are deliberately wrong; with a log it judges that log, and the
+//! test counts how many times.
 #![tactic(auto)]
 
 mod found;

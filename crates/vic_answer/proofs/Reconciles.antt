@@ -1,8 +1,8 @@
 -- What a list and logs say together, text by text.
-use Rattle.vic_answer.proofs.Words.{◌≡◌, ℕ, List, [], ◌∷◌, ◌++◌, take, length, map, Some, None, Option, codes, refl, sym, ap, subst, ◌∙◌, IfOk, OnOk, Result, Ok, Err, decimal, slice_get, All, flat_map, arith, HasWrittenPrefix, length-map, map-append, lines_of_text, LogValue, entries, listed, IsFirstFault, IsVerdict, Impossible, Reconciling, RunFault, Status, AllGoing, AllRead, WritesAnswer, AreComplete, EndsAt, HasLog, HasPossibleLog, IsKept, IsReconciled, lines_of, absent_line, doubtful_text, ending_text, reconciled_status, reconciled_text, unlisted_text, LogLine, AllZip, take-append_seam, AllZip-long, all_zipped_more, All-cons, All-head, All-nil, All-tail, LineFault, AreFindings, AreNone, IsJoined, DoubtfulUid, Findings, UnlistedUid, Reconciliation, IsPossibleLog, family_of, slice_get_seam, none_is_whole, Ending, Reconciled, Found, Ended, Write}
+use Rattle.vic_answer.proofs.Words.{◌≡◌, ◌↔◌, ◌<◌, ◌≤◌, ℕ, zero, suc, List, [], ◌∷◌, ◌++◌, get_or, get_or-take, length-take-le, take, length, map, Some, None, Option, codes, refl, sym, ap, subst, ◌∙◌, IfOk, OnOk, Result, Ok, Err, decimal, slice_get, All, flat_map, arith, HasWrittenPrefix, length-map, map-append, lines_of_text, LogValue, entries, listed, IsFirstFault, IsVerdict, Impossible, IsReconciling, Reconciling, RunFault, Status, WritesAnswer, GoOn, logs_before, logs_for, AreComplete, EndsAt, HasLog, HasPossibleLog, IsKept, IsReconciled, lines_of, absent_line, doubtful_text, ending_text, reconciled_status, reconciled_text, unlisted_text, LogLine, AllZip, take-append_seam, AllZip-long, all_zipped_more, All-cons, All-head, All-nil, All-tail, LineFault, AreFindings, AreNone, IsJoined, DoubtfulUid, Findings, UnlistedUid, Reconciliation, IsPossibleLog, family_of, slice_get_seam, none_is_whole, Ending, Reconciled, Found, Ended, Write}
 use Rattle.vic_answer.specs.Reconciled.{HaveLogs}
 use Rattle.vic_reconcile.specs.declared.findings.Unsettled.{Unsettled}
-use Rattle.vic_answer.specs.declared.ending.Ending.TheVariants.{NotListedAt, RefusedAt, ImpossibleAt}
+use Rattle.vic_answer.specs.declared.ending.Ending.TheVariants.{ListRefusedAt, NotListedAt, RefusedAt, ImpossibleAt}
 use Rattle.vic_answer.specs.declared.reconcile.Reconciling.TheVariants as state
 use Rattle.vic_answer.specs.declared.reconcile.Reconciled.TheVariants.{Complete}
 use Rattle.vic_answer.specs.ReconcileText.{unsettled_text}
@@ -93,17 +93,50 @@ complete_written file names (Found f) list texts rest right same =
     absurd (found_begins names f.absent.items f.unlisted.items f.unsettled f.doubtful.items rest (λ a u x d. right.holds.1 (record { absent = a; unlisted = u; unsettled = x; doubtful = d })) same)
 complete_written file names (Ended e) list texts rest right same = absurd (ending_begins file names e rest same)
 
--- ---- all logs were read
+-- ---- as many logs were read as the answer needs
 
-pub answered_all : (r : Reconciling) (a : Reconciled) (logs texts : ℕ) → AllGoing r logs texts → ((e : Ending) → r ≡ state.Ended e → a ≡ Ended e) → AllRead a logs texts
-answered_all (state.Going j) (Ended e) logs texts all ended = tt
-answered_all (state.Going j) _ logs texts all ended = all
-answered_all (state.Ended e) a logs texts all ended = subst (λ x. AllRead x logs texts) (sym (ended e refl)) tt
+pub answered_all : (r : Reconciling) (a : Reconciled) (logs texts : ℕ) → texts ≡ logs_before r logs → ((e : Ending) → (r ≡ state.Ended e) ↔ (a ≡ Ended e)) → texts ≡ logs_for a logs
+answered_all (state.Going j) (Ended e) logs texts all ended = absurd (cc ((ended e).1 refl))
+answered_all (state.Going j) (Complete count) logs texts all ended = all
+answered_all (state.Going j) (Found f) logs texts all ended = all
+answered_all (state.Ended e) a logs texts all ended = subst (λ x. texts ≡ logs_for x logs) (sym ((ended e).0 refl)) all
 
 -- where what was written begins as a complete answer does
-pub all_where_complete : (file : List ℕ) (names : List (List ℕ)) (r : Reconciled) (rest : List ℕ) (logs texts : ℕ) → reconciled_text file names r ≡ codes "complete " ++ rest → AllRead r logs texts → texts ≡ logs
+pub all_where_complete : (file : List ℕ) (names : List (List ℕ)) (r : Reconciled) (rest : List ℕ) (logs texts : ℕ) → reconciled_text file names r ≡ codes "complete " ++ rest → texts ≡ logs_for r logs → texts ≡ logs
 all_where_complete file names (Ended e) rest logs texts same all = absurd (ending_begins file names e rest same)
-all_where_complete file names _ rest logs texts same all = all
+all_where_complete file names (Complete count) rest logs texts same all = all
+all_where_complete file names (Found f) rest logs texts same all = all
+
+-- ---- what lets a run go on
+
+-- what is kept of texts lets the run go on
+pub kept_go_on : (list : List ℕ) (texts : List (List ℕ)) (r : Reconciliation) → IsKept list texts r → GoOn (list ∷ texts)
+kept_go_on list texts r k = ((k.expected, k.is_list, k.listed_alone), possible_texts texts k.logs k.are_logs k.joined.possible)
+
+All-take : (texts : List (List ℕ)) (n : ℕ) → n ≤ length texts → All HasPossibleLog texts → All HasPossibleLog (take n texts)
+All-take texts n le all = λ k d lt. let below : k < n = omega (arith, lt, length-take-le n texts le) in rw (get_or-take n texts k d below) (all k d (omega (arith, below, le)))
+
+-- so does each text before the last that is read
+pub go_on_before : (list : List ℕ) (texts : List (List ℕ)) (r : Reconciling) (logs n : ℕ) → n ≡ length texts → IsReconciling list texts r → length texts ≡ logs_before r logs → GoOn (take n (list ∷ texts))
+go_on_before list texts r logs zero is h all = tt
+go_on_before list texts (state.Going r) logs (suc n) is h all = let g = kept_go_on list texts r h in (g.0, All-take texts n (omega (arith, is)) g.1)
+go_on_before list texts (state.Ended (ListRefusedAt line fault)) logs (suc n) is h all = absurd (omega (arith, is, all))
+go_on_before list texts (state.Ended (NotListedAt line)) logs (suc n) is h all = absurd (omega (arith, is, all))
+go_on_before list texts (state.Ended (RefusedAt k line fault)) logs (suc n) is h all = let e : k ≡ n = omega (arith, is, all) in (h.0, subst (λ m. All HasPossibleLog (take m texts)) e h.1)
+go_on_before list texts (state.Ended (ImpossibleAt k line)) logs (suc n) is h all = let e : k ≡ n = omega (arith, is, all) in (h.0, subst (λ m. All HasPossibleLog (take m texts)) e h.1)
+
+-- each of some texts with logs has its log
+pub log_at : (texts : List (List ℕ)) (logs : List LogValue) (k : ℕ) → AllZip HasLog texts logs → k < length texts → (log : LogValue) × HasLog (get_or texts k []) log
+log_at [] logs k z lt = absurd (omega (arith, lt))
+log_at (t ∷ texts) [] k z lt = absurd z
+log_at (t ∷ texts) (l ∷ logs) zero z lt = (l, z.0)
+log_at (t ∷ texts) (l ∷ logs) (suc k) z lt = log_at texts logs k z.1 (omega (arith, lt))
+
+-- a text that lets the run go on has a log
+pub log_of : (texts : List (List ℕ)) (k : ℕ) → GoOn texts → k < length texts → (log : LogValue) × HasLog (get_or texts k []) log
+log_of [] k g lt = absurd (omega (arith, lt))
+log_of (list ∷ texts) zero g lt = (g.0.0, g.0.1)
+log_of (list ∷ texts) (suc k) g lt = let h = g.1 k [] (omega (arith, lt)) in (h.0, h.1)
 
 pub writes_answer : (IsRight : Reconciled → Type 0) (file : List ℕ) (names : List (List ℕ)) (a : Reconciled) (old new : List ℕ) (result : Result Status RunFault) → IsRight a
     → IfOk result (λ s. s ≡ reconciled_status a) → OnOk result (new ≡ old ++ reconciled_text file names a) → HasWrittenPrefix old new (reconciled_text file names a) → WritesAnswer IsRight file names old new result

@@ -1,24 +1,78 @@
 -- Sources are read in turn.
-use Rattle.vic_answer.proofs.Words.{◌≡◌, ℕ, zero, suc, ◌+◌, ◌<◌, ◌≤◌, List, [], ◌∷◌, ◌++◌, length, get_or, set, Bool, true, sym, subst, ◌∙◌, arith, inl, inr, get_or-set_other, get_or-set_same, get_or_append_left, get_or_default, length-append, LogValue, AllGoing, HasReadText, ReadsListAndLogs, ReadsTexts, Reconciles, AreComplete, HasLog, IsReconciled, IsReconciling, ReadsText, IsEnough, Reconciling, cases_lt, get_or-append_seam, AllZip, Ending, Reconciled, Ended}
+use Rattle.vic_answer.proofs.Words.{◌≡◌, ◌≢◌, ◌↔◌, ℕ, zero, suc, ◌+◌, ◌<◌, ◌≤◌, List, [], ◌∷◌, ◌++◌, length, take, get_or, set, Bool, true, false, Err, IfErr, IsErrAnd, Ok, Result, refl, sym, ap, subst, ◌∙◌, arith, cases_lt, cases_order, get_or-append_seam, get_or-set_other, get_or-set_same, get_or-take, get_or_append_left, get_or_default, inl, inr, length-append, length-take-le, AllZip, Grows, LogValue, AreComplete, Ended, Ending, GivesNoEarlyFault, GoOn, HasLog, HasReadText, IsAnswerable, IsKept, IsLast, IsOver, IsReadWithin, IsReconciled, IsReconciling, LeavesSource, Memory, Read, ReadsListAndLogs, ReadsTexts, Reconciled, Reconciles, Reconciling, Reconciliation, RunFault, StopsBy, Write, logs_before}
 use Rattle.vic_answer.specs.declared.reconcile.Reconciling.TheVariants as state
+use Rattle.vic_answer.specs.declared.ending.Ending.TheVariants.{ListRefusedAt, NotListedAt, RefusedAt, ImpossibleAt}
 use Rattle.vic_answer.proofs.CompleteRuns.{over}
-use Rattle.vic_answer.proofs.Reconciles.{answered_all}
+use Rattle.vic_answer.proofs.Reconciles.{answered_all, go_on_before, kept_go_on, log_at, log_of}
 
--- the sources before this one were read, and the others weren't
+-- ---- one source after another
+
+-- the sources from this one on are untouched, and each was read at most so many times
+pub record AreLeft {R : Type 0} (reads : R → ℕ) (has_failed : R → Bool) (old new : List R) (at : ℕ) : Type 0 where
+  pub others : (k : ℕ) (s : R) → at ≤ k → get_or new k s ≡ get_or old k s
+  pub within : (k : ℕ) (s : R) → IsReadWithin reads has_failed (get_or old k s) (get_or new k s)
+
+-- the sources before this one were read, and this holds of their texts
 pub record HaveRead {R : Type 0} (returned : R → List ℕ) (IsRead : R → List ℕ → Type 0) (old new : List R) (at : ℕ) (P : List (List ℕ) → Type 0) : Type 0 where
   pub texts : List (List ℕ)
   pub as_many : length texts ≡ at
   pub each : (k : ℕ) (s : R) → k < at → HasReadText returned IsRead (get_or old k s) (get_or new k s) (get_or texts k [])
-  pub others : (k : ℕ) (s : R) → at ≤ k → get_or new k s ≡ get_or old k s
   pub holds : P texts
 
-module _ {R : Type 0} (returned : R → List ℕ) (IsRead : R → List ℕ → Type 0) (old new : List R) (at : ℕ) where
+pub within_same : {R : Type 0} (reads : R → ℕ) (has_failed : R → Bool) (s : R) → IsReadWithin reads has_failed s s
+within_same reads has_failed s = record { at_most = omega arith; untouched = λ _. refl }
+
+pub within : {R A : Type 0} {reads : R → ℕ} {has_failed : R → Bool} {old new : R} {r : Result A RunFault} → LeavesSource reads has_failed old new r → IsReadWithin reads has_failed old new
+within h = record { at_most = h.at_most; untouched = h.untouched }
+
+-- where no log was read, no log has ended the run
+none_before : (list : List ℕ) (begun : Reconciling) → IsReconciling list [] begun → 0 ≡ logs_before begun 0
+none_before list (state.Going r) h = refl
+none_before list (state.Ended (ListRefusedAt line fault)) h = refl
+none_before list (state.Ended (NotListedAt line)) h = refl
+none_before list (state.Ended (RefusedAt k line fault)) h = cc h.2.1
+none_before list (state.Ended (ImpossibleAt k line)) h = cc h.2.2
+
+-- none is read yet
+pub none_left : {R : Type 0} (reads : R → ℕ) (has_failed : R → Bool) (old : List R) → AreLeft reads has_failed old old 0
+none_left reads has_failed old = record { others = λ k s le. refl; within = λ k s. within_same reads has_failed (get_or old k s) }
+
+pub none_read : {R : Type 0} (returned : R → List ℕ) (IsRead : R → List ℕ → Type 0) (old : List R) (list : List ℕ) (begun : Reconciling) → IsReconciling list [] begun
+    → HaveRead returned IsRead old old 0 (λ texts. IsReconciling list texts begun × (length texts ≡ logs_before begun 0))
+none_read returned IsRead old list begun h = record { texts = []; as_many = refl; each = λ k s lt. absurd (omega (arith, lt)); holds = (h, none_before list begun h) }
+
+-- what is said of a log that was read, where its text ends the run or not
+pub now_ending : (texts : List (List ℕ)) (text : List ℕ) (read : Reconciling) (at : ℕ) → length texts ≡ at → logs_before read (length texts + 1) ≡ length texts + 1 → length (texts ++ text ∷ []) ≡ logs_before read (at + 1)
+now_ending texts text read at e last = length-append texts (text ∷ []) ∙ (sym last ∙ ap (λ n. logs_before read (n + 1)) e)
+
+-- and where all were read
+pub all_ending : (read : Reconciling) (texts at logs : ℕ) → texts ≡ logs_before read at → at ≡ logs → texts ≡ logs_before read logs
+all_ending read texts at logs h e = h ∙ ap (logs_before read) e
+
+module _ {R : Type 0} (reads : R → ℕ) (has_failed : R → Bool) (old new : List R) (at : ℕ) where
+  -- the source that is read next
+  next_is : (d s : R) → at < length new → AreLeft reads has_failed old new at → get_or new at d ≡ get_or old at s
+  next_is d s lt h = get_or_default new at d s lt ∙ h.others at s (omega arith)
+
   -- one more is read
-  pub one_more : (d after : R) (P Q : List (List ℕ) → Type 0) → at < length new
+  pub one_more_left : (d after : R) → at < length new → AreLeft reads has_failed old new at
+      → IsReadWithin reads has_failed (get_or new at d) after → AreLeft reads has_failed old (set new at after) (at + 1)
+  one_more_left d after lt h leaves = record {
+    others = λ k s above. get_or-set_other new at k after s (λ e. omega (arith, e, above)) ∙ h.others k s (omega (arith, above));
+    within = λ k s. elim (cases_order k at) [
+      | inl same ↦ subst (λ n. IsReadWithin reads has_failed (get_or old n s) (get_or (set new at after) n s)) (sym same)
+          (rw (get_or-set_same new at after s lt) (subst (λ b. IsReadWithin reads has_failed b after) (next_is d s lt h) leaves))
+      | inr (inl less) ↦ rw (get_or-set_other new at k after s (λ e. omega (arith, e, less))) (h.within k s)
+      | inr (inr more) ↦ rw (get_or-set_other new at k after s (λ e. omega (arith, e, more))) (h.within k s)
+    ];
+  }
+
+  -- and its text
+  pub one_more : (returned : R → List ℕ) (IsRead : R → List ℕ → Type 0) (d after : R) (P Q : List (List ℕ) → Type 0) → at < length new → AreLeft reads has_failed old new at
       → HaveRead returned IsRead old new at P
       → (text : List ℕ) → HasReadText returned IsRead (get_or new at d) after text → ((texts : List (List ℕ)) → P texts → Q (texts ++ text ∷ []))
       → HaveRead returned IsRead old (set new at after) (at + 1) Q
-  one_more d after P Q lt h text read q = record {
+  one_more returned IsRead d after P Q lt left h text read q = record {
     texts = h.texts ++ text ∷ [];
     as_many = omega (arith, h.as_many, length-append h.texts (text ∷ []));
     each = λ k s below. elim (cases_lt k at) [
@@ -26,51 +80,191 @@ module _ {R : Type 0} (returned : R → List ℕ) (IsRead : R → List ℕ → T
       | inr le ↦
           let same : k ≡ at = omega (arith, le, below) in
           subst (λ n. HasReadText returned IsRead (get_or old n s) (get_or (set new at after) n s) (get_or (h.texts ++ text ∷ []) n [])) (sym same) (
-          let was = get_or_default new at d s lt ∙ h.others at s (omega arith) in
           let now : get_or (set new at after) at s ≡ after = get_or-set_same new at after s lt in
           let last = subst (λ n. get_or (h.texts ++ text ∷ []) n [] ≡ text) h.as_many (get_or-append_seam h.texts text [] []) in
-          rw (now, last) (subst (λ b. HasReadText returned IsRead b after text) was read)
+          rw (now, last) (subst (λ b. HasReadText returned IsRead b after text) (next_is d s lt left) read)
           )
     ];
-    others = λ k s above. get_or-set_other new at k after s (λ e. omega (arith, e, above)) ∙ h.others k s (omega (arith, above));
     holds = q h.texts h.holds;
   }
 
   -- none is read after this one
-  pub all_read : (P Q : List (List ℕ) → Type 0) → at ≤ length old → HaveRead returned IsRead old new at P
+  pub all_read : (returned : R → List ℕ) (IsRead : R → List ℕ → Type 0) (P Q : List (List ℕ) → Type 0) → at ≤ length old → AreLeft reads has_failed old new at → HaveRead returned IsRead old new at P
       → ((texts : List (List ℕ)) → length texts ≡ at → P texts → Q texts) → ReadsTexts returned IsRead old new Q
-  all_read P Q le h q = record {
+  all_read returned IsRead P Q le left h q = record {
     texts = h.texts;
     as_many = omega (arith, le, h.as_many);
     each = λ k s lt. h.each k s (omega (arith, lt, h.as_many));
+    others = λ k s above. left.others k s (omega (arith, above, h.as_many));
     holds = q h.texts h.as_many h.holds;
   }
 
+-- what holds of each place holds place by place
+pub all_places : {R : Type 0} (P : R → R → Type 0) (xs ys : List R) → length ys ≡ length xs → ((k : ℕ) (s : R) → P (get_or xs k s) (get_or ys k s)) → AllZip P xs ys
+all_places P [] [] e h = tt
+all_places P [] (y ∷ ys) e h = absurd (omega (arith, e))
+all_places P (x ∷ xs) [] e h = absurd (omega (arith, e))
+all_places P (x ∷ xs) (y ∷ ys) e h = (h 0 x, all_places P xs ys (omega (arith, e)) (λ k s. h (suc k) s))
+
+-- ---- where a run without an answer stops
+
+not_failed : (b : Bool) → (b ≡ true → ⊥) → b ≡ false
+not_failed true h = absurd (h refl)
+not_failed false h = refl
+
+module _ {R : Type 0} (returned : R → List ℕ) (ended has_failed : R → Bool) where
+  -- a source that was read to an answer or an early fault was read to its end, if its text has a log
+  over_and_works : (s : R) (text : List ℕ) (log : LogValue) → HasLog text log → IsAnswerable ended has_failed s text → IsOver ended has_failed s text
+  over_and_works s text log is_log h = (over _ text log is_log h.0, h.1)
+
+  -- the source that was read last, where it has failed if and only if the fault is `Read`
+  is_last : (e : RunFault) (old new : R) → (e ≡ Read) ↔ (has_failed new ≡ true) → (e ≡ Read → GivesNoEarlyFault (Grows (returned old) (returned new))) → IsLast returned has_failed e old new
+  is_last Read old new failed cut = (failed.0 refl, cut refl)
+  is_last Memory old new failed cut = not_failed _ (λ t. cc (failed.1 t))
+  is_last Write old new failed cut = not_failed _ (λ t. cc (failed.1 t))
+
+  -- the same, where it works
+  works_last : (e : RunFault) (old new : R) → e ≢ Read → has_failed new ≡ false → IsLast returned has_failed e old new
+  works_last Read old new other works = absurd (other refl)
+  works_last Memory old new other works = works
+  works_last Write old new other works = works
+
+  -- a log's source is the last that is read
+  pub stops_at_log : {A : Type 0} (r : Result A RunFault) (reads : R → ℕ) (list : List ℕ) (joined : Reconciliation) (old new : List R) (at : ℕ) (d after : R) (e : RunFault)
+      → r ≡ Err e → at < length new → length new ≡ length old → AreLeft reads has_failed old new at
+      → HaveRead returned (IsAnswerable ended has_failed) old new at (λ texts. IsKept list texts joined)
+      → LeavesSource reads has_failed (get_or new at d) after r → (e ≡ Read → GivesNoEarlyFault (Grows (returned (get_or new at d)) (returned after)))
+      → StopsBy returned ended has_failed (λ texts. GoOn (list ∷ texts)) old (set new at after) e
+  stops_at_log r reads list joined old new at d after e is lt long left h leaves cut =
+      let go_on = kept_go_on list h.texts joined h.holds in
+      record {
+        texts = h.texts;
+        one_more = omega (arith, h.as_many, lt, long);
+        each = λ k s below.
+            let less : k < at = omega (arith, below, h.as_many) in
+            let was = h.each k s less in
+            let log = log_of (list ∷ h.texts) (suc k) go_on (omega (arith, below)) in
+            rw (get_or-set_other new at k after s (λ e. omega (arith, e, less))) (was.0, over_and_works (get_or new k s) (get_or h.texts k []) log.0 log.1 was.1);
+        go_on = go_on;
+        last = λ s. subst (λ n. IsLast returned has_failed e (get_or old n s) (get_or (set new at after) n s)) (sym h.as_many)
+            (rw (get_or-set_same new at after s lt) (subst (λ b. IsLast returned has_failed e b after) (next_is reads has_failed old new at d s lt left) (is_last e (get_or new at d) after (rw is at leaves.read) cut)));
+        others = λ k s above. get_or-set_other new at k after s (λ e. omega (arith, e, above, h.as_many)) ∙ left.others k s (omega (arith, above, h.as_many));
+      }
+
+  module _ (list list' : R) (logs logs' : List R) where
+    -- the list's source is the last that is read
+    pub stops_at_list : {A : Type 0} (r : Result A RunFault) (reads : R → ℕ) (e : RunFault) → r ≡ Err e → LeavesSource reads has_failed list list' r → (e ≡ Read → GivesNoEarlyFault (Grows (returned list) (returned list')))
+        → StopsBy returned ended has_failed GoOn (list ∷ logs) (list' ∷ logs) e
+    stops_at_list r reads e is leaves cut = record {
+      texts = [];
+      one_more = omega arith;
+      each = λ k s lt. absurd (omega (arith, lt));
+      go_on = tt;
+      last = λ s. is_last e list list' (rw is at leaves.read) cut;
+      others = others;
+    }
+      where
+        others : (k : ℕ) (s : R) → 0 < k → get_or (list' ∷ logs) k s ≡ get_or (list ∷ logs) k s
+        others zero s lt = absurd (omega (arith, lt))
+        others (suc k) s lt = refl
+
+    -- behind the list, a log's source is the last that is read
+    pub stops_behind_list : (e : RunFault) (text : List ℕ) → HasReadText returned (IsAnswerable ended has_failed) list list' text
+        → StopsBy returned ended has_failed (λ texts. GoOn (text ∷ texts)) logs logs' e
+        → StopsBy returned ended has_failed GoOn (list ∷ logs) (list' ∷ logs') e
+    stops_behind_list e text read h = record {
+      texts = text ∷ h.texts;
+      one_more = omega (arith, h.one_more);
+      each = each;
+      go_on = h.go_on;
+      last = h.last;
+      others = others;
+    }
+      where
+        each : (k : ℕ) (s : R) → k < length (text ∷ h.texts) → HasReadText returned (IsOver ended has_failed) (get_or (list ∷ logs) k s) (get_or (list' ∷ logs') k s) (get_or (text ∷ h.texts) k [])
+        each zero s lt = let log = log_of (text ∷ h.texts) 0 h.go_on lt in (read.0, over_and_works list' text log.0 log.1 read.1)
+        each (suc k) s lt = h.each k s (omega (arith, lt))
+
+        others : (k : ℕ) (s : R) → length (text ∷ h.texts) < k → get_or (list' ∷ logs') k s ≡ get_or (list ∷ logs) k s
+        others zero s lt = absurd (omega (arith, lt))
+        others (suc k) s lt = h.others k s (omega (arith, lt))
+
+    -- all sources that an answer needs were read
+    pub stops_answered : (e : RunFault) (text : List ℕ) (read : Reconciling) → e ≢ Read → HasReadText returned (IsAnswerable ended has_failed) list list' text
+        → ReadsTexts returned (IsAnswerable ended has_failed) logs logs' (λ texts. IsReconciling text texts read × (length texts ≡ logs_before read (length logs)))
+        → StopsBy returned ended has_failed GoOn (list ∷ logs) (list' ∷ logs') e
+    stops_answered e text read other first h = record {
+      texts = before;
+      one_more = omega (arith, long, h.as_many);
+      each = λ k s lt. each_at k s (omega (arith, lt, long));
+      go_on = go_on;
+      last = λ s. subst (λ m. IsLast returned has_failed e (get_or (list ∷ logs) m s) (get_or (list' ∷ logs') m s)) (sym long) (works_last e _ _ other (read_at n s (omega arith)).1.1);
+      others = λ k s lt. others_at k s (omega (arith, lt, long));
+    }
+      where
+        n : ℕ
+        n = length h.texts
+
+        all : List (List ℕ)
+        all = text ∷ h.texts
+
+        before : List (List ℕ)
+        before = take n all
+
+        long : length before ≡ n
+        long = length-take-le n all (omega arith)
+
+        go_on : GoOn before
+        go_on = go_on_before text h.texts read (length logs) n refl h.holds.0 h.holds.1
+
+        read_at : (k : ℕ) (s : R) → k ≤ n → HasReadText returned (IsAnswerable ended has_failed) (get_or (list ∷ logs) k s) (get_or (list' ∷ logs') k s) (get_or all k [])
+        read_at zero s le = first
+        read_at (suc k) s le = h.each k s (omega (arith, le))
+
+        each_at : (k : ℕ) (s : R) → k < n → HasReadText returned (IsOver ended has_failed) (get_or (list ∷ logs) k s) (get_or (list' ∷ logs') k s) (get_or before k [])
+        each_at k s lt =
+            let log = log_of before k go_on (omega (arith, lt, long)) in
+            let was = read_at k s (omega (arith, lt)) in
+            let here = get_or-take n all k [] lt in
+            rw here (was.0, over_and_works (get_or (list' ∷ logs') k s) (get_or all k []) log.0 (subst (λ t. HasLog t log.0) here log.1) was.1)
+
+        others_at : (k : ℕ) (s : R) → n < k → get_or (list' ∷ logs') k s ≡ get_or (list ∷ logs) k s
+        others_at zero s lt = absurd (omega (arith, lt))
+        others_at (suc k) s lt = h.others k s (omega (arith, lt))
+
+-- what holds of a fault holds of the result that passes it on
+pub if_err : {A E : Type 0} (r : Result A E) (fault : E) (P : E → Type 0) → IsErrAnd r (λ e. e ≡ fault) → P fault → IfErr r P
+if_err (Ok x) fault P h p = tt
+if_err (Err e) fault P h p = subst P (sym h) p
+
+pub if_err_other : {A E : Type 0} (r : Result A E) (P Q : E → Type 0) → ((e : E) → P e → Q e) → IfErr r P → IfErr r Q
+if_err_other (Ok x) P Q f h = tt
+if_err_other (Err e) P Q f h = f e h
+
 -- ---- the answer to what was read
 
-module _ {R : Type 0} (returned : R → List ℕ) (ended : R → Bool) (list list' : R) (logs logs' : List R) where
-  pub reconciles : (begun read : Reconciling) (answer : Reconciled)
-      → ReadsText (returned list) (returned list') (ended list') (λ text. IsReconciling text [] begun)
-      → ((text : List ℕ) → IsReconciling text [] begun → ReadsTexts returned (λ s. IsEnough (ended s ≡ true)) logs logs' (λ texts. IsReconciling text texts read × AllGoing read (length logs) (length texts)))
+module _ {R : Type 0} (returned : R → List ℕ) (ended has_failed : R → Bool) (list list' : R) (logs logs' : List R) where
+  pub reconciles : (begun read : Reconciling) (answer : Reconciled) (text : List ℕ)
+      → HasReadText returned (IsAnswerable ended has_failed) list list' text
+      → ReadsTexts returned (IsAnswerable ended has_failed) logs logs' (λ texts. IsReconciling text texts read × (length texts ≡ logs_before read (length logs)))
       → ((text : List ℕ) (texts : List (List ℕ)) → IsReconciling text texts read → IsReconciled text texts answer)
-      → ((e : Ending) → read ≡ state.Ended e → answer ≡ Ended e)
-      → Reconciles returned ended list list' logs logs' answer
-  reconciles begun read answer b reads right stays =
-      let l = reads b.text b.holds in
-      record {
-        text = b.text;
-        list_read = (b.given, b.enough);
-        logs_read = record {
-          texts = l.texts;
-          as_many = l.as_many;
-          each = l.each;
-          holds = (right b.text l.texts l.holds.0, answered_all read answer (length logs) (length l.texts) l.holds.1 stays);
-        };
-      }
+      → ((e : Ending) → (read ≡ state.Ended e) ↔ (answer ≡ Ended e))
+      → Reconciles returned ended has_failed list list' logs logs' answer
+  reconciles begun read answer text first l right stays = record {
+    text = text;
+    list_read = first;
+    logs_read = record {
+      texts = l.texts;
+      as_many = l.as_many;
+      each = l.each;
+      others = l.others;
+      holds = (right text l.texts l.holds.0, answered_all read answer (length logs) (length l.texts) l.holds.1 stays);
+    };
+  }
 
   -- where the answer is complete, each text has a log, and was read to its end
   pub read_to_ends : (P : List ℕ → List (List ℕ) → Type 0) (rest : List ℕ)
-      → ReadsListAndLogs returned (λ s. IsEnough (ended s ≡ true)) list list' logs logs' P
+      → ReadsListAndLogs returned (IsAnswerable ended has_failed) list list' logs logs' P
       → ((text : List ℕ) (texts : List (List ℕ)) → P text texts → AreComplete text texts rest × (length texts ≡ length logs))
       → ReadsListAndLogs returned (λ s _. ended s ≡ true) list list' logs logs' (λ text texts. AreComplete text texts rest × (length texts ≡ length logs))
   read_to_ends P rest r complete =
@@ -78,20 +272,15 @@ module _ {R : Type 0} (returned : R → List ℕ) (ended : R → Bool) (list lis
       let c = complete r.text l.texts l.holds in
       record {
         text = r.text;
-        list_read = (r.list_read.0, over _ r.text c.0.expected c.0.is_list r.list_read.1);
+        list_read = (r.list_read.0, over _ r.text c.0.expected c.0.is_list r.list_read.1.0);
         logs_read = record {
           texts = l.texts;
           as_many = l.as_many;
           each = λ k s lt.
               let h = l.each k s lt in
               let log = log_at l.texts c.0.logs k c.0.are_logs lt in
-              (h.0, over _ _ log.0 log.1 h.1);
+              (h.0, over _ _ log.0 log.1 h.1.0);
+          others = l.others;
           holds = c;
         };
       }
-    where
-      log_at : (texts : List (List ℕ)) (logs : List LogValue) (k : ℕ) → AllZip HasLog texts logs → k < length texts → (log : LogValue) × HasLog (get_or texts k []) log
-      log_at [] logs k z lt = absurd (omega (arith, lt))
-      log_at (t ∷ texts) [] k z lt = absurd z
-      log_at (t ∷ texts) (l ∷ logs) zero z lt = (l, z.0)
-      log_at (t ∷ texts) (l ∷ logs) (suc k) z lt = log_at texts logs k z.1 (omega (arith, lt))

@@ -3,9 +3,9 @@ pub use Rattle.std.proofs.Common.{All, Bool, Err, IfErr, IfOk, IsErr, IsErrAnd, 
 pub use Rattle.std.proofs.KnownBytes.{Appends-nil, Appends-trans}
 pub use Rattle.std.proofs.Math.Nat.{pow-le-pow_right}
 pub use Rattle.std.proofs.Math.Seq.{get_or-append_seam, take-append-add, take-append_seam}
-pub use Rattle.std.proofs.lemmas.Bool.{and_parts, cases_lt, false≢true}
+pub use Rattle.std.proofs.lemmas.Bool.{and_parts, cases_lt, cases_order, false≢true}
 pub use Rattle.std.proofs.lemmas.Fmt.{decimal_is_IsNumeral, parse-decimal}
-pub use Rattle.std.proofs.lemmas.List.{append_cancel_left, at_drop_all, at_drop_more, drop-replicate, flat_map_more, get_or-drop, get_or-set_other, get_or-set_same, get_or_append_left, get_or_default, length-append, length-drop, length-map, map-append, map_more, take-append-le, take_all, take_more}
+pub use Rattle.std.proofs.lemmas.List.{append_cancel_left, at_drop_all, at_drop_more, drop-replicate, flat_map_more, get_or-drop, get_or-set_other, get_or-set_same, get_or-take, get_or_append_left, get_or_default, length-append, length-drop, length-map, length-set, length-take-le, map-append, map_more, take-append-le, take_all, take_more}
 pub use Rattle.std.proofs.lemmas.List.Concat.{flat_map-append}
 pub use Rattle.std.proofs.lemmas.List.FromFn.{fill_by_all}
 pub use Rattle.std.proofs.lemmas.List.Elements.{All-cons, All-head, All-nil, All-tail}
@@ -16,7 +16,7 @@ pub use Rattle.std.proofs.lemmas.Slice.Zip.{AllZip-long, all_zipped_more}
 pub use Rattle.std.specs.Int.{byte_at, bytes_high_first, from_be_bytes, to_be_bytes}
 pub use Rattle.std.specs.Io.KnownBytes.{Appends, Consumes}
 pub use Rattle.std.specs.List.{AllZip, range_with_len}
-pub use Rattle.std.specs.Prelude.{⊤}
+pub use Rattle.std.specs.Prelude.{⊤, ◌↔◌, ◌≢◌}
 pub use Rattle.std.specs.Str.Parse.{ParsesUnsigned, digits_value}
 pub use Rattle.hex.proofs.HexLemmas.{decode_of-encode_upper, decode_of-ok, decode_sized-ok, decode_sized-twice, length-encode_with}
 pub use Rattle.hex.specs.Hex.{IsBytes, decode_sized, encode_upper, upper_digits}
@@ -33,7 +33,7 @@ pub use Rattle.vic_frame.specs.declared.request.Request.TheVariants.{Inventory, 
 pub use Rattle.vic_frame.specs.declared.uid.TheConstants.{UID_BITS}
 pub use Rattle.vic_log.proofs.One.{not_both}
 pub use Rattle.vic_log.proofs.Places.{slice_get_seam}
-pub use Rattle.vic_log.specs.Device.{HandsOut, HasTakenBut, HasTakenPrefix, HasWrittenPrefix, TellsOn}
+pub use Rattle.vic_log.specs.Device.{Grows, HandsOut, HasTakenBut, HasTakenPrefix, HasWrittenPrefix, TellsOn}
 pub use Rattle.vic_log.specs.Early.{ReadsWhere}
 pub use Rattle.vic_log.specs.Lines.{lines_of_text}
 pub use Rattle.vic_log.specs.Log.{LogValue}
@@ -71,11 +71,11 @@ pub use Rattle.vic_answer.specs.CheckText.{BeginsAsCheck, IsAnswer, IsCheckOf, I
 pub use Rattle.vic_answer.specs.Digits.{hex_bytes, value_text}
 pub use Rattle.vic_answer.specs.ExplainText.{IsExplanationOf, explained_text, population_line, population_of}
 pub use Rattle.vic_answer.specs.Readings.{GivesReading, IsReading, Stands}
-pub use Rattle.vic_answer.specs.ReconcileRun.{AllGoing, AllRead, HasReadText, ReadsListAndLogs, ReadsTexts, Reconciles, WritesAnswer}
+pub use Rattle.vic_answer.specs.ReconcileRun.{GoOn, HasReadText, IsAnswerable, IsLast, IsOver, IsReadWithin, ReadsListAndLogs, ReadsTexts, Reconciles, StopsAtSource, StopsBy, WritesAnswer, logs_before, logs_for, logs_up_to}
 pub use Rattle.vic_answer.specs.ReconcileText.{absent_line, all_masks_text, doubtful_text, ending_text, masks_text, open_text, reconciled_status, reconciled_text, unlisted_text}
-pub use Rattle.vic_answer.specs.Reconciled.{AreComplete, EndsAt, HasLog, HasPossibleLog, IsKept, IsReconciled, IsReconciling, ReadsText, lines_of}
+pub use Rattle.vic_answer.specs.Reconciled.{AreComplete, EndsAt, HasList, HasLog, HasPossibleLog, IsKept, IsReconciled, IsReconciling, ReadsText, lines_of}
 pub use Rattle.vic_answer.specs.ReportText.{IsReportOf, absent_text, answer_of, by_line, doubtful_line, more_line, open_line, reported_text, silenced_line, unsettled_text}
-pub use Rattle.vic_answer.specs.Runs.{IsEnough, Runs, RunsOver, RunsWhere, Writes}
+pub use Rattle.vic_answer.specs.Runs.{GivesNoEarlyFault, IsEnough, LeavesSource, Runs, RunsOver, RunsWhere, Writes}
 pub use Rattle.vic_answer.specs.SimulateText.{IsSimulationOf, simulated_status, simulated_text}
 pub use Rattle.vic_answer.specs.SpellText.{and_then, hex_decoded, hex_number_in, inventory_in, longest_mask, mask_in, number_ending, number_in, number_up_to, reply_in, reply_words, request_words, says_inventory, says_reply, says_stay_quiet, sixteen_in, spelled_text, stay_quiet_in, value_in, word, words_of, words_reading}
 pub use Rattle.vic_answer.specs.declared.check.Answer.{Answer}
@@ -90,6 +90,6 @@ pub use Rattle.vic_answer.specs.declared.spell.Said.TheVariants.{Asked, Replied}
 pub use Rattle.vic_answer.specs.declared.spell.SpellFault.{SpellFault}
 pub use Rattle.vic_answer.specs.declared.spell.SpellFault.TheVariants.{Words}
 pub use Rattle.vic_answer.specs.declared.status.RunFault.{RunFault}
-pub use Rattle.vic_answer.specs.declared.status.RunFault.TheVariants.{Write}
+pub use Rattle.vic_answer.specs.declared.status.RunFault.TheVariants.{Memory, Read, Write}
 pub use Rattle.vic_answer.specs.declared.status.Status.{Status}
 pub use Rattle.vic_answer.specs.inner.Pieces.{Puts, PutsBehind}

@@ -19,4 +19,5 @@ pub mod Reconciled
 pub mod Tasks
 pub mod ReconcileRun
 pub mod SurveyNumbers
+pub mod Listing
 pub mod inner

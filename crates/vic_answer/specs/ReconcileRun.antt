@@ -1,10 +1,13 @@
 -- What a run of `reconcile` reads from its sources, and what it writes.
-use Rattle.std.specs.Prelude.{◌≡◌, ◌⊎◌, ℕ, ◌<◌, ◌≤◌, Bool, true, ⊤, [], List, ◌++◌, Result, Ok, Err, length, slice_index_or}
-use Rattle.std.specs.List.{Any}
+use Rattle.std.specs.Prelude.{◌≡◌, ℕ, ◌+◌, ◌<◌, ◌≤◌, Bool, true, false, ⊤, [], ◌∷◌, List, ◌++◌, Result, Ok, Err, length, slice_index_or}
+use Rattle.std.specs.List.{All}
+use Rattle.vic_log.specs.declared.reader.TheConstants.{MAX_READS}
 use Rattle.vic_log.specs.Device.{Grows, HasWrittenPrefix}
 use Rattle.vic_answer.specs.ReconcileText.{reconciled_status, reconciled_text}
-use Rattle.vic_answer.specs.Reconciled.{IsReconciled}
-use Rattle.vic_answer.specs.Runs.{IsEnough}
+use Rattle.vic_answer.specs.Reconciled.{HasList, HasPossibleLog, IsReconciled}
+use Rattle.vic_answer.specs.Runs.{GivesNoEarlyFault, IsEnough}
+use Rattle.vic_answer.specs.declared.ending.Ending.{Ending}
+use Rattle.vic_answer.specs.declared.ending.Ending.TheVariants.{ListRefusedAt, NotListedAt, RefusedAt, ImpossibleAt}
 use Rattle.vic_answer.specs.declared.reconcile.Reconciled.{Reconciled}
 use Rattle.vic_answer.specs.declared.reconcile.Reconciled.TheVariants.{Complete, Found, Ended}
 use Rattle.vic_answer.specs.declared.reconcile.Reconciling.{Reconciling}
@@ -13,13 +16,16 @@ use Rattle.vic_answer.specs.declared.status.RunFault.{RunFault}
 use Rattle.vic_answer.specs.declared.status.RunFault.TheVariants.{Read, Write, Memory}
 use Rattle.vic_answer.specs.declared.status.Status.{Status}
 
+-- ---- what is read
+
 -- a source's reads returned this text, and IsRead holds of the source and the text then
 abbrev pub HasReadText : {R : Type 0} → (R → List ℕ) → (R → List ℕ → Type 0)
     → R → R → List ℕ → Type 0
 HasReadText returned IsRead old new text =
     Grows (returned old) (returned new) text × IsRead new text
 
--- of some sources, in their order, as many were read as there are texts, and P holds of the texts
+-- of some sources, in their order, as many were read as there are texts, those behind them are
+-- untouched, and P holds of the texts
 pub record ReadsTexts {R : Type 0} (returned : R → List ℕ) (IsRead : R → List ℕ → Type 0)
     (old new : List R) (P : List (List ℕ) → Type 0) : Type 0 where
   pub texts : List (List ℕ)
@@ -27,6 +33,8 @@ pub record ReadsTexts {R : Type 0} (returned : R → List ℕ) (IsRead : R → L
   pub each : (k : ℕ) (s : R) → k < length texts
       → HasReadText returned IsRead (slice_index_or old k s) (slice_index_or new k s)
       (slice_index_or texts k [])
+  pub others : (k : ℕ) (s : R) → length texts ≤ k
+      → slice_index_or new k s ≡ slice_index_or old k s
   pub holds : P texts
 
 -- the list was read, and so were logs from the first on, and P holds of their texts
@@ -37,29 +45,86 @@ pub record ReadsListAndLogs {R : Type 0} (returned : R → List ℕ)
   pub list_read : HasReadText returned IsRead list list' text
   pub logs_read : ReadsTexts returned IsRead logs logs' (P text)
 
--- as many logs were read as there are, except where a text ended the run
-abbrev pub AllRead : Reconciled → ℕ → ℕ → Type 0
-AllRead (Complete count) logs texts = texts ≡ logs
-AllRead (Found f) logs texts = texts ≡ logs
-AllRead (Ended e) logs texts = ⊤
+-- the source works, and these bytes of it determine the answer
+abbrev pub IsAnswerable : {R : Type 0} → (R → Bool) → (R → Bool) → R → List ℕ → Type 0
+IsAnswerable ended has_failed s text =
+    IsEnough (ended s ≡ true) text × (has_failed s ≡ false)
+
+-- how many logs are read, up to the text that ends the run
+abbrev pub logs_up_to : Ending → ℕ
+logs_up_to (ListRefusedAt n fault) = 0
+logs_up_to (NotListedAt n) = 0
+logs_up_to (RefusedAt k n fault) = k + 1
+logs_up_to (ImpossibleAt k n) = k + 1
+
+-- how many of the logs are read for this answer: all, or those up to the one that ends the run
+abbrev pub logs_for : Reconciled → ℕ → ℕ
+logs_for (Complete count) logs = logs
+logs_for (Found f) logs = logs
+logs_for (Ended e) logs = logs_up_to e
 
 -- the same, before there is an answer
-abbrev pub AllGoing : Reconciling → ℕ → ℕ → Type 0
-AllGoing (state.Going r) logs texts = texts ≡ logs
-AllGoing (state.Ended e) logs texts = ⊤
+abbrev pub logs_before : Reconciling → ℕ → ℕ
+logs_before (state.Going r) logs = logs
+logs_before (state.Ended e) logs = logs_up_to e
 
 -- this is the answer to the list and the logs that were read, each up to its end or an early fault
-abbrev pub Reconciles : {R : Type 0} → (R → List ℕ) → (R → Bool)
+abbrev pub Reconciles : {R : Type 0} → (R → List ℕ) → (ended has_failed : R → Bool)
     → R → R → List R → List R → Reconciled → Type 0
-Reconciles returned ended list list' logs logs' answer =
-    ReadsListAndLogs returned (λ s. IsEnough (ended s ≡ true)) list list' logs logs'
+Reconciles returned ended has_failed list list' logs logs' answer =
+    ReadsListAndLogs returned (IsAnswerable ended has_failed) list list' logs logs'
     (λ text texts. IsReconciled text texts answer
-    × AllRead answer (length logs) (length texts))
+    × (length texts ≡ logs_for answer (length logs)))
 
--- the source of the list has failed, or that of a log
-abbrev pub HaveFailed : {R : Type 0} → (R → Bool) → R → List R → Type 0
-HaveFailed has_failed list logs =
-    (has_failed list ≡ true) ⊎ Any (λ s. has_failed s ≡ true) logs
+-- ---- where a run without an answer stops
+
+-- texts that let the run go on: that of a list, and then those of possible logs
+abbrev pub GoOn : List (List ℕ) → Type 0
+GoOn [] = ⊤
+GoOn (list ∷ texts) = HasList list × All HasPossibleLog texts
+
+-- the source was read to its end, and works
+abbrev pub IsOver : {R : Type 0} → (R → Bool) → (R → Bool) → R → List ℕ → Type 0
+IsOver ended has_failed s text = (ended s ≡ true) × (has_failed s ≡ false)
+
+-- of some sources, in their order, one is the last that was read, and P holds of it before and
+-- after; those before it were read to their ends, and their texts let the run go on; those behind
+-- it are untouched
+pub record StopsAtSource {R : Type 0} (returned : R → List ℕ) (IsRead : R → List ℕ → Type 0)
+    (LetGoOn : List (List ℕ) → Type 0) (old new : List R) (P : R → R → Type 0) : Type 0 where
+  pub texts : List (List ℕ)
+  pub one_more : length texts < length old
+  pub each : (k : ℕ) (s : R) → k < length texts
+      → HasReadText returned IsRead (slice_index_or old k s) (slice_index_or new k s)
+      (slice_index_or texts k [])
+  pub go_on : LetGoOn texts
+  pub last : (s : R)
+      → P (slice_index_or old (length texts) s) (slice_index_or new (length texts) s)
+  pub others : (k : ℕ) (s : R) → length texts < k
+      → slice_index_or new k s ≡ slice_index_or old k s
+
+-- the last source that was read, by the fault of the run: it has failed, before an early fault of
+-- its text, if and only if the fault is `Read`
+abbrev pub IsLast : {R : Type 0} → (R → List ℕ) → (R → Bool) → RunFault → R → R → Type 0
+IsLast returned has_failed Read old new =
+    (has_failed new ≡ true) × GivesNoEarlyFault (Grows (returned old) (returned new))
+IsLast returned has_failed Memory old new = has_failed new ≡ false
+IsLast returned has_failed Write old new = has_failed new ≡ false
+
+-- where a run stopped that answers a fault
+abbrev pub StopsBy : {R : Type 0} → (R → List ℕ) → (ended has_failed : R → Bool)
+    → (List (List ℕ) → Type 0) → List R → List R → RunFault → Type 0
+StopsBy returned ended has_failed LetGoOn old new fault =
+    StopsAtSource returned (IsOver ended has_failed) LetGoOn old new
+    (IsLast returned has_failed fault)
+
+-- a source was read at most so many times, and not at all if it had failed before
+pub record IsReadWithin {R : Type 0} (reads : R → ℕ) (has_failed : R → Bool)
+    (old new : R) : Type 0 where
+  pub at_most : reads new ≤ reads old + MAX_READS
+  pub untouched : has_failed old ≡ true → new ≡ old
+
+-- ---- what is written
 
 -- what was written, by the result of the run: the text of the answer, or a prefix of it if the sink
 -- failed

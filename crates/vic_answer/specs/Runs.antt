@@ -82,8 +82,8 @@ RunsOver IsAnswerTo returned returned' ended written written' result =
 
 -- how a run leaves its source: failed if and only if the result is `Read`, and untouched if it had
 -- failed before
-pub record LeavesSource {R : Type 0} (reads : R → ℕ) (has_failed : R → Bool)
-    (old new : R) (result : Result Status RunFault) : Type 0 where
+pub record LeavesSource {R A : Type 0} (reads : R → ℕ) (has_failed : R → Bool)
+    (old new : R) (result : Result A RunFault) : Type 0 where
   pub works : OnOk result (has_failed new ≡ false)
   pub read : IfErr result (λ e. (e ≡ Read) ↔ (has_failed new ≡ true))
   pub untouched : has_failed old ≡ true → new ≡ old

@@ -10,7 +10,7 @@ use Rattle.vic_answer.specs.CompleteRun.{IsCompleteWhereWritten}
 use Rattle.vic_answer.specs.ExplainText.{IsExplanationOf}
 use Rattle.vic_answer.specs.FrameText.{frame_text, frame_status}
 use Rattle.vic_answer.specs.ReportText.{IsReportOf}
-use Rattle.vic_answer.specs.Runs.{RunsOver}
+use Rattle.vic_answer.specs.Runs.{LeavesSource, RunsOver}
 use Rattle.vic_answer.specs.SimulateText.{IsSimulationOf}
 use Rattle.vic_answer.specs.SpellText.{spell_text, spell_status}
 
@@ -42,3 +42,17 @@ Does (Spell words) read read' ended written written' result =
     (read' ≡ read)
     × IsWritten (spell_text (map string_bytes words.items))
     (spell_status (map string_bytes words.items)) written written' result
+
+-- how a task leaves its source: as a run does, or untouched if it reads none
+abbrev pub LeavesSourceAfter : {R : Type 0} → Task → (R → ℕ) → (R → Bool) → R → R
+    → Result Status RunFault → Type 0
+LeavesSourceAfter (Check file) reads has_failed old new result =
+    LeavesSource reads has_failed old new result
+LeavesSourceAfter (Simulate file) reads has_failed old new result =
+    LeavesSource reads has_failed old new result
+LeavesSourceAfter (Explain file) reads has_failed old new result =
+    LeavesSource reads has_failed old new result
+LeavesSourceAfter (Report file) reads has_failed old new result =
+    LeavesSource reads has_failed old new result
+LeavesSourceAfter (Frame word) reads has_failed old new result = new ≡ old
+LeavesSourceAfter (Spell words) reads has_failed old new result = new ≡ old

@@ -11,6 +11,7 @@ mod frame;
 mod input;
 pub mod laws;
 mod lines;
+mod listing;
 mod numbers;
 mod output;
 mod pieces;
@@ -35,6 +36,7 @@ pub use fault_numbers::{fault_number, frame_fault_number};
 pub use finding_numbers::{FindingKind, VicinityFinding, findings_of, put_findings};
 pub use frame::run_frame;
 pub use lines::LINE_ROOM;
+pub use listing::{LISTED, Listing, NOT_LISTED, list_text, listed_in, listing_numbers};
 pub use numbers::{Kind, NO_ANSWER, VicinityAnswer, numbers_of};
 pub use population::{put_population, put_uids};
 pub use reconcile::{

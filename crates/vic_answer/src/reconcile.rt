@@ -1,12 +1,13 @@
 //! The command `reconcile`, text by text.
 
-ghost use Rattle.std.specs.Prelude.{◌≡◌, ◌≢◌, ◌++◌, ℕ, [], ◌∷◌, List, IfErr, IfOk, OnOk, true};
+ghost use Rattle.std.specs.Prelude.{◌≡◌, ◌≢◌, ◌↔◌, ◌+◌, ◌++◌, ℕ, [], ◌∷◌, List, IfErr, IfOk, OnOk, length};
 ghost use Rattle.std.specs.Prelude.{codes, map, string_bytes};
-ghost use Rattle.vic_log.specs.Device.{HasWrittenPrefix};
+ghost use Rattle.vic_log.specs.Device.{Grows, HasWrittenPrefix};
 ghost use Rattle.vic_answer.specs.Readings.{IsReading};
 ghost use Rattle.vic_answer.specs.Reconciled.{AreComplete, IsKept, IsReconciled, IsReconciling, ReadsText};
+ghost use Rattle.vic_answer.specs.ReconcileRun.{logs_before};
 ghost use Rattle.vic_answer.specs.ReconcileText as spec;
-ghost use Rattle.vic_answer.specs.Runs.{LeavesSink};
+ghost use Rattle.vic_answer.specs.Runs.{GivesNoEarlyFault, LeavesSink, LeavesSource};
 ghost use Rattle.vic_answer.specs.declared.ending.Ending.{Ending as EndingValue};
 ghost use Rattle.vic_answer.specs.declared.status.RunFault.TheVariants.{Read, Write};
 
@@ -41,11 +42,15 @@ pub enum Reconciled {
     Ended(Ending),
 }
 
-/// Reads the list of what is expected from a source.
+/// Reads the list of what is expected from a source, to its end or to the first fault of a line
+/// that no further byte can change. `Read` if the source has failed, `Memory` if memory was
+/// refused.
 pub fn read_expected<R: Source>(alloc: Global, source: &mut R) -> Result<Reconciling, RunFault>
     ensures text { IfOk result (λ r. ReadsText (R.returned source.old) (R.returned source.new)
         (R.ended source.new) (λ text. IsReconciling text [] r)) }
-    ensures read { IfErr result (λ e. e ≡ Read → R.has_failed source.new ≡ true) }
+    ensures cut { IfErr result (λ e. e ≡ Read
+        → GivesNoEarlyFault (Grows (R.returned source.old) (R.returned source.new))) }
+    ensures leaves_source { LeavesSource R.reads R.has_failed source.old source.new result }
     ensures fault { IfErr result (λ e. e ≢ Write) }
 {
     let reading = read_source(alloc, source)?;
@@ -69,7 +74,8 @@ fn begin(alloc: Global, reading: Reading) -> Result<Reconciling, AllocError>
     }
 }
 
-/// Reads the next log from a source, and joins it to those before.
+/// Reads the next log from a source, as `read_expected` reads the list, and joins it to those
+/// before.
 pub fn read_next<R: Source>(
     alloc: Global,
     joined: Reconciliation,
@@ -78,7 +84,12 @@ pub fn read_next<R: Source>(
     ensures text { IfOk result (λ r. ReadsText (R.returned source.old) (R.returned source.new)
         (R.ended source.new) (λ text. (list : List ℕ) (texts : List (List ℕ))
         → IsKept list texts joined → IsReconciling list (texts ++ text ∷ []) r)) }
-    ensures read { IfErr result (λ e. e ≡ Read → R.has_failed source.new ≡ true) }
+    // if a text ends the run, it is this one
+    ensures last { IfOk result (λ r. (list : List ℕ) (texts : List (List ℕ))
+        → IsKept list texts joined → logs_before r (length texts + 1) ≡ length texts + 1) }
+    ensures cut { IfErr result (λ e. e ≡ Read
+        → GivesNoEarlyFault (Grows (R.returned source.old) (R.returned source.new))) }
+    ensures leaves_source { LeavesSource R.reads R.has_failed source.old source.new result }
     ensures fault { IfErr result (λ e. e ≢ Write) }
 {
     let reading = read_source(alloc, source)?;
@@ -87,9 +98,11 @@ pub fn read_next<R: Source>(
 
 /// What the logs say with one more.
 fn join(joined: Reconciliation, reading: Reading) -> Result<Reconciling, AllocError>
-    ensures { IfOk result (λ r. (text list : List ℕ) (texts : List (List ℕ))
+    ensures text { IfOk result (λ r. (text list : List ℕ) (texts : List (List ℕ))
         → IsReading text reading → IsKept list texts joined
         → IsReconciling list (texts ++ text ∷ []) r) }
+    ensures last { IfOk result (λ r. (list : List ℕ) (texts : List (List ℕ))
+        → IsKept list texts joined → logs_before r (length texts + 1) ≡ length texts + 1) }
 {
     let mut joined = joined;
     let log = joined.log_count();
@@ -111,7 +124,7 @@ pub fn reconciled_answer(reconciling: &Reconciling) -> Result<Reconciled, AllocE
     ensures answer { IfOk result (λ r. (list : List ℕ) (texts : List (List ℕ))
         → IsReconciling list texts reconciling.now → IsReconciled list texts r) }
     ensures ended { IfOk result (λ r. (e : EndingValue)
-        → reconciling.now ≡ Reconciling.Ended e → r ≡ Reconciled.Ended e) }
+        → (reconciling.now ≡ Reconciling.Ended e) ↔ (r ≡ Reconciled.Ended e)) }
 {
     match reconciling {
         Reconciling::Going(joined) => {

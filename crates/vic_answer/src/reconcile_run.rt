@@ -1,12 +1,12 @@
 //! The run of `reconcile`: the list and the logs are read in turn, and the answer is written.
 
-ghost use Rattle.std.specs.Prelude.{◌≡◌, ◌≢◌, ◌++◌, ℕ, [], List, IfErr, IfOk, OnOk, length, true};
+ghost use Rattle.std.specs.Prelude.{◌≡◌, ◌≢◌, ◌++◌, ℕ, [], ◌∷◌, List, IfErr, IfOk, OnOk, length, true};
 ghost use Rattle.std.specs.Prelude.{codes, map, string_bytes};
-ghost use Rattle.std.specs.List.{Any};
+ghost use Rattle.std.specs.List.{AllZip};
 ghost use Rattle.vic_answer.specs.Reconciled.{AreComplete, IsReconciling};
-ghost use Rattle.vic_answer.specs.ReconcileRun.{AllGoing, HaveFailed, ReadsListAndLogs, ReadsTexts, Reconciles, WritesAnswer};
-ghost use Rattle.vic_answer.specs.Runs.{IsEnough, LeavesSink};
-ghost use Rattle.vic_answer.specs.declared.status.RunFault.TheVariants.{Read, Write};
+ghost use Rattle.vic_answer.specs.ReconcileRun.{GoOn, IsAnswerable, IsReadWithin, ReadsListAndLogs, ReadsTexts, Reconciles, StopsBy, WritesAnswer, logs_before};
+ghost use Rattle.vic_answer.specs.Runs.{LeavesSink};
+ghost use Rattle.vic_answer.specs.declared.status.RunFault.TheVariants.{Write};
 
 use crate::reconcile::{
     Reconciling, read_expected, read_next, reconciled_answer, write_reconciled,
@@ -18,8 +18,8 @@ use vic_log::{Sink, Source};
 /// Reads the list of what is expected from a source, and then the logs from theirs, one source
 /// after another, up to the first text that is refused or impossible. It writes the answer, in
 /// which `list_name` and `names` name the list and the logs, and flushes it. The status is that of
-/// the answer. `Read` if a source has failed, `Memory` if memory was refused: then nothing is
-/// written. `Write` if the sink has failed: a prefix of the text may have been written.
+/// the answer. `Read` if the source that is read has failed, `Memory` if memory was refused: then
+/// nothing is written. `Write` if the sink has failed: a prefix of the text may have been written.
 pub fn run_reconcile<R: Source, W: Sink>(
     alloc: Global,
     list: &mut R,
@@ -30,7 +30,7 @@ pub fn run_reconcile<R: Source, W: Sink>(
 ) -> Result<Status, RunFault>
     // over the bytes that the reads returned and the writes accepted
     ensures answer { WritesAnswer
-        (Reconciles R.returned R.ended list.old list.new logs.old logs.new)
+        (Reconciles R.returned R.ended R.has_failed list.old list.new logs.old logs.new)
         list_name.now (map string_bytes names.now) (W.written sink.old) (W.written sink.new)
         result }
     // if it wrote `complete N`, the list and all logs were read to their ends, and everything that
@@ -40,8 +40,11 @@ pub fn run_reconcile<R: Source, W: Sink>(
         → ReadsListAndLogs R.returned (λ s _. R.ended s ≡ true)
         list.old list.new logs.old logs.new
         (λ text texts. AreComplete text texts rest × (length texts ≡ length logs.old))) }
-    ensures read { IfErr result (λ e. e ≡ Read
-        → HaveFailed R.has_failed list.new logs.new) }
+    // `Read` if the last source that was read failed before an early fault; else none has failed
+    ensures stops { IfErr result (StopsBy R.returned R.ended R.has_failed GoOn
+        (list.old ∷ logs.old) (list.new ∷ logs.new)) }
+    ensures leaves_sources { AllZip (IsReadWithin R.reads R.has_failed)
+        (list.old ∷ logs.old) (list.new ∷ logs.new) }
     ensures leaves_sink { LeavesSink W.is_flushed W.has_failed sink.old sink.new result }
 {
     let begun = read_expected(alloc, list)?;
@@ -57,10 +60,12 @@ fn read_logs<R: Source>(
     logs: &mut [R],
 ) -> Result<Reconciling, RunFault>
     ensures texts { IfOk result (λ read. (list : List ℕ) → IsReconciling list [] begun
-        → ReadsTexts R.returned (λ s. IsEnough (R.ended s ≡ true)) logs.old logs.new (λ texts.
-        IsReconciling list texts read × AllGoing read (length logs.old) (length texts))) }
-    ensures read { IfErr result (λ e. e ≡ Read
-        → Any (λ s. R.has_failed s ≡ true) logs.new) }
+        → ReadsTexts R.returned (IsAnswerable R.ended R.has_failed) logs.old logs.new (λ texts.
+        IsReconciling list texts read × (length texts ≡ logs_before read (length logs.old)))) }
+    ensures stops { IfErr result (λ e. (list : List ℕ) → IsReconciling list [] begun
+        → StopsBy R.returned R.ended R.has_failed (λ texts. GoOn (list ∷ texts))
+        logs.old logs.new e) }
+    ensures leaves_sources { AllZip (IsReadWithin R.reads R.has_failed) logs.old logs.new }
     ensures fault { IfErr result (λ e. e ≢ Write) }
 {
     let mut read = begun;

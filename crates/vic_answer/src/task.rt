@@ -1,6 +1,7 @@
 //! What the program can be asked to do with one text, and how it is done.
 
-ghost use Rattle.vic_answer.specs.Tasks.{Does};
+ghost use Rattle.vic_answer.specs.Runs.{LeavesSink};
+ghost use Rattle.vic_answer.specs.Tasks.{Does, LeavesSourceAfter};
 
 use crate::check::run_check;
 use crate::explain::run_explain;
@@ -48,8 +49,11 @@ pub fn do_task<R: Source, W: Sink>(
     source: &mut R,
     sink: &mut W,
 ) -> Result<Status, RunFault>
-    ensures { Does task.now (R.returned source.old) (R.returned source.new) (R.ended source.new)
-        (W.written sink.old) (W.written sink.new) result }
+    ensures does { Does task.now (R.returned source.old) (R.returned source.new)
+        (R.ended source.new) (W.written sink.old) (W.written sink.new) result }
+    ensures leaves_source { LeavesSourceAfter task.now R.reads R.has_failed source.old source.new
+        result }
+    ensures leaves_sink { LeavesSink W.is_flushed W.has_failed sink.old sink.new result }
 {
     match task {
         Task::Check(_) => run_check(alloc, source, sink),

@@ -1,7 +1,7 @@
 //! A text that is read in pieces: the lines judged so far, and the line begun.
 
 ghost use Rattle.std.specs.Prelude.{◌≡◌, ◌+◌, ◌<◌, ◌≤◌, ◌++◌, ◌∷◌, [], ℕ, List, true, false, None, length, MatchResult, IfErr, OnOk, OnErr, IsTrue, MatchOption};
-ghost use Rattle.memchr.specs.Find.{IsFirstByte, is_byte};
+ghost use Rattle.bstr.specs.Find.{IsFirstByte, is_byte};
 ghost use Rattle.vic_frame.specs.Uids.{has};
 ghost use Rattle.vic_log.specs.Begun.{IsShort, IsSplit, HasTaken, spare_of};
 ghost use Rattle.vic_log.specs.Early.{IsLong, IsEarly};
@@ -15,7 +15,7 @@ use crate::fault::{LineFault, LogFault};
 use crate::log::Log;
 use crate::read::take_line;
 use arrayvec::ArrayVec;
-use memchr::memchr;
+use bstr::ByteSlice;
 use std::simd::prelude::*;
 
 /// The greatest length of a line with its end, CR and LF.
@@ -65,7 +65,7 @@ fn find_lf(bytes: &[u8]) -> Option<usize>
             return Some(marks.trailing_zeros() as usize);
         }
     }
-    memchr(b'\n', bytes)
+    bytes.find_byte(b'\n')
 }
 
 /// The first line of some bytes, without its LF, and what follows that LF.

@@ -1,5 +1,5 @@
 -- One possible log more is joined.
-use Rattle.vic_reconcile.proofs.Words.{◌≡◌, ℕ, ◌<◌, List, [], ◌∷◌, ◌++◌, length, true, false, Option, Some, None, refl, sym, ap, subst, ◌∙◌, arith, inl, inr, ⊎_elim, ◌⊎◌, MatchOption, cond, is_some, nat_eq, slice_get, nat_cmp, All, Contains, is_at, AllZip, both_ways, cases_eq, false≢true, list_any-append, map-append, All-push, Contains-append_left, Contains-push, has, SameUids, without_keys, is_open_in, LogLine, entries, AreKeysOf, IsListOf, SameMembers, AreFacts, Reconciliation, IsFirstLog, IsFirstTold, IsCertainInNone, IsJoined, IsLeftBy, AreNoted, slice_get_within, get_or_from_slice_get, AllZip-long, all_zipped_more, slice_get-append, slice_get_seam, common_steps, ShownUid, ShowsCertain, uids_of, open_set, Place, ne_eqb}
+use Rattle.vic_reconcile.proofs.Words.{◌≡◌, ℕ, ◌<◌, List, [], ◌∷◌, ◌++◌, length, true, false, Option, Some, None, refl, sym, ap, subst, ◌∙◌, arith, inl, inr, ⊎_elim, ◌⊎◌, MatchOption, cond, is_some, nat_eq, slice_get, nat_cmp, All, Contains, is_at, AllZip, both_ways, cases_eq, false≢true, list_any-append, map-append, All-push, Contains-append_left, Contains-push, has, SameUids, without_keys, is_open_in, LogLine, entries, AreKeysOf, IsListOf, SameMembers, AreFacts, Reconciliation, IsFirstLog, IsFirstTold, IsCertainInNone, IsJoined, IsLeftBy, AreForgotten, AreNoted, AreSomeNoted, is_place_in, slice_get_within, get_or_from_slice_get, AllZip-long, all_zipped_more, slice_get-append, slice_get_seam, common_steps, ShownUid, ShowsCertain, uids_of, open_set, Place, ne_eqb, eqb-true, eq-eqb, take, drop, take-append-drop}
 use Rattle.std.specs.BTreeMap as map
 use Rattle.vic_verdict.specs.Possible as one
 use Rattle.vic_report.specs.Findings.{IsToldOf}
@@ -110,8 +110,8 @@ noted_before old now log told one there n = record {
   others = λ u e. noted_same (map.get nat_cmp now u) log u told one (λ same. ap (λ v. is_some (map.get nat_cmp now v)) same ∙ there) (n.others u e);
 }
 
--- what a key has after a place was put at one
-put_at : (k u : ℕ) (place : Place) (old new : Option Place) → new ≡ cond (is_at (nat_cmp k) u) (Some place) old → ((u ≡ k) × (new ≡ Some place)) ⊎ ((u ≡ k → ⊥) × (new ≡ old))
+-- what a key has after a place was put at one, or removed
+put_at : (k u : ℕ) (place old new : Option Place) → new ≡ cond (is_at (nat_cmp k) u) place old → ((u ≡ k) × (new ≡ place)) ⊎ ((u ≡ k → ⊥) × (new ≡ old))
 put_at k u place old new e = ⊎_elim
     (λ same. inl (same, grind (arith, common_steps, e, same)))
     (λ other. inr (other, grind (arith, common_steps, e, other)))
@@ -131,3 +131,76 @@ noted_next old now new log told one none is n = record {
       (λ w. subst (IsNoted log (told ++ one ∷ []) u) (sym w.1) (noted_same (map.get nat_cmp now u) log u told one (λ same. absurd (w.0 same)) (n.others u e)))
       (put_at one.uid u _ _ _ (is u));
 }
+
+-- ---- what was noted is forgotten
+
+in_log : (o : Option Place) (p : Place) (log : ℕ) → o ≡ Some p → is_place_in log o ≡ true → p.log ≡ log
+in_log o p log e h = eqb-true _ _ (sym (ap (is_place_in log) e) ∙ h)
+
+is_in_log : (o : Option Place) (p : Place) (log : ℕ) → o ≡ Some p → p.log ≡ log → is_place_in log o ≡ true
+is_in_log o p log e at = ap (is_place_in log) e ∙ eq-eqb _ _ at
+
+-- one that has a place in the log loses it
+pub forgotten_next : (old now new : map.BTreeMap ℕ Place) (log : ℕ) (told : List ShownUid) (one : ShownUid) → is_place_in log (map.get nat_cmp now one.uid) ≡ true
+    → ((u : ℕ) → map.get nat_cmp new u ≡ cond (is_at (nat_cmp one.uid) u) None (map.get nat_cmp now u))
+    → AreForgotten old now log told → AreForgotten old new log (told ++ one ∷ [])
+forgotten_next old now new log told one here is f = record {
+  kept = λ u p e other. ⊎_elim
+      (λ w. absurd (other (in_log (map.get nat_cmp now one.uid) p log (ap (λ v. map.get nat_cmp now v) (sym w.0) ∙ f.kept u p e other) here)))
+      (λ w. w.1 ∙ f.kept u p e other)
+      (put_at one.uid u _ _ _ (is u));
+  gone = λ u p e. ⊎_elim
+      (λ w. absurd (false≢true (ap is_some (sym w.1 ∙ e))))
+      (λ w. let g = f.gone u p (sym w.1 ∙ e) in (g.0, λ at. has_other told one u w.0 (g.1 at)))
+      (put_at one.uid u _ _ _ (is u));
+}
+
+-- one that has none there stays so
+pub forgotten_same : (old now : map.BTreeMap ℕ Place) (log : ℕ) (told : List ShownUid) (one : ShownUid) → is_place_in log (map.get nat_cmp now one.uid) ≡ false
+    → AreForgotten old now log told → AreForgotten old now log (told ++ one ∷ [])
+forgotten_same old now log told one none f = record {
+  kept = f.kept;
+  gone = λ u p e.
+      let g = f.gone u p e in
+      let other = λ (at : p.log ≡ log) (same : u ≡ one.uid). false≢true (sym none ∙ is_in_log (map.get nat_cmp now one.uid) p log (ap (λ v. map.get nat_cmp now v) (sym same) ∙ e) at) in
+      (g.0, λ at. has_other told one u (other at) (g.1 at));
+}
+
+-- what is forgotten after some of it was noted is as before, where no place was in that log
+noted_forgotten : (old now new : map.BTreeMap ℕ Place) (log : ℕ) (told : List ShownUid) → AreSomeNoted old now log told → AreForgotten now new log told
+    → ((u : ℕ) (p : Place) → map.get nat_cmp old u ≡ Some p → p.log < log) → (u : ℕ) → map.get nat_cmp new u ≡ map.get nat_cmp old u
+noted_forgotten old now new log told (n, noted) forgotten below u = at (map.get nat_cmp old u) (map.get nat_cmp new u)
+    (λ p e. forgotten.kept u p (noted.kept u p e) (λ same. omega (arith, same, below u p e)))
+    (λ p e none. let w = forgotten.gone u p e in noted_there p (subst (IsNoted log (take n told) u) w.0 (noted.others u none)) w.1)
+  where
+    noted_there : (p : Place) → IsNoted log (take n told) u (Some p) → (p.log ≡ log → has (uids_of told) u ≡ false) → ⊥
+    noted_there p h other =
+        let s : ShownUid = record { uid = u; line = p.line } in
+        let c : Contains told s = subst (λ l. Contains l s) (take-append-drop n told) (Contains-append_left (take n told) (drop n told) s h.1) in
+        false≢true (sym (other h.0) ∙ subst (λ (x : ShownUid). has (uids_of told) x.uid ≡ true) c.2 (has_mapped (λ (x : ShownUid). x.uid) told c.0 s c.1))
+
+    at : (o x : Option Place) → ((p : Place) → o ≡ Some p → x ≡ Some p) → ((p : Place) → x ≡ Some p → o ≡ None → ⊥) → x ≡ o
+    at (Some p) x kept none = kept p refl
+    at None None kept none = refl
+    at None (Some p) kept none = absurd (none p refl refl)
+
+places_below : (expected : List ℕ) (logs : List (List LogLine)) (r : Reconciliation) → IsJoined expected logs r
+    → (u : ℕ) (p : Place) → map.get nat_cmp r.certain u ≡ Some p → p.log < length r.left.items
+places_below expected logs r j u p e =
+    let t = subst (λ o. MatchOption o (IsCertainInNone logs u) (IsFirstTold logs u)) e (j.certain u) in
+    subst (λ n. p.log < n) (sym (AllZip-long IsLeftBy logs r.left.items j.left)) (slice_get_within logs p.log t.first.lines t.first.there)
+
+-- what was joined stays so where a log is forgotten of which some was noted
+pub still_joined : (expected : List ℕ) (logs : List (List LogLine)) (old new : Reconciliation) (now : map.BTreeMap ℕ Place) (told : List ShownUid)
+    → AreSomeNoted old.certain now (length old.left.items) told → AreForgotten now new.certain (length old.left.items) told
+    → new.expected ≡ old.expected → new.count ≡ old.count → new.left.items ≡ old.left.items
+    → IsJoined expected logs old → IsJoined expected logs new
+still_joined expected logs old new now told noted forgotten list count left j =
+    let same = noted_forgotten old.certain now new.certain (length old.left.items) told noted forgotten (places_below expected logs old j) in
+    record {
+      members = subst (λ (us : List ℕ). SameMembers us expected) (sym (ap (λ v. v.items) list)) j.members;
+      count = count ∙ j.count;
+      possible = j.possible;
+      certain = λ u. subst (λ o. MatchOption o (IsCertainInNone logs u) (IsFirstTold logs u)) (sym (same u)) (j.certain u);
+      left = subst (AllZip IsLeftBy logs) (sym left) j.left;
+    }

@@ -7,3 +7,4 @@ pub mod Joins
 pub mod Reconciling
 pub mod Telling
 pub mod Surveyed
+mod Plain

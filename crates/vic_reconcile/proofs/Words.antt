@@ -1,7 +1,7 @@
 -- The words of proofs, from one place: what files name from outside of the crate, and the definitions that several of them name.
 pub use Rattle.std.proofs.Common.{All, Any, Bool, Contains, IfNone, IfSome, IsPermutation, IsSomeAnd, List, MatchOption, None, Option, Some, [], ap, arith, cond, drop, false, get_or, get_or-take, inl, inr, is_eq, is_some, length, length-take, map, nat_cmp, nat_eq, not, option_copied, option_map, refl, slice_get, slice_index, subst, suc, sym, take, true, ℕ, ⊎_elim, ◌++◌, ◌+◌, ◌<◌, ◌^◌, ◌||◌, ◌↔◌, ◌∙◌, ◌∷◌, ◌≡◌, ◌≤◌, ◌⊎◌}
 pub use Rattle.std.proofs.Math.Seq.{take-append_seam}
-pub use Rattle.std.proofs.lemmas.Bool.{and_from, and_parts, both_ways, cases_Bool, cases_eq, false_from_ne_true, false≢true, ne_eqb, not-true, not_from_false, or_cases, or_left, or_right, true_from_ne_false}
+pub use Rattle.std.proofs.lemmas.Bool.{and_from, and_parts, both_ways, cases_Bool, cases_eq, eq-eqb, eqb-true, false_from_ne_true, false≢true, ne_eqb, not-true, not_from_false, or_cases, or_left, or_right, true_from_ne_false}
 pub use Rattle.std.proofs.lemmas.Grind.{common_steps}
 pub use Rattle.std.proofs.lemmas.List.{get_or-map, length-map, map-append, map-id, map_push, take-append-drop, take_all, take_more}
 pub use Rattle.std.proofs.lemmas.List.Elements.{All-contains, All-head, All-more, All-push, All-tail, All-take, Contains-append_left, Contains-push}
@@ -48,7 +48,7 @@ pub use Rattle.vic_verdict.specs.declared.findings.Differences.{Differences}
 pub use Rattle.vic_report.proofs.AllFindings.{all_from_has, open_set}
 pub use Rattle.vic_report.specs.Findings.{ShowsCertain, uids_of}
 pub use Rattle.vic_report.specs.declared.shown.ShownUid.{ShownUid}
-pub use Rattle.vic_reconcile.specs.Agreeing.{Agree, AgreeWithReport}
+pub use Rattle.vic_reconcile.specs.Agreeing.{Agree, AgreeWithPlain, AgreeWithReport}
 pub use Rattle.vic_reconcile.specs.Families.{ArePossible, FitsLog, FitsLogs, IsCertainUid, IsPossibleUid, is_somewhere}
 pub use Rattle.vic_reconcile.specs.Findings.{AreFindings, AreNone, AreOpenMasksOf, IsAbsent, IsDoubtful, IsFirstLog, IsFirstPossible, IsFirstTold, IsList, IsToldOf, IsUnlisted, IsUnsettled, IsUnsettledWith, IsWhole, is_listed}
 pub use Rattle.vic_reconcile.specs.Joined.{IsCertainInNone, IsJoined, IsLeftBy}
@@ -58,4 +58,4 @@ pub use Rattle.vic_reconcile.specs.declared.findings.Findings.{Findings}
 pub use Rattle.vic_reconcile.specs.declared.findings.UnlistedUid.{UnlistedUid}
 pub use Rattle.vic_reconcile.specs.declared.reconciliation.Place.{Place}
 pub use Rattle.vic_reconcile.specs.declared.reconciliation.Reconciliation.{Reconciliation}
-pub use Rattle.vic_reconcile.specs.inner.Joined.{AreNoted, AreOpenBesides, IsFirstLeft, IsLeftToAsk, is_left}
+pub use Rattle.vic_reconcile.specs.inner.Joined.{AreForgotten, AreNoted, AreSomeNoted, AreOpenBesides, IsFirstLeft, IsLeftToAsk, is_left, is_place_in}

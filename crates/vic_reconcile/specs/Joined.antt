@@ -1,5 +1,5 @@
 -- What is kept of logs that were joined.
-use Rattle.std.specs.Prelude.{◌≡◌, ◌↔◌, ℕ, true, not, List, length, MatchOption}
+use Rattle.std.specs.Prelude.{◌≡◌, ◌↔◌, ℕ, true, List, length, MatchOption}
 use Rattle.std.specs.BTreeMap as map
 use Rattle.std.specs.Ordering.{nat_cmp}
 use Rattle.std.specs.List.{All, AllZip}

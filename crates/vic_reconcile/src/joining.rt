@@ -1,16 +1,20 @@
 //! How logs are joined, one after another.
 
-ghost use Rattle.std.specs.Prelude.{◌≡◌, ◌+◌, ℕ, [], ◌∷◌, ◌++◌, List, IfErr, IfNone, IfOk, IfSome, OnOk, length};
+ghost use Rattle.std.specs.Prelude.{◌≡◌, ◌+◌, ℕ, true, [], ◌∷◌, ◌++◌, List, IfErr, IfNone, IfOk, IfSome, OnErr, OnOk, length};
+ghost use Rattle.std.specs.BTreeMap.{get};
+ghost use Rattle.std.specs.Ordering.{nat_cmp};
+ghost use Rattle.vic_frame.specs.Uids.{has};
 ghost use Rattle.vic_tree.specs.Ranges.{is_open_in};
 ghost use Rattle.vic_log.specs.Order.{entries, listed};
 ghost use Rattle.vic_log.specs.declared.entry.LogLine.{LogLine as LogLineValue};
 ghost use Rattle.vic_verdict.specs.Facts.{AreFactsOf};
 ghost use Rattle.vic_verdict.specs.LogLines.{AreLogLines};
+ghost use Rattle.vic_verdict.specs.Rising.{IsListOf};
 ghost use Rattle.vic_verdict.specs.Verdict.{IsVerdict};
 ghost use Rattle.vic_verdict.specs.declared.judging.Verdict.TheVariants.{Impossible};
 ghost use Rattle.vic_reconcile.specs.Findings.{IsFirstNotListed, IsList, is_listed};
 ghost use Rattle.vic_reconcile.specs.Joined.{IsJoined};
-ghost use Rattle.vic_reconcile.specs.inner.Joined.{AreNoted};
+ghost use Rattle.vic_reconcile.specs.inner.Joined.{AreForgotten, AreNoted, AreSomeNoted, is_place_in};
 
 use crate::reconciliation::{Place, Reconciliation};
 use std::alloc::{AllocError, Global};
@@ -45,6 +49,15 @@ impl Reconciliation {
         }))
     }
 
+    /// What is expected, in rising order.
+    pub fn into_expected(self) -> Vec<Uid>
+        ensures { (expected : List ℕ) (logs : List (List LogLineValue))
+            → IsJoined expected logs self
+            → IsListOf (λ u. has expected u ≡ true) result.items }
+    {
+        self.expected
+    }
+
     /// How many UIDs are expected.
     pub fn count(&self) -> u32
         ensures { (expected : List ℕ) (logs : List (List LogLineValue))
@@ -62,7 +75,8 @@ impl Reconciliation {
     }
 
     /// Joins what a log says. If no population could have produced it, nothing is joined, and the
-    /// first line up to which none could have is returned.
+    /// first line up to which none could have is returned. If memory is refused, nothing is joined
+    /// either: the logs joined before stay joined, and others can be added.
     pub fn add(&mut self, log: &Log) -> Result<Option<u32>, AllocError>
         ensures joined { IfOk result (λ r. IfNone r ((expected : List ℕ)
             (logs : List (List LogLineValue)) → IsJoined expected logs self.old
@@ -70,6 +84,8 @@ impl Reconciliation {
         ensures impossible { IfOk result (λ r. IfSome r (λ n.
             IsVerdict log.now.lines (Impossible n))) }
         ensures unchanged { IfOk result (λ r. IfSome r (λ _. self.new ≡ self.old)) }
+        ensures kept { OnErr result ((expected : List ℕ) (logs : List (List LogLineValue))
+            → IsJoined expected logs self.old → IsJoined expected logs self.new) }
     {
         self.add_lines(log.lines())
     }
@@ -83,6 +99,8 @@ impl Reconciliation {
         ensures impossible { IfOk result (λ r. IfSome r (λ n.
             IsVerdict lines.now (Impossible n))) }
         ensures unchanged { IfOk result (λ r. IfSome r (λ _. self.new ≡ self.old)) }
+        ensures kept { OnErr result ((expected : List ℕ) (logs : List (List LogLineValue))
+            → IsJoined expected logs self.old → IsJoined expected logs self.new) }
     {
         match facts_of::<RangeSet>(self.alloc, lines)? {
             Ok(facts) => {
@@ -100,15 +118,23 @@ impl Reconciliation {
     fn join(&mut self, facts: &Facts<RangeSet>, lines: &[PackedLine]) -> Result<(), AllocError>
         requires { AreFactsOf (entries lines.now) (is_open_in facts.now.«open») facts.now.met
             facts.now.certain.items }
-        ensures { OnOk result ((expected : List ℕ) (logs : List (List LogLineValue))
+        ensures joined { OnOk result ((expected : List ℕ) (logs : List (List LogLineValue))
             → IsJoined expected logs self.old
             → IsJoined expected (logs ++ lines.now ∷ []) self.new) }
+        ensures kept { OnErr result ((expected : List ℕ) (logs : List (List LogLineValue))
+            → IsJoined expected logs self.old → IsJoined expected logs self.new) }
     {
         let alloc = self.alloc;
         let told = lines_of_certain(alloc, lines, &facts.met, &facts.certain)?;
-        note_all(&mut self.certain, self.left.len(), &told)?;
         let keys = keys_in_order(alloc, &facts.certain)?;
-        self.left.push(facts.open.besides(alloc, &keys)?)?;
+        let open = facts.open.besides(alloc, &keys)?;
+        let log = self.left.len();
+        self.left.push(open)?;
+        if let Err(refused) = note_all(&mut self.certain, log, &told) {
+            forget_all(&mut self.certain, log, &told);
+            self.left.truncate(log);
+            return Err(refused);
+        }
         Ok(())
     }
 }
@@ -133,13 +159,15 @@ fn is_listed(entry: &Entry) -> bool
     matches!(entry, Entry::Listed(_))
 }
 
-/// Notes the lines that show UIDs of which no line was noted yet.
+/// Notes the lines that show UIDs of which no line was noted yet. If memory is refused, some of
+/// them are noted.
 fn note_all(
     certain: &mut BTreeMap<Uid, Place>,
     log: usize,
     told: &[ShownUid],
 ) -> Result<(), AllocError>
-    ensures { OnOk result (AreNoted certain.old certain.new log told.now) }
+    ensures noted { OnOk result (AreNoted certain.old certain.new log told.now) }
+    ensures some { OnErr result (AreSomeNoted certain.old certain.new log told.now) }
 {
     for one in told {
         if !certain.contains_key(&one.uid) {
@@ -148,4 +176,25 @@ fn note_all(
         }
     }
     Ok(())
+}
+
+/// Removes what was noted of a log.
+fn forget_all(certain: &mut BTreeMap<Uid, Place>, log: usize, told: &[ShownUid])
+    ensures { AreForgotten certain.old certain.new log told.now }
+{
+    for one in told {
+        if is_noted(certain, one.uid, log) {
+            certain.remove(&one.uid);
+        }
+    }
+}
+
+/// Whether a log is the one of which a UID's place was noted.
+fn is_noted(certain: &BTreeMap<Uid, Place>, uid: Uid, log: usize) -> bool
+    ensures { result ≡ is_place_in log (get nat_cmp certain.now uid) }
+{
+    match certain.get(&uid) {
+        Some(place) => place.log == log,
+        None => false,
+    }
 }

@@ -13,9 +13,11 @@ ghost use Rattle.vic_report.specs.Reports as report;
 ghost use Rattle.vic_report.specs.declared.findings.Findings.{Findings as LogFindings};
 ghost use Rattle.vic_reconcile.specs.declared.findings.Findings.{Findings};
 ghost use Rattle.vic_reconcile.specs.declared.findings.UnlistedUid.{UnlistedUid};
-ghost use Rattle.vic_reconcile.specs.Agreeing.{Agree, AgreeWithReport};
+ghost use Rattle.vic_reconcile.specs.declared.surveys.PlainFindings.{PlainFindings};
+ghost use Rattle.vic_reconcile.specs.Agreeing.{Agree, AgreeWithPlain, AgreeWithReport};
 ghost use Rattle.vic_reconcile.specs.Families.{ArePossible, IsPossibleUid, IsCertainUid};
 ghost use Rattle.vic_reconcile.specs.Findings.{AreFindings, AreNone, AreOpenMasksOf, IsToldOf, IsWhole};
+ghost use Rattle.vic_reconcile.specs.Surveys.{AreFindingsBy};
 
 /// Logs are possible if each of them is. Then a UID is possible if it is possible in some log, and
 /// certain if it is certain in some log.
@@ -80,4 +82,16 @@ pub fn no_findings_are_whole()
         → IsWhole expected logs }
     ensures exact { (expected : List ℕ) (logs : List (List LogLine)) (f : Findings)
         → AreFindings expected logs f → IsWhole expected logs → AreNone f }
+{}
+
+/// The findings by surveys of logs are those of the logs, without the logs and lines that they name
+/// and without open masks.
+pub fn plain_findings_are_findings()
+    ensures agree { (expected : List ℕ) (logs : List (List LogLine)) (f : Findings)
+        (g : PlainFindings) → AreFindings expected logs f
+        → AreFindingsBy (IsPossibleUid logs) (IsCertainUid logs) expected g
+        → AgreeWithPlain f g }
+    ensures only { (expected : List ℕ) (logs : List (List LogLine)) (f : Findings)
+        (g : PlainFindings) → AreFindings expected logs f → AgreeWithPlain f g
+        → AreFindingsBy (IsPossibleUid logs) (IsCertainUid logs) expected g }
 {}

@@ -16,7 +16,8 @@ pub struct NamedFile<'a> {
 #[derive(Drop)]
 enum FileState {
     Unread,
-    CannotOpen,
+    /// It couldn't be opened: each read fails for this reason.
+    CannotOpen(io::Error),
     Open(File),
     Closed,
 }
@@ -34,7 +35,7 @@ impl<'a> NamedFile<'a> {
     /// Its name, if it couldn't be opened.
     pub fn unopened(&self) -> Option<&'a str> {
         match self.state {
-            FileState::CannotOpen => Some(self.name),
+            FileState::CannotOpen(_) => Some(self.name),
             FileState::Unread | FileState::Open(_) | FileState::Closed => None,
         }
     }
@@ -43,14 +44,17 @@ impl<'a> NamedFile<'a> {
 impl<'a> Read for NamedFile<'a> {
     fn read(&mut self, buf: &mut [u8]) -> io::Result<usize> {
         if let FileState::Unread = self.state {
-            // stays so if the next line fails
-            self.state = FileState::CannotOpen;
-            self.state = FileState::Open(fs::open(self.rt, self.name)?);
+            self.state = match fs::open(self.rt, self.name) {
+                Ok(file) => FileState::Open(file),
+                Err(error) => FileState::CannotOpen(error),
+            };
         }
-        let FileState::Open(file) = &mut self.state else {
-            return Ok(0);
+        let count = match &mut self.state {
+            FileState::Open(file) => file.read(buf)?,
+            FileState::CannotOpen(error) => return Err(*error),
+            FileState::Closed => return Ok(0),
+            FileState::Unread => unreachable!(),
         };
-        let count = file.read(buf)?;
         if count == 0 {
             self.state = FileState::Closed;
         }

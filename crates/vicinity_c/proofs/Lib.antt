@@ -3,3 +3,4 @@ mod CrcBytes
 mod ListedLines
 mod ArrayFaults
 mod Answered
+mod GoTogether

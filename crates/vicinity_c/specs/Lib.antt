@@ -6,3 +6,4 @@ pub mod Names
 pub mod Simulated
 pub mod Arrays
 pub mod Reconciled
+pub mod Together

@@ -12,7 +12,9 @@ mod arrays;
 mod fields;
 mod frames;
 mod inventory;
+mod laws;
 mod lines;
+mod listed;
 mod names;
 mod reconciled;
 mod report;
@@ -23,6 +25,7 @@ use crate::lines::with_listed;
 pub use fields::{VicinityReply, VicinityRequest};
 pub use frames::VicinityFrame;
 pub use inventory::VicinityMask;
+pub use laws::surveys_go_together;
 pub use lines::VicinityLine;
 pub use names::{VicinityName, each_fault_has_its_name};
 use std::alloc::Global;
@@ -42,9 +45,9 @@ pub extern "C" fn vicinity_interface() -> u32
 /// The version of this library: 10,000 times its first number, 100 times its second, and its third.
 #[unsafe(no_mangle)]
 pub extern "C" fn vicinity_version() -> u32
-    ensures { result ≡ 10100 }
+    ensures { result ≡ 10200 }
 {
-    10_100
+    10_200
 }
 
 /// Judges the log that a text spells, and writes the answer in numbers. The result is its status:

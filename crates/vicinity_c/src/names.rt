@@ -18,7 +18,7 @@ pub struct VicinityName {
     pub text: [u8; NAME_ROOM],
 }
 
-/// The word that the line of an answer of this kind begins with: none for 0, and for 8 and above.
+/// The word that the line of an answer of this kind begins with: none if there is none.
 /// The result is its length.
 #[unsafe(no_mangle)]
 pub extern "C" fn vicinity_kind_name(kind: u32, name: &mut VicinityName) -> u32
@@ -78,6 +78,7 @@ fn kind_name(kind: u32) -> &'static str
         5 => "doubtful",
         6 => "impossible",
         7 => "refused",
+        12 => "listed",
         _ => "",
     }
 }
@@ -98,6 +99,7 @@ fn line_fault_name(fault: u32) -> &'static str
         8 => "SlotOutsideRound",
         9 => "EntryAfterList",
         10 => "DuplicateListed",
+        11 => "NotListed",
         _ => "",
     }
 }

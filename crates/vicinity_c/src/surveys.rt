@@ -84,6 +84,48 @@ pub extern "C" fn vicinity_open_masks(
     numbers.status
 }
 
+/// Judges the log that a text spells once, as `vicinity_check` does, and returns what
+/// `vicinity_certain` and `vicinity_open_masks` return, each with a buffer of its own.
+#[unsafe(no_mangle)]
+pub extern "C" fn vicinity_survey(
+    alloc: Global,
+    text: &[u8],
+    answer: &mut VicinityAnswer,
+    uids: &mut [u64],
+    uids_needed: &mut usize,
+    masks: &mut [VicinityMask],
+    masks_needed: &mut usize,
+) -> u32
+    ensures answer { answer.new.kind ≢ 0 → AreNumbersFor text.now answer.new }
+    ensures whole { answer.new.kind ≡ 1 → IsCompleteText text.now answer.new.count }
+    ensures certain { answer.new.kind ≢ 0
+        → AreNumbersWith AreCertainIn (λ u. u) text.now answer.new uids_needed.new
+        uids.old uids.new }
+    ensures open_masks { answer.new.kind ≢ 0
+        → AreNumbersWith AreOpenIn inventory.mask_fields text.now answer.new masks_needed.new
+        masks.old masks.new }
+    ensures no_answer { answer.new.kind ≡ 0 → answer.new ≡ no_answer }
+    ensures no_uids { answer.new.kind ≡ 0 → (uids_needed.new ≡ 0) × (uids.new ≡ uids.old) }
+    ensures no_masks { answer.new.kind ≡ 0 → (masks_needed.new ≡ 0) × (masks.new ≡ masks.old) }
+    ensures status { result ≡ answer.new.status }
+{
+    *masks_needed = 0;
+    let Ok(surveyed) = survey_text(alloc, text) else {
+        return refuse(answer, uids_needed);
+    };
+    let Ok(open) = open_masks_of(alloc, &surveyed) else {
+        return refuse(answer, uids_needed);
+    };
+    let certain = certain_of(&surveyed);
+    put_uids(certain, uids);
+    *uids_needed = certain.len();
+    put_masks(open.as_slice(), masks);
+    *masks_needed = open.len();
+    let numbers = numbers_of(&surveyed_answer(&surveyed));
+    *answer = numbers;
+    numbers.status
+}
+
 /// Puts masks at the start of a buffer, if they fit.
 fn put_masks(masks: &[Mask], room: &mut [VicinityMask])
     ensures { IsPutInto (map inventory.mask_fields masks.now) room.old room.new }

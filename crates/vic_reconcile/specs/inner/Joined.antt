@@ -1,5 +1,5 @@
 -- What is noted of one more log, and what the logs leave to ask.
-use Rattle.std.specs.Prelude.{◌≡◌, ◌↔◌, ℕ, Bool, true, false, not, None, Some, List, slice_get, take, MatchOption}
+use Rattle.std.specs.Prelude.{◌≡◌, ◌≢◌, ◌↔◌, ◌==◌, ℕ, Bool, true, false, not, None, Some, Option, List, slice_get, take, MatchOption}
 use Rattle.std.specs.BTreeMap as map
 use Rattle.std.specs.Ordering.{nat_cmp}
 use Rattle.std.specs.List.{AllPass, AllZip, Contains, list_any}
@@ -10,7 +10,6 @@ use Rattle.vic_tree.specs.declared.open_masks.TheConstants.{MAX_OPEN_MASKS}
 use Rattle.vic_tree.specs.OpenMasks.{AreFirst, IsOpenMask}
 use Rattle.vic_tree.specs.OpenSet.{without_keys}
 use Rattle.vic_tree.specs.Ranges.{is_open_in}
-use Rattle.vic_verdict.specs.Differences as one
 use Rattle.vic_verdict.specs.Keys.{AreKeysOf}
 use Rattle.vic_report.specs.declared.shown.ShownUid.{ShownUid}
 use Rattle.vic_report.specs.Findings.{uids_of}
@@ -26,6 +25,23 @@ pub record AreNoted (old new : map.BTreeMap ℕ Place) (log : ℕ) (told : List 
   pub others : (u : ℕ) → map.get nat_cmp old u ≡ None
       → MatchOption (map.get nat_cmp new u) (has (uids_of told) u ≡ false)
       (λ p. (p.log ≡ log) × Contains told (record { uid = u; line = p.line }))
+
+-- some of it was noted
+abbrev pub AreSomeNoted : map.BTreeMap ℕ Place → map.BTreeMap ℕ Place → ℕ → List ShownUid → Type 0
+AreSomeNoted old new log told = (n : ℕ) × AreNoted old new log (take n told)
+
+-- a UID's place, if it has one, is in log number `log`
+abbrev pub is_place_in : ℕ → Option Place → Bool
+is_place_in log None = false
+is_place_in log (Some p) = p.log == log
+
+-- what was noted of log number `log` at the UIDs of a list is noted no longer
+pub record AreForgotten (old new : map.BTreeMap ℕ Place) (log : ℕ) (told : List ShownUid)
+    : Type 0 where
+  pub kept : (u : ℕ) (p : Place) → map.get nat_cmp old u ≡ Some p → p.log ≢ log
+      → map.get nat_cmp new u ≡ Some p
+  pub gone : (u : ℕ) (p : Place) → map.get nat_cmp new u ≡ Some p
+      → (map.get nat_cmp old u ≡ Some p) × (p.log ≡ log → has (uids_of told) u ≡ false)
 
 -- the UID is among those that some log leaves open
 abbrev pub is_left : List (List (ℕ × ℕ)) → ℕ → Bool

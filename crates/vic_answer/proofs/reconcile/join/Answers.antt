@@ -1,21 +1,29 @@
-use Rattle.vic_answer.proofs.Words.{map, entries, listed, lines_of}
+use Rattle.vic_answer.proofs.Words.{◌+◌, ap, map, entries, listed, lines_of}
 use Rattle.vic_answer.proofs.Reconciles.{ends_impossible, ends_refused, kept_long, kept_more}
 use Rattle.vic_answer.proofs.reconcile.join.Goals as goal
 
-pub returns-in-None : goal.returns-in-None
-returns-in-None c text list texts reading k =
+pub returns-in-None-clause-text : goal.returns-in-None-clause-text
+returns-in-None-clause-text c text list texts reading k =
     let joins = rw c.in-None.is at c.in_ok-add-in-Given.ensures.joined in
     kept_more list text texts c.in-Given.next c.args.joined c.add.new.self k (rw c.in-Given.is at reading) (joins (listed (entries k.expected.lines)) (map lines_of k.logs) k.joined)
 
-pub returns-in-Some : goal.returns-in-Some
-returns-in-Some c text list texts reading k =
+pub returns-in-Some-clause-text : goal.returns-in-Some-clause-text
+returns-in-Some-clause-text c text list texts reading k =
     ends_impossible list text texts c.args.joined c.log_count-log.result c.in-Some.line c.in-Given.next k
     (kept_long list texts c.args.joined c.log_count-log.result k (c.log_count-log.ensures (listed (entries k.expected.lines)) (map lines_of k.logs) k.joined))
     (rw c.in-Given.is at reading)
     (rw c.in-Some.is at c.in_ok-add-in-Given.ensures.impossible)
 
-pub returns-in-RefusedAt : goal.returns-in-RefusedAt
-returns-in-RefusedAt c text list texts reading k =
+pub returns-in-RefusedAt-clause-text : goal.returns-in-RefusedAt-clause-text
+returns-in-RefusedAt-clause-text c text list texts reading k =
     ends_refused list text texts c.args.joined c.log_count-log.result c.in-RefusedAt.line c.in-RefusedAt.fault k
     (kept_long list texts c.args.joined c.log_count-log.result k (c.log_count-log.ensures (listed (entries k.expected.lines)) (map lines_of k.logs) k.joined))
     (rw c.in-RefusedAt.is at reading)
+
+pub returns-in-Some-clause-last : goal.returns-in-Some-clause-last
+returns-in-Some-clause-last c list texts k =
+    ap (λ n. n + 1) (kept_long list texts c.args.joined c.log_count-log.result k (c.log_count-log.ensures (listed (entries k.expected.lines)) (map lines_of k.logs) k.joined))
+
+pub returns-in-RefusedAt-clause-last : goal.returns-in-RefusedAt-clause-last
+returns-in-RefusedAt-clause-last c list texts k =
+    ap (λ n. n + 1) (kept_long list texts c.args.joined c.log_count-log.result k (c.log_count-log.ensures (listed (entries k.expected.lines)) (map lines_of k.logs) k.joined))

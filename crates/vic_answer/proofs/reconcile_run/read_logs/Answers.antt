@@ -1,25 +1,58 @@
-use Rattle.vic_answer.proofs.Words.{ℕ, ◌≡◌, ◌<◌, length, subst, arith, AllGoing, IsReconciling, Reconciling}
-use Rattle.vic_answer.specs.declared.reconcile.Reconciling.TheVariants.{Going, Ended}
-use Rattle.vic_answer.proofs.Turns.{all_read, one_more}
+use Rattle.vic_answer.proofs.Words.{◌≡◌, ◌<◌, ℕ, List, [], ◌∷◌, length, length-set, set, arith, ◌∙◌, Err, IsKept, IsReconciling, logs_before, GoOn, StopsBy}
+use Rattle.vic_answer.proofs.Turns.{all_ending, all_places, all_read, if_err, none_left, none_read, now_ending, one_more, one_more_left, stops_at_log, within}
 use Rattle.vic_answer.proofs.reconcile_run.read_logs.Goals as goal
 
-all_going : (r : Reconciling) (logs texts : ℕ) → texts ≡ logs → AllGoing r logs texts
-all_going (Going r) logs texts e = e
-all_going (Ended e) logs texts h = tt
+pub loop-at-init : goal.loop-at-init
+loop-at-init g c = record {
+  left = none_left _ _ _;
+  read = λ list h. none_read _ _ _ list c.args.begun h;
+}
 
 pub loop-at-preserved : goal.loop-at-preserved
-loop-at-preserved g c list h =
-    let r = c.in_ok-read-in-Going.ensures.text in
+loop-at-preserved g c =
     let lt : c.loop-at.at < length c.loop-at.logs = omega (arith, c.loop-at-test.true, c.loop-at.auto.logs) in
-    one_more _ _ _ _ _ _ _ (λ texts. IsReconciling list texts c.loop-at.read) (λ texts. IsReconciling list texts _) lt (c.loop-at.invariant list h)
-    r.text (r.given, r.enough) (λ texts p. r.holds list texts (subst (IsReconciling list texts) c.in-Going.is p))
+    let e = c.in_ok-read-in-Going.ensures in
+    record {
+      left = one_more_left _ _ _ _ _ _ _ lt c.loop-at.invariant.left (within e.leaves_source);
+      read = λ list h.
+          let was = c.loop-at.invariant.read list h in
+          one_more _ _ _ _ _ _ _ _ _ (λ texts. IsReconciling list texts c.loop-at.read × (length texts ≡ logs_before c.loop-at.read c.loop-at.at)) _ lt c.loop-at.invariant.left was
+          e.text.text (e.text.given, (e.text.enough, e.leaves_source.works)) (λ texts p.
+          let kept : IsKept list texts c.in-Going.joined = rw c.in-Going.is at p.0 in
+          (e.text.holds list texts kept, now_ending texts e.text.text _ c.loop-at.at (rw c.in-Going.is at p.1) (e.last list texts kept)));
+    }
 
 pub returns-in-Ended-clause-texts : goal.returns-in-Ended-clause-texts
 returns-in-Ended-clause-texts g c list h =
-    all_read _ _ _ _ _ (λ texts. IsReconciling list texts c.loop-at.read) _ c.loop-at.auto.at-end (c.loop-at.invariant list h)
-    (λ texts e p. (subst (IsReconciling list texts) c.in-Ended.is p, tt))
+    all_read _ _ _ _ _ _ _ (λ texts. IsReconciling list texts c.loop-at.read × (length texts ≡ logs_before c.loop-at.read c.loop-at.at)) _ c.loop-at.auto.at-end c.loop-at.invariant.left (c.loop-at.invariant.read list h)
+    (λ texts e p. rw c.in-Ended.is at p)
+
+pub returns-in-Ended-clause-leaves_sources : goal.returns-in-Ended-clause-leaves_sources
+returns-in-Ended-clause-leaves_sources g c = all_places _ _ _ c.loop-at.auto.logs c.loop-at.invariant.left.within
+
+pub returns-in_err-read-in-Going-clause-leaves_sources : goal.returns-in_err-read-in-Going-clause-leaves_sources
+returns-in_err-read-in-Going-clause-leaves_sources g c =
+    let lt : c.loop-at.at < length c.loop-at.logs = omega (arith, c.loop-at-test.true, c.loop-at.auto.logs) in
+    all_places _ _ _ (length-set c.loop-at.logs c.loop-at.at c.read_next.new.source ∙ c.loop-at.auto.logs) (one_more_left _ _ _ _ _ _ _ lt c.loop-at.invariant.left (within c.read_next.ensures.leaves_source)).within
+
+pub returns-in_err-read-in-Going-clause-stops : goal.returns-in_err-read-in-Going-clause-stops
+returns-in_err-read-in-Going-clause-stops g c =
+    let lt : c.loop-at.at < length c.loop-at.logs = omega (arith, c.loop-at-test.true, c.loop-at.auto.logs) in
+    let fault = c.in_err-read-in-Going.field-0.0 in
+    let is : c.read_next.result ≡ Err fault = c.in_err-read-in-Going.was in
+    let k : (list : List ℕ) → IsReconciling list [] c.args.begun → StopsBy g.R.Source.returned g.R.Source.ended g.R.Source.has_failed (λ texts. GoOn (list ∷ texts)) c.args.logs.now (set c.loop-at.logs c.loop-at.at c.read_next.new.source) fault
+    = λ list h.
+    let was = c.loop-at.invariant.read list h in
+    stops_at_log g.R.Source.returned g.R.Source.ended g.R.Source.has_failed c.read_next.result g.R.Source.reads list c.in-Going.joined c.args.logs.now c.loop-at.logs c.loop-at.at _ c.read_next.new.source fault
+    is lt c.loop-at.auto.logs c.loop-at.invariant.left
+    (record { texts = was.texts; as_many = was.as_many; each = was.each; holds = rw c.in-Going.is at was.holds.0 })
+    c.read_next.ensures.leaves_source (rw is at c.read_next.ensures.cut) in
+    if_err c.from_residual.result fault _ c.from_residual.ensures.1 k
+
+pub returns-clause-leaves_sources : goal.returns-clause-leaves_sources
+returns-clause-leaves_sources g c = all_places _ _ _ c.loop-at.auto.logs c.loop-at.invariant.left.within
 
 pub returns-clause-texts : goal.returns-clause-texts
 returns-clause-texts g c list h =
-    all_read _ _ _ _ _ (λ texts. IsReconciling list texts c.loop-at.read) _ c.loop-at.auto.at-end (c.loop-at.invariant list h)
-    (λ texts e p. (p, all_going c.loop-at.read _ _ (omega (arith, e, c.loop-at-test.false, c.loop-at.auto.at-end))))
+    all_read _ _ _ _ _ _ _ (λ texts. IsReconciling list texts c.loop-at.read × (length texts ≡ logs_before c.loop-at.read c.loop-at.at)) _ c.loop-at.auto.at-end c.loop-at.invariant.left (c.loop-at.invariant.read list h)
+    (λ texts e p. (p.0, all_ending c.loop-at.read (length texts) c.loop-at.at _ p.1 (omega (arith, c.loop-at-test.false, c.loop-at.auto.at-end))))

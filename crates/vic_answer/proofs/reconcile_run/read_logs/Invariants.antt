@@ -1,9 +1,12 @@
-use Rattle.vic_answer.proofs.Words.{◌≡◌, ℕ, List, [], true, IsReconciling, IsEnough}
-use Rattle.vic_answer.proofs.Turns.{HaveRead}
+use Rattle.vic_answer.proofs.Words.{◌≡◌, ℕ, List, [], length, IsAnswerable, IsReconciling, logs_before}
+use Rattle.vic_answer.proofs.Turns.{AreLeft, HaveRead}
 use Rattle.vic_answer.proofs.reconcile_run.read_logs.Given as goal
 
 -- the logs before this one were read, and this is what their texts say
 abbrev pub invariant-loop-at : goal.invariant-loop-at
-invariant-loop-at g l =
-    (list : List ℕ) → IsReconciling list [] l.fn.begun
-    → HaveRead g.R.Source.returned (λ s. IsEnough (g.R.Source.ended s ≡ true)) l.fn.logs l.logs l.at (λ texts. IsReconciling list texts l.read)
+invariant-loop-at g l = record {
+  left : AreLeft g.R.Source.reads g.R.Source.has_failed l.fn.logs l.logs l.at;
+  read : (list : List ℕ) → IsReconciling list [] l.fn.begun
+      → HaveRead g.R.Source.returned (IsAnswerable g.R.Source.ended g.R.Source.has_failed) l.fn.logs l.logs l.at
+      (λ texts. IsReconciling list texts l.read × (length texts ≡ logs_before l.read l.at));
+}

@@ -1,29 +1,70 @@
-use Rattle.vic_answer.proofs.Words.{append_cancel_left, length, sym, ◌∙◌, Result, Ok, Err, OnOk, AllRead, IsReconciled}
+use Rattle.vic_answer.proofs.Words.{◌≡◌, append_cancel_left, length, refl, sym, ◌∙◌, Result, Ok, Err, OnOk, IsReconciled, Memory, RunFault, logs_for}
 use Rattle.vic_answer.proofs.Reconciles.{all_where_complete, writes_answer}
-use Rattle.vic_answer.proofs.Turns.{read_to_ends, reconciles}
+use Rattle.vic_answer.proofs.Turns.{all_places, if_err, if_err_other, read_to_ends, reconciles, stops_answered, stops_at_list, stops_behind_list, within, within_same}
 use Rattle.vic_answer.proofs.reconcile_run.run_reconcile.Goals as goal
 
 on_ok_both : {A E X Y Z : Type 0} (r : Result A E) → (X → Y → Z) → OnOk r X → OnOk r Y → OnOk r Z
 on_ok_both (Ok x) f a b = f a b
 on_ok_both (Err e) f a b = tt
 
+pub returns-in_err-begun-clause-stops : goal.returns-in_err-begun-clause-stops
+returns-in_err-begun-clause-stops g c =
+    let fault = c.in_err-begun.field-0.0 in
+    let is : c.read_expected.result ≡ Err fault = c.in_err-begun.was in
+    let e = c.read_expected.ensures in
+    if_err c.from_residual.result fault _ c.from_residual.ensures.1
+    (stops_at_list g.R.Source.returned g.R.Source.ended g.R.Source.has_failed c.args.list.now c.read_expected.new.source c.args.logs.now c.args.logs.now
+    c.read_expected.result g.R.Source.reads fault is e.leaves_source (rw is at e.cut))
+
+pub returns-in_err-begun-clause-leaves_sources : goal.returns-in_err-begun-clause-leaves_sources
+returns-in_err-begun-clause-leaves_sources g c =
+    (within c.read_expected.ensures.leaves_source, all_places _ _ _ refl (λ k s. within_same _ _ _))
+
+pub returns-in_err-read-clause-stops : goal.returns-in_err-read-clause-stops
+returns-in_err-read-clause-stops g c =
+    let fault = c.in_err-read.field-0.0 in
+    let is : c.read_logs.result ≡ Err fault = c.in_err-read.was in
+    let b = c.in_ok-begun.ensures in
+    if_err c.from_residual-in_err-read.result fault _ c.from_residual-in_err-read.ensures.1
+    (stops_behind_list g.R.Source.returned g.R.Source.ended g.R.Source.has_failed c.args.list.now c.read_expected.new.source c.args.logs.now c.read_logs.new.logs
+    fault b.text.text (b.text.given, (b.text.enough, b.leaves_source.works)) ((rw is at c.read_logs.ensures.stops) b.text.text b.text.holds))
+
+pub returns-in_err-answer-clause-stops : goal.returns-in_err-answer-clause-stops
+returns-in_err-answer-clause-stops g c =
+    let b = c.in_ok-begun.ensures in
+    if_err c.from_residual-in_err-answer.result Memory _ c.from_residual-in_err-answer.ensures.1
+    (stops_answered g.R.Source.returned g.R.Source.ended g.R.Source.has_failed c.args.list.now c.read_expected.new.source c.args.logs.now c.read_logs.new.logs
+    Memory b.text.text c.in_ok-read.read (λ e. cc e) (b.text.given, (b.text.enough, b.leaves_source.works)) (c.in_ok-read.ensures.texts b.text.text b.text.holds))
+
+pub returns-clause-stops : goal.returns-clause-stops
+returns-clause-stops g c =
+    let b = c.in_ok-begun.ensures in
+    if_err_other c.write_reconciled.result _ _
+    (λ (e : RunFault) other. stops_answered g.R.Source.returned g.R.Source.ended g.R.Source.has_failed c.args.list.now c.read_expected.new.source c.args.logs.now c.read_logs.new.logs
+    e b.text.text c.in_ok-read.read other (b.text.given, (b.text.enough, b.leaves_source.works)) (c.in_ok-read.ensures.texts b.text.text b.text.holds))
+    c.write_reconciled.ensures.fault
+
 pub returns-clause-answer : goal.returns-clause-answer
 returns-clause-answer g c =
+    let b = c.in_ok-begun.ensures in
     let w = c.write_reconciled.ensures in
     writes_answer _ _ _ c.in_ok-answer.answer _ _ c.write_reconciled.result
-    (reconciles g.R.Source.returned g.R.Source.ended c.args.list.now c.read_expected.new.source c.args.logs.now c.read_logs.new.logs
-    c.in_ok-begun.begun c.in_ok-read.read c.in_ok-answer.answer c.in_ok-begun.ensures.text c.in_ok-read.ensures.texts c.in_ok-answer.ensures.answer c.in_ok-answer.ensures.ended)
+    (reconciles g.R.Source.returned g.R.Source.ended g.R.Source.has_failed c.args.list.now c.read_expected.new.source c.args.logs.now c.read_logs.new.logs
+    c.in_ok-begun.begun c.in_ok-read.read c.in_ok-answer.answer b.text.text (b.text.given, (b.text.enough, b.leaves_source.works)) (c.in_ok-read.ensures.texts b.text.text b.text.holds)
+    c.in_ok-answer.ensures.answer c.in_ok-answer.ensures.ended)
     w.status w.wrote w.part
 
 pub returns-clause-complete : goal.returns-clause-complete
 returns-clause-complete g c =
+    let b = c.in_ok-begun.ensures in
     let w = c.write_reconciled.ensures in
     let logs = c.args.logs.now in
     let answer = c.in_ok-answer.answer in
     on_ok_both c.write_reconciled.result
-    (λ complete wrote rest now. read_to_ends g.R.Source.returned g.R.Source.ended c.args.list.now c.read_expected.new.source logs c.read_logs.new.logs
-    (λ text texts. IsReconciled text texts answer × AllRead answer (length logs) (length texts)) rest
-    (reconciles g.R.Source.returned g.R.Source.ended c.args.list.now c.read_expected.new.source logs c.read_logs.new.logs
-    c.in_ok-begun.begun c.in_ok-read.read answer c.in_ok-begun.ensures.text c.in_ok-read.ensures.texts c.in_ok-answer.ensures.answer c.in_ok-answer.ensures.ended)
+    (λ complete wrote rest now. read_to_ends g.R.Source.returned g.R.Source.ended g.R.Source.has_failed c.args.list.now c.read_expected.new.source logs c.read_logs.new.logs
+    (λ text texts. IsReconciled text texts answer × (length texts ≡ logs_for answer (length logs))) rest
+    (reconciles g.R.Source.returned g.R.Source.ended g.R.Source.has_failed c.args.list.now c.read_expected.new.source logs c.read_logs.new.logs
+    c.in_ok-begun.begun c.in_ok-read.read answer b.text.text (b.text.given, (b.text.enough, b.leaves_source.works)) (c.in_ok-read.ensures.texts b.text.text b.text.holds)
+    c.in_ok-answer.ensures.answer c.in_ok-answer.ensures.ended)
     (λ text texts h. (complete text texts rest h.0 now, all_where_complete _ _ answer rest (length logs) (length texts) (append_cancel_left _ _ _ (sym wrote ∙ now)) h.1)))
     w.complete w.wrote

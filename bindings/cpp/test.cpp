@@ -1,0 +1,104 @@
+// What a program relies on, tried once.
+#include "vicinity.hpp"
+
+#include <cstdlib>
+#include <iostream>
+
+static int passed;
+
+static void is(bool holds, const char *what)
+{
+    if (!holds) {
+        std::cerr << "failed: " << what << '\n';
+        std::exit(1);
+    }
+    passed++;
+}
+#define IS(what) is(what, #what)
+
+// What a call throws; an empty text if nothing.
+template <typename Error, typename Call> static std::string thrown(Call call)
+{
+    try {
+        call();
+    } catch (const Error &error) {
+        return error.what();
+    }
+    return "";
+}
+
+static const std::string SILENT = "vicinity-log 1\nT 260100F60A\nS\n";
+static const std::string ONE = "vicinity-log 1\nT 260100F60A\nR 0000A1000000000104E06745\n";
+static const std::uint64_t A = 0xE0040100000000A1, B = 0xE0040100000000B2;
+
+static void try_answers()
+{
+    IS(vicinity::fits());
+    IS(vicinity::check(SILENT).is_complete());
+    IS(vicinity::check(SILENT).line_text() == "complete 0");
+    IS(!vicinity::check("").is_complete());
+    IS(vicinity::explain(ONE).population == std::vector<std::uint64_t>{A});
+    IS(vicinity::report(ONE).findings.size() == 1);
+    IS(vicinity::finding_text(vicinity::report(ONE).findings[0]) == "unlisted E0040100000000A1");
+    // a comment without LF before the list doesn't swallow its first UID
+    for (const std::string &text : {ONE, ONE + "# end", ONE.substr(0, ONE.size() - 1)}) {
+        IS(vicinity::check_listed(text, {A}).line_text() == "complete 1");
+        IS(vicinity::explain_listed(text, {}).population == std::vector<std::uint64_t>{A});
+        IS(vicinity::report_listed(text, {B, A}).answer.line_text() == "absent E0040100000000B2");
+    }
+}
+
+static void try_many()
+{
+    IS((vicinity::listed("vicinity-log 1\r\n# shelf 3\r\nU e0040100000000a1\r\n") ==
+        std::vector<std::uint64_t>{A}));
+    IS(vicinity::listed("vicinity-log 1\n").empty());
+    IS(thrown<vicinity::Refused>([] { vicinity::listed(ONE); }) == "refused at line 2: NotListed");
+    IS(thrown<vicinity::Refused>([] { vicinity::listed(""); }) == "refused at line 1: Header");
+    IS(thrown<vicinity::Refused>([] { vicinity::survey("uid\n"); }) == "refused at line 1: Header");
+    IS(thrown<vicinity::Impossible>([] {
+           vicinity::survey(SILENT + "T 260100F60A\nR 0000A1000000000104E06745\n");
+       }) == "impossible at line 5");
+    const vicinity::Survey one = vicinity::survey(ONE);
+    IS(one.certain == std::vector<std::uint64_t>{A} && one.masks.empty());
+    IS(vicinity::reconcile({A}, {one, one}).answer.is_complete());
+    IS(vicinity::reconcile({A, B}, {one}).answer.line_text() == "absent E0040100000000B2");
+    IS(thrown<vicinity::NoLogs>([] { vicinity::reconcile({}, {}); }) == "no logs");
+    IS(thrown<vicinity::NoLogs>([] { vicinity::reconcile({}, {vicinity::Survey()}); }) ==
+       "no logs");
+    IS(thrown<vicinity::Refused>([&] {
+           vicinity::reconcile({A, A}, {one});
+       }) == "refused at line 2: DuplicateListed");
+    // one UID is ruled out: one mask of each length is left, the last beside it
+    const std::string asked =
+        vicinity::write_line('T', vicinity::write_inventory(2, 1, {56, 0x040100000000A1}));
+    IS(vicinity::survey("vicinity-log 2\n" + asked + "S\n").masks.size() == 56);
+}
+
+static void try_frames()
+{
+    IS(vicinity::write_line('T', vicinity::write_inventory(2, 1)) == "T 260100F60A\n");
+    IS(vicinity::write_listed(A) == "U E0040100000000A1\n");
+    IS(vicinity::write_line('S') == "S\n");
+    IS(thrown<vicinity::WrongFrame>([] { vicinity::write_line('X'); }) == "WrongLetter");
+    IS(thrown<vicinity::WrongFrame>([] { vicinity::write_inventory(4, 1); }) == "WrongLink");
+    IS(vicinity::read_request(vicinity::write_stay_quiet(2, B)).uid == B);
+    IS(vicinity::read_response(vicinity::write_response(0, 7, A)).dsfid == 7);
+    IS(thrown<vicinity::WrongFrame>([] { vicinity::read_response({0, 0, 0xA1}); }) == "Length");
+    IS((vicinity::add_crc({0x26, 0x01, 0x00}) == vicinity::write_inventory(2, 1)));
+    IS(vicinity::slot_mask(16, {3, 1}, 12).text() == "7 61");
+    IS(vicinity::slot_mask(16, {3, 1}, 12).holds(0xE0040100000000E1));
+    IS((vicinity::Mask{0, 0}.text() == "0 -" && vicinity::Mask{0, 0}.holds(A)));
+    IS(vicinity::simulate("vicinity-log 1\nT 260100F60A\nU E0040100000000A1\n") ==
+       ONE + "U E0040100000000A1\n");
+    IS(thrown<vicinity::NotSimulated>([] { vicinity::simulate("x"); }) ==
+       "refused at line 1: Header");
+}
+
+int main()
+{
+    try_answers();
+    try_many();
+    try_frames();
+    std::cout << passed << " passed\n";
+}

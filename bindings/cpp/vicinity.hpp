@@ -1,0 +1,435 @@
+// Is the list of tags that an RFID reader claims complete? The library of vicinity.h for C++11 and
+// later: what C would have to free is owned, memory that runs out is std::bad_alloc, and a text
+// that is no list or no possible log is an exception. Nothing here reads a log: each answer is that
+// of a proved call.
+//
+//     vicinity::Answer answer = vicinity::check("vicinity-log 1\nT 260100F60A\nS\n");
+//     if (answer.is_complete())
+//
+// A text is bytes: a log as it was written, whatever ends its lines. Any number of threads may call
+// at the same time.
+#ifndef VICINITY_HPP
+#define VICINITY_HPP
+
+#include "vicinity.h"
+
+#include <cstdint>
+#include <cstdio>
+#include <new>
+#include <stdexcept>
+#include <string>
+#include <vector>
+
+namespace vicinity
+{
+
+// The name of an enum vicinity_fault or vicinity_refusal.
+inline std::string fault_name(std::uint32_t fault)
+{
+    vicinity_name name;
+    std::uint32_t len = vicinity_fault_name(fault, &name);
+    return len > 0 ? std::string(name.text, len) : "fault " + std::to_string(fault);
+}
+
+// ---- errors
+
+// The text is not a log, or not a list: the line and its enum vicinity_fault. Of lists that are
+// reconciled, the line counts the elements up to the one that has the fault.
+struct Refused : std::runtime_error {
+    std::uint32_t line, fault;
+    Refused(std::uint32_t at, std::uint32_t why)
+        : std::runtime_error("refused at line " + std::to_string(at) + ": " + fault_name(why)),
+          line(at), fault(why)
+    {
+    }
+};
+
+// The lines of the log up to this one contradict each other.
+struct Impossible : std::runtime_error {
+    std::uint32_t line;
+    explicit Impossible(std::uint32_t at)
+        : std::runtime_error("impossible at line " + std::to_string(at)), line(at)
+    {
+    }
+};
+
+// A frame, mask or line can't be made, or a frame not be read: an enum vicinity_refusal or
+// vicinity_fault.
+struct WrongFrame : std::invalid_argument {
+    std::uint32_t fault;
+    explicit WrongFrame(std::uint32_t why) : std::invalid_argument(fault_name(why)), fault(why) {}
+};
+
+// There are no logs to reconcile.
+struct NoLogs : std::invalid_argument {
+    NoLogs() : std::invalid_argument("no logs") {}
+};
+
+// What `simulate` refuses: the line of the program.
+struct NotSimulated : std::runtime_error {
+    explicit NotSimulated(const std::string &line) : std::runtime_error(line) {}
+};
+
+// ---- UIDs and masks
+
+// The digits of a UID, most significant first.
+inline std::string uid_text(std::uint64_t uid)
+{
+    char text[17];
+    std::snprintf(text, sizeof text, "%016llX", static_cast<unsigned long long>(uid));
+    return text;
+}
+
+// The UIDs whose `len` low bits are `value`.
+struct Mask {
+    std::uint32_t len;
+    std::uint64_t value;
+
+    bool holds(std::uint64_t uid) const { return len == 0 || (uid ^ value) << (64 - len) == 0; }
+
+    // As the program writes it, and as `vicinity spell` takes it.
+    std::string text() const
+    {
+        char digits[17];
+        std::snprintf(digits, sizeof digits, "%0*llX", static_cast<int>((len + 7) / 8 * 2),
+                      static_cast<unsigned long long>(value));
+        return std::to_string(len) + " " + (len == 0 ? "-" : digits);
+    }
+};
+
+// ---- answers
+
+// The answer to a text. Its fields are those of struct vicinity_answer.
+struct Answer : vicinity_answer {
+    // Whether the list is complete.
+    bool is_complete() const { return kind == VICINITY_COMPLETE; }
+
+    // The line of the program, without its LF.
+    std::string line_text() const
+    {
+        std::string whole(text);
+        return whole.substr(0, whole.find('\n'));
+    }
+};
+
+struct Explained {
+    Answer answer;
+    // tags that could have produced the log and differ from its list
+    std::vector<std::uint64_t> population;
+};
+
+// The line of a finding begins with these words; then comes its UID, its mask or its line.
+inline std::string finding_text(const vicinity_finding &finding)
+{
+    vicinity_name kind;
+    switch (finding.kind) {
+    case VICINITY_FINDING_UNSETTLED:
+        return "unsettled " + Mask{finding.mask_len, finding.mask_value}.text();
+    case VICINITY_FINDING_OPEN_MASK:
+        return "open " + Mask{finding.mask_len, finding.mask_value}.text();
+    case VICINITY_FINDING_MORE_OPEN_MASKS: return "more open";
+    case VICINITY_FINDING_CONFLICT_LINE: return "by line " + std::to_string(finding.line);
+    case VICINITY_FINDING_SILENCED_BY: return "silenced by line " + std::to_string(finding.line);
+    default:
+        vicinity_kind_name(finding.kind, &kind);
+        return kind.text + (" " + uid_text(finding.uid));
+    }
+}
+
+struct Report {
+    Answer answer;
+    std::vector<vicinity_finding> findings;
+};
+
+// What a possible log says of its field, whatever it lists.
+struct Survey {
+    Answer answer;                      // which says what the list of the log is worth
+    std::vector<std::uint64_t> certain; // the UIDs that must be there, in rising order
+    std::vector<vicinity_mask> masks;   // all whose UIDs may be there or not
+};
+
+// ---- what the calls share
+
+namespace detail
+{
+
+inline const std::uint8_t *bytes(const std::string &text)
+{
+    return reinterpret_cast<const std::uint8_t *>(text.data());
+}
+
+inline Answer answered(const Answer &answer)
+{
+    if (answer.kind == VICINITY_NO_ANSWER)
+        throw std::bad_alloc();
+    return answer;
+}
+
+// The answer of a call, and all that it writes to a buffer: if that is too small, the call is made
+// again.
+template <typename Element, typename Call> Answer fill(std::vector<Element> &buffer, Call call)
+{
+    buffer.resize(64);
+    for (;;) {
+        Answer answer{};
+        std::size_t needed = 0;
+        call(&answer, buffer.data(), buffer.size(), &needed);
+        bool held = needed <= buffer.size();
+        buffer.resize(needed);
+        if (held)
+            return answered(answer);
+    }
+}
+
+// A text whose last line ends, so that lines can follow.
+inline std::string ended(const std::string &text)
+{
+    return !text.empty() && text.back() == '\n' ? text : text + '\n';
+}
+
+inline void refuse(std::uint32_t fault)
+{
+    if (fault != 0)
+        throw WrongFrame(fault);
+}
+
+inline std::vector<std::uint8_t> frame(const vicinity_frame &told)
+{
+    refuse(told.fault);
+    return {told.bytes, told.bytes + told.len};
+}
+
+} // namespace detail
+
+// ---- the calls
+
+// Whether the linked library has the interface of the header.
+inline bool fits()
+{
+    return vicinity_interface() == VICINITY_INTERFACE;
+}
+
+// The answer to a log, as `vicinity check`.
+inline Answer check(const std::string &text)
+{
+    Answer answer{};
+    vicinity_check(detail::bytes(text), text.size(), &answer);
+    return detail::answered(answer);
+}
+
+// The answer to a log, and a counterexample, as `vicinity explain`.
+inline Explained explain(const std::string &text)
+{
+    Explained told{};
+    told.answer = detail::fill(told.population, [&](Answer *answer, std::uint64_t *uids,
+                                                    std::size_t room, std::size_t *needed) {
+        vicinity_explain(detail::bytes(text), text.size(), answer, uids, room, needed);
+    });
+    return told;
+}
+
+// The answer to a log, and every finding, as `vicinity report`.
+inline Report report(const std::string &text)
+{
+    Report told{};
+    told.answer = detail::fill(told.findings, [&](Answer *answer, vicinity_finding *found,
+                                                  std::size_t room, std::size_t *needed) {
+        vicinity_report(detail::bytes(text), text.size(), answer, found, room, needed);
+    });
+    return told;
+}
+
+// The same for a text without `U` lines, followed by one for each of these UIDs, in any order.
+inline Answer check_listed(const std::string &text, const std::vector<std::uint64_t> &uids)
+{
+    const std::string whole = detail::ended(text);
+    Answer answer{};
+    vicinity_check_listed(detail::bytes(whole), whole.size(), uids.data(), uids.size(), &answer);
+    return detail::answered(answer);
+}
+
+inline Explained explain_listed(const std::string &text, const std::vector<std::uint64_t> &uids)
+{
+    const std::string whole = detail::ended(text);
+    Explained told{};
+    told.answer = detail::fill(told.population, [&](Answer *answer, std::uint64_t *found,
+                                                    std::size_t room, std::size_t *needed) {
+        vicinity_explain_listed(detail::bytes(whole), whole.size(), uids.data(), uids.size(),
+                                answer, found, room, needed);
+    });
+    return told;
+}
+
+inline Report report_listed(const std::string &text, const std::vector<std::uint64_t> &uids)
+{
+    const std::string whole = detail::ended(text);
+    Report told{};
+    told.answer = detail::fill(told.findings, [&](Answer *answer, vicinity_finding *found,
+                                                  std::size_t room, std::size_t *needed) {
+        vicinity_report_listed(detail::bytes(whole), whole.size(), uids.data(), uids.size(), answer,
+                               found, room, needed);
+    });
+    return told;
+}
+
+// The UIDs, in rising order, of a text that only lists UIDs: a list of what is expected. Any other
+// text is Refused.
+inline std::vector<std::uint64_t> listed(const std::string &text)
+{
+    std::vector<std::uint64_t> uids;
+    const Answer told = detail::fill(
+        uids, [&](Answer *answer, std::uint64_t *found, std::size_t room, std::size_t *needed) {
+            vicinity_listed(detail::bytes(text), text.size(), answer, found, room, needed);
+        });
+    if (told.kind != VICINITY_LISTED)
+        throw Refused(told.line, told.fault);
+    return uids;
+}
+
+// What a log says of its field. A text that is not a log is Refused, one that no tags could have
+// produced Impossible.
+inline Survey survey(const std::string &text)
+{
+    Survey told{};
+    told.certain.resize(64);
+    told.masks.resize(64);
+    for (;;) {
+        std::size_t uids = 0, masks = 0;
+        vicinity_survey(detail::bytes(text), text.size(), &told.answer, told.certain.data(),
+                        told.certain.size(), &uids, told.masks.data(), told.masks.size(), &masks);
+        detail::answered(told.answer);
+        if (told.answer.kind == VICINITY_REFUSED)
+            throw Refused(told.answer.line, told.answer.fault);
+        if (told.answer.kind == VICINITY_IMPOSSIBLE)
+            throw Impossible(told.answer.line);
+        bool held = uids <= told.certain.size() && masks <= told.masks.size();
+        told.certain.resize(uids);
+        told.masks.resize(masks);
+        if (held)
+            return told;
+    }
+}
+
+// The answer for many logs and the UIDs that are expected in their fields, in any order, and every
+// finding, without lines. The surveys are one at least, each once or more. A UID that is expected
+// twice is Refused.
+inline Report reconcile(const std::vector<std::uint64_t> &expected,
+                        const std::vector<Survey> &surveys)
+{
+    std::vector<std::uint64_t> certain;
+    std::vector<vicinity_mask> masks;
+    if (surveys.empty())
+        throw NoLogs();
+    for (const Survey &one : surveys) {
+        if (one.answer.kind < VICINITY_COMPLETE || one.answer.kind > VICINITY_DOUBTFUL)
+            throw NoLogs(); // it is none that `survey` returned
+        certain.insert(certain.end(), one.certain.begin(), one.certain.end());
+        masks.insert(masks.end(), one.masks.begin(), one.masks.end());
+    }
+    Report told{};
+    told.answer = detail::fill(told.findings, [&](Answer *answer, vicinity_finding *found,
+                                                  std::size_t room, std::size_t *needed) {
+        vicinity_reconcile(expected.data(), expected.size(), certain.data(), certain.size(),
+                           masks.data(), masks.size(), answer, found, room, needed);
+    });
+    if (told.answer.kind == VICINITY_REFUSED)
+        throw Refused(told.answer.line, told.answer.fault);
+    return told;
+}
+
+// The log that conforming tags would produce: the text has the requests, and lists the tags.
+inline std::string simulate(const std::string &text)
+{
+    std::vector<std::uint8_t> room(64 + 4 * text.size());
+    for (;;) {
+        std::size_t needed = 0;
+        std::uint32_t status =
+            vicinity_simulate(detail::bytes(text), text.size(), room.data(), room.size(), &needed);
+        if (status == 4)
+            throw std::bad_alloc();
+        if (needed > room.size()) {
+            room.resize(needed);
+            continue;
+        }
+        std::string filled(room.begin(), room.begin() + static_cast<std::ptrdiff_t>(needed));
+        if (status != 0)
+            throw NotSimulated(filled.substr(0, filled.find('\n')));
+        return filled;
+    }
+}
+
+// ---- frames and lines: each is a WrongFrame where it can't be made or read
+
+inline std::vector<std::uint8_t> write_inventory(std::uint32_t link, std::uint32_t slots,
+                                                 Mask mask = Mask{0, 0})
+{
+    vicinity_frame told;
+    vicinity_write_inventory(link, slots, mask.len, mask.value, &told);
+    return detail::frame(told);
+}
+
+inline std::vector<std::uint8_t> write_stay_quiet(std::uint32_t link, std::uint64_t uid)
+{
+    vicinity_frame told;
+    vicinity_write_stay_quiet(link, uid, &told);
+    return detail::frame(told);
+}
+
+inline std::vector<std::uint8_t> write_response(std::uint32_t flags, std::uint32_t dsfid,
+                                                std::uint64_t uid)
+{
+    vicinity_frame told;
+    vicinity_write_response(flags, dsfid, uid, &told);
+    return detail::frame(told);
+}
+
+// At most 14 bytes followed by their CRC, for a chip that strips the CRC.
+inline std::vector<std::uint8_t> add_crc(const std::vector<std::uint8_t> &content)
+{
+    vicinity_frame told;
+    vicinity_add_crc(content.data(), content.size(), &told);
+    return detail::frame(told);
+}
+
+inline vicinity_request read_request(const std::vector<std::uint8_t> &frame)
+{
+    vicinity_request told;
+    detail::refuse(vicinity_read_request(frame.data(), frame.size(), &told));
+    return told;
+}
+
+inline vicinity_reply read_response(const std::vector<std::uint8_t> &frame)
+{
+    vicinity_reply told;
+    detail::refuse(vicinity_read_response(frame.data(), frame.size(), &told));
+    return told;
+}
+
+// The mask of a slot, counted from 0, of an Inventory request: which UIDs answer in it.
+inline Mask slot_mask(std::uint32_t slots, Mask mask, std::uint32_t slot)
+{
+    vicinity_mask told;
+    detail::refuse(vicinity_slot_mask(slots, mask.len, mask.value, slot, &told));
+    return {told.len, told.value};
+}
+
+// A line of a log, LF included: 'T' or 'R' with a frame, which isn't judged; 'S', 'C', 'D' or 'F'
+// alone.
+inline std::string write_line(char letter, const std::vector<std::uint8_t> &frame = {},
+                              std::uint64_t uid = 0)
+{
+    vicinity_line told;
+    detail::refuse(vicinity_write_line(static_cast<std::uint8_t>(letter), frame.data(),
+                                       frame.size(), uid, &told));
+    return {told.text, told.len};
+}
+
+// The line of a UID that the reader lists, LF included.
+inline std::string write_listed(std::uint64_t uid)
+{
+    return write_line('U', {}, uid);
+}
+
+} // namespace vicinity
+
+#endif

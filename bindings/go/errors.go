@@ -1,0 +1,46 @@
+package vicinity
+
+import (
+	"errors"
+	"fmt"
+)
+
+// outOfMemory is the status of a call whose memory was refused.
+const outOfMemory = 4
+
+// ErrOutOfMemory means that there is no answer because memory ran out.
+var ErrOutOfMemory = errors.New("vicinity: out of memory")
+
+// ErrNoLogs means that there is nothing to reconcile: no survey, or one that isn't of a possible log.
+var ErrNoLogs = errors.New("vicinity: no logs, or a survey of none")
+
+// RefusedError is a text that is not a log, or not a list: the line and its fault. Of lists that are reconciled, Line counts
+// the elements up to the one that has the fault.
+type RefusedError struct {
+	Line  uint32
+	Fault Fault
+}
+
+func (refused *RefusedError) Error() string {
+	return fmt.Sprintf("refused at line %d: %s", refused.Line, refused.Fault.String())
+}
+
+func (refused *RefusedError) Unwrap() error {
+	return refused.Fault
+}
+
+// ImpossibleError is a log whose lines up to this one contradict each other.
+type ImpossibleError struct {
+	Line uint32
+}
+
+func (impossible *ImpossibleError) Error() string {
+	return fmt.Sprintf("impossible at line %d", impossible.Line)
+}
+
+// simulateError is the line of the program.
+type simulateError string
+
+func (line simulateError) Error() string {
+	return string(line)
+}

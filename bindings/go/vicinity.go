@@ -1,0 +1,284 @@
+// Package vicinity answers whether the list of tags that an RFID reader claims is complete. It is the library of vicinity.h,
+// safe to call: nothing here reads a log, each answer is that of a proved call.
+//
+// It links libvicinity.a. If header and archive aren't where the compiler looks, name their folder:
+//
+//	CGO_CFLAGS=-IFOLDER CGO_LDFLAGS=-LFOLDER go build
+//
+// A text is bytes: a log as it was written, whatever ends its lines. Any number of goroutines may call at the same time.
+package vicinity
+
+// #cgo LDFLAGS: -l:libvicinity.a
+// #include "vicinity.h"
+import "C"
+
+import (
+	"strings"
+	"unsafe"
+)
+
+// HeaderLine is the first line of a log.
+const HeaderLine = C.VICINITY_HEADER_LINE
+
+// firstRoom is how many elements a buffer has at first.
+const firstRoom = 64
+
+// Answer is the answer to a text. Fields that the kind doesn't use are zero.
+type Answer struct {
+	Kind   Kind
+	Status int // the exit status of the program: 0 is complete
+	Count  uint32
+	Line   uint32
+	Fault  Fault
+	Mask   Mask
+	UID    UID
+	Text   string // the line of the program, without its LF
+}
+
+// IsComplete reports whether the list is complete.
+func (answer Answer) IsComplete() bool {
+	return answer.Kind == Complete
+}
+
+// String returns the line of the program.
+func (answer Answer) String() string {
+	return answer.Text
+}
+
+// Finding is one finding of a report. Fields that the kind doesn't use are zero.
+type Finding struct {
+	Kind FindingKind
+	Line uint32 // 0 in what Reconcile returns
+	Mask Mask
+	UID  UID
+}
+
+// Survey is what a possible log says of its field, whatever it lists.
+type Survey struct {
+	Answer    Answer // which says what the list of the log is worth
+	Certain   []UID  // the UIDs that must be there, in rising order
+	OpenMasks []Mask // all masks whose UIDs may be there or not, by length and then by value
+}
+
+// Fits reports whether the linked library has the interface of the header.
+func Fits() bool {
+	return C.vicinity_interface() == C.VICINITY_INTERFACE
+}
+
+// Version returns the version of the library: 10,000 times its first number, 100 times its second, its third.
+func Version() int {
+	return int(C.vicinity_version())
+}
+
+// Check returns the answer to a log, as `vicinity check`.
+func Check(text []byte) (Answer, error) {
+	var told C.struct_vicinity_answer
+	C.vicinity_check(bytes(text), size(text), &told)
+	return answer(&told)
+}
+
+// Explain returns the answer to a log, and a counterexample: the UIDs, in rising order, of tags that could have produced it
+// and differ from its list.
+func Explain(text []byte) (Answer, []UID, error) {
+	told, uids := fill(func(told *C.struct_vicinity_answer, room []UID, needed *C.size_t) {
+		C.vicinity_explain(bytes(text), size(text), told, numbers(room), size(room), needed)
+	})
+	found, err := answer(&told)
+	return found, uids, err
+}
+
+// Report returns the answer to a log, and every finding, as `vicinity report`.
+func Report(text []byte) (Answer, []Finding, error) {
+	told, list := fill(func(told *C.struct_vicinity_answer, room []C.struct_vicinity_finding, needed *C.size_t) {
+		C.vicinity_report(bytes(text), size(text), told, first(room), size(room), needed)
+	})
+	found, err := answer(&told)
+	return found, findings(list), err
+}
+
+// CheckListed returns the answer to a text without `U` lines, followed by one for each of these UIDs, in any order.
+func CheckListed(text []byte, listed []UID) (Answer, error) {
+	text = ended(text)
+	var told C.struct_vicinity_answer
+	C.vicinity_check_listed(bytes(text), size(text), numbers(listed), size(listed), &told)
+	return answer(&told)
+}
+
+// ExplainListed is Explain, for a text and a list as CheckListed takes them.
+func ExplainListed(text []byte, listed []UID) (Answer, []UID, error) {
+	text = ended(text)
+	told, uids := fill(func(told *C.struct_vicinity_answer, room []UID, needed *C.size_t) {
+		C.vicinity_explain_listed(bytes(text), size(text), numbers(listed), size(listed), told, numbers(room), size(room),
+			needed)
+	})
+	found, err := answer(&told)
+	return found, uids, err
+}
+
+// ReportListed is Report, for a text and a list as CheckListed takes them.
+func ReportListed(text []byte, listed []UID) (Answer, []Finding, error) {
+	text = ended(text)
+	told, list := fill(func(told *C.struct_vicinity_answer, room []C.struct_vicinity_finding, needed *C.size_t) {
+		C.vicinity_report_listed(bytes(text), size(text), numbers(listed), size(listed), told, first(room), size(room),
+			needed)
+	})
+	found, err := answer(&told)
+	return found, findings(list), err
+}
+
+// Listed returns the UIDs, in rising order, of a text that only lists UIDs: a list of what is expected. Any other text is a
+// *RefusedError.
+func Listed(text []byte) ([]UID, error) {
+	told, uids := fill(func(told *C.struct_vicinity_answer, room []UID, needed *C.size_t) {
+		C.vicinity_listed(bytes(text), size(text), told, numbers(room), size(room), needed)
+	})
+	switch told.kind {
+	case C.VICINITY_LISTED:
+		return uids, nil
+	case C.VICINITY_REFUSED:
+		return nil, &RefusedError{uint32(told.line), Fault(told.fault)}
+	}
+	return nil, ErrOutOfMemory
+}
+
+// SurveyOf returns what a log says of its field. A text that is not a log is a *RefusedError, and a log that no tags could
+// have produced an *ImpossibleError.
+func SurveyOf(text []byte) (Survey, error) {
+	uids, masks := make([]UID, firstRoom), make([]C.struct_vicinity_mask, firstRoom)
+	for {
+		var told C.struct_vicinity_answer
+		var count, open C.size_t
+		C.vicinity_survey(bytes(text), size(text), &told, numbers(uids), size(uids), &count, first(masks), size(masks), &open)
+		found, err := answer(&told)
+		switch {
+		case err != nil:
+			return Survey{}, err
+		case found.Kind == Refused:
+			return Survey{}, &RefusedError{found.Line, found.Fault}
+		case found.Kind == Impossible:
+			return Survey{}, &ImpossibleError{found.Line}
+		case int(count) <= len(uids) && int(open) <= len(masks):
+			survey := Survey{Answer: found, Certain: uids[:count]}
+			for _, mask := range masks[:open] {
+				survey.OpenMasks = append(survey.OpenMasks, Mask{uint32(mask.len), uint64(mask.value)})
+			}
+			return survey, nil
+		}
+		uids, masks = make([]UID, count), make([]C.struct_vicinity_mask, open)
+	}
+}
+
+// Reconcile returns the answer for many logs and the UIDs that are expected in their fields, in any order, and every finding.
+// The surveys are one at least, each once or more. A UID that is expected twice is a *RefusedError.
+func Reconcile(expected []UID, surveys []Survey) (Answer, []Finding, error) {
+	if len(surveys) == 0 {
+		return Answer{}, nil, ErrNoLogs
+	}
+	var certain []UID
+	var masks []C.struct_vicinity_mask
+	for _, survey := range surveys {
+		if kind := survey.Answer.Kind; kind < Complete || kind > Doubtful {
+			return Answer{}, nil, ErrNoLogs // it is none that SurveyOf returned
+		}
+		certain = append(certain, survey.Certain...)
+		for _, mask := range survey.OpenMasks {
+			masks = append(masks, C.struct_vicinity_mask{len: C.uint32_t(mask.Len), value: C.uint64_t(mask.Value)})
+		}
+	}
+	told, list := fill(func(told *C.struct_vicinity_answer, room []C.struct_vicinity_finding, needed *C.size_t) {
+		C.vicinity_reconcile(numbers(expected), size(expected), numbers(certain), size(certain), first(masks), size(masks),
+			told, first(room), size(room), needed)
+	})
+	found, err := answer(&told)
+	if err == nil && found.Kind == Refused {
+		return Answer{}, nil, &RefusedError{found.Line, found.Fault}
+	}
+	return found, findings(list), err
+}
+
+// Simulate returns the log that conforming tags would produce: the text has the requests, and lists the tags. A text that is
+// no such log is the line of the program as an error.
+func Simulate(text []byte) ([]byte, error) {
+	room := make([]byte, firstRoom+4*len(text))
+	for {
+		var needed C.size_t
+		status := C.vicinity_simulate(bytes(text), size(text), bytes(room), size(room), &needed)
+		switch {
+		case status == outOfMemory:
+			return nil, ErrOutOfMemory
+		case int(needed) > len(room):
+			room = make([]byte, needed)
+		case status != 0:
+			return nil, simulateError(strings.TrimSuffix(string(room[:needed]), "\n"))
+		default:
+			return room[:needed], nil
+		}
+	}
+}
+
+// fill makes a call that fills a buffer, and again where it needs a larger one.
+func fill[Element any](call func(*C.struct_vicinity_answer, []Element, *C.size_t)) (C.struct_vicinity_answer, []Element) {
+	buffer := make([]Element, firstRoom)
+	for {
+		var told C.struct_vicinity_answer
+		var needed C.size_t
+		call(&told, buffer, &needed)
+		if int(needed) <= len(buffer) {
+			return told, buffer[:needed]
+		}
+		buffer = make([]Element, needed)
+	}
+}
+
+// ended returns a text whose last line ends, so that lines can follow.
+func ended(text []byte) []byte {
+	if len(text) > 0 && text[len(text)-1] == '\n' {
+		return text
+	}
+	return append(append(make([]byte, 0, len(text)+1), text...), '\n')
+}
+
+// first points to the first of some elements; it is nil if there are none.
+func first[Element any](elements []Element) *Element {
+	if len(elements) == 0 {
+		return nil
+	}
+	return &elements[0]
+}
+
+func size[Element any](elements []Element) C.size_t {
+	return C.size_t(len(elements))
+}
+
+func bytes(text []byte) *C.uint8_t {
+	return (*C.uint8_t)(unsafe.Pointer(first(text)))
+}
+
+func numbers(uids []UID) *C.uint64_t {
+	return (*C.uint64_t)(unsafe.Pointer(first(uids)))
+}
+
+func answer(told *C.struct_vicinity_answer) (Answer, error) {
+	if told.kind == C.VICINITY_NO_ANSWER {
+		return Answer{}, ErrOutOfMemory
+	}
+	return Answer{
+		Kind:   Kind(told.kind),
+		Status: int(told.status),
+		Count:  uint32(told.count),
+		Line:   uint32(told.line),
+		Fault:  Fault(told.fault),
+		Mask:   Mask{uint32(told.mask_len), uint64(told.mask_value)},
+		UID:    UID(told.uid),
+		Text:   strings.TrimSuffix(C.GoString(&told.text[0]), "\n"),
+	}, nil
+}
+
+func findings(list []C.struct_vicinity_finding) []Finding {
+	var found []Finding
+	for _, it := range list {
+		mask := Mask{uint32(it.mask_len), uint64(it.mask_value)}
+		found = append(found, Finding{FindingKind(it.kind), uint32(it.line), mask, UID(it.uid)})
+	}
+	return found
+}

@@ -1,0 +1,166 @@
+//! Answers, findings, and what a log says of its field.
+
+use crate::error::OutOfMemory;
+use crate::fault::Fault;
+use crate::uid::{Mask, Uid};
+use std::fmt;
+use vicinity_sys as sys;
+
+/// The answer to a log.
+#[derive(Clone, Copy, Debug, PartialEq, Eq)]
+pub enum Verdict {
+    /// The list is complete, and has so many UIDs.
+    Complete { count: u32 },
+    /// The listed UID can't be there.
+    Absent(Uid),
+    /// The UID must be there and isn't listed.
+    Unlisted(Uid),
+    /// All UIDs of the mask may be there, and none is listed.
+    Unsettled(Mask),
+    /// The listed UID may be missing.
+    Doubtful(Uid),
+    /// The lines up to this one contradict each other.
+    Impossible { line: u32 },
+    /// The text is not a log.
+    Refused { line: u32, fault: Fault },
+}
+
+/// A verdict, with the line and the exit status of the program. It displays as the line.
+#[derive(Clone, Copy, Debug, PartialEq, Eq)]
+pub struct Answer {
+    pub verdict: Verdict,
+    status: u8,
+    line: [u8; 64],
+}
+
+impl Answer {
+    /// Whether the list is complete.
+    pub fn is_complete(&self) -> bool {
+        matches!(self.verdict, Verdict::Complete { .. })
+    }
+
+    /// The exit status of `vicinity check`: 0 is complete.
+    pub fn status(&self) -> u8 {
+        self.status
+    }
+
+    /// The answer that the library wrote.
+    pub(crate) fn of(told: &sys::vicinity_answer) -> Result<Answer, OutOfMemory> {
+        let verdict = match told.kind {
+            1 => Verdict::Complete { count: told.count },
+            2 => Verdict::Absent(Uid::written(told.uid)),
+            3 => Verdict::Unlisted(Uid::written(told.uid)),
+            4 => Verdict::Unsettled(mask(told.mask_len, told.mask_value)),
+            5 => Verdict::Doubtful(Uid::written(told.uid)),
+            6 => Verdict::Impossible { line: told.line },
+            7 => Verdict::Refused { line: told.line, fault: Fault::of(told.fault) },
+            _ => return Err(OutOfMemory),
+        };
+        Ok(Answer { verdict, status: told.status as u8, line: told.text })
+    }
+}
+
+impl fmt::Display for Answer {
+    fn fmt(&self, f: &mut fmt::Formatter<'_>) -> fmt::Result {
+        let end = self.line.iter().position(|byte| *byte == b'\n').unwrap_or(0);
+        f.write_str(std::str::from_utf8(&self.line[..end]).unwrap_or(""))
+    }
+}
+
+/// An answer, and a counterexample.
+#[derive(Clone, Debug, PartialEq, Eq)]
+pub struct Explained {
+    pub answer: Answer,
+    /// The UIDs, in rising order, of tags that could have produced the log and differ from its
+    /// list; none if there is no such answer, and perhaps none if there is.
+    pub population: Vec<Uid>,
+}
+
+/// A finding. Lines count from 1; a finding about many logs has none.
+#[derive(Clone, Copy, Debug, PartialEq, Eq)]
+#[non_exhaustive]
+pub enum Finding {
+    /// The listed UID can't be there: the line rules it out.
+    Absent { uid: Uid, line: Option<u32> },
+    /// The UID must be there and isn't listed: the line shows it.
+    Unlisted { uid: Uid, line: Option<u32> },
+    /// All UIDs of the mask may be there, and none is listed.
+    Unsettled(Mask),
+    /// The listed UID may be missing.
+    Doubtful(Uid),
+    /// All UIDs of the mask may be there or not.
+    OpenMask(Mask),
+    /// There are more than sixteen open masks.
+    MoreOpenMasks,
+    /// One of the lines that contradict each other.
+    ConflictLine(u32),
+    /// The line that had silenced the tag whose reply is the conflict.
+    SilencedBy(u32),
+}
+
+impl Finding {
+    pub(crate) fn of(told: &sys::vicinity_finding) -> Finding {
+        let uid = Uid::written(told.uid);
+        let line = (told.line > 0).then(|| told.line);
+        let mask = mask(told.mask_len, told.mask_value);
+        match told.kind {
+            2 => Finding::Absent { uid, line },
+            3 => Finding::Unlisted { uid, line },
+            4 => Finding::Unsettled(mask),
+            5 => Finding::Doubtful(uid),
+            8 => Finding::OpenMask(mask),
+            9 => Finding::MoreOpenMasks,
+            10 => Finding::ConflictLine(told.line),
+            11 => Finding::SilencedBy(told.line),
+            kind => unreachable!("a finding of kind {kind}, which interface 1 doesn't have"),
+        }
+    }
+}
+
+impl fmt::Display for Finding {
+    fn fmt(&self, f: &mut fmt::Formatter<'_>) -> fmt::Result {
+        match self {
+            Finding::Absent { uid, .. } => write!(f, "absent {uid}"),
+            Finding::Unlisted { uid, .. } => write!(f, "unlisted {uid}"),
+            Finding::Unsettled(mask) => write!(f, "unsettled {mask}"),
+            Finding::Doubtful(uid) => write!(f, "doubtful {uid}"),
+            Finding::OpenMask(mask) => write!(f, "open {mask}"),
+            Finding::MoreOpenMasks => f.write_str("more open"),
+            Finding::ConflictLine(line) => write!(f, "by line {line}"),
+            Finding::SilencedBy(line) => write!(f, "silenced by line {line}"),
+        }
+    }
+}
+
+/// An answer, and every finding.
+#[derive(Clone, Debug, PartialEq, Eq)]
+pub struct Report {
+    pub answer: Answer,
+    pub findings: Vec<Finding>,
+}
+
+/// What a possible log says of its field, whatever it lists.
+#[derive(Clone, Debug, PartialEq, Eq)]
+pub struct Survey {
+    /// The answer to the log, which says what its list is worth.
+    pub answer: Answer,
+    pub(crate) certain: Vec<Uid>,
+    pub(crate) masks: Vec<sys::vicinity_mask>,
+}
+
+impl Survey {
+    /// The UIDs that must be there, in rising order.
+    pub fn certain(&self) -> &[Uid] {
+        &self.certain
+    }
+
+    /// All masks whose UIDs may be there or not, by length and then by value.
+    pub fn open_masks(&self) -> impl Iterator<Item = Mask> + '_ {
+        self.masks.iter().map(|it| mask(it.len, it.value))
+    }
+}
+
+/// A mask that the library wrote.
+pub(crate) fn mask(len: u32, value: u64) -> Mask {
+    Mask::new(len, value).unwrap_or(Mask::ALL)
+}

@@ -1,0 +1,104 @@
+//! What a text lists that has no other entries: a list of what is expected.
+
+ghost use Rattle.std.specs.Prelude.{◌≡◌, ◌≢◌, ◌<◌, ◌++◌, ℕ, IfOk, List, codes, decimal};
+ghost use Rattle.arrayvec.specs.ArrayVec.{array_vec_len};
+ghost use Rattle.vic_answer.specs.Listing as spec;
+ghost use Rattle.vic_answer.specs.Reconciled.{HasLog};
+
+use crate::fault_numbers::fault_number;
+use crate::lines::LINE_ROOM;
+use crate::numbers::{NO_ANSWER, VicinityAnswer, padded};
+use crate::survey_numbers::refusal_numbers;
+use crate::text::{Text, put, put_decimal};
+use arrayvec::ArrayVec;
+use std::alloc::{AllocError, Global};
+use vic_frame::Uid;
+use vic_log::{LineFault, Log, LogFault, read_log};
+use vic_reconcile::Reconciliation;
+
+/// The kind of the numbers of a list. No finding has it either.
+pub const LISTED: u32 = 12;
+
+/// The number of the fault of a line that lists no UID.
+pub const NOT_LISTED: u32 = 11;
+
+/// What a text lists.
+#[derive(Drop)]
+pub enum Listing {
+    /// It has a log without other entries, which lists these UIDs, in rising order, on so many
+    /// lines.
+    Listed { uids: Vec<Uid>, count: u32 },
+    /// A line of it has a fault, and this is the first.
+    RefusedAt { line: u32, fault: LineFault },
+    /// It has a log, and this is its first line that lists no UID.
+    NotListedAt { line: u32 },
+}
+
+/// What a complete text lists, if it has no other entries, as `reconcile` reads the list of what is
+/// expected. It fails only if memory is refused.
+pub fn list_text(alloc: Global, text: &[u8]) -> Result<Listing, AllocError>
+    ensures { IfOk result (spec.IsListing text.now) }
+{
+    match read_log(alloc, text) {
+        Ok(log) => list_log(alloc, &log),
+        Err(LogFault::Line { line, fault }) => Ok(Listing::RefusedAt { line, fault }),
+        Err(LogFault::Memory) => Err(AllocError),
+        Err(LogFault::Read) | Err(LogFault::Spent) => unreachable!(),
+    }
+}
+
+/// What a log lists.
+fn list_log(alloc: Global, log: &Log) -> Result<Listing, AllocError>
+    ensures { IfOk result (λ r. (text : List ℕ) → HasLog text log.now
+        → spec.IsListing text r) }
+{
+    match Reconciliation::expecting(alloc, log)? {
+        Ok(begun) => Ok(Listing::Listed {
+            count: begun.count(),
+            uids: begun.into_expected(),
+        }),
+        Err(line) => Ok(Listing::NotListedAt { line }),
+    }
+}
+
+/// The UIDs that are listed, none if the text is refused.
+pub fn listed_in(listing: &Listing) -> &[Uid]
+    ensures { result.now ≡ spec.uids_of listing.now }
+{
+    match listing {
+        Listing::Listed { uids, .. } => uids.as_slice(),
+        _ => &[],
+    }
+}
+
+/// What a text lists, in numbers: its kind is `LISTED`, or that of a refusal.
+pub fn listing_numbers(listing: &Listing) -> VicinityAnswer
+    ensures numbers { result ≡ spec.numbers_of listing.now }
+    ensures some { result.kind ≢ 0 }
+{
+    match *listing {
+        Listing::Listed { count, .. } => VicinityAnswer {
+            kind: LISTED,
+            status: 0,
+            count,
+            text: padded(listed_line(count).as_slice()),
+            ..NO_ANSWER
+        },
+        Listing::RefusedAt { line, fault } => {
+            refusal_numbers(line, fault_number(&fault), fault.name())
+        }
+        Listing::NotListedAt { line } => refusal_numbers(line, NOT_LISTED, "NotListed"),
+    }
+}
+
+/// The line that says how many UIDs are listed.
+fn listed_line(count: u32) -> Text
+    ensures items { result.items ≡ codes "listed " ++ decimal count ++ codes "\n" }
+    ensures len { array_vec_len result < LINE_ROOM }
+{
+    let mut text = ArrayVec::new();
+    put(&mut text, "listed ");
+    put_decimal(&mut text, count);
+    put(&mut text, "\n");
+    text
+}

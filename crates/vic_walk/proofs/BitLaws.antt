@@ -1,0 +1,184 @@
+-- Bits of words, and what is noted of the words.
+use Rattle.std.proofs.Common.{◌≡◌, ◌≢◌, ℕ, ◌+◌, ◌-◌, ◌*◌, ◌/◌, ◌%◌, ◌^◌, ◌<◌, ◌≤◌, Bool, true, false, not, ◌||◌, List, Option, Some, None, length, get_or, set, refl, sym, ap, subst, ◌∙◌, arith, ⊎_elim, bit_or, w64, nat_eq, eq-eqb, eqb-true, get_or-set_same, get_or-set_other, shr-shr}
+use Rattle.std.proofs.lemmas.Bool.{and_parts, both_ways, cases_eq, cases_lt, false_from_ne_true, or_cases, or_right}
+use Rattle.std.proofs.lemmas.Bool.Decides.{nat_tests}
+use Rattle.std.proofs.lemmas.List.{get_or_default, get_or_past}
+use Rattle.std.proofs.lemmas.Nat.{shr_le}
+use Rattle.std.proofs.lemmas.Nat.Bits.{bit_at-trailing_zeros, bit_at-zero, bit_at_above, bit_at_clear_other, bit_at_clear_same, bit_at_set_other, bit_at_set_same}
+use Rattle.std.specs.Int.{bit_at, bit_not, trailing_zeros}
+use Rattle.std.specs.Option.{IfNone, IfSome}
+use lib.Bits.{bit_and}
+use Rattle.vic_walk.specs.Marked.{IsFirst, NoneBetween}
+use Rattle.vic_walk.specs.inner.Bits.{AreNoted, HasNone, HasSome, IsNext, IsWith, IsWithout, is_set}
+
+-- ---- one word
+
+-- a bit of a word that was written
+set_here : (ws : List ℕ) (n w k : ℕ) → n < length ws → k / 64 ≡ n → is_set (set ws n w) k ≡ nat_eq (bit_at w (k % 64)) 1
+set_here ws n w k h e = ap (λ x. nat_eq (bit_at x (k % 64)) 1) (ap (λ m. get_or (set ws n w) m 0) e ∙ get_or-set_same ws n w 0 h)
+
+-- and of any other word
+set_elsewhere : (ws : List ℕ) (n w k : ℕ) → k / 64 ≢ n → is_set (set ws n w) k ≡ is_set ws k
+set_elsewhere ws n w k h = ap (λ x. nat_eq (bit_at x (k % 64)) 1) (get_or-set_other ws n (k / 64) w 0 h)
+
+-- the number with one bit
+abbrev pub bit_of : ℕ → ℕ
+bit_of bit = 1 * 2 ^ (bit % 64) % 2 ^ 64
+
+pub set_bit : (ws : List ℕ) (bit w : ℕ) → bit / 64 < length ws → w ≡ get_or ws (bit / 64) w → IsWith bit ws (set ws (bit / 64) (bit_or w (bit_of bit)))
+set_bit ws bit w h e k = grind (arith, nat_tests, e ∙ get_or_default ws (bit / 64) w 0 h, set_here ws (bit / 64) (bit_or w (bit_of bit)) k h, set_elsewhere ws (bit / 64) (bit_or w (bit_of bit)) k, bit_at_set_same w64 w (bit % 64), bit_at_set_other w64 w (bit % 64))
+
+pub clear_bit : (ws : List ℕ) (bit w : ℕ) → bit / 64 < length ws → w ≡ get_or ws (bit / 64) w → IsWithout bit ws (set ws (bit / 64) (bit_and w (bit_not w64 (bit_of bit))))
+clear_bit ws bit w h e k = grind (arith, nat_tests, e ∙ get_or_default ws (bit / 64) w 0 h, set_here ws (bit / 64) (bit_and w (bit_not w64 (bit_of bit))) k h, set_elsewhere ws (bit / 64) (bit_and w (bit_not w64 (bit_of bit))) k, bit_at_clear_same w64 w (bit % 64), bit_at_clear_other w64 w (bit % 64))
+
+-- no bit of a word that is 0 is set
+pub none_in_zero : (ws : List ℕ) (k : ℕ) → get_or ws (k / 64) 0 ≡ 0 → is_set ws k ≡ false
+none_in_zero ws k e = ap (λ w. nat_eq (bit_at w (k % 64)) 1) e ∙ ap (λ b. nat_eq b 1) (bit_at-zero (k % 64))
+
+pub none_past : (ws : List ℕ) (k : ℕ) → length ws ≤ k / 64 → is_set ws k ≡ false
+none_past ws k h = none_in_zero ws k (get_or_past ws (k / 64) 0 h)
+
+-- ---- the first bit from a bit on
+
+shifted : (w r i : ℕ) → bit_at (w / 2 ^ r) i ≡ bit_at w (r + i)
+shifted w r i = ap (λ n. n % 2) (shr-shr w r i)
+
+-- what is left of a word from bit r on, and its lowest bit
+record IsLowest (w r t : ℕ) : Type 0 where
+  within : r + t < 64
+  one : bit_at w (r + t) ≡ 1
+  zeros : (i : ℕ) → i < t → bit_at w (r + i) ≡ 0
+
+lowest : (w r : ℕ) → w < 2 ^ 64 → 0 < w / 2 ^ r → IsLowest w r (trailing_zeros w64 (w / 2 ^ r))
+lowest w r small some =
+    let low = shr_le w r in
+    let t = bit_at-trailing_zeros w64 (w / 2 ^ r) some (omega arith) in
+    let one : bit_at w (r + trailing_zeros w64 (w / 2 ^ r)) ≡ 1 = sym (shifted w r _) ∙ t.1 in
+    record {
+      within = ⊎_elim (λ (near : r + trailing_zeros w64 (w / 2 ^ r) < 64). near) (λ (far : 64 ≤ r + trailing_zeros w64 (w / 2 ^ r)). let zero_ = bit_at_above w 64 _ small far in absurd (omega (arith, one, zero_))) (cases_lt (r + trailing_zeros w64 (w / 2 ^ r)) 64);
+      one = one;
+      zeros = λ i h. sym (shifted w r i) ∙ t.2 i h;
+    }
+
+-- bit k of the word of a bit, by how far it is above that bit
+ahead : (ws : List ℕ) (from w k : ℕ) → w ≡ get_or ws (from / 64) 0 → from ≤ k → k / 64 ≡ from / 64 → is_set ws k ≡ nat_eq (bit_at w (from % 64 + (k - from))) 1
+ahead ws from w k e le at =
+    let within : k % 64 ≡ from % 64 + (k - from) = omega (arith, le, at) in
+    ap (λ n. nat_eq (bit_at (get_or ws n 0) (k % 64)) 1) at ∙ ap (λ n. nat_eq (bit_at (get_or ws (from / 64) 0) n) 1) within ∙ ap (λ v. nat_eq (bit_at v (from % 64 + (k - from))) 1) (sym e)
+
+pub first_here : (ws : List ℕ) (from w : ℕ) → w ≡ get_or ws (from / 64) 0 → w < 2 ^ 64 → w / 2 ^ (from % 64) ≢ 0 → IsFirst (is_set ws) from (from + trailing_zeros w64 (w / 2 ^ (from % 64)))
+first_here ws from w e small some =
+    let t = trailing_zeros w64 (w / 2 ^ (from % 64)) in
+    let low = lowest w (from % 64) small (omega arith) in
+    let within : from % 64 + t < 64 = low.within in
+    record {
+      from = omega arith;
+      passes =
+          let at : (from + t) / 64 ≡ from / 64 = omega (arith, within) in
+          let back : from + t - from ≡ t = omega arith in
+          ahead ws from w (from + t) e (omega arith) at ∙ rw back (eq-eqb _ 1 low.one);
+      before = λ k le lt.
+          let at : k / 64 ≡ from / 64 = omega (arith, within, le, lt) in
+          ahead ws from w k e le at ∙ ap (λ b. nat_eq b 1) (low.zeros (k - from) (omega (arith, le, lt)));
+    }
+
+pub first_fits : (from w : ℕ) → w < 2 ^ 64 → from < 2 ^ 64 → w / 2 ^ (from % 64) ≢ 0 → from + trailing_zeros w64 (w / 2 ^ (from % 64)) < 2 ^ 64
+first_fits from w small fits some = let within = (lowest w (from % 64) small (omega arith)).within in omega (arith, within)
+
+pub none_ahead : (ws : List ℕ) (from w : ℕ) → w ≡ get_or ws (from / 64) 0 → w / 2 ^ (from % 64) ≡ 0 → NoneBetween (is_set ws) from (from / 64 * 64 + 64)
+none_ahead ws from w e zero_ k le lt =
+    let at : k / 64 ≡ from / 64 = omega (arith, le, lt) in
+    ahead ws from w k e le at ∙ ap (λ b. nat_eq b 1) (sym (shifted w (from % 64) (k - from)) ∙ ap (λ n. bit_at n (k - from)) zero_ ∙ bit_at-zero (k - from))
+
+-- ---- a word that was written
+
+pub emptied : (ws : List ℕ) (n w : ℕ) → n < length ws → w ≡ 0 → HasNone (set ws n w) n
+emptied ws n w h e k at = set_here ws n w k h at ∙ ap (λ v. nat_eq (bit_at v (k % 64)) 1) e ∙ ap (λ b. nat_eq b 1) (bit_at-zero (k % 64))
+
+pub not_emptied : (ws : List ℕ) (n w : ℕ) → n < length ws → w < 2 ^ 64 → w ≢ 0 → HasSome (set ws n w) n
+not_emptied ws n w h small some =
+    let t = trailing_zeros w64 (w / 2 ^ 0) in
+    let low = lowest w 0 small (omega arith) in
+    let within : 0 + t < 64 = low.within in
+    let at : (n * 64 + t) / 64 ≡ n = omega (arith, within) in
+    let place : (n * 64 + t) % 64 ≡ 0 + t = omega (arith, within) in
+    (n * 64 + t, at, set_here ws n w (n * 64 + t) h at ∙ rw place (eq-eqb _ 1 low.one))
+
+-- ---- what is noted of words
+
+pub noted_with : (bit : ℕ) (ws new notes after : List ℕ) → IsWith bit ws new → IsWith (bit / 64) notes after → AreNoted ws notes → AreNoted new after
+noted_with bit ws new notes after more note i = record {
+  noted = λ k is. grind (arith, nat_tests, is, more k, note (k / 64), i.noted k);
+  found = λ n is. ⊎_elim
+      (λ (here : nat_eq n (bit / 64) ≡ true). (bit, sym (eqb-true n (bit / 64) here), more bit ∙ ap (λ b. b || is_set ws bit) (eq-eqb bit bit refl)))
+      (λ (old : is_set notes n ≡ true). let one = i.found n old in (one.0, one.1, more one.0 ∙ or_right _ _ one.2))
+      (or_cases _ _ (sym (note n) ∙ is));
+}
+
+-- a bit of another word is still there
+still_some : (bit n : ℕ) (ws new : List ℕ) → IsWithout bit ws new → n ≢ bit / 64 → HasSome ws n → HasSome new n
+still_some bit n ws new less other one = (one.0, one.1, less one.0 ∙ grind (arith, nat_tests, one.1, one.2))
+
+pub noted_emptied : (bit : ℕ) (ws new notes after : List ℕ) → IsWithout bit ws new → HasNone new (bit / 64) → IsWithout (bit / 64) notes after → AreNoted ws notes → AreNoted new after
+noted_emptied bit ws new notes after less none note i = record {
+  noted = λ k is. grind (arith, nat_tests, is, less k, none k, note (k / 64), i.noted k);
+  found = λ n is.
+      let parts = and_parts (not (nat_eq n (bit / 64))) (is_set notes n) (sym (note n) ∙ is) in
+      still_some bit n ws new less (grind (arith, nat_tests, parts.0)) (i.found n parts.1);
+}
+
+pub noted_left : (bit : ℕ) (ws new notes : List ℕ) → IsWithout bit ws new → HasSome new (bit / 64) → AreNoted ws notes → AreNoted new notes
+noted_left bit ws new notes less some i = record {
+  noted = λ k is. i.noted k (and_parts _ _ (sym (less k) ∙ is)).1;
+  found = λ n is. ⊎_elim
+      (λ (here : n ≡ bit / 64). subst (HasSome new) (sym here) some)
+      (λ (other : n ≢ bit / 64). still_some bit n ws new less other (i.found n is))
+      (cases_eq n (bit / 64));
+}
+
+-- ---- the first one from a number on
+
+pub none_on : (test : ℕ → Bool) (from mid to : ℕ) → NoneBetween test from mid → NoneBetween test mid to → NoneBetween test from to
+none_on test from mid to low high k le lt = ⊎_elim (λ (below : k < mid). low k le below) (λ (above : mid ≤ k). high k above lt) (cases_lt k mid)
+
+-- where none comes before
+pub first_on : (test : ℕ → Bool) (from mid p : ℕ) → from ≤ mid → NoneBetween test from mid → IsFirst test mid p → IsFirst test from p
+first_on test from mid p le none first = record {
+  from = omega (arith, first.from);
+  passes = first.passes;
+  before = none_on test from mid p none first.before;
+}
+
+-- no bit is set in words that aren't noted
+unnoted : (ws notes : List ℕ) (k : ℕ) → AreNoted ws notes → is_set notes (k / 64) ≡ false → is_set ws k ≡ false
+unnoted ws notes k i none = false_from_ne_true _ (λ is. both_ways _ none (i.noted k is))
+
+pub none_noted : (ws notes : List ℕ) (from : ℕ) → AreNoted ws notes → NoneBetween (is_set ws) from (from / 64 * 64 + 64) → ((n : ℕ) → from / 64 + 1 ≤ n → is_set notes n ≡ false) → (k : ℕ) → from ≤ k → is_set ws k ≡ false
+none_noted ws notes from i here none k le = ⊎_elim
+    (λ (below : k < from / 64 * 64 + 64). here k le below)
+    (λ (above : from / 64 * 64 + 64 ≤ k). unnoted ws notes k i (none (k / 64) (omega (arith, above))))
+    (cases_lt k (from / 64 * 64 + 64))
+
+-- none before the first word that is noted
+pub none_before : (ws notes : List ℕ) (from n : ℕ) → AreNoted ws notes → NoneBetween (is_set ws) from (from / 64 * 64 + 64) → IsFirst (is_set notes) (from / 64 + 1) n → NoneBetween (is_set ws) from (n * 64)
+none_before ws notes from n i here first k le lt = ⊎_elim
+    (λ (below : k < from / 64 * 64 + 64). here k le below)
+    (λ (above : from / 64 * 64 + 64 ≤ k). unnoted ws notes k i (first.before (k / 64) (omega (arith, above)) (omega (arith, lt))))
+    (cases_lt k (from / 64 * 64 + 64))
+
+-- a word that is noted isn't empty
+pub not_none : (ws : List ℕ) (n : ℕ) → HasSome ws n → NoneBetween (is_set ws) (n * 64) (n * 64 / 64 * 64 + 64) → ⊥
+not_none ws n some none = let at = some.1 in both_ways _ (none some.0 (omega (arith, at)) (omega (arith, at))) some.2
+
+-- a word that is noted is one of the words
+pub number_below : (ws : List ℕ) (n : ℕ) → HasSome ws n → n < length ws
+number_below ws n some = ⊎_elim
+    (λ (below : n < length ws). below)
+    (λ (past : length ws ≤ n). let at = some.1 in absurd (both_ways _ (none_past ws some.0 (omega (arith, at, past))) some.2))
+    (cases_lt n (length ws))
+
+-- the first bit of the first word that is noted
+pub next_noted : (ws notes : List ℕ) (from n : ℕ) (found : Option ℕ) → AreNoted ws notes → NoneBetween (is_set ws) from (from / 64 * 64 + 64) → IsFirst (is_set notes) (from / 64 + 1) n
+    → IfSome found (IsFirst (is_set ws) (n * 64)) → IfNone found (NoneBetween (is_set ws) (n * 64) (n * 64 / 64 * 64 + 64)) → IsNext (is_set ws) from found
+next_noted ws notes from n (Some p) i here first some none = let le = first.from in first_on (is_set ws) from (n * 64) p (omega (arith, le)) (none_before ws notes from n i here first) some
+next_noted ws notes from n None i here first some none = absurd (not_none ws n (i.found n first.passes) none)

@@ -1,0 +1,14 @@
+mod Words
+pub mod BitLaws
+pub mod MarkLaws
+pub mod PartLaws
+pub mod CutLaws
+mod Entries
+pub mod Alike
+mod Ruling
+mod Steps
+mod Lines
+mod PartUids
+mod OpenAnswers
+mod Ending
+mod ClosedKeys

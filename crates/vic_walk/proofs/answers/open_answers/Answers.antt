@@ -1,0 +1,47 @@
+use Rattle.vic_walk.proofs.Words.{◌≡◌, ◌∙◌, Some, Entry, ap, arith, length, length-map, refl, sym, and-true, is_open}
+use Rattle.vic_log.specs.declared.entry.LogLine.{LogLine}
+use Rattle.vic_log.specs.Order.{entries}
+use Rattle.vic_log.specs.Slots.{slots_of}
+use Rattle.vic_walk.specs.inner.Spans.{IsPlace}
+use Rattle.vic_walk.proofs.OpenAnswers.{answering_none}
+use Rattle.vic_walk.proofs.Lines.{entry_at}
+use Rattle.vic_walk.proofs.Steps.{ready_of, ready_woken}
+use Rattle.vic_walk.proofs.answers.open_answers.Goals as goal
+
+pub loop-index-init : goal.loop-index-init
+loop-index-init c =
+    let es = entries c.args.lines.now in
+    let w = c.wake.ensures in
+    record {
+      ready = ready_woken _ es (is_open (slots_of es)) (length es) 0 c.args.walk.now _ (λ u. refl) w.lasting w.room w.quiet (ready_of _ es (length es) _ c.requires.walk);
+      heard = refl;
+      ends = refl;
+      rounds = c.first-rounds.ensures es;
+      found = rw c.new-found.ensures.items (answering_none es);
+    }
+
+pub loop-index-preserved : goal.loop-index-preserved
+loop-index-preserved c =
+    let es = entries c.args.lines.now in
+    let l = c.loop-index in
+    let here = entry_at c.args.lines.now l.index c.index-lines-index.result c.loop-index-test.true c.index-lines-index.is ∙ ap (λ (e : Entry). Some e) (sym c.item-entry.ensures) in
+    let place : IsPlace c.args.parts.now es l.index c.item-entry.result l.rounds = record { here = here; valid = c.requires.valid; rounds_here = l.invariant.rounds; borders = c.requires.borders; cut = c.requires.cut } in
+    record {
+      ready = c.in_ok-pass_again.ensures.ready es (is_open (slots_of es)) place l.invariant.ready;
+      heard = c.in_ok-pass_again.ensures.heard ∙ l.invariant.heard;
+      ends = c.in_ok-pass_again.ensures.ends ∙ l.invariant.ends;
+      rounds = c.advance.ensures es l.index c.requires.order here l.invariant.rounds;
+      found = c.in_ok-pass_again.ensures.found es place l.invariant.ready l.invariant.found;
+    }
+
+pub returns-clause-found : goal.returns-clause-found
+returns-clause-found c =
+    let end : length (entries c.args.lines.now) ≡ c.loop-index.index = omega (arith, length-map c.args.lines.now (λ (x : LogLine). x.item), c.loop-index-test.false, c.loop-index.auto.index-end) in
+    rw end c.loop-index.invariant.found
+
+pub returns-clause-parts : goal.returns-clause-parts
+returns-clause-parts c u p is at =
+    let es = entries c.args.lines.now in
+    let w = c.wake-2.ensures in
+    let ready = ready_woken _ es (is_open (slots_of es)) c.loop-index.index 0 c.loop-index.walk c.wake-2.new.self (λ u. refl) w.lasting w.room w.quiet c.loop-index.invariant.ready in
+    ready.lasting u p is at ∙ and-true _

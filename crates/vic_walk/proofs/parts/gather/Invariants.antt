@@ -1,0 +1,15 @@
+use Rattle.std.proofs.Common.{◌^◌, ◌<◌, ℕ}
+use Rattle.std.specs.List.{All, Contains}
+use Rattle.vic_log.specs.OpenRounds.{IsCursorAt}
+use Rattle.vic_log.specs.Order.{entries}
+use Rattle.vic_walk.specs.inner.Gathered.{HasCuts, IsBorder}
+use Rattle.vic_walk.proofs.parts.gather.Given as goal
+
+abbrev pub invariant-loop-line : goal.invariant-loop-line
+invariant-loop-line l = record {
+  cursor : IsCursorAt (entries l.lines) l.line-index l.cursor;
+  cut : (i : ℕ) → i < l.line-index → HasCuts (entries l.lines) l.borders.items i;
+  borders : All IsBorder l.borders.items;
+  first : Contains l.borders.items 0;
+  end : Contains l.borders.items (2 ^ 56);
+}

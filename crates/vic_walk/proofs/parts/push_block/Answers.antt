@@ -1,0 +1,11 @@
+use Rattle.std.proofs.Common.{arith, subst, ◌+◌, ◌-◌, ◌^◌, ◌≡◌}
+use Rattle.std.proofs.lemmas.Nat.{pow_pos}
+use Rattle.std.proofs.lemmas.Result.{on_ok_weaker}
+use Rattle.std.specs.List.{Contains}
+use Rattle.vic_walk.proofs.parts.push_block.Goals as goal
+
+pub returns-in-Some-clause-block : goal.returns-in-Some-clause-block
+returns-in-Some-clause-block c =
+    let block = c.in-Some.block in
+    let end : c.last.result + 1 ≡ block.first + 2 ^ (56 - block.len) = omega (arith, c.last.ensures, pow_pos (56 - block.len)) in
+    on_ok_weaker c.push_both.result (λ both. rw c.in-Some.is (rw c.in-Some.is at c.requires, both.0, subst (Contains c.push_both.new.borders.items) end both.1)) c.push_both.ensures.both

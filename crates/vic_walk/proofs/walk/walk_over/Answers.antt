@@ -1,0 +1,56 @@
+use Rattle.vic_walk.proofs.Words.{◌≡◌, ◌∙◌, Some, Entry, add-one, ap, arith, nat_tests, slice_get_within, false≢true, length, refl, slice_get_read, sym, length-map}
+use Rattle.vic_log.specs.declared.entry.LogLine.{LogLine}
+use Rattle.vic_walk.specs.inner.Spans.{IsPlace}
+use Rattle.vic_log.specs.Order.{entries}
+use Rattle.vic_walk.proofs.Lines.{entry_at, number_above}
+use Rattle.vic_walk.proofs.walk.walk_over.Goals as goal
+
+pub loop-index-init : goal.loop-index-init
+loop-index-init c = record {
+  walk = c.in_ok-walk.ensures c.args.parts.now (entries c.args.lines.now) (sym c.count.ensures.count);
+  rounds = c.first-rounds.ensures (entries c.args.lines.now);
+  borne = record { answer = λ j u below. absurd (omega arith); openness = λ u heard. absurd (false≢true heard) };
+}
+
+pub overflow_cast-index : goal.overflow_cast-index
+overflow_cast-index c =
+    let i = c.loop-index.index in
+    let at = slice_get_read c.args.lines.now (length c.args.lines.now) i c.index-lines-index.result refl c.loop-index-test.true c.index-lines-index.is in
+    omega (arith, number_above 0 c.args.lines.now i c.index-lines-index.result c.requires.rising at, c.entry_of-entry.ensures.number)
+
+pub pass-requires-clause-at : goal.pass-requires-clause-at
+pass-requires-clause-at c =
+    let i = c.loop-index.index in
+    let at = slice_get_read c.args.lines.now (length c.args.lines.now) i c.index-lines-index.result refl c.loop-index-test.true c.index-lines-index.is in
+    omega (arith, number_above 0 c.args.lines.now i c.index-lines-index.result c.requires.rising at, c.entry_of-entry.ensures.number)
+
+pub returns-then-not-branch : goal.returns-then-not-branch
+returns-then-not-branch c =
+    let es = entries c.args.lines.now in
+    let l = c.loop-index in
+    let here = entry_at c.args.lines.now l.index c.index-lines-index.result c.loop-index-test.true c.index-lines-index.is ∙ ap (λ (e : Entry). Some e) (sym c.entry_of-entry.ensures.value) in
+    let place : IsPlace c.args.parts.now es l.index c.entry_of-entry.result l.rounds = record { here = here; valid = c.requires.valid; rounds_here = l.invariant.rounds; borders = c.requires.borders; cut = c.requires.cut } in
+    let fine = c.in_ok-pass.ensures.fine es place l.invariant.walk l.invariant.borne in (
+      slice_get_within es l.index c.entry_of-entry.result here,
+      rw (← add-one) (c.in_ok-pass.ensures.walk es place l.invariant.walk),
+      l.invariant.borne,
+      λ b. let yes_fine = fine.1 (rw add-one b) in let no_fine = c.if-not-branch.true in grind (arith, nat_tests),
+    )
+
+pub loop-index-preserved : goal.loop-index-preserved
+loop-index-preserved c =
+    let es = entries c.args.lines.now in
+    let l = c.loop-index in
+    let here = entry_at c.args.lines.now l.index c.index-lines-index.result c.loop-index-test.true c.index-lines-index.is ∙ ap (λ (e : Entry). Some e) (sym c.entry_of-entry.ensures.value) in
+    let place : IsPlace c.args.parts.now es l.index c.entry_of-entry.result l.rounds = record { here = here; valid = c.requires.valid; rounds_here = l.invariant.rounds; borders = c.requires.borders; cut = c.requires.cut } in
+    let fine = c.in_ok-pass.ensures.fine es place l.invariant.walk l.invariant.borne in
+    record {
+      walk = c.in_ok-pass.ensures.walk es place l.invariant.walk;
+      rounds = c.advance.ensures es l.index c.requires.order here l.invariant.rounds;
+      borne = fine.0 (let it = c.if-not-branch.false in grind (arith, nat_tests));
+    }
+
+pub returns : goal.returns
+returns c =
+    let end : length (entries c.args.lines.now) ≡ c.loop-index.index = omega (arith, length-map c.args.lines.now (λ (x : LogLine). x.item), c.loop-index-test.false, c.loop-index.auto.index-end) in
+    rw end (c.loop-index.invariant.walk, c.loop-index.invariant.borne)

@@ -1,0 +1,11 @@
+use Rattle.vic_walk.proofs.Words.{AreBorneOut, IsWalkAt}
+use Rattle.vic_log.specs.OpenRounds.{IsCursorAt}
+use Rattle.vic_log.specs.Order.{entries}
+use Rattle.vic_walk.proofs.walk.walk_over.Given as goal
+
+abbrev pub invariant-loop-index : goal.invariant-loop-index
+invariant-loop-index l = record {
+  walk : IsWalkAt l.parts (entries l.lines) l.index l.walk;
+  rounds : IsCursorAt (entries l.lines) l.index l.rounds;
+  borne : AreBorneOut (entries l.lines) l.index;
+}

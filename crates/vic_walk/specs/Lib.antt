@@ -1,0 +1,6 @@
+pub mod Marked
+pub mod Borders
+pub mod Cuts
+pub mod Walk
+pub mod Answers
+pub mod inner

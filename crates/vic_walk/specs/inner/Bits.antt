@@ -1,0 +1,50 @@
+-- Bits of words, and bits of other words that note which of the words aren't 0.
+use Rattle.std.specs.Prelude.{◌≡◌, ℕ, ◌+◌, ◌*◌, ◌/◌, ◌%◌, ◌^◌, ◌<◌, ◌≤◌, Bool, true, false, not, ◌&&◌, ◌||◌, Option, Some, None, List, length, map, slice_index, nat_eq}
+use Rattle.std.specs.Int.{bit_at}
+use Rattle.std.specs.List.{range_with_len}
+use Rattle.vic_walk.specs.Marked.{IsFirst}
+use Rattle.vic_walk.specs.declared.marks.TheConstants.{WORD}
+
+-- bit k of words; none past the end is set
+abbrev pub is_set : List ℕ → ℕ → Bool
+is_set ws k = nat_eq (bit_at (slice_index ws (k / WORD)) (k % WORD)) 1
+
+-- the first number, from `from` on, that passes; None if there is none
+abbrev pub IsNext : (ℕ → Bool) → ℕ → Option ℕ → Type 0
+IsNext test from (Some p) = IsFirst test from p
+IsNext test from None = (k : ℕ) → from ≤ k → test k ≡ false
+
+-- word n has a bit that is set
+abbrev pub HasSome : List ℕ → ℕ → Type 0
+HasSome ws n = (k : ℕ) × (k / WORD ≡ n) × (is_set ws k ≡ true)
+
+-- no bit of word n is set
+abbrev pub HasNone : List ℕ → ℕ → Type 0
+HasNone ws n = (k : ℕ) → k / WORD ≡ n → is_set ws k ≡ false
+
+-- new has the bits of old, and this one
+abbrev pub IsWith : ℕ → List ℕ → List ℕ → Type 0
+IsWith bit old new = (k : ℕ) → is_set new k ≡ (nat_eq k bit || is_set old k)
+
+-- new has the bits of old without this one
+abbrev pub IsWithout : ℕ → List ℕ → List ℕ → Type 0
+IsWithout bit old new = (k : ℕ) → is_set new k ≡ (not (nat_eq k bit) && is_set old k)
+
+-- a bit of `notes` for each word, set if and only if some bit of the word is
+pub record AreNoted (ws notes : List ℕ) : Type 0 where
+  pub noted : (k : ℕ) → is_set ws k ≡ true → is_set notes (k / WORD) ≡ true
+  pub found : (n : ℕ) → is_set notes n ≡ true → HasSome ws n
+
+-- which of the first numbers are marked
+abbrev pub marked_in : ℕ → List ℕ → List Bool
+marked_in count places = map (is_set places) (range_with_len 0 count)
+
+-- the bits of a set of numbers below a count, in three levels
+pub record AreMarks (count : ℕ) (places words groups : List ℕ) : Type 0 where
+  pub fits : count < 2 ^ 64
+  pub below : (k : ℕ) → is_set places k ≡ true → k < count
+  pub places_noted : AreNoted places words
+  pub words_noted : AreNoted words groups
+  pub place_room : length places ≡ count / WORD + 1
+  pub word_room : length words ≡ count / (WORD * WORD) + 1
+  pub group_room : length groups ≡ count / (WORD * WORD * WORD) + 1

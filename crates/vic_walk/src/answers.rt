@@ -1,0 +1,110 @@
+//! The unread slots of a log, in which tags answered and none was read: which open UIDs answer
+//! there.
+
+ghost use Rattle.std.specs.Prelude.{◌≡◌, ◌+◌, ◌<◌, ℕ, Bool, true, false, List, IfOk, OnOk, length};
+ghost use Rattle.vic_frame.specs.Uids.{has};
+ghost use Rattle.vic_log.specs.declared.entry.Entry.{Entry as EntryValue};
+ghost use Rattle.vic_log.specs.Order.{AreValid, IsInOrder, entries};
+ghost use Rattle.vic_log.specs.Slots.{slots_of, is_open};
+ghost use Rattle.vic_walk.specs.Answers.{AreAnswering};
+ghost use Rattle.vic_walk.specs.Borders.{AreBorders, part_count};
+ghost use Rattle.vic_walk.specs.Cuts.{AreCut};
+ghost use Rattle.vic_walk.specs.Walk.{AreOpenParts, HasRoom, IsWalkAt};
+ghost use Rattle.vic_walk.specs.inner.Ready.{IsReadyAt};
+ghost use Rattle.vic_walk.specs.inner.Spans.{IsPlace};
+
+use crate::parts::Parts;
+use crate::three::up_to_three;
+use crate::walk::{Walk, span_of};
+use arrayvec::ArrayVec;
+use std::alloc::{AllocError, Global};
+use vic_frame::Uid;
+use vic_log::{Entry, PackedLine, RoundCursor};
+
+/// Open UIDs that answer in an unread slot: all of them if there are fewer than three, otherwise
+/// three.
+#[derive(Drop)]
+pub struct Answering {
+    /// The position of its line.
+    pub at: usize,
+    /// Different ones, in no order.
+    pub uids: ArrayVec<Uid, 3>,
+}
+
+/// Moves a walk past an entry, ruling nothing out; notes which open UIDs answer there, if it is an
+/// unread slot.
+fn pass_again(
+    walk: &mut Walk,
+    found: &mut Vec<Answering>,
+    parts: &Parts,
+    rounds: &RoundCursor,
+    at: usize,
+    entry: &Entry,
+) -> Result<(), AllocError>
+    requires borders { AreBorders parts.now }
+    requires room { length walk.old.lasting ≡ part_count parts.now }
+    requires listed { (p : ℕ) → has walk.old.quiet.items p ≡ true → p < part_count parts.now }
+    ensures ready { OnOk result ((es : List EntryValue) (set : ℕ → Bool)
+        → IsPlace parts.now es at entry.now rounds.now
+        → IsReadyAt parts.now es set at walk.old
+        → IsReadyAt parts.now es set (at + 1) walk.new) }
+    ensures found { OnOk result ((es : List EntryValue)
+        → IsPlace parts.now es at entry.now rounds.now
+        → IsReadyAt parts.now es (is_open (slots_of es)) at walk.old
+        → AreAnswering es at found.old.items → AreAnswering es (at + 1) found.new.items) }
+    ensures heard { OnOk result (walk.new.heard ≡ walk.old.heard) }
+    ensures ends { OnOk result (walk.new.ends.items ≡ walk.old.ends.items) }
+{
+    match *entry {
+        Entry::Sent(request) => {
+            walk.pass_request(parts, &request)?;
+            Ok(())
+        }
+        Entry::FieldCycle => {
+            walk.wake();
+            Ok(())
+        }
+        Entry::Collision | Entry::Garbled => {
+            let uids = up_to_three(parts, &walk.lasting, span_of(parts, rounds));
+            found.push(Answering { at, uids })?;
+            Ok(())
+        }
+        Entry::Silent | Entry::Heard(_) | Entry::Listed(_) => Ok(()),
+    }
+}
+
+/// For each unread slot of a log, in the order of the log, the open UIDs that answer there. The
+/// walk has come to the end of the log; afterwards its `lasting` marks exactly the open parts,
+/// Quiet ones too, none is listed in `quiet`, and `ends` and `heard` stay as they were.
+pub fn open_answers(
+    alloc: Global,
+    lines: &[PackedLine],
+    parts: &Parts,
+    walk: &mut Walk,
+) -> Result<Vec<Answering>, AllocError>
+    requires order { IsInOrder (entries lines.now) }
+    requires valid { AreValid (entries lines.now) }
+    requires borders { AreBorders parts.now }
+    requires cut { AreCut parts.now (entries lines.now) }
+    requires walk { IsWalkAt parts.now (entries lines.now) (length (entries lines.now)) walk.old }
+    ensures found { IfOk result (λ found.
+        AreAnswering (entries lines.now) (length (entries lines.now)) found.items) }
+    ensures parts { OnOk result (AreOpenParts parts.now (entries lines.now) walk.new.lasting) }
+    ensures quiet { OnOk result ((p : ℕ) → has walk.new.quiet.items p ≡ false) }
+    ensures room { OnOk result (HasRoom (part_count parts.now) walk.new) }
+    ensures heard { OnOk result (walk.new.heard ≡ walk.old.heard) }
+    ensures ends { OnOk result (walk.new.ends.items ≡ walk.old.ends.items) }
+{
+    // before the first entry no part is Quiet
+    walk.wake();
+    let mut found = Vec::new(alloc);
+    let mut rounds = RoundCursor::first();
+    for index in 0..lines.len() {
+        let entry = lines[index].item();
+        pass_again(walk, &mut found, parts, &rounds, index, &entry)?;
+        rounds.advance(&entry);
+    }
+    // parts that are Quiet at the end are open too
+    walk.wake();
+    Ok(found)
+}

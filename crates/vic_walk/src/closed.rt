@@ -1,0 +1,55 @@
+//! The keys of the parts that a walk has ruled out.
+
+ghost use Rattle.std.specs.Prelude.{◌≡◌, ℕ, ◌+◌, ◌^◌, ◌≤◌, ◌&&◌, ◌||◌, List, IfOk, OnOk, nat_le, nat_lt};
+ghost use Rattle.vic_frame.specs.declared.uid.TheConstants.{UID_BITS};
+ghost use Rattle.vic_log.specs.declared.entry.Entry.{Entry as EntryValue};
+ghost use Rattle.vic_log.specs.Slots.{is_open, slots_before};
+ghost use Rattle.vic_tree.specs.OpenSet.{SameUids};
+ghost use Rattle.vic_tree.specs.Ranges.{AreRanges, in_ranges, is_outside};
+ghost use Rattle.vic_walk.specs.Borders.{AreBorders, part_count};
+ghost use Rattle.vic_walk.specs.Walk.{HasRoom, IsWalkAt};
+ghost use Rattle.vic_walk.specs.inner.RangesTo.{AreRangesTo};
+
+use crate::parts::Parts;
+use crate::walk::Walk;
+use std::alloc::{AllocError, Global};
+use vic_frame::UID_BITS;
+use vic_tree::KeyRange;
+
+/// The keys of the parts that a walk has ruled out, as ranges in rising order with a key between
+/// any two: the UIDs outside of them are those that the entries so far leave open. To be called
+/// before `open_answers`, which changes the walk.
+pub fn closed_keys(alloc: Global, parts: &Parts, walk: &Walk) -> Result<Vec<KeyRange>, AllocError>
+    requires borders { AreBorders parts.now }
+    requires room { HasRoom (part_count parts.now) walk.now }
+    ensures ranges { IfOk result (λ closed. AreRanges closed.items) }
+    ensures outside { IfOk result (λ closed. (es : List EntryValue) (i : ℕ)
+        → IsWalkAt parts.now es i walk.now
+        → SameUids (is_outside closed.items) (is_open (slots_before es i))) }
+{
+    let mut closed = Vec::new(alloc);
+    // the keys from this one up to the part looked at are ruled out, and not in `closed` yet
+    let mut from = 0;
+    for part in 0..parts.count() {
+        if walk.ends[part] == 0 {
+            push_keys(&mut closed, from, parts.first(part))?;
+            from = parts.end(part);
+        }
+    }
+    push_keys(&mut closed, from, 1 << UID_BITS)?;
+    Ok(closed)
+}
+
+/// Adds the keys from one on and below another, if there are any, as one range.
+fn push_keys(ranges: &mut Vec<KeyRange>, from: u64, end: u64) -> Result<(), AllocError>
+    requires { end ≤ 2 ^ UID_BITS }
+    ensures ranges { OnOk result (from ≤ end → AreRangesTo from ranges.old.items
+        → AreRangesTo (end + 1) ranges.new.items) }
+    ensures keys { OnOk result ((k : ℕ) → in_ranges ranges.new.items k
+        ≡ (in_ranges ranges.old.items k || (nat_le from k && nat_lt k end))) }
+{
+    if from < end {
+        ranges.push(KeyRange::new(from, end - 1))?;
+    }
+    Ok(())
+}

@@ -1,0 +1,18 @@
+//! The keys of all UIDs, divided into parts, so that a log treats all UIDs of a part alike, and a
+//! walk over a log, which knows of each part whether it is open, Quiet or heard, and which entry
+//! rules it out.
+#![tactic(auto)]
+
+mod answers;
+mod closed;
+pub mod laws;
+mod marks;
+mod parts;
+mod three;
+mod walk;
+
+pub use answers::{Answering, open_answers};
+pub use closed::closed_keys;
+pub use marks::Marks;
+pub use parts::{Parts, Span};
+pub use walk::{LogWalk, Walk, walk_log};

@@ -1,0 +1,48 @@
+//! The UIDs of some parts, at most three.
+
+ghost use Rattle.std.specs.Prelude.{◌≡◌, ℕ, ◌^◌, ◌≤◌, Bool, length};
+ghost use Rattle.vic_frame.specs.declared.uid.TheConstants.{UID_BITS};
+ghost use Rattle.vic_tree.specs.Gathering.{Gathers};
+ghost use Rattle.vic_tree.specs.OpenSet.{UpToThree};
+ghost use Rattle.vic_walk.specs.Borders.{AreBorders, part_count};
+ghost use Rattle.vic_walk.specs.inner.PartUids.{AreUidsOf, HasKey};
+
+use crate::marks::Marks;
+use crate::parts::{Parts, Span};
+use arrayvec::ArrayVec;
+use vic_frame::Uid;
+use vic_frame::low_bits_first::uid_at;
+use vic_tree::gather::gather_one;
+
+/// UIDs of the marked parts of a span: all of them if there are fewer than three, otherwise three.
+pub(crate) fn up_to_three(parts: &Parts, marks: &Marks, span: Span) -> ArrayVec<Uid, 3>
+    requires borders { AreBorders parts.now }
+    requires within { span.to ≤ part_count parts.now }
+    ensures { (test : ℕ → Bool) → AreUidsOf parts.now marks.now span test
+        → UpToThree test result.items }
+{
+    let mut found = ArrayVec::new();
+    let mut from = span.from;
+    while let Some(part) = marks.first(from, span.to) {
+        gather_between(&mut found, parts.first(part), parts.end(part));
+        if found.is_full() {
+            return found;
+        }
+        from = part + 1;
+    }
+    found
+}
+
+/// Appends the UIDs with keys from `first` on and before `end`, until there are three.
+fn gather_between(found: &mut ArrayVec<Uid, 3>, first: u64, end: u64)
+    requires forward { first ≤ end }
+    requires small { end ≤ 2 ^ UID_BITS }
+    ensures { Gathers (HasKey first end) found.old.items found.new.items }
+{
+    for key in first..end {
+        if found.is_full() {
+            return;
+        }
+        gather_one(found, &[], uid_at(key));
+    }
+}

@@ -1,0 +1,121 @@
+"""What the tests of the package share: lines of logs, their answers, and the commands of the package."""
+import contextlib
+import os
+import pty
+import subprocess
+import sys
+import tempfile
+import unittest
+from unittest import mock
+
+from vicinity import Fault, Kind
+from vicinity.__main__ import words
+from vicinity.commands import reconcile
+
+TOP = os.path.dirname(os.path.dirname(os.path.dirname(os.path.abspath(__file__))))
+ALL = b"T 260100F60A\n"
+SIXTEEN = b"T 060100CD09\n"
+A, B = 0xE0040100000000A1, 0xE0040100000000B2
+HEARD_A = b"R 0000A1000000000104E06745\n"
+HEARD_B = b"R 0000B2000000000104E0CF94\n"
+SILENCE_A = b"T 2202A1000000000104E0662A\n"
+LIST_A = b"U E0040100000000A1\n"
+LIST_B = b"U E0040100000000B2\n"
+COLLECTION = os.path.join(TOP, "examples/collection")
+SHELVES = [os.path.join(COLLECTION, f"shelf-{letter}.log") for letter in "abc"]
+FULL = "No space left on device"
+#: The forms in which `reconcile` writes.
+FORMS_OF_RECONCILE = ([], ["--csv"], ["--json"], ["--page"])
+#: Names of files, and how they are shown.
+NAMES = {
+    b"a: complete 4.log": "a: complete 4.log",
+    b"a\nb.log: complete 1\n.log": r"a\nb.log: complete 1\n.log",
+    b"a\tb\\c.log": r"a\tb\\c.log",
+    b"\33]0;owned\7\33[2J\r.log": r"\x1b]0;owned\x07\x1b[2J\x0d.log",
+    b"\xff.log": r"\xff.log",
+    "\u00e9\u6f22\u202e\u0085\u2028.log".encode(): "\u00e9\u6f22" r"\xe2\x80\xae\xc2\x85\xe2\x80\xa8.log",
+}
+
+# what is after the header, the answer, and the tags that show it
+ANSWERS = [
+    (ALL + b"S\n", dict(kind=Kind.COMPLETE, status=0, count=0), "complete 0", []),
+    (ALL + HEARD_A + LIST_A, dict(kind=Kind.COMPLETE, status=0, count=1), "complete 1", []),
+    (ALL + b"S\n" + LIST_A, dict(kind=Kind.ABSENT, status=1, uid=A), "absent E0040100000000A1", []),
+    (ALL + HEARD_A, dict(kind=Kind.UNLISTED, status=1, uid=A), "unlisted E0040100000000A1", [A]),
+    (SILENCE_A + ALL + b"S\n", dict(kind=Kind.UNSETTLED, status=1, mask_len=56, mask_value=0x040100000000A1),
+     "unsettled 56 040100000000A1", [A]),
+    (SILENCE_A + ALL + b"S\n" + LIST_A, dict(kind=Kind.DOUBTFUL, status=1, uid=A), "doubtful E0040100000000A1", []),
+    (ALL + b"S\n" + ALL + b"C\n", dict(kind=Kind.IMPOSSIBLE, status=2, line=5), "impossible at line 5", []),
+    (ALL + b"S\nS\n", dict(kind=Kind.REFUSED, status=3, line=4, fault=Fault.SLOT_OUTSIDE_ROUND),
+     "refused at line 4: SlotOutsideRound", []),
+    (b"T 260100F60B\n", dict(kind=Kind.REFUSED, status=3, line=2, fault=Fault.FRAME_CRC), "refused at line 2: Crc", []),
+]
+
+
+def log(lines):
+    return b"vicinity-log 1\n" + lines
+
+
+NOTHING = log(ALL + b"S\n")
+
+
+def frame(content):
+    """The digits of a frame, with its CRC: ISO/IEC 13239, 16-bit FCS."""
+    register = 0xFFFF
+    for byte in content:
+        register ^= byte
+        for _ in range(8):
+            register = register >> 1 ^ (0x8408 if register & 1 else 0)
+    return (content + (register ^ 0xFFFF).to_bytes(2, "little")).hex().upper().encode()
+
+
+def command(*words, given=b"", redirected="", limit="unlimited", **env):
+    """What `python3 -m vicinity` writes, and its status; with its streams redirected as a shell does it, and with at most
+    so many KiB of address space."""
+    script = f'ulimit -v {limit}; exec "$@" {redirected}'
+    ran = subprocess.run(["sh", "-c", script, "sh", sys.executable, "-m", "vicinity", *words], input=given,
+                         capture_output=True, env={**os.environ, **env})
+    return ran.stdout, ran.stderr, ran.returncode
+
+
+def on_a_terminal(*words, **env):
+    """What a terminal gets."""
+    ours, theirs = pty.openpty()
+    subprocess.run([sys.executable, "-m", "vicinity", *words], stdin=theirs, stdout=theirs, env={**os.environ, **env})
+    os.close(theirs)
+    told = b""
+    with open(ours, "rb", buffering=0) as file, contextlib.suppress(OSError):
+        while piece := file.read(4096):
+            told += piece
+    return told
+
+
+def least():
+    """How many KiB of address space the commands take by themselves."""
+    code = ("import vicinity.__main__, vicinity.commands.draw, vicinity.commands.reconcile; vicinity.check(b'')\n"
+            "with open('/proc/self/status') as file: print(*(it.split()[1] for it in file if it.startswith('VmPeak')))")
+    return int(subprocess.run([sys.executable, "-c", code], capture_output=True).stdout)
+
+
+def here(form, expected, *logs, options=()):
+    """What the command writes, also to standard error, and its status, without a process of its own."""
+    asked = words()[1]["reconcile"].parse(["--expected", expected, f"--{form}", *options, "--", *logs])
+    with mock.patch.object(reconcile, "write") as write, mock.patch.object(reconcile, "complain") as complain:
+        status = reconcile.reconcile(asked)
+        said = [piece for call in write.call_args_list for piece in call[0][0]]
+        said = b"".join(piece if isinstance(piece, bytes) else piece.encode() for piece in said)
+        return said.decode("utf-8", "surrogateescape"), "".join(call[0][0] for call in complain.call_args_list), status
+
+
+class Command(unittest.TestCase):
+    def setUp(self):
+        folder = tempfile.TemporaryDirectory()
+        self.addCleanup(folder.cleanup)
+        self.folder = folder.name
+        self.names = [self.write(f"{number}.log", log(lines)) for number, (lines, *_) in enumerate(ANSWERS)]
+
+    def write(self, name, text):
+        name = os.path.join(self.folder, name)
+        with open(name, "wb") as file:
+            file.write(text)
+        return name

@@ -1,0 +1,16 @@
+"""The package is tested over the library that LIBVICINITY names, or that of this clone, which is built first."""
+import os
+import subprocess
+from pathlib import Path
+
+import pytest
+
+TOP = Path(__file__).resolve().parent.parent.parent
+
+
+@pytest.fixture(scope="session", autouse=True)
+def _library():
+    if "LIBVICINITY" not in os.environ:
+        subprocess.run([TOP / "release/make"], check=True)
+        os.environ["LIBVICINITY"] = str(TOP / "out/release/libvicinity.so")
+    os.environ.update(PYTHONPATH=str(TOP / "python"), PYTHONDONTWRITEBYTECODE="1")

@@ -1,0 +1,75 @@
+"""Answers and masks for JSON, and as the line of one text among many."""
+from __future__ import annotations
+
+from typing import Any, Mapping
+
+from ._answers import Answer, Fault, Kind, Mask
+from ._process import shown
+from .frames import parse_uid, uid_text
+
+#: The form of the objects, which docs/answers.schema.json describes.
+SCHEMA = 1
+UID_BITS = 56
+
+
+def fields(answer: Answer) -> dict[str, Any]:
+    """The fields of an answer, as words and numbers."""
+    said: dict[str, Any] = {"status": answer.status, "kind": answer.kind.word}
+    if answer.kind is Kind.COMPLETE:
+        said["count"] = answer.count
+    elif answer.kind is Kind.UNSETTLED:
+        said.update(mask_fields(answer.mask))
+    elif answer.kind in (Kind.IMPOSSIBLE, Kind.REFUSED):
+        said["line"] = answer.line
+        if answer.kind is Kind.REFUSED:
+            said["fault"] = answer.fault.word
+    else:
+        said["uid"] = uid_text(answer.uid)
+    return said
+
+
+def answer_of(said: Mapping[str, Any]) -> Answer:
+    """The answer that has these fields. Raises ValueError, KeyError or TypeError if there is none."""
+    kind = next((it for it in Kind if it.word == said["kind"]), None)
+    fault = next((it for it in Fault if it.word == said.get("fault", "")), None)
+    if kind is None or fault is None:
+        raise ValueError
+    status = {Kind.COMPLETE: 0, Kind.IMPOSSIBLE: 2, Kind.REFUSED: 3}.get(kind, 1)
+    mask = mask_of(said) if kind is Kind.UNSETTLED else Mask(0, 0)
+    uid = parse_uid(said["uid"]) if "uid" in said else 0
+    answer = Answer(kind, status, int(said.get("count", 0)), int(said.get("line", 0)), fault, *mask, uid, "")
+    known = fields(answer)
+    if known != {key: said[key] for key in known}:
+        raise ValueError
+    return answer._replace(text=_text(answer))
+
+
+def _text(answer: Answer) -> str:
+    """The line of an answer."""
+    word = answer.kind.word
+    if answer.kind is Kind.COMPLETE:
+        return f"{word} {answer.count}"
+    if answer.kind is Kind.UNSETTLED:
+        return f"{word} {answer.mask.length} {answer.mask.digits}"
+    if answer.kind in (Kind.IMPOSSIBLE, Kind.REFUSED):
+        return f"{word} at line {answer.line}" + (f": {answer.fault.word}" if answer.fault else "")
+    return f"{word} {uid_text(answer.uid)}"
+
+
+def mask_fields(mask: Mask) -> dict[str, Any]:
+    """A mask with its value as `spell` takes it: two hex digits for each byte, or - if there is no bit."""
+    return {"mask_len": mask.length, "mask_value": mask.digits}
+
+
+def mask_of(said: Mapping[str, Any]) -> Mask:
+    """The mask that has these fields. Raises ValueError if there is none."""
+    mask = Mask(int(said["mask_len"]), 0 if said["mask_value"] == "-" else int(said["mask_value"], 16))
+    if not 0 <= mask.length <= UID_BITS or mask.digits != said["mask_value"] or mask.value >> mask.length:
+        raise ValueError
+    return mask
+
+
+def refusal(name: str, answer: Answer) -> str:
+    """The line of the program for a text that is refused or impossible."""
+    place, *fault = answer.text.split(":")
+    return ":".join([f"{place} of {shown(name)}", *fault])

@@ -1,0 +1,155 @@
+"""What every command shares: its arguments, how it reads and writes, and how it ends.
+
+A command is a function that returns its status, and `run` runs it. Its arguments are those of `Words`, it reads with `read`,
+writes with `write`, and shows the name of a file with `shown`. If it has no answer it raises NoAnswer, MemoryError or
+OSError: then a line is written to standard error, and the status is 4. Nothing goes through sys.stdout or sys.stderr, so a
+closed or full stream is noticed at once, and no traceback is written.
+"""
+from __future__ import annotations
+
+import argparse
+import locale
+import os
+import signal
+import sys
+from typing import Any, Callable, Generator, Iterable, NoReturn, Sequence, TypeVar, Union
+
+# Within these bytes, a longer text has a line that is too long, or too many lines: 1,000,000 lines of 130 bytes, plus one.
+MOST_BYTES = 1_000_000 * 130 + 1
+PIECE = 1 << 16
+NO_ANSWER = 4
+#: With more logs than this, a terminal is told how many have been read, each time after so many.
+MOST_UNCOUNTED, TOLD_EACH = 50, 10
+
+T = TypeVar("T")
+
+
+class NoAnswer(Exception):
+    """Why there is no answer."""
+
+
+def run(command: Callable[[], int]) -> int:
+    """The status of a command, which is 4 if it has no answer."""
+    signal.signal(signal.SIGINT, signal.SIG_DFL)  # also while the library judges
+    sys.unraisablehook = lambda _: None  # failures while something is released as memory runs out
+    try:
+        return command()
+    except NoAnswer as why:
+        return complain(str(why))
+    except MemoryError:
+        return complain("out of memory")
+    except OSError as error:
+        return complain(shown(str(error)))
+    except Exception as error:  # a defect: Python itself would end with 1, which means 'not complete'
+        return complain(shown(f"{type(error).__name__}: {error}"))
+
+
+def complain(why: str) -> int:
+    """Writes to standard error why there is no answer, if it can, and returns the status."""
+    _note("vicinity: ", why, "\n")
+    return NO_ANSWER
+
+
+def read(name: str) -> bytes:
+    """The contents of a file, as far as they can matter; - is standard input."""
+    try:
+        file = os.dup(0) if name == "-" else os.open(name, os.O_RDONLY | os.O_CLOEXEC)
+        try:
+            pieces, left, wanted = [], MOST_BYTES, max(PIECE, os.fstat(file).st_size)
+            while left > 0:
+                piece = os.read(file, min(wanted, left))  # a file in one piece: joining pieces takes the memory twice
+                wanted = PIECE
+                if not piece:
+                    break
+                pieces.append(piece)
+                left -= len(piece)
+            return b"".join(pieces)
+        finally:
+            os.close(file)
+    except OSError as error:
+        raise NoAnswer(f"cannot read {shown(name)}: {error.strerror}") from None
+
+
+def write(pieces: Iterable[Union[str, bytes]]) -> None:
+    """Writes bytes, and text as UTF-8, to standard output as it comes."""
+    waiting = bytearray()
+    for piece in pieces:
+        waiting += _encoded(piece) if isinstance(piece, str) else piece
+        if len(waiting) >= PIECE:
+            _write_out(waiting)
+    _write_out(waiting)
+
+
+def _write_out(waiting: bytearray) -> None:
+    try:
+        while waiting:
+            del waiting[:os.write(1, waiting)]
+    except OSError as error:
+        raise NoAnswer(f"write failed: {error.strerror}") from None
+
+
+def _encoded(text: str) -> bytes:
+    return text.encode("utf-8", "backslashreplace")
+
+
+def shown(name: str) -> str:
+    """A name on one line, without anything that a terminal would interpret: a backslash is `\\\\`, a tab `\\t`, a line end
+    `\\n`, and each byte of another character that can't be printed, or that isn't UTF-8, `\\x` and two hex digits."""
+    text = os.fsencode(name).replace(b"\\", b"\\\\").decode("utf-8", "backslashreplace")
+    return "".join(it if it.isprintable() else _escaped(it) for it in text)
+
+
+def _escaped(character: str) -> str:
+    short = {"\t": "\\t", "\n": "\\n"}.get(character)
+    return short or "".join(f"\\x{byte:02x}" for byte in character.encode())
+
+
+def counted(things: Iterable[T], total: int) -> Generator[T, None, None]:
+    """The same things, one for each of many logs. Their number is shown if standard error is a terminal."""
+    is_shown = total > MOST_UNCOUNTED and os.isatty(2)
+    try:
+        for number, thing in enumerate(things):
+            if is_shown and number % TOLD_EACH == 0:
+                _note(f"\r{number:,} of {total:,} logs")
+            yield thing
+    finally:
+        if is_shown:
+            _note("\r\33[K")
+
+
+def _note(*pieces: str) -> None:
+    """Writes to standard error, if it can."""
+    try:
+        os.write(2, _encoded("".join(pieces)))
+    except (OSError, MemoryError):
+        pass
+
+
+def has_colours() -> bool:
+    """Whether standard output is a terminal that has colours, and they are wanted: NO_COLOR isn't set, or is empty."""
+    return os.isatty(1) and not os.environ.get("NO_COLOR") and os.environ.get("TERM") != "dumb"
+
+
+def has_unicode() -> bool:
+    """Whether the text of this locale is UTF-8."""
+    return locale.nl_langinfo(locale.CODESET).upper() in ("UTF-8", "UTF8")
+
+
+class Words(argparse.ArgumentParser):
+    """The arguments of a command. Its options may be anywhere before `--`; what comes after is names."""
+
+    def parse(self, words: Sequence[str]) -> argparse.Namespace:
+        at = words.index("--") if "--" in words else len(words)
+        asked = self.parse_intermixed_args(words[:at])
+        asked.names = [*asked.names, *words[at + 1:]]
+        least, most = asked.number
+        if not least <= len(asked.names) <= most:
+            self.error("a word is missing" if len(asked.names) < least else f"a word too many: {asked.names[most]}")
+        return asked
+
+    def error(self, message: str) -> NoReturn:
+        raise NoAnswer(f"{shown(message)}\n{self.format_usage().rstrip()}")
+
+    def _print_message(self, message: str, file: Any = None) -> None:
+        """Help and version, which argparse would write to sys.stdout."""
+        write([message])

@@ -1,0 +1,1 @@
+"""Many logs against one list or catalogue of what should be there."""

@@ -1,0 +1,168 @@
+"""What is expected in a collection: a list, which is a log with U lines alone, or a CSV file with a column of UIDs, or of
+something by which another file has the UIDs."""
+from __future__ import annotations
+
+from typing import NamedTuple, Optional, Sequence
+
+from .._answers import ListFault
+from .._calls import listed
+from .._fields import refusal
+from .._process import shown
+from ..frames import parse_uid, uid_text
+from .tables import Form, Table, Wrong, read_table
+
+#: The column of the UIDs, if none is named.
+COLUMN = "uid"
+#: The columns that are written behind those of a catalogue, with TWIN where it has one of that name itself. Where an earlier
+#: run has written them they are replaced, and its unexpected tags left out.
+ADDED, TWIN, UNEXPECTED = ("state", "certain in", "may be in"), " (found)", "unexpected"
+NO_TAG: list[Optional[int]] = [None]
+NAMES_IT = "--column NAME names the one with the UIDs"
+NAMES_KEY = "--column NAME names the one by which --tags has the UIDs"
+
+
+class How(NamedTuple):
+    """How a CSV file is read: which column has the UIDs, or what --tags has beside them; which one the place of each item;
+    the encoding; and the file --tags."""
+
+    column: Optional[str] = None
+    place: Optional[str] = None
+    encoding: Optional[str] = None
+    tags: Optional[tuple[str, bytes]] = None
+
+
+class Entry(NamedTuple):
+    """A row of the catalogue, with the UID of its tag, if it has one, and a cell for each column."""
+
+    row: int
+    uid: Optional[int]
+    cells: Sequence[str]
+
+
+class Catalogue(NamedTuple):
+    """What is expected, and how it was written: the columns, and which of them has the UIDs, the key of --tags, and the
+    places. `keys` has what --tags says of UIDs."""
+
+    name: str
+    form: Form
+    heads: Sequence[str]
+    entries: Sequence[Entry]
+    uid_at: int = 0
+    key_at: Optional[int] = None
+    place_at: Optional[int] = None
+    keys: dict[int, str] = {}
+
+    @property
+    def uids(self) -> list[int]:
+        return [entry.uid for entry in self.entries if entry.uid is not None]
+
+    def place(self, entry: Entry) -> str:
+        """Where an item belongs, or nothing."""
+        return "" if self.place_at is None else entry.cells[self.place_at].strip()
+
+    def unexpected(self, uid: int) -> list[str]:
+        """The cells of a tag that isn't expected."""
+        cells = [""] * len(self.heads)
+        cells[self.uid_at] = uid_text(uid)
+        if self.key_at is not None:
+            cells[self.key_at] = self.keys.get(uid, "")
+        return cells
+
+    def beside(self) -> list[int]:
+        """The columns that have a name, other than that of the UIDs."""
+        return [at for at, head in enumerate(self.heads) if head and at != self.uid_at]
+
+    def added(self) -> list[str]:
+        """The names of the columns that are written behind those of the catalogue."""
+        taken = {head.casefold() for head in self.heads}
+        return [name + TWIN * (name in taken) for name in ADDED]
+
+
+def catalogue(name: str, text: bytes, how: How = How()) -> Catalogue:
+    """The catalogue in a file. Raises Wrong."""
+    if text.startswith(b"vicinity-log"):
+        if how._replace(encoding=None) != How():
+            raise Wrong(f"{shown(name)} is a list, which has no columns")
+        return _of_list(name, text)
+    table, is_ours = _without_added(read_table(name, text, how.encoding))
+    if how.tags is not None:
+        found_by = _tagged(table, is_ours, how, read_table(*how.tags, how.encoding))
+    else:
+        at = table.named(how.column, COLUMN, NAMES_IT)
+        entries = [Entry(row, _uid(table, row, cells[at]), cells) for row, cells in table.rows]
+        found_by = Catalogue(name, table.form, table.heads, entries, at)
+    rows: dict[int, int] = {}
+    for entry in found_by.entries:
+        if entry.uid is None:
+            continue
+        if entry.uid in rows:
+            table.wrong(entry.row, f"{uid_text(entry.uid)} is also in row {rows[entry.uid]}")
+        rows[entry.uid] = entry.row
+    if how.place is None:
+        return found_by
+    return found_by._replace(place_at=table.named(how.place, "", "--place NAME names the one with the places"))
+
+
+def _of_list(name: str, text: bytes) -> Catalogue:
+    try:
+        uids = listed(text)
+    except ListFault as fault:
+        raise Wrong(refusal(name, fault.answer), is_list=True) from None
+    return Catalogue(name, Form(), [COLUMN], [Entry(0, uid, [uid_text(uid)]) for uid in uids])
+
+
+def _without_added(table: Table) -> tuple[Table, bool]:
+    """A table without what an earlier run has added, wherever it is now, and whether it had."""
+    names = [head.casefold().removesuffix(TWIN) for head in table.heads]
+    if not set(ADDED) <= set(names):
+        return table, False
+    added = [len(names) - 1 - names[::-1].index(name) for name in ADDED]  # ours come last
+    rows = [row for row in table.rows if row[1][added[0]].strip() != UNEXPECTED]
+    return _without(table._replace(rows=rows), added), True
+
+
+def _without(table: Table, columns: Sequence[int]) -> Table:
+    """A table without some columns."""
+    left = [at for at in range(len(table.heads)) if at not in columns]
+    rows = [(number, [cells[at] for at in left]) for number, cells in table.rows]
+    return table._replace(heads=[table.heads[at] for at in left], rows=rows)
+
+
+def _tagged(table: Table, is_ours: bool, how: How, tags: Table) -> Catalogue:
+    """The catalogue of a table whose UIDs are in another one, found by a column that both have. A row may have several."""
+    uid_at = tags.column(COLUMN, "that of the UIDs has to be uid")
+    head = tags.heads[uid_at]
+    if is_ours and head in table.heads:
+        table = _without(table, [table.heads.index(head)])
+    if head.casefold() in (it.casefold() for it in table.heads):
+        table.wrong(1, f"it has a column {shown(head)} itself, as {shown(tags.name)} has")
+    others = [it for at, it in enumerate(tags.heads) if at != uid_at and it]
+    shared = {it.casefold() for it in table.heads} & {it.casefold() for it in others}
+    column = how.column or (next(iter(shared)) if len(shared) == 1 else "")
+    if not column:
+        table.wrong(1, f"{'no column is' if not shared else 'several columns are'} also in {shown(tags.name)}; {NAMES_KEY}")
+    key_at = table.column(column, NAMES_KEY)
+    theirs = tags.column(others[0] if len(others) == 1 else column, NAMES_KEY)
+    by_key: dict[str, list[Optional[int]]] = {}
+    keys: dict[int, str] = {}
+    for row, cells in tags.rows:
+        uid = _uid(tags, row, cells[uid_at])
+        if uid is None or not cells[theirs].strip():
+            continue
+        if uid in keys:
+            tags.wrong(row, f"{uid_text(uid)} is also the tag of {shown(keys[uid])}")
+        keys[uid] = cells[theirs].strip()
+        by_key.setdefault(keys[uid].casefold(), []).append(uid)
+    entries = [Entry(row, uid, [*cells, "" if uid is None else uid_text(uid)]) for row, cells in table.rows
+               for uid in by_key.get(cells[key_at].strip().casefold(), NO_TAG)]
+    return Catalogue(table.name, table.form, [*table.heads, head], entries, len(table.heads), key_at, keys=keys)
+
+
+def _uid(table: Table, row: int, cell: str) -> Optional[int]:
+    """The UID in a cell, or None if it is blank."""
+    if not cell.strip():
+        return None
+    try:
+        return parse_uid(cell)
+    except ValueError as error:
+        table.wrong(row, str(error))

@@ -1,0 +1,144 @@
+"""Many logs against one catalogue: what was found, item by item and log by log."""
+from __future__ import annotations
+
+from enum import Enum
+from typing import Iterable, Iterator, NamedTuple, Optional, Sequence
+
+from .._answers import FindingKind, Mask
+from .._calls import reconcile_parts
+from .._process import NoAnswer, shown
+from .catalogue import Catalogue
+from .masks import Under, without
+from .places import Places
+from .surveys import ALL, Surveys
+
+#: How many of the open masks of a log are named.
+MOST_OPEN = 16
+
+
+class State(Enum):
+    """What is known of an item."""
+
+    THERE = "there"
+    MISPLACED = "misplaced"
+    MISSING = "missing"
+    NOT_PROVABLE = "not provable"
+    UNEXPECTED = "unexpected"
+    NO_TAG = "no tag"
+
+
+#: The states of the items that a finding is about. An expected item without a finding is there, or misplaced.
+STATES = {FindingKind.ABSENT: State.MISSING, FindingKind.DOUBTFUL: State.NOT_PROVABLE,
+          FindingKind.UNLISTED: State.UNEXPECTED}
+
+
+class Item(NamedTuple):
+    """A row of the catalogue or a tag that isn't in it: its UID, if it has one, its cells, its state, and in which logs it
+    is certain, and possible without being certain. Where it belongs is nothing if that isn't known."""
+
+    uid: Optional[int]
+    cells: Sequence[str]
+    state: State
+    certain_in: Sequence[int] = ()
+    may_be_in: Sequence[int] = ()
+    belongs: str = ""
+    row: int = 0
+
+
+class Left(NamedTuple):
+    """What is left to ask for in a log: the first masks, and whether there are more. If there are none, the log was read
+    completely."""
+
+    masks: list[Mask]
+    has_more: bool
+
+
+class Collection:
+    """What many logs say together. Logs go by their positions."""
+
+    def __init__(self, expected: Catalogue, read: Surveys, places: Places):
+        self.expected, self.logs, self.places = expected, read.all, places
+        self.answer, self.findings = reconcile_parts(
+            expected.uids, (uid for log in self.logs for uid in log.certain),
+            (mask for log in self.logs for mask in log.open_masks))
+        self._read = read
+        self.aside = [log for log in self.logs if log.status]
+        self.items = list(self._items())
+
+    @property
+    def misplaced(self) -> list[Item]:
+        return self.of(State.MISPLACED)
+
+    @property
+    def status(self) -> int:
+        """The highest status: that of the answer, 1 if an item is misplaced, and that of each log that is set aside."""
+        return max([self.answer.status, bool(self.misplaced), *(log.status for log in self.aside)])
+
+    def of(self, state: State) -> list[Item]:
+        """The items with a state."""
+        return [item for item in self.items if item.state is state]
+
+    def uids(self, kind: FindingKind) -> list[int]:
+        """Of which UIDs there is a finding of a kind."""
+        return [it.uid for it in self.findings if it.kind is kind]
+
+    def _where_certain(self, uids: Iterable[int]) -> dict[int, list[int]]:
+        """The logs in which each UID is certain."""
+        found: dict[int, list[int]] = {uid: [] for uid in uids}
+        for index, log in enumerate(self.logs):
+            for uid in found.keys() & log.certain:
+                found[uid].append(index)
+        return found
+
+    def _where_open(self, uids: Iterable[int]) -> dict[int, list[int]]:
+        """The logs in which each UID is possible and not certain."""
+        found: dict[int, list[int]] = {uid: [] for uid in uids}
+        among = Under(found)
+        for index, log in enumerate(self.logs if found else ()):
+            for mask in log.open_masks:
+                for uid in among.of(mask):
+                    found[uid].append(index)
+        return found
+
+    def left(self) -> Iterator[Left]:
+        """What is left to ask for in each log, without UIDs that another one makes certain: everything in one that is set
+        aside."""
+        certain = Under(uid for log in self.logs for uid in log.certain)
+        for log in self.logs:
+            yield Left([ALL], False) if log.status else Left(*without(log.open_masks, certain, MOST_OPEN))
+
+    def shown_by(self) -> dict[int, tuple[int, int]]:
+        """For each unlisted UID the first log in which it is certain, and the line that shows it."""
+        by_log: dict[int, list[int]] = {}
+        for item in self.of(State.UNEXPECTED):
+            by_log.setdefault(item.certain_in[0], []).append(item.uid or 0)
+        found = {}
+        for index, uids in sorted(by_log.items()):
+            shown_there = self._read.shown_by(index)
+            for uid in uids:
+                found[uid] = index, shown_there.line_of(uid)
+                if not found[uid][1]:
+                    raise NoAnswer(f"{shown(self.logs[index].name)} has changed since it was read first")
+        return found
+
+    def _items(self) -> Iterator[Item]:
+        """Each row of the catalogue, in its order, and then the unexpected UIDs. An item that is certain somewhere may also
+        be in any log that is set aside: this is said only if that is its own."""
+        unlisted = self.uids(FindingKind.UNLISTED)
+        states = {it.uid: STATES[it.kind] for it in self.findings if it.kind in STATES}
+        uids = [*self.expected.uids, *unlisted]
+        certain, possible = self._where_certain(uids), self._where_open(uids)
+        for entry in self.expected.entries:
+            belongs = self.expected.place(entry)
+            if entry.uid is None:
+                yield Item(None, entry.cells, State.NO_TAG, belongs=belongs, row=entry.row)
+                continue
+            state, where = states.get(entry.uid, State.THERE), certain[entry.uid]
+            its_own = set(self.places.get(belongs.casefold(), ()))
+            if state is State.THERE and belongs and its_own.isdisjoint(where):
+                state = State.MISPLACED
+            may_be_in = [log for log in possible[entry.uid] if not where or log in its_own or not self.logs[log].status]
+            yield Item(entry.uid, entry.cells, state, where, may_be_in, belongs, entry.row)
+        for uid in unlisted:
+            may_be_in = [log for log in possible[uid] if not self.logs[log].status]
+            yield Item(uid, self.expected.unexpected(uid), State.UNEXPECTED, certain[uid], may_be_in)

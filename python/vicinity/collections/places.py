@@ -1,0 +1,48 @@
+"""Which logs are of which place: by their names, or by a file that says so."""
+from __future__ import annotations
+
+import os
+from typing import Optional, Sequence
+
+from .._process import shown
+from .catalogue import Catalogue
+from .tables import Wrong, read_table
+
+#: The columns of a file with the logs of places.
+PLACE, LOG = "place", "log"
+NAMES_PLACES = "it has the columns place and log"
+SAYS_PLACES = "--places FILE says which logs are of which place"
+
+#: The logs of each place, by their positions. A place goes by its name in lower case.
+Places = dict[str, list[int]]
+
+
+def places_of(expected: Catalogue, names: Sequence[str], file: Optional[tuple[str, bytes]],
+              encoding: Optional[str]) -> Places:
+    """The logs of each place of a catalogue. Raises Wrong if no item belongs to one that has a log."""
+    places = _by_names(names)
+    if file is not None:
+        table = read_table(*file, encoding)
+        place_at, log_at = table.column(PLACE, NAMES_PLACES), table.column(LOG, NAMES_PLACES)
+        by_name, places = places, {}
+        for _, cells in table.rows:
+            places.setdefault(cells[place_at].strip().casefold(), []).extend(by_name.get(cells[log_at].strip().casefold(), []))
+    belongs = {place.casefold(): place for place in map(expected.place, expected.entries) if place}
+    for key, place in belongs.items():
+        if file is None and len(places.get(key, [])) > 1:
+            one, other = (shown(names[log]) for log in places[key][:2])
+            raise Wrong(f"two logs are of the place {shown(place)}, by their names: {one} and {other}; {SAYS_PLACES}")
+    if belongs and not any(places.get(key) for key in belongs):
+        raise Wrong(f"no log is of any place of the catalogue, such as {shown(next(iter(belongs.values())))}; {SAYS_PLACES}")
+    return places
+
+
+def _by_names(names: Sequence[str]) -> Places:
+    """Logs by their names: as given, and if no log has exactly that, without folders, and without the ending."""
+    given = {name.casefold(): [index] for index, name in enumerate(names)}
+    found: Places = {}
+    for index, name in enumerate(names):
+        base = os.path.basename(name)
+        for key in {base.casefold(), os.path.splitext(base)[0].casefold()} - given.keys():
+            found.setdefault(key, []).append(index)
+    return {**found, **given}

@@ -1,0 +1,188 @@
+"""What logs say of their fields, read here or in several processes, or from the records of other machines. Surveys travel,
+logs don't; no log is kept that can be read again."""
+from __future__ import annotations
+
+import json
+import os
+import re
+import signal
+from array import array
+from concurrent.futures import ProcessPoolExecutor
+from contextlib import closing
+from typing import Any, Iterator, NamedTuple, Optional, Sequence
+
+from .._answers import Answer, Kind, Mask
+from .._calls import survey
+from .._fields import SCHEMA, answer_of, fields, mask_fields, mask_of, refusal
+from .._process import NO_ANSWER, NoAnswer, counted, read, shown
+from ..frames import parse_uid, uid_text
+from ..sessions.findings import Shown, tell
+from .tables import Wrong
+
+#: How many logs a process takes at once, at most; of few logs each gets so many times some.
+SHARE, TURNS = 8, 4
+LIST = re.compile(rb"^U", re.MULTILINE)
+ALL = Mask(0, 0)
+COUNT_AGAIN, CORRECT = "count it again", "correct it, or count it again"
+READABLE = "make it readable, or count it again"
+
+
+class Log(NamedTuple):
+    """What a log says of its field. One that can't be read, is refused or impossible is set aside: it says nothing, so any
+    UID may be there."""
+
+    name: str
+    answer: Optional[Answer]
+    """The answer to the log and its own list."""
+    certain: Sequence[int]
+    open_masks: Sequence[Mask]
+    error: str = ""
+    """Why there is no answer."""
+    lines: Optional[Sequence[int]] = None
+    """The lines that show the certain UIDs, if a record has them."""
+
+    @classmethod
+    def of(cls, name: str, text: bytes) -> Log:
+        """What a text says."""
+        try:
+            found = survey(text)
+        except MemoryError as error:
+            return cls.unread(name, error)
+        if found.answer.status > 1:
+            return cls(name, found.answer, [], [ALL])
+        return cls(name, found.answer, found.certain, found.open_masks)
+
+    @classmethod
+    def unread(cls, name: str, error: Exception) -> Log:
+        """A log that has no answer."""
+        return cls(name, None, [], [ALL], str(error) if isinstance(error, NoAnswer) else f"out of memory: {shown(name)}")
+
+    @property
+    def status(self) -> int:
+        """0, or the status for which it is set aside."""
+        return NO_ANSWER if self.answer is None else self.answer.status if self.answer.status > 1 else 0
+
+    @property
+    def why(self) -> str:
+        """Why it is set aside, as the program says it."""
+        return self.error if self.answer is None else refusal(self.name, self.answer)
+
+    @property
+    def advice(self) -> str:
+        """What to do about a log that is set aside."""
+        if self.answer is None:
+            return READABLE
+        return COUNT_AGAIN if self.answer.kind is Kind.IMPOSSIBLE else CORRECT
+
+
+class Surveys:
+    """The surveys of logs in their order. If they are strict, a log that can't be read has no answer, and the first one that
+    is refused or impossible is the last."""
+
+    def __init__(self, names: Sequence[str], jobs: int = 1, is_strict: bool = False, records: Sequence[Log] = ()):
+        self.texts: dict[int, bytes] = {}
+        self.all: list[Log] = list(records)
+        self.first = len(records)
+        with closing(counted(_each(names, jobs, self.texts), len(names))) as logs:
+            for log in logs:
+                if is_strict and log.answer is None:
+                    raise NoAnswer(log.error)
+                self.all.append(log)
+                if is_strict and log.status:
+                    break
+
+    def shown_by(self, index: int) -> Shown:
+        """The UIDs that a log makes certain, each with the line that shows it. The log is read again."""
+        log = self.all[index]
+        if log.lines is not None:
+            return Shown(array("Q", log.certain), array("I", log.lines))
+        kept = self.texts.get(index - self.first)
+        return certain_lines(read(log.name) if kept is None else kept)
+
+
+def certain_lines(text: bytes) -> Shown:
+    """The UIDs that a log makes certain, each with the line that shows it."""
+    listed = LIST.search(text)
+    return tell(text[:listed.start()] if listed else text).unlisted
+
+
+def _each(names: Sequence[str], jobs: int, texts: dict[int, bytes]) -> Iterator[Log]:
+    """The surveys of logs; the text of a log that can't be read again is kept."""
+    apart = [jobs > 1 and _is_lasting(name) for name in names]
+    if not any(apart):
+        for index in range(len(names)):
+            yield _here(names, index, texts)
+        return
+    there = [name for name, is_apart in zip(names, apart) if is_apart]
+    # where a process ends by an interrupt, it says nothing
+    pool = ProcessPoolExecutor(min(jobs, len(there)), initializer=signal.signal, initargs=(signal.SIGINT, signal.SIG_DFL))
+    try:
+        made = pool.map(survey_file, there, chunksize=max(1, min(SHARE, len(there) // (jobs * TURNS))))
+        for index, is_apart in enumerate(apart):
+            yield next(made) if is_apart else _here(names, index, texts)
+    finally:
+        pool.shutdown(cancel_futures=True)
+
+
+def _here(names: Sequence[str], index: int, texts: dict[int, bytes]) -> Log:
+    name = names[index]
+    if _is_lasting(name):
+        return survey_file(name)
+    try:
+        texts[index] = read(name)
+    except (NoAnswer, MemoryError) as error:
+        return Log.unread(name, error)
+    return Log.of(name, texts[index])
+
+
+def _is_lasting(name: str) -> bool:
+    """Whether a file can be read again, also by another process: not if it is a pipe, or one that this process has open."""
+    return os.path.isfile(name) and not name.startswith(("/dev/", "/proc/"))
+
+
+def survey_file(name: str) -> Log:
+    try:
+        return Log.of(name, read(name))
+    except (NoAnswer, MemoryError) as error:
+        return Log.unread(name, error)
+
+
+def record(log: Log, lines: Optional[Sequence[int]]) -> str:
+    """What a log says of its field, as a line of JSON for `--surveys`."""
+    said: dict[str, Any] = {"schema": SCHEMA, "file": log.name}
+    if log.answer is None:
+        return json.dumps({**said, "status": NO_ANSWER, "kind": "no answer", "error": log.error}) + "\n"
+    said.update(fields(log.answer))
+    if lines is not None:
+        said["certain"] = [{"uid": uid_text(uid), "line": line} for uid, line in zip(log.certain, lines)]
+        said["open"] = [mask_fields(mask) for mask in log.open_masks]
+    return json.dumps(said) + "\n"
+
+
+def records(files: Sequence[tuple[str, bytes]]) -> list[Log]:
+    """The surveys in files of records. Raises Wrong."""
+    found: dict[str, Log] = {}
+    for name, content in files:
+        for number, line in enumerate(content.splitlines(), 1):
+            try:
+                log = _recorded(json.loads(line))
+            except (ValueError, KeyError, TypeError, AttributeError):
+                raise Wrong(f"{shown(name)}, line {number}: it isn't a survey as `survey` writes it") from None
+            if log.name in found:
+                raise Wrong(f"{shown(name)}, line {number}: there is another survey of {shown(log.name)}")
+            found[log.name] = log
+    return list(found.values())
+
+
+def _recorded(said: dict[str, Any]) -> Log:
+    """The survey in a record. Raises ValueError, KeyError or TypeError if it is wrong."""
+    name = said["file"]
+    if said["schema"] != SCHEMA or not isinstance(name, str):
+        raise ValueError
+    if said["status"] == NO_ANSWER:
+        return Log(name, None, [], [ALL], str(said["error"]))
+    answer = answer_of(said)
+    if answer.status > 1:
+        return Log(name, answer, [], [ALL])
+    pairs = sorted((parse_uid(it["uid"]), int(it["line"])) for it in said["certain"])
+    return Log(name, answer, [uid for uid, _ in pairs], [mask_of(it) for it in said["open"]], "", [line for _, line in pairs])

@@ -1,0 +1,146 @@
+"""CSV files as spreadsheets and library systems save them. What is written has the form that was read."""
+from __future__ import annotations
+
+import codecs
+import csv
+import io
+import re
+from typing import Iterable, Iterator, NamedTuple, NoReturn, Optional, Sequence
+
+from .._process import shown
+
+#: Of these the one that makes the most columns of the first row separates the cells.
+SEPARATORS = ",;\t|"
+#: With which bytes a file begins that says its encoding.
+MARKS = {codecs.BOM_UTF8: "utf-8", codecs.BOM_UTF16_LE: "utf-16-le", codecs.BOM_UTF16_BE: "utf-16-be"}
+#: A first line for spreadsheets, which names the separator.
+SAYS_SEPARATOR = re.compile('"?sep=(.)"?[ \t]*\r?\n', re.IGNORECASE)
+OTHER_ENCODINGS = ("as --encoding names it: windows-1252 is what many spreadsheets save, utf-16-le is UTF-16 without its "
+                   "first two bytes")
+
+
+class Wrong(Exception):
+    """Why a file isn't what it should be: of a CSV file a sentence, of a list the line of its refusal."""
+
+    def __init__(self, why: str, is_list: bool = False):
+        super().__init__(why)
+        self.is_list = is_list
+
+
+class Form(NamedTuple):
+    """How a table is written: its encoding, the bytes and the line before the table, the separator, the ends of lines, and
+    whether every cell is quoted."""
+
+    encoding: str = "utf-8"
+    mark: bytes = b""
+    first: str = ""
+    separator: str = ","
+    line_end: str = "\n"
+    quoting: int = csv.QUOTE_MINIMAL
+
+    def written(self, rows: Iterable[Sequence[str]]) -> Iterator[bytes]:
+        row = csv.writer(_Line(), delimiter=self.separator, lineterminator=self.line_end, quoting=self.quoting).writerow
+        yield self.mark + self.first.encode(self.encoding)
+        for cells in rows:
+            yield str(row(cells)).encode(self.encoding, "backslashreplace")
+
+
+class _Line:
+    """Where a csv.writer writes: it returns each line."""
+
+    def write(self, line: str) -> str:
+        return line
+
+
+class Table(NamedTuple):
+    """The rows of a file with anything in them, each with its number: counted from 1, as in a spreadsheet, where row 1 has
+    the names of the columns."""
+
+    name: str
+    form: Form
+    heads: list[str]
+    rows: list[tuple[int, list[str]]]
+
+    def wrong(self, row: int, why: str) -> NoReturn:
+        raise Wrong(f"{shown(self.name)}, row {row}: {why}")
+
+    def column(self, name: str, what: str) -> int:
+        """The place of the only column with a name, in any case."""
+        places = [at for at, head in enumerate(self.heads)
+                  if head.casefold() == name.strip().casefold()]
+        if len(places) != 1:
+            number = "no column is" if not places else "two columns are"
+            heads = ", ".join(map(shown, self.heads)) or "none"
+            self.wrong(1, f"{number} named {shown(name)}; the columns are: {heads}; {what}")
+        return places[0]
+
+    def named(self, name: Optional[str], otherwise: str, what: str) -> int:
+        """The place of the column with exactly this name, or the only one with it in any case."""
+        return self.heads.index(name) if name in self.heads else self.column(name or otherwise, what)
+
+
+def read_table(name: str, text: bytes, encoding: Optional[str]) -> Table:
+    """The table in a file. Raises Wrong."""
+    form, content = _decoded(name, text, encoding)
+    says = SAYS_SEPARATOR.match(content)
+    first = says.group() if says else ""
+    content = content[len(first):]
+    line = content.partition("\n")[0]
+    separator = says.group(1) if says else max(SEPARATORS, key=lambda it: len(_cells(line, it)))
+    form = form._replace(first=first, separator=separator, line_end="\r\n" if line.endswith("\r") else "\n")
+    table = Table(name, form, [], [])
+    for number, row in _rows(table, content):
+        if number == 1:
+            table.heads.extend(head.strip() for head in row)
+            twice = next((head for head in table.heads if head and table.heads.count(head) > 1), None)
+            if twice is not None:
+                table.wrong(1, f"two columns are named {shown(twice)}")
+        elif any(cell.strip() for cell in row):
+            table.rows.append((number, _fitting(table, number, row)))
+    quoted = form._replace(mark=b"", first="", quoting=csv.QUOTE_ALL)
+    is_quoted = b"".join(quoted.written([_cells(line, separator)])) == f"{line}\n".encode(form.encoding)
+    return table._replace(form=form._replace(quoting=csv.QUOTE_ALL)) if is_quoted else table
+
+
+def _decoded(name: str, text: bytes, encoding: Optional[str]) -> tuple[Form, str]:
+    """How a file is encoded, and its text."""
+    mark = next((it for it in MARKS if text.startswith(it)), b"")
+    try:
+        named = codecs.lookup(MARKS.get(mark) or encoding or "utf-8").name
+    except LookupError:
+        raise Wrong(f"no encoding is named {shown(encoding or '')}") from None
+    named = "utf-16-le" if named == "utf-16" else named
+    try:
+        content = text[len(mark):].decode(named)
+        if "\0" in content:
+            raise UnicodeDecodeError(named, text, content.index("\0"), 0, "NUL")
+        return Form(named, mark), content
+    except UnicodeDecodeError as error:
+        before = text[len(mark):len(mark) + error.start].decode(named, "replace")
+        row = sum(1 for _ in csv.reader(io.StringIO(before + "x", newline="")))
+        raise Wrong(f"{shown(name)}, row {row}: it isn't {named.upper()}; it may be in another encoding, {OTHER_ENCODINGS}"
+                    ) from None
+    except UnicodeError as error:
+        raise Wrong(f"{shown(name)}: it can't be read as {shown(named)}: {shown(str(error))}") from None
+
+
+def _cells(line: str, separator: str) -> list[str]:
+    """The cells of a first line."""
+    return next(csv.reader([line], delimiter=separator), [])
+
+
+def _rows(table: Table, content: str) -> Iterator[tuple[int, list[str]]]:
+    number = 0
+    try:
+        rows = csv.reader(io.StringIO(content, newline=""), delimiter=table.form.separator, strict=True)
+        for number, row in enumerate(rows, 1):
+            yield number, row
+    except csv.Error as error:
+        table.wrong(number + 1, str(error))
+
+
+def _fitting(table: Table, number: int, row: list[str]) -> list[str]:
+    """A row with a cell for each column."""
+    if any(cell.strip() for cell in row[len(table.heads):]):
+        table.wrong(number, f"it has {len(row)} cells, and row 1 has {len(table.heads)}")
+    return (row + [""] * (len(table.heads) - len(row)))[:len(table.heads)]

@@ -1,0 +1,127 @@
+"""`check`, `explain`, `report`, `simulate` and `frame`: what the program says, of many logs in one process."""
+from __future__ import annotations
+
+import argparse
+import json
+from typing import Union
+
+from .._answers import Answer
+from .._calls import check, explain, simulate
+from .._fields import SCHEMA, fields
+from .._native import library
+from .._process import NO_ANSWER, NoAnswer, complain, read, shown, write
+from ..frames import FrameFault, read_request, read_response, uid_text
+from .names import names_of
+
+REFUSED = 3
+#: The bytes of a frame of at most so many digits.
+MOST_DIGITS = 128
+
+
+def judge(name: str) -> Union[Answer, str]:
+    """The answer to a file, or why there is none."""
+    try:
+        return check(read(name))
+    except NoAnswer as why:
+        return str(why)
+    except MemoryError:
+        return f"out of memory: {shown(name)}"
+
+
+def as_lines(name: str, answer: Union[Answer, str]) -> str:
+    return "" if isinstance(answer, str) else f"{shown(name)}: {answer}\n"
+
+
+def as_tabs(name: str, answer: Union[Answer, str]) -> str:
+    if isinstance(answer, str):
+        return f"{shown(name)}\t{NO_ANSWER}\tno answer\n"
+    return f"{shown(name)}\t{answer.status}\t{answer}\n"
+
+
+def as_json(name: str, answer: Union[Answer, str]) -> str:
+    said = {"status": NO_ANSWER, "kind": "no answer", "error": answer} if isinstance(answer, str) else fields(answer)
+    return json.dumps({"schema": SCHEMA, "file": name, **said}) + "\n"
+
+
+FORMS = {"lines": as_lines, "tabs": as_tabs, "json": as_json}
+
+
+def check_all(asked: argparse.Namespace) -> int:
+    """Writes a line for each file, and returns the worst status."""
+    library()
+    worst = 0
+    for name in names_of(asked):
+        answer = judge(name)
+        worst = max(worst, complain(answer) if isinstance(answer, str) else answer.status)
+        write([FORMS[asked.form](name, answer)])
+    return worst
+
+
+def report_all(asked: argparse.Namespace) -> int:
+    """Writes every finding of each file, and returns the worst status."""
+    from .listing import lines_of_report, object_of_report, reported  # loaded only for reports
+
+    library()
+    worst = 0
+    for name in names_of(asked):
+        try:
+            session, told = reported(read(name))
+        except (NoAnswer, MemoryError) as error:
+            why = str(error) if isinstance(error, NoAnswer) else f"out of memory: {shown(name)}"
+            worst = complain(why)
+            write([as_json(name, why)] if asked.form == "json" else [])
+            continue
+        worst = max(worst, told.answer.status)
+        write(object_of_report(name, session, told) if asked.form == "json" else
+              lines_of_report(shown(name), session, told))
+    return worst
+
+
+def explain_one(asked: argparse.Namespace) -> int:
+    """Writes what `vicinity explain` writes, and returns the status."""
+    answer, population = explain(read(asked.names[0]))
+    has_one = answer.status == 1
+    write([f"{answer}\n", f"population {len(population)}\n" * has_one, *(f"U {uid_text(uid)}\n" for uid in population)])
+    return answer.status
+
+
+def simulate_one(asked: argparse.Namespace) -> int:
+    """Writes what `vicinity simulate` writes, and returns the status."""
+    made = simulate(read(asked.names[0]))
+    write([made.text])
+    return made.status
+
+
+def frame(asked: argparse.Namespace) -> int:
+    """Writes a frame in words, as `vicinity frame` does, and returns the status."""
+    library()
+    (digits,) = asked.names
+    try:
+        content = bytes.fromhex(digits) if digits.isalnum() or not digits else None
+    except ValueError:
+        content = None
+    if content is None or len(digits) > MOST_DIGITS:
+        why = "Hex" if content is None else "LineTooLong"
+        write([f"{kind} refused {why}\n" for kind in ("request", "response")])
+        return REFUSED
+    said = [_request(content), _response(content)]
+    write(f"{it}\n" for it in said)
+    return REFUSED * all(" refused " in it for it in said)
+
+
+def _request(content: bytes) -> str:
+    try:
+        link, slots, mask, uid = read_request(content)
+    except FrameFault as error:
+        return f"request refused {error.fault.word}"
+    if not slots:
+        return f"request stay-quiet link {link} uid {uid_text(uid)}"
+    return f"request inventory link {link} slots {slots} mask {mask.length} {mask.digits}"
+
+
+def _response(content: bytes) -> str:
+    try:
+        flags, dsfid, uid = read_response(content)
+    except FrameFault as error:
+        return f"response refused {error.fault.word}"
+    return f"response flags {flags:02X} dsfid {dsfid:02X} uid {uid_text(uid)}"

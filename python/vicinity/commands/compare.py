@@ -1,0 +1,125 @@
+"""`compare`: what has changed between two answers of `reconcile --json`."""
+from __future__ import annotations
+
+import argparse
+import json
+import os
+from typing import Any, Iterator, Mapping, NamedTuple, Optional, Sequence
+
+from .._fields import SCHEMA
+from .._process import complain, read, shown, write
+from ..collections.collection import State
+from ..collections.tables import Wrong
+
+REFUSED = 3
+FOUND = (State.THERE.value, State.MISPLACED.value)
+MISSING, NOT_PROVABLE, UNEXPECTED = State.MISSING.value, State.NOT_PROVABLE.value, State.UNEXPECTED.value
+#: The changes of items in the order in which they are written.
+CHANGES = ("newly missing", "no longer provable", "moved", "back again", "provable again", "newly unexpected",
+           "no longer unexpected", "newly expected", "no longer expected")
+
+#: An item of an answer, as JSON has it.
+Said = Mapping[str, Any]
+
+
+class Change(NamedTuple):
+    """What has changed of an item: as it was, and as it is."""
+
+    what: str
+    uid: str
+    old: Optional[Said]
+    new: Optional[Said]
+
+
+class Answer(NamedTuple):
+    """An answer of `reconcile`: its items by their UIDs, its logs, and those of them that are set aside."""
+
+    items: Mapping[str, Said]
+    logs: Sequence[str]
+    aside: Sequence[str]
+
+
+def compare(asked: argparse.Namespace) -> int:
+    """Writes what has changed, and returns 1 if anything has."""
+    try:
+        old, new = (_answer(name) for name in asked.names)
+    except Wrong as wrong:
+        complain(str(wrong))
+        return REFUSED
+    name = _Namer(old, new)
+    changes = sorted(_changes(old, new, name), key=lambda it: (CHANGES.index(it.what), it.uid))
+    aside, counted = set(map(name, old.aside)), set(map(name, new.logs))
+    logs = [("newly set aside", log) for log in new.aside if name(log) not in aside]
+    logs += [("no longer counted", log) for log in old.logs if name(log) not in counted]
+    status = int(bool(changes or logs))
+    if asked.form == "json":
+        write([json.dumps({"schema": SCHEMA, "status": status, "changes": list(map(_object, changes)),
+                           "logs": [{"change": what, "file": log} for what, log in logs]}) + "\n"])
+    else:
+        write([*(f"{what} {shown(log)}\n" for what, log in logs), *map(_line, changes)])
+    return status
+
+
+def _answer(name: str) -> Answer:
+    """The answer in a file. Raises Wrong."""
+    try:
+        said = json.loads(read(name))
+        if said["schema"] != SCHEMA:
+            raise ValueError
+        items = {str(it["uid"]): it for it in said["items"] if it["uid"] is not None}
+        for item in items.values():
+            State(item["state"]), [*item["certain_in"], *item["may_be_in"]], item["columns"].values()
+        return Answer(items, [str(it["file"]) for it in said["logs"]], [str(it["file"]) for it in said["set_aside"]])
+    except (ValueError, KeyError, TypeError, AttributeError):
+        raise Wrong(f"{shown(name)} isn't an answer as `reconcile --json` writes it") from None
+
+
+class _Namer:
+    """Logs by their names without folders, if that tells the logs of each answer apart: folders are often named after the
+    day."""
+
+    def __init__(self, *answers: Answer):
+        self.is_short = all(len({os.path.basename(log) for log in it.logs}) == len(set(it.logs)) for it in answers)
+
+    def __call__(self, log: str) -> str:
+        return os.path.basename(log) if self.is_short else log
+
+
+def _changes(old: Answer, new: Answer, name: _Namer) -> Iterator[Change]:
+    for uid in old.items.keys() | new.items.keys():
+        before, now = old.items.get(uid), new.items.get(uid)
+        what = _change(before, now, name)
+        if what:
+            yield Change(what, uid, before, now)
+
+
+def _change(old: Optional[Said], new: Optional[Said], name: _Namer) -> str:
+    if old is None or new is None:
+        state = str((new or old or {})["state"])
+        there = {UNEXPECTED: "unexpected", MISSING: "missing" if new else "expected"}.get(state, "expected")
+        return f"{'newly' if new else 'no longer'} {there}"
+    was, now = str(old["state"]), str(new["state"])
+    if now == was or now in FOUND and was in FOUND:
+        before, after = ({name(log) for log in it["certain_in"]} for it in (old, new))
+        return "moved" if before and after and before.isdisjoint(after) else ""
+    if now in FOUND:
+        return {MISSING: "back again", NOT_PROVABLE: "provable again"}.get(was, "newly expected")
+    return {MISSING: "newly missing", NOT_PROVABLE: "no longer provable"}.get(now, "newly unexpected")
+
+
+def _where(item: Optional[Said]) -> list[str]:
+    return list(item["certain_in"]) if item else []
+
+
+def _line(change: Change) -> str:
+    was_in, is_in = (" and ".join(map(shown, _where(item))) for item in (change.old, change.new))
+    where = f" from {was_in}" * bool(was_in and was_in != is_in) + f" {'to' if was_in else 'in'} {is_in}" * bool(
+        is_in and was_in != is_in)
+    cells = ", ".join(filter(None, map(str, (change.new or change.old or {})["columns"].values())))
+    return f"{change.what} {change.uid}{where}{': ' * bool(cells)}{shown(cells)}\n"
+
+
+def _object(change: Change) -> dict[str, object]:
+    old, new = change.old or {}, change.new or {}
+    return {"change": change.what, "uid": change.uid, "was": old.get("state"), "is": new.get("state"),
+            "was_in": _where(change.old), "is_in": _where(change.new), "columns": (new or old)["columns"]}

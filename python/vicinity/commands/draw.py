@@ -1,0 +1,30 @@
+"""`show` and `page`: a session drawn for a terminal, or as one HTML file, with what `vicinity report` says about it."""
+from __future__ import annotations
+
+import argparse
+import os
+import shutil
+
+from .._process import has_colours, has_unicode, read, shown, write
+from ..pages.page import of_log
+from ..sessions.findings import tell
+from ..sessions.reading import read_session
+from ..sessions.show import MOST_LINES, Look, show
+
+
+def draw(asked: argparse.Namespace) -> int:
+    """Draws a log for a terminal, and returns the status of its report."""
+    text = read(asked.names[0])
+    told = tell(text)
+    session = read_session(text, told, told.lines(MOST_LINES))
+    look = Look(has_unicode() and not asked.ascii, has_colours(), shutil.get_terminal_size().columns)
+    write(f"{line}\n" for line in show(session, told, look))
+    return told.answer.status
+
+
+def page(asked: argparse.Namespace) -> int:
+    """Writes the page of a log, and returns the status of its report."""
+    (name,) = asked.names
+    answer, parts = of_log(read(name), "standard input" if name == "-" else shown(os.path.basename(name)))
+    write(parts)
+    return answer.status

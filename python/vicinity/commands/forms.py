@@ -1,0 +1,118 @@
+"""What many logs say of a collection: as lines like those of `vicinity reconcile`, as CSV and as JSON."""
+from __future__ import annotations
+
+import json
+from collections import Counter
+from typing import Callable, Iterable, Iterator, Sequence, Union
+
+from .._answers import Finding, FindingKind
+from .._fields import SCHEMA, fields, mask_fields
+from .._process import NO_ANSWER, shown
+from ..collections.collection import Collection, Item, Left, State
+from ..collections.surveys import Log
+from ..frames import uid_text
+from ..pages.collection import collection_page
+
+#: Between the names of logs in a cell, and what stands for it inside of a name.
+BETWEEN, WITHIN = ";", "\\x3b"
+
+
+def set_aside(log: Log) -> str:
+    """A log that is set aside, and what to do about it."""
+    return f"set aside: {log.why} ({log.advice})"
+
+
+def as_lines(found: Collection) -> Iterator[str]:
+    """The logs that are set aside, and the lines of the program; then the misplaced items, and the rows without a tag."""
+    yield from (f"{set_aside(log)}\n" for log in found.aside)
+    yield from _findings(found)
+    for item in found.misplaced:
+        where = " and ".join(shown(found.logs[log].name) for log in item.certain_in)
+        yield f"misplaced {uid_text(item.uid or 0)} in {where}, belongs to {shown(item.belongs)}\n"
+    yield from (f"no tag in row {item.row}\n" for item in found.of(State.NO_TAG))
+    if not found.findings and not found.misplaced:
+        yield f"{found.answer}\n"
+
+
+def _findings(found: Collection) -> Iterator[str]:
+    names, shown_by = [shown(log.name) for log in found.logs], found.shown_by()
+    may_be_in = {item.uid: item.may_be_in for item in found.of(State.NOT_PROVABLE)}
+    for finding in found.findings:
+        if finding.kind is FindingKind.DOUBTFUL:
+            yield f"{finding} in {names[may_be_in[finding.uid][0]]}\n"
+        else:
+            yield f"{finding}\n"
+        if finding.kind is FindingKind.UNLISTED:
+            log, line = shown_by[finding.uid]
+            yield f"by line {line} of {names[log]}\n"
+        elif finding.kind is FindingKind.UNSETTLED:
+            for name, left in zip(names, found.left()):
+                yield from (f"{Finding(FindingKind.OPEN_MASK, 0, *mask, 0)} in {name}\n" for mask in left.masks)
+                yield f"more open in {name}\n" if left.has_more else ""
+
+
+def as_csv(found: Collection) -> Iterator[bytes]:
+    """The catalogue in its own form, with the state of each item and where it is; then the unexpected tags."""
+    names = [shown(log.name).replace(BETWEEN, WITHIN) for log in found.logs]
+
+    def where(logs: Iterable[int]) -> str:
+        return f"{BETWEEN} ".join(names[log] for log in logs)
+
+    rows = ([*item.cells, item.state.value, where(item.certain_in), where(item.may_be_in)] for item in found.items)
+    head = [*found.expected.heads, *found.expected.added()]
+    return found.expected.form.written(row for part in ([head], rows) for row in part)
+
+
+def as_json(found: Collection) -> Iterator[str]:
+    """One object on one line: the answer, how many items there are of each state, the widest mask of which any UID may be
+    there, each item, and each log."""
+    unsettled = [mask_fields(it.mask) for it in found.findings if it.kind is FindingKind.UNSETTLED]
+    counts = Counter(item.state for item in found.items)
+    yield json.dumps({
+        "schema": SCHEMA, **_answer(found), "counts": {state.value: counts[state] for state in State},
+        "unsettled": unsettled[0] if unsettled else None,
+        "set_aside": [{**_of_aside(log), "do": log.advice} for log in found.aside]})[:-1] + ', "items": ['
+    for index, item in enumerate(found.items):
+        yield ", " * (index > 0) + json.dumps(_of_item(found, item))
+    yield '], "logs": ['
+    for index, (log, left) in enumerate(zip(found.logs, found.left())):
+        yield ", " * (index > 0) + json.dumps(_of_log(log, left))
+    yield "]}\n"
+
+
+def _answer(found: Collection) -> dict[str, object]:
+    """The answer, or the first of the worst logs that are set aside, or the first misplaced item."""
+    if found.aside:
+        return _of_aside(max(found.aside, key=lambda log: log.status))
+    if not found.findings and found.misplaced:
+        return {"status": found.status, "kind": State.MISPLACED.value, "uid": uid_text(found.misplaced[0].uid or 0)}
+    return fields(found.answer)
+
+
+def _of_aside(log: Log) -> dict[str, object]:
+    return {"file": log.name, **_of_answer(log)}
+
+
+def _of_answer(log: Log) -> dict[str, object]:
+    return fields(log.answer) if log.answer else {"status": NO_ANSWER, "kind": "no answer", "error": log.error}
+
+
+def _of_item(found: Collection, item: Item) -> dict[str, object]:
+    said: dict[str, object] = {
+        "uid": None if item.uid is None else uid_text(item.uid), "state": item.state.value,
+        "columns": {found.expected.heads[at]: item.cells[at] for at in found.expected.beside()},
+        "certain_in": _named(found, item.certain_in), "may_be_in": _named(found, item.may_be_in)}
+    return {**said, "belongs": item.belongs} if item.belongs else said
+
+
+def _of_log(log: Log, left: Left) -> dict[str, object]:
+    return {"file": log.name, "certain": len(log.certain), "open": [mask_fields(mask) for mask in left.masks],
+            "more_open": left.has_more, "list": _of_answer(log)}
+
+
+def _named(found: Collection, logs: Sequence[int]) -> list[str]:
+    return [found.logs[log].name for log in logs]
+
+
+FORMS: dict[str, Callable[[Collection], Iterator[Union[str, bytes]]]] = {
+    "lines": as_lines, "csv": as_csv, "json": as_json, "page": collection_page}

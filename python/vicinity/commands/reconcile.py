@@ -1,0 +1,100 @@
+"""`reconcile` and `survey`: many logs against one catalogue, here or over many machines."""
+from __future__ import annotations
+
+import argparse
+import json
+from typing import Iterator, Optional
+
+from .._fields import SCHEMA, fields
+from .._native import library
+from .._process import NoAnswer, complain, counted, read, write
+from ..collections.catalogue import Catalogue, How, catalogue
+from ..collections.collection import Collection
+from ..collections.places import Places, places_of
+from ..collections.surveys import Log, Surveys, certain_lines, record, records
+from ..collections.tables import Wrong
+from ..pages.collection import broken_page
+from .forms import FORMS, set_aside
+from .names import names_of
+
+REFUSED = 3
+
+
+def reconcile(asked: argparse.Namespace) -> int:
+    """Writes what logs say of a catalogue, and returns the status."""
+    library()
+    names = names_of(asked, not asked.surveys)
+    try:
+        said = [(name, read(name)) for name in asked.surveys]
+        expected = catalogue(asked.expected, read(asked.expected), _how(asked))
+        recorded = records(said)
+        places = _places(asked, expected, [*(log.name for log in recorded), *names])
+    except Wrong as wrong:
+        if wrong.is_list and asked.form == "lines":
+            write([f"{wrong}\n"])
+        else:
+            complain(str(wrong))
+        return REFUSED
+    logs = Surveys(names, asked.jobs, asked.strict, recorded)
+    broken = next((log for log in logs.all if log.status), None)
+    if asked.strict and broken is not None:
+        write(_ended(asked.form, expected, broken))
+        return broken.status
+    found = Collection(expected, logs, places)
+    if asked.form == "csv":
+        for log in found.aside:
+            complain(set_aside(log))
+    write(FORMS[asked.form](found))
+    return found.status
+
+
+def _how(asked: argparse.Namespace) -> How:
+    tags = None if asked.tags is None else (asked.tags, read(asked.tags))
+    return How(asked.column, asked.place, asked.encoding, tags)
+
+
+def _places(asked: argparse.Namespace, expected: Catalogue, names: list[str]) -> Places:
+    """The logs of each place; none if no column has places."""
+    if asked.place is None:
+        return {}
+    file = None if asked.places is None else (asked.places, read(asked.places))
+    return places_of(expected, names, file, asked.encoding)
+
+
+def _ended(form: str, expected: Catalogue, log: Log) -> Iterator[str]:
+    """What is written where a log that is refused or impossible ends it. In CSV it has no place."""
+    if log.answer is None:
+        raise NoAnswer(log.error)
+    if form == "page":
+        yield from broken_page(log, expected.name)
+    elif form == "json":
+        yield json.dumps({"schema": SCHEMA, **fields(log.answer), "file": log.name}) + "\n"
+    elif form == "lines":
+        yield f"{log.why}\n"
+    else:
+        complain(log.why)
+
+
+def survey(asked: argparse.Namespace) -> int:
+    """Writes what each log says of its field, as a line of JSON, and returns the worst status of those that say nothing."""
+    library()
+    names, worst = names_of(asked), 0
+    for name in counted(names, len(names)):
+        log, lines = _surveyed(name)
+        worst = max(worst, log.status)
+        if log.answer is None:
+            complain(log.error)
+        write([record(log, lines)])
+    return worst
+
+
+def _surveyed(name: str) -> tuple[Log, Optional[list[int]]]:
+    """The survey of a log, with the lines that show its certain UIDs."""
+    try:
+        text = read(name)
+    except (NoAnswer, MemoryError) as error:
+        return Log.unread(name, error), None
+    log = Log.of(name, text)
+    if log.status:
+        return log, None
+    return log, list(certain_lines(text).lines)

@@ -1,0 +1,1 @@
+"""HTML pages of a log and of a collection."""

@@ -1,0 +1,126 @@
+"""What a contradiction says, by the form of its lines: a sentence, what to look for, and what to do."""
+from __future__ import annotations
+
+from typing import NamedTuple, Optional, Sequence
+
+from .._answers import Mask
+from ..frames import write_inventory, write_line
+from .findings import Told
+from .session import Reading, Session, Slot
+from .words import UID_BITS, lines, short, uid
+
+NOISE = "Noise was logged as a collision. If something did answer but couldn't be read, write D, in a log of version 2."
+NOISE_UNREAD = "Noise was logged as D. If you don't know whether a tag answered, end the round there."
+WOKE = "A silenced tag lost power for a moment and woke up."
+SECOND_READER = ("A second reader was active: it keeps tags powered and Quiet while this reader's field is off, and may "
+                 "silence tags. Switch it off.")
+
+
+class Contradiction(NamedTuple):
+    """A sentence, the causes that fit, most likely first, and a test that tells them apart, if there is one."""
+
+    sentence: str
+    causes: Sequence[str]
+    test: str = ""
+    asks: Sequence[str] = ()
+
+
+def contradiction(session: Session, told: Told) -> Contradiction:
+    """What the conflict of an impossible log says."""
+    slots = [session.slots[number] for number in told.conflict if number in session.slots]
+    unread = next((slot for slot in slots if slot.reading in (Reading.COLLISION, Reading.GARBLED)), None)
+    heard = [slot for slot in slots if slot.reading is Reading.HEARD]
+    others = [slot for slot in slots if slot is not (unread or heard[0])]
+    if told.silenced:
+        return _woke(told, heard[-1])
+    if not others:
+        return _alone(session, slots[0])
+    if unread:
+        return _unmet(session, told, unread, others)
+    return _hidden(heard[0], heard[-1]) if len(heard) > 1 else _lost(session, heard[0], others[0])
+
+
+def _woke(told: Told, slot: Slot) -> Contradiction:
+    assert slot.uid is not None
+    return Contradiction(
+        f"tag {short(slot.uid)} was silenced in line {told.silenced}, but answered in line {slot.line}.",
+        ("The tag lost power for a moment, at the edge of the field or behind another tag, and woke up.",
+         f"The tag didn't receive the Stay Quiet of line {told.silenced}.",
+         "The field was switched off and on in between. Then the log needs a line F there, and the header 'vicinity-log 2'.",
+         "A second reader woke it up, with Reset to Ready or Select. Switch that reader off."),
+        "Move the tag further into the field, or slow the reader down. A tag that woke up once will do it again.")
+
+
+def _alone(session: Session, slot: Slot) -> Contradiction:
+    row = session.rows[session.places[slot.line]]
+    if slot.uid is not None:
+        said = f"line {slot.line} is a reply of {short(slot.uid)}, a tag that the request in line {row.line} didn't ask."
+    else:
+        wanted = "two or more tags answered" if slot.reading is Reading.COLLISION else "a tag answered"
+        said = f"{wanted} in line {slot.line}, but the mask asked there has fewer UIDs."
+    causes = [f"Line {slot.line} was logged under the wrong request: a late reply, or lines in the wrong order.",
+              "The reader sent a request that isn't in the log."]
+    return Contradiction(said, causes if slot.reading is Reading.HEARD else [NOISE, *causes])
+
+
+def _lost(session: Session, heard: Slot, silent: Slot) -> Contradiction:
+    assert heard.uid is not None
+    name, is_before = short(heard.uid), silent.line < heard.line
+    first, last = sorted((heard.line, silent.line))
+    cycled = any(first < line < last for line in session.cycle_lines)
+    causes = [f"Its reply in line {silent.line} was lost: the tag is at the edge of the field, or something interfered.",
+              f"The tag came into the field after line {silent.line}." if is_before
+              else f"The tag left the field after line {heard.line}."]
+    causes.insert(0 if cycled and not is_before else 2, SECOND_READER)
+    return Contradiction(
+        f"tag {name} answered in line {heard.line}, but not in line {silent.line}, where it was also asked.", causes,
+        f"Ask only for {name}, a few times. If it answers sometimes, replies are being lost. If it always answers, it came "
+        "into the field later, or was kept Quiet. If it never answers, it has left.",
+        [ask(session.link, 1, Mask(UID_BITS, heard.uid & (1 << UID_BITS) - 1))])
+
+
+def _hidden(first: Slot, last: Slot) -> Contradiction:
+    assert first.uid is not None and last.uid is not None
+    one, other = short(first.uid, [last.uid]), short(last.uid, [first.uid])
+    return Contradiction(
+        f"tags {one} (line {first.line}) and {other} (line {last.line}) were each read alone, but both should have answered.",
+        ("A strong reply hid a weaker one: the stronger of the two was read over the other.",
+         f"A tag came into the field between lines {first.line} and {last.line}, or left it.", SECOND_READER),
+        "Move the two apart or lower the gain, and ask in sixteen slots, so that fewer tags answer at once.")
+
+
+def _unmet(session: Session, told: Told, unread: Slot, others: Sequence[Slot]) -> Contradiction:
+    rest = [number for number in told.conflict if number != unread.line]
+    is_collision = unread.reading is Reading.COLLISION
+    said = (f"in line {unread.line} {'two or more tags' if is_collision else 'a tag'} answered, but {lines(rest)} "
+            f"leave{'s' * (len(rest) == 1)} {'at most one' if is_collision else 'none'}.")
+    noise = NOISE if is_collision else NOISE_UNREAD
+    if unread.line > rest[-1]:
+        causes = [noise, f"A tag came into the field before line {unread.line}.", *[WOKE] * bool(session.counts.quiets)]
+    else:
+        lost = "A later reply of a tag of that slot was lost, so the later slot was logged as silent."
+        causes = [_unheard(session, unread, others) or lost, noise, f"A tag left the field after line {unread.line}."]
+    if len(others) == 1 and others[0].uid is not None and is_collision:
+        causes.insert(1, f"A strong reply in line {others[0].line} hid a weaker one.")
+    causes.append(SECOND_READER)
+    return Contradiction(said, causes, f"Ask for the tags of line {unread.line} again, in sixteen slots.",
+                         [ask(session.link, 16 if unread.mask.length <= UID_BITS else 1, unread.mask)])
+
+
+def _unheard(session: Session, unread: Slot, others: Sequence[Slot]) -> Optional[str]:
+    """A tag of a collision that was silenced later and never heard, and the silent slot in which it would have answered."""
+    for line, number in session.unheard:
+        slot = next((it for it in others if it.line < line and it.reading is Reading.SILENT and has(it.mask, number)), None)
+        if slot and has(unread.mask, number):
+            return f"The reply of {uid(number)} in line {slot.line} was lost: line {line} silences it, but it was never heard."
+    return None
+
+
+def has(mask: Mask, number: int) -> bool:
+    """Whether a UID is in a mask."""
+    return (mask.value ^ number) & (1 << mask.length) - 1 == 0
+
+
+def ask(link: int, slots: int, mask: Mask) -> str:
+    """The line of the request that asks a mask."""
+    return write_line("T", write_inventory(link, slots, mask)).decode().rstrip()

@@ -1,0 +1,190 @@
+"""What the tests share: the program, the library for C, the commands in C, and the same for other
+machines.
+
+Each is built when a test first asks for it, unless it is there and is newer than the code. A test
+that asks for what this machine can't build or run is skipped, and says what tests/setup would
+install.
+"""
+import os
+import subprocess
+import sys
+
+import pytest
+
+pytest.register_assert_rewrite("helpers")
+# what tests import leaves nothing in the repository
+sys.dont_write_bytecode = True
+os.environ["PYTHONDONTWRITEBYTECODE"] = "1"
+
+from helpers.library import Library  # noqa: E402
+from helpers.program import TOP, Program, build, needs, program_of  # noqa: E402
+from helpers.rows import OfLibrary, OfProgram  # noqa: E402
+from helpers.texts import texts as all_texts  # noqa: E402
+from helpers.wasm import WasmLibrary  # noqa: E402
+
+OUT = TOP / "out"
+WARNINGS = ("-std=c99", "-O2", "-Wall", "-Wextra", "-Wpedantic", "-Werror")
+# For each text there are so many lines of answers at least.
+ANSWERS = 7
+ARM = ("qemu-aarch64-static", "-L", "/usr/aarch64-linux-gnu")
+
+
+def pytest_addoption(parser):
+    parser.addoption("--write", action="store_true",
+                     help="write what is compared with the sources anew")
+    parser.addoption("--logs", type=int, help="how many random logs are judged, of a new seed")
+    parser.addoption("--seed", type=int, help="the seed of these random logs")
+
+
+def pytest_terminal_summary(terminalreporter):
+    """Ends with the line that ./test counts by."""
+    def number(*kinds):
+        return sum(len(terminalreporter.stats.get(kind, [])) for kind in kinds)
+    skipped = number("skipped")
+    terminalreporter.write_line(f"{number('passed')} passed, {number('failed', 'error')} failed"
+                                + (f", {skipped} skipped" if skipped else ""))
+
+
+@pytest.fixture
+def kept(pytestconfig):
+    """Compares a file with what it has to be; with --write it is written anew."""
+    def compare(file, text):
+        if pytestconfig.getoption("--write"):
+            file.write_text(text)
+        # the lines that differ, each once
+        assert [line for line in file.read_text().splitlines()
+                if line not in text.splitlines()] == []
+        assert file.read_text() == text
+    return compare
+
+
+@pytest.fixture(scope="session")
+def program(pytestconfig):
+    """The proved program: `program.run("check", given=b"..")` gives what it wrote, and its
+    status."""
+    return program_of(pytestconfig, "vicinity")
+
+
+@pytest.fixture(scope="session")
+def release(pytestconfig):
+    """The folder with the program, libvicinity.so, libvicinity.a and vicinity.h, as they are
+    released."""
+    build(pytestconfig, TOP / "release/make")
+    return OUT / "release"
+
+
+@pytest.fixture(scope="session")
+def library(release):
+    """The calls for C, as they are released: `library.check(text, ..)`; `library.path` is its
+    file."""
+    return Library(release / "libvicinity.so")
+
+
+@pytest.fixture(scope="session")
+def library_rattle(pytestconfig):
+    """The same, made by the kit's other compiler."""
+    build(pytestconfig, TOP / "release/make", "amd64", "rattle")
+    return Library(OUT / "release-rattle/libvicinity.so")
+
+
+@pytest.fixture(scope="session")
+def vicinity(release):
+    """The Python package over the library as it is released."""
+    os.environ["LIBVICINITY"] = str(release / "libvicinity.so")
+    import vicinity as package
+    return package
+
+
+@pytest.fixture(scope="session")
+def commands(release, tmp_path_factory):
+    """The commands in C, with a look at each access to memory, and at what is left of it."""
+    made = tmp_path_factory.mktemp("commands") / "vicinity"
+    watched = ("-fsanitize=address,undefined", "-fno-sanitize-recover=all")
+    subprocess.run(["cc", *WARNINGS, f"-I{release}", *sorted(TOP.glob("commands/*.c")),
+                    release / "libvicinity.a", *watched,
+                    "-o", made], check=True)
+    return Program(made)
+
+
+@pytest.fixture(scope="session")
+def arm_release(pytestconfig):
+    """The folder of what is released for 64-bit ARM."""
+    needs("aarch64-linux-gnu-gcc", "/usr/aarch64-linux-gnu/include/stdio.h", "qemu-aarch64-static")
+    build(pytestconfig, TOP / "release/make", "arm64")
+    return OUT / "release-arm64"
+
+
+@pytest.fixture(scope="session")
+def arm(arm_release):
+    """The commands in C for 64-bit ARM, under an emulator."""
+    return Program(*ARM, arm_release / "vicinity")
+
+
+@pytest.fixture(scope="session")
+def wasm_module(pytestconfig):
+    """The file of the library as WebAssembly."""
+    needs("wasm-opt", "node")
+    build(pytestconfig, TOP / "targets/wasm/make")
+    return OUT / "wasm/vicinity.wasm"
+
+
+@pytest.fixture(scope="session")
+def wasm(wasm_module):
+    """The calls of the library as WebAssembly, which node makes."""
+    library = WasmLibrary(wasm_module)
+    yield library
+    library.module.close()
+
+
+@pytest.fixture(scope="session")
+def windows_release(pytestconfig):
+    """The folder of what is released for Windows."""
+    needs("x86_64-w64-mingw32-gcc")
+    build(pytestconfig, TOP / "targets/windows/make")
+    return OUT / "windows"
+
+
+@pytest.fixture(scope="session")
+def windows(pytestconfig, windows_release):
+    """The commands in C for Windows, under wine. What wine starts besides would hold on to the
+    streams of the first program that runs, so one runs before and until the end."""
+    needs("wine", "wineserver")
+    wine = "env", f"WINEPREFIX={OUT / 'wine'}", "WINEDEBUG=-all", "LC_ALL=C.UTF-8"
+    nowhere = {"stdout": subprocess.DEVNULL, "stderr": subprocess.DEVNULL}
+    build(pytestconfig, *wine, "wineboot")
+    with subprocess.Popen([*wine, "wine", "cmd", "/c", "pause"], stdin=subprocess.PIPE, **nowhere):
+        yield Program(*wine, "wine", windows_release / "vicinity.exe")
+
+
+@pytest.fixture(scope="session")
+def texts():
+    """The texts of helpers/texts.py, each after its length, for tests/c/answers.c."""
+    return b"".join(b"%d\n%s" % (len(text), text) for text in all_texts())
+
+
+@pytest.fixture(scope="session")
+def answered(release, texts, tmp_path_factory):
+    """What the library for C answers to these texts, with every number."""
+    made = tmp_path_factory.mktemp("answers") / "answers"
+    subprocess.run(["cc", *WARNINGS, f"-I{release}", TOP / "tests/c/answers.c",
+                    release / "libvicinity.a", "-o", made], check=True)
+    said = subprocess.run([made], input=texts, capture_output=True, check=True).stdout
+    assert said.count(b"\n") >= ANSWERS * len(all_texts())
+    return said
+
+
+@pytest.fixture(scope="session")
+def browser():
+    """A browser without a window."""
+    needs("chromium", "chromedriver", "/usr/lib/python3/dist-packages/selenium")
+    from helpers.webdriver import Browser
+    one = Browser()
+    yield one
+    one.close()
+
+
+@pytest.fixture(scope="session")
+def asked(request):
+    """Who is asked for rows: the fixture of the name that a test is parametrised with."""
+    one = request.getfixturevalue(request.param)
+    return OfLibrary(one) if isinstance(one, Library) else OfProgram(one)

@@ -1,0 +1,60 @@
+"""A program, and what it says."""
+import fcntl
+import os
+import shutil
+import subprocess
+from pathlib import Path
+from typing import NamedTuple
+
+import pytest
+
+TOP = Path(__file__).resolve().parent.parent.parent
+
+
+class Said(NamedTuple):
+    """What a program wrote on standard output and error, and its status."""
+    out: bytes
+    err: bytes
+    status: int
+
+
+class Program:
+    """A program, by the words that start it, of which an emulator may be the first, and what it
+    finds in its environment."""
+
+    def __init__(self, *words, **environment):
+        self.words, self.environment = [str(word) for word in words], environment
+
+    def run(self, *words, given=b"", name=None, **how):
+        """Runs it at the top of the repository. `name` is the name by which it is started; `how`
+        has more for subprocess.run, as other streams."""
+        first, *more = self.words
+        streams = {"stdout": subprocess.PIPE, "stderr": subprocess.PIPE, "cwd": TOP,
+                   "env": {**os.environ, **self.environment}, **how}
+        if "stdin" not in how:
+            streams["input"] = given
+        done = subprocess.run([name or first, *more, *words], executable=first, check=False,
+                              **streams)
+        return Said(done.stdout or b"", done.stderr or b"", done.returncode)
+
+
+def build(config, *command):
+    """Runs what builds something, one at a time; what it says is shown at once."""
+    (TOP / "out").mkdir(exist_ok=True)
+    capture = config.pluginmanager.getplugin("capturemanager")
+    with open(TOP / "out/lock", "w") as lock, capture.global_and_fixture_disabled():
+        fcntl.flock(lock, fcntl.LOCK_EX)
+        subprocess.run([str(word) for word in command], cwd=TOP, check=True)
+
+
+def program_of(config, crate):
+    """The proved program of a crate."""
+    build(config, TOP / "build", crate)
+    return Program(TOP / f"crates/{crate}/out/{crate}")
+
+
+def needs(*tools):
+    """Skips a test for which a tool, or a file, isn't there."""
+    for tool in tools:
+        if not (os.path.exists(tool) if tool.startswith("/") else shutil.which(tool)):
+            pytest.skip(f"there is no {tool}: tests/setup installs it")

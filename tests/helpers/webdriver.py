@@ -1,0 +1,61 @@
+"""A browser without a window, Debian's chromium."""
+import functools
+import http.server
+import threading
+
+from selenium import webdriver
+from selenium.webdriver.chrome.options import Options
+from selenium.webdriver.chrome.service import Service
+
+from helpers.program import TOP
+
+WORDS = ("--headless=new", "--no-sandbox", "--disable-dev-shm-usage", "--hide-scrollbars")
+LOGGED = {"browser": "ALL", "performance": "ALL"}
+SECONDS = 120
+RUN = """
+const [module, files, done] = arguments;
+import(module).then((it) => it.run(...files)).then(done, (error) => done(`failed: ${error.stack}`));
+"""
+
+
+class Handler(http.server.SimpleHTTPRequestHandler):
+    """The files of the repository, and a few others by /given/NUMBER."""
+    given: tuple = ()
+
+    def translate_path(self, path):
+        if path.startswith("/given/"):
+            return str(self.given[int(path.removeprefix("/given/"))])
+        return super().translate_path(path)
+
+    def log_message(self, *_):
+        """Nothing."""
+
+
+class Browser:
+    """One browser; `driver` is what selenium calls it by."""
+
+    def __init__(self):
+        options = Options()
+        for word in WORDS:
+            options.add_argument(word)
+        options.set_capability("goog:loggingPrefs", LOGGED)
+        self.driver = webdriver.Chrome(service=Service("/usr/bin/chromedriver"), options=options)
+        self.driver.set_script_timeout(SECONDS)
+
+    def run_module(self, name, *files):
+        """What the function `run` of a module of the repository gives of the addresses of files."""
+        handler = functools.partial(type("Given", (Handler,), {"given": files}), directory=str(TOP))
+        with http.server.ThreadingHTTPServer(("127.0.0.1", 0), handler) as server:
+            threading.Thread(target=server.serve_forever, daemon=True).start()
+            self.driver.get(f"http://127.0.0.1:{server.server_port}/tests/wasm/")
+            given = [f"/given/{number}" for number in range(len(files))]
+            said = self.driver.execute_async_script(RUN, f"/{name}", given)
+            server.shutdown()
+        return said
+
+    def console(self):
+        """What was written on the console since the last call."""
+        return [entry["message"] for entry in self.driver.get_log("browser")]
+
+    def close(self):
+        self.driver.quit()

@@ -1,0 +1,87 @@
+"""The library for 64-bit ARM, under an emulator: the examples in C, every number that it returns on
+worked, changed and large texts, texts and buffers that end where memory ends, and each allocation
+refused in turn. The library for x86-64 is what it is compared with. The commands are asked in
+test_rows.py and test_commands.py. The Python package isn't run, which would take a Python for
+ARM."""
+import re
+import subprocess
+
+import pytest
+
+from helpers.program import TOP, Program
+
+STRICT = ("-O2", "-Wall", "-Wextra", "-Werror")
+LOGS = sorted(TOP.glob("examples/*.log"))
+# A search for so many tags has over 100,000 lines.
+TAGS, LEAST = 12_000, 100_000
+
+
+@pytest.fixture(scope="session")
+def both(release, arm_release, tmp_path_factory):
+    """Builds a program in C for ARM, and for this machine."""
+    folder = tmp_path_factory.mktemp("arm")
+
+    def build(source, *words):
+        made = folder / source.replace("/", "-")
+        for compiler, library, name, more in (("aarch64-linux-gnu-gcc", arm_release, f"{made}-arm",
+                                               ["-static"]),
+                                              ("cc", release, f"{made}-here", [])):
+            subprocess.run([compiler, *more, *STRICT, "-I", TOP / "include", TOP / source, *words,
+                            library / "libvicinity.a",
+                            "-o", name], check=True)
+        return Program("qemu-aarch64-static", f"{made}-arm"), Program(f"{made}-here")
+    return build
+
+
+@pytest.fixture(scope="session")
+def large(tmp_path_factory):
+    """A log of over 100,000 lines."""
+    log = tmp_path_factory.mktemp("large") / "large.log"
+    log.write_bytes(subprocess.run([TOP / "tools/biglog.py", "session", str(TAGS)],
+                                   capture_output=True, check=True).stdout)
+    assert log.read_bytes().count(b"\n") > LEAST
+    return log
+
+
+@pytest.mark.parametrize("log", [*LOGS, "large"], ids=lambda log: getattr(log, "name", log))
+def test_the_example_answers_as_the_program(both, program, request, log):
+    log = request.getfixturevalue("large") if log == "large" else log
+    assert both("examples/c/check.c")[0].run(log) == program.run("check", log)
+
+
+def test_the_reader_loop_answers_as_here(both):
+    there, here = (one.run("40") for one in both("examples/c/reader_loop.c"))
+    assert there == here and there.status == 0
+
+
+@pytest.mark.slow
+def test_each_number_is_the_one_of_here(both, texts, answered):
+    assert both("tests/c/answers.c")[0].run(given=texts) == (answered, b"", 0)
+
+
+@pytest.mark.slow
+def test_nothing_is_read_or_written_past_its_end(both):
+    assert both("tests/c/guard.c")[0].run(*LOGS).status == 0
+
+
+@pytest.mark.slow
+def test_each_allocation_is_refused(both):
+    wrapped = "-Wl,--wrap=malloc,--wrap=realloc,--wrap=free"
+    assert both("tests/c/calls_refused.c", wrapped)[0].run(*LOGS).status == 0
+
+
+@pytest.mark.slow
+@pytest.mark.parametrize("command", ["check", "explain", "report", "simulate"])
+def test_the_commands_on_a_large_log(arm, program, large, command):
+    text = large.read_bytes()
+    if command == "simulate":
+        text = re.sub(rb"^[SCRD].*\n", b"", text, flags=re.M)
+    assert arm.run(command, given=text) == program.run(command, given=text)
+
+
+def test_a_program_that_loads_the_shared_object(arm, arm_release, tmp_path):
+    subprocess.run(["aarch64-linux-gnu-gcc", f"-I{arm_release}", TOP / "examples/c/check.c",
+                    f"-L{arm_release}", "-lvicinity",
+                    "-o", tmp_path / "shared"], check=True)
+    loaded = Program(*arm.words[:-1], "-E", f"LD_LIBRARY_PATH={arm_release}", tmp_path / "shared")
+    assert loaded.run("examples/whole-shelf.log") == (b"complete 4\n", b"", 0)

@@ -1,0 +1,434 @@
+"""Programs over the library in C++, Go, Rust, C and Python: what is expected is read by the library
+alone, and no text that isn't a list of UIDs, and no log that says nothing, gives a wrong
+`complete`."""
+import hashlib
+import os
+import platform
+import re
+import subprocess
+from pathlib import Path
+
+import pytest
+
+TOP = Path(__file__).resolve().parent.parent
+# Debian's compilers first: what they take, newer ones take too
+ENVIRONMENT = dict(os.environ, PATH="/usr/bin:" + os.environ["PATH"], PYTHONDONTWRITEBYTECODE="1",
+                   GOFLAGS="-buildvcs=false")
+WARNINGS = ("-Wall", "-Wextra", "-Wpedantic", "-Wshadow", "-Werror")
+
+
+def run(*words, **more):
+    environment = ENVIRONMENT | more.pop("env", {})
+    return subprocess.run([str(word) for word in words], capture_output=True, env=environment,
+                          **more)
+
+
+def made(*words, **more):
+    done = run(*words, **more)
+    assert done.returncode == 0, done.stderr.decode()
+    return done.stdout.decode()
+
+
+@pytest.fixture(scope="session")
+def folder(request):
+    """The folder with the libraries and the header: VICINITY_LIB names it, or it is built."""
+    if "VICINITY_LIB" in os.environ:
+        return Path(os.environ["VICINITY_LIB"])
+    return request.getfixturevalue("release")
+
+
+@pytest.fixture(scope="session")
+def in_cpp(folder, tmp_path_factory):
+    program = tmp_path_factory.mktemp("cpp") / "check"
+    made("g++", "-std=c++11", *WARNINGS, f"-I{folder}", f"-I{TOP}/bindings/cpp",
+         TOP / "examples/cpp/check.cpp", folder / "libvicinity.a", "-o", program)
+    return [program]
+
+
+def go_environment(folder):
+    """With a sum of the archive, without which go takes what it linked with another one as made."""
+    made_of = hashlib.sha256((folder / "libvicinity.a").read_bytes()).hexdigest()
+    return {"CGO_CFLAGS": f"-I{folder} -DMADE_OF={made_of}", "CGO_LDFLAGS": f"-L{folder}"}
+
+
+@pytest.fixture(scope="session")
+def in_go(folder, tmp_path_factory):
+    program = tmp_path_factory.mktemp("go") / "check"
+    made("go", "build", "-o", program, cwd=TOP / "examples/go", env=go_environment(folder))
+    return [program]
+
+
+@pytest.fixture(scope="session")
+def rust_target(folder, tmp_path_factory):
+    return {"VICINITY_LIB": str(folder), "RUSTFLAGS": "-D warnings",
+            "CARGO_TARGET_DIR": str(tmp_path_factory.mktemp("rust"))}
+
+
+@pytest.fixture(scope="session")
+def in_rust(rust_target):
+    made("cargo", "build", "--offline", "--locked", cwd=TOP / "examples/rust", env=rust_target)
+    return [Path(rust_target["CARGO_TARGET_DIR"]) / "debug/vicinity-check"]
+
+
+@pytest.fixture(scope="session")
+def commands_in_c(folder, tmp_path_factory):
+    program = tmp_path_factory.mktemp("c") / "vicinity"
+    made("cc", "-std=c99", *WARNINGS, f"-I{folder}", *sorted((TOP / "commands").glob("*.c")),
+         folder / "libvicinity.a", "-o", program)
+    return [program, "reconcile"]
+
+
+class InPython:
+    """The package `vicinity` over the library, as Debian's Python runs it, which has Dask."""
+
+    def __init__(self, folder):
+        self.environment = {"LIBVICINITY": str(folder / "libvicinity.so.1"),
+                            "PYTHONPATH": str(TOP / "python")}
+
+    def run(self, *words, **more):
+        return run("/usr/bin/python3", *words, env=self.environment, **more)
+
+
+@pytest.fixture(scope="session")
+def in_python(folder):
+    return InPython(folder)
+
+
+# ---- lists of what is expected; logs in which all tags were asked
+
+A, B = "E0040100000000A1", "E0040100000000B2"
+# none answered; A alone did; first none, then A
+SILENT = "vicinity-log 1\nT 260100F60A\nS\n"
+HEARD = "vicinity-log 1\nT 260100F60A\nR 0000A1000000000104E06745\n"
+IMPOSSIBLE = SILENT + HEARD.partition("\n")[2]
+ABSENT = (f"absent {A}", 1)
+LISTS = {
+    "plain": (f"vicinity-log 1\nU {A}\n", ABSENT),
+    "without_its_last_lf": (f"vicinity-log 1\nU {A}", ABSENT),
+    "cr_lf": (f"vicinity-log 1\r\nU {A}\r\n", ABSENT),
+    "comments": (f"vicinity-log 1\n# shelf 3\n\nU {A}\n# end\n", ABSENT),
+    "comment_among_uids": (f"vicinity-log 1\nU {B}\n# shelf 3\nU {A}\n", ABSENT),
+    "cr_lf_and_comments": (f"vicinity-log 1\r\n\r\n# shelf\r\nU {A}\r\n", ABSENT),
+    "lower_case": (f"vicinity-log 1\nU {A.lower()}\n", ABSENT),
+    "version_2": (f"vicinity-log 2\nU {A}\n", ABSENT),
+    "nothing_expected": ("vicinity-log 1\n", ("complete 0", 0)),
+    "empty": ("", ("refused at line 1: Header", 3)),
+    "csv": (f"uid,title\n{A},Of a winter\n", ("refused at line 1: Header", 3)),
+    "csv_of_digits": (f"{A}\n{B}\n", ("refused at line 1: Header", 3)),
+    "header_and_digits": (f"vicinity-log 1\n{A}\n", ("refused at line 2: UnknownEntry", 3)),
+    "byte_order_mark": (f"\ufeffvicinity-log 1\nU {A}\n", ("refused at line 1: Header", 3)),
+    "log": (HEARD + f"U {A}\n", ("refused at line 2: NotListed", 3)),
+    "log_without_list": (SILENT, ("refused at line 2: NotListed", 3)),
+    "log_behind_a_comment": ("vicinity-log 2\n# a log\nF\n", ("refused at line 3: NotListed", 3)),
+    "lower_case_letter": (f"vicinity-log 1\nu {A}\n", ("refused at line 2: UnknownEntry", 3)),
+    "no_space": (f"vicinity-log 1\nU{A}\n", ("refused at line 2: UnknownEntry", 3)),
+    "space_at_the_end": (f"vicinity-log 1\nU {A} \n", ("refused at line 2: Hex", 3)),
+    "short_uid": (f"vicinity-log 1\nU {A[:14]}\n", ("refused at line 2: ListedLength", 3)),
+    "not_e0": ("vicinity-log 1\nU 0123456789ABCDEF\n", ("refused at line 2: NotVicinity", 3)),
+    "twice": (f"vicinity-log 1\nU {A}\nU {A}\n", ("refused at line 3: DuplicateListed", 3)),
+    "fault_behind_a_request": ("vicinity-log 1\nT 260100F60A\nX\n",
+                               ("refused at line 3: UnknownEntry", 3)),
+}
+LOGS = {
+    "heard": (HEARD, (f"unlisted {A}", 1)),
+    "heard_with_cr_lf": (HEARD.replace("\n", "\r\n"), (f"unlisted {A}", 1)),
+    "nobody_asked": ("vicinity-log 1\n", ("unsettled 0 -", 1)),
+    "impossible": (IMPOSSIBLE, ("impossible at line 5", 2)),
+    "refused": ("uid\n", ("refused at line 1: Header", 3)),
+    "empty": ("", ("refused at line 1: Header", 3)),
+}
+PROGRAMS = ("in_cpp", "in_go", "in_rust", "commands_in_c")
+
+
+@pytest.fixture
+def texts(tmp_path):
+    """Writes texts, and returns their files."""
+    def write(**texts):
+        for name, text in texts.items():
+            (tmp_path / name).write_bytes(text.encode())
+        return [tmp_path / name for name in texts]
+    return write
+
+
+def answered(done):
+    """The answer's line, in which the commands also name a file, and the status."""
+    line = done.stdout.decode().split("\n")[0]
+    return re.sub(r" (?:of|in) [^:]*", "", line), done.returncode
+
+
+@pytest.mark.parametrize("name", LISTS)
+@pytest.mark.parametrize("program", PROGRAMS)
+def test_list(program, name, texts, request):
+    text, wanted = LISTS[name]
+    files = texts(list=text, log=SILENT)
+    assert answered(run(*request.getfixturevalue(program), *files)) == wanted
+
+
+@pytest.mark.parametrize("name", LOGS)
+@pytest.mark.parametrize("program", PROGRAMS)
+def test_log(program, name, texts, request):
+    text, wanted = LOGS[name]
+    files = texts(list="vicinity-log 1\n", good=SILENT, log=text)
+    assert answered(run(*request.getfixturevalue(program), *files)) == wanted
+
+
+@pytest.mark.parametrize("program", PROGRAMS)
+def test_both_are_there(program, texts, request):
+    """Two logs, in each of which one was heard, and a third that repeats the first."""
+    expected = f"vicinity-log 1\r\nU {A}\r\nU {B}\r\n"
+    files = texts(list=expected, one=HEARD, again=HEARD, other=heard(B))
+    assert answered(run(*request.getfixturevalue(program), *files)) == ("complete 2", 0)
+
+
+def heard(uid):
+    """A log in which all were asked, and this tag answered, with the CRC of ISO/IEC 13239."""
+    frame = bytes(2) + bytes.fromhex(uid)[::-1]
+    crc = 0xFFFF
+    for byte in frame:
+        crc ^= byte
+        for _ in range(8):
+            crc = crc >> 1 ^ (0x8408 if crc & 1 else 0)
+    frame += (crc ^ 0xFFFF).to_bytes(2, "little")
+    return f"vicinity-log 1\nT 260100F60A\nR {frame.hex().upper()}\n"
+
+
+def test_heard_is_the_frame_of_the_format():
+    assert heard(A) == HEARD
+
+
+@pytest.mark.parametrize("program", PROGRAMS[:3])
+def test_file_that_is_not_there(program, texts, request):
+    files = texts(list="vicinity-log 1\n")
+    done = run(*request.getfixturevalue(program), *files, files[0].parent / "nowhere")
+    assert (done.stdout, done.returncode) == (b"", 4)
+
+
+# ---- the libraries' own tests
+
+def test_go_library(folder):
+    place = {"cwd": TOP / "bindings/go", "env": go_environment(folder)}
+    made("go", "vet", "./...", **place)
+    assert made("gofmt", "-l", TOP / "bindings/go", TOP / "examples/go") == ""
+    assert "ok" in made("go", "test", "-count=1", "./...", **place)
+
+
+def test_rust_library(rust_target):
+    said = made("cargo", "test", "--offline", "--locked", cwd=TOP / "bindings/rust",
+                env=rust_target)
+    assert sum(map(int, re.findall(r"test result: ok. (\d+) passed; 0 failed", said))) >= 8
+
+
+@pytest.mark.parametrize("standard", ("c++11", "c++14", "c++17", "c++20"))
+def test_cpp_header(standard, folder):
+    made("g++", f"-std={standard}", *WARNINGS, f"-I{folder}", f"-I{TOP}/bindings/cpp",
+         "-fsyntax-only", "-include", "vicinity.hpp", "-x", "c++", "/dev/null")
+
+
+def test_cpp_library(folder, tmp_path):
+    made("g++", "-std=c++11", *WARNINGS, f"-I{folder}", f"-I{TOP}/bindings/cpp",
+         "-fsanitize=address,undefined", "-fno-sanitize-recover=all",
+         TOP / "bindings/cpp/test.cpp", folder / "libvicinity.a", "-o", tmp_path / "test")
+    assert made(tmp_path / "test").endswith(" passed\n")
+
+
+# ---- what the READMEs show, tried in a folder of its own
+
+def fence(language, page):
+    """The first fence of a language on a page."""
+    return re.search(rf"```{language}\n(.*?)```", page.read_text(), re.S)[1]
+
+
+def test_readme_of_cpp(folder, tmp_path):
+    (tmp_path / "check.cpp").write_text(fence("cpp", TOP / "bindings/cpp/README.md"))
+    made("c++", f"-I{folder}", f"-I{TOP}/bindings/cpp", tmp_path / "check.cpp",
+         folder / "libvicinity.a", "-o", tmp_path / "check")
+    assert made(tmp_path / "check") == "complete 0\n"
+
+
+def test_readme_of_go(folder, tmp_path):
+    page = TOP / "bindings/go/README.md"
+    module = fence("text", page).replace("/usr/share/doc/libvicinity-dev", str(TOP))
+    (tmp_path / "go.mod").write_text(f"module first\n\ngo 1.19\n\n{module}")
+    (tmp_path / "main.go").write_text(
+        'package main\n\nimport (\n"fmt"\n\n"vicinity"\n)\n\nfunc main() {\n'
+        + fence("go", page) + "}\n")
+    assert made("go", "run", ".", cwd=tmp_path, env=go_environment(folder)) == "complete 0 <nil>\n"
+
+
+def test_readme_of_rust(rust_target, tmp_path):
+    page = TOP / "bindings/rust/README.md"
+    dependency = fence("toml", page).replace("/usr/share/doc/libvicinity-dev", str(TOP))
+    (tmp_path / "src").mkdir()
+    (tmp_path / "Cargo.toml").write_text('[package]\nname = "first"\nversion = "0.1.0"\n'
+                                         f'edition = "2021"\n\n[dependencies]\n{dependency}')
+    (tmp_path / "src/main.rs").write_text("fn main() -> Result<(), vicinity::OutOfMemory> {\n"
+                                          + fence("rust", page) + "Ok(())\n}\n")
+    assert made("cargo", "run", "--offline", cwd=tmp_path, env=rust_target) == "complete 0\n"
+
+
+# ---- Python
+
+LISTED = """
+import sys, vicinity
+try:
+    print(vicinity.listed(sys.stdin.buffer.read()))
+except vicinity.ListFault as fault:
+    print(fault)
+    sys.exit(fault.answer.status)
+"""
+
+
+@pytest.mark.parametrize("name", LISTS)
+def test_listed_in_python(name, in_python):
+    text, (line, status) = LISTS[name]
+    done = in_python.run("-c", LISTED, input=text.encode())
+    uids = sorted(int(uid, 16) for uid in set(re.findall("[eE]0[0-9A-Fa-f]{14}", text)))
+    wanted = (line, 3) if status == 3 else (str(uids), 0)
+    assert (done.stdout.decode().rstrip("\n"), done.returncode) == wanted
+
+
+@pytest.fixture(scope="session")
+def fleet(in_python):
+    def run(*words, **more):
+        return in_python.run(TOP / "examples/python/fleet.py", 2, *words, **more)
+    return run
+
+
+@pytest.mark.parametrize("name", ("plain", "cr_lf", "comment_among_uids", "csv", "empty", "log"))
+def test_list_of_a_fleet(name, fleet, texts):
+    text, wanted = LISTS[name]
+    assert answered(fleet(*texts(list=text, log=SILENT))) == wanted
+
+
+BOTH = f"vicinity-log 1\nU {A}\nU {B}\n"
+
+
+def test_logs_of_a_fleet(fleet, texts):
+    files = texts(list=BOTH, one=HEARD, again=HEARD, other=heard(B), silent=SILENT)
+    assert answered(fleet(*files)) == ("complete 2", 0)
+
+
+def test_logs_of_a_fleet_that_say_nothing(fleet, texts):
+    """They are named with the reason. All that is expected is there, but other tags may be in
+    their fields: the first mask without an expected UID has two bits, both 0."""
+    files = texts(list=BOTH, one=HEARD, other=heard(B), bad=IMPOSSIBLE, csv="uid\n")
+    done = fleet(*files, files[0].parent / "nowhere")
+    line, *named = done.stdout.decode().splitlines()
+    assert (line, done.returncode) == ("unsettled 2 00", 1)
+    assert [it.rpartition("/")[2] for it in named] == [
+        "bad: impossible at line 5", "csv: refused at line 1: Header",
+        "nowhere: No such file or directory"]
+
+
+def test_fleet_without_logs(fleet, texts):
+    done = fleet(*texts(list="vicinity-log 1\n"))
+    assert (done.stdout, done.returncode) == (b"", 4)
+
+
+# A fleet in which the log of this name ends the process that reads it: always, or once.
+KILLING = """
+import os, signal, sys
+with open({fleet!r}) as file:
+    exec(file.read().partition("if __name__")[0])
+told_before = told_by
+
+
+def told_by(name):
+    if name.endswith("always") or name.endswith("once") and not os.path.exists(name + ".ended"):
+        open(name + ".ended", "w").close()
+        os.kill(os.getpid(), signal.SIGKILL)
+    return told_before(name)
+
+
+if __name__ == "__main__":
+    BATCH = 2
+    sys.exit(main(*sys.argv[1:3], sys.argv[3:]))
+"""
+
+
+@pytest.fixture
+def killing_fleet(in_python, tmp_path):
+    fleet = str(TOP / "examples/python/fleet.py")
+    (tmp_path / "killing.py").write_text(KILLING.format(fleet=fleet))
+
+    def run(*words):
+        return in_python.run(tmp_path / "killing.py", 2, *words)
+    return run
+
+
+def test_worker_that_is_killed(killing_fleet, texts):
+    """Its batch is read by another."""
+    files = texts(list=BOTH, once=HEARD, other=heard(B), silent=SILENT, more=SILENT, last=SILENT)
+    assert answered(killing_fleet(*files)) == ("complete 2", 0)
+    assert (files[1].parent / "once.ended").exists()
+
+
+def test_log_that_kills_its_worker(killing_fleet, texts):
+    """It is named, it alone, and the answer isn't complete."""
+    files = texts(list=BOTH, one=HEARD, always=HEARD, other=heard(B), silent=SILENT, more=SILENT)
+    done = killing_fleet(*files)
+    assert done.stdout.decode().splitlines() == [
+        "unsettled 2 00", f"{files[2]}: the process that read it was ended"]
+    assert done.returncode == 1
+
+
+def test_fleet_listens_on_the_loopback_alone(in_python, texts, tmp_path):
+    """While it waits for the end of a log, each of its sockets that listens is of 127.0.0.1."""
+    files = texts(list=BOTH)
+    os.mkfifo(tmp_path / "endless")
+    words = [TOP / "examples/python/fleet.py", 2, *files, tmp_path / "endless"]
+    environment = ENVIRONMENT | in_python.environment
+    with subprocess.Popen(["/usr/bin/python3", *map(str, words)], env=environment,
+                          stdout=subprocess.PIPE, start_new_session=True) as going:
+        with open(tmp_path / "endless", "wb"):  # a worker has opened it
+            found = listening(going.pid)
+        assert (going.communicate()[0].split(b"\n")[0], going.returncode) == (b"unsettled 2 00", 1)
+    assert len(found) >= 3 and {place.rpartition(":")[0] for place in found} == {"127.0.0.1"}
+
+
+def listening(session):
+    """The places at which the processes of a session listen."""
+    group = {int(word) for word in made("ps", "-o", "pid=", "-s", session).split()}
+    lines = made("ss", "-Hltnp").splitlines()
+    return [line.split()[3] for line in lines
+            if group & {int(pid) for pid in re.findall(r"pid=(\d+)", line)}]
+
+
+# ---- the library itself
+
+@pytest.fixture(params=("shared", "static"))
+def linked(request, folder, tmp_path):
+    """A program that is linked with the shared library or with the archive."""
+    how = {"shared": [f"-L{folder}", "-lvicinity", f"-Wl,-rpath,{folder}"],
+           "static": [folder / "libvicinity.a"]}
+    made("cc", f"-I{folder}", TOP / "examples/c/check.c", *how[request.param], "-o",
+         tmp_path / "check")
+    return tmp_path / "check"
+
+
+@pytest.mark.skipif(platform.machine() != "x86_64", reason="the level of x86-64 processors")
+@pytest.mark.parametrize(("processor", "status", "said"), (
+    ("qemu64", 127, "CPU ISA level is lower than required"), ("Nehalem", 0, "complete 4")))
+def test_processor(linked, processor, status, said):
+    """One below x86-64-v2 gets a sentence of the loader, not a signal."""
+    done = run("qemu-x86_64-static", "-cpu", processor, linked, TOP / "examples/whole-shelf.log")
+    assert (done.returncode, said in (done.stdout + done.stderr).decode()) == (status, True)
+
+
+def test_library_that_is_too_old(folder, tmp_path):
+    """What needs a call of a later release is told the version that the library lacks, before it
+    runs. The library without that version stands for the one of before."""
+    symbols = (TOP / "release/exports.map").read_text().partition("\n\n")[0]
+    (tmp_path / "old.map").write_text(symbols)
+    (tmp_path / "listed.c").write_text(
+        '#include "vicinity.h"\n#include <stdio.h>\nint main(void) { struct vicinity_answer told; '
+        'size_t n; vicinity_listed(NULL, 0, &told, NULL, 0, &n); puts(told.text); return 0; }\n')
+    made("cc", f"-I{folder}", tmp_path / "listed.c", f"-L{folder}", "-lvicinity", "-o",
+         tmp_path / "listed")
+    made("cc", "-shared", "-o", tmp_path / "libvicinity.so.1", "-Wl,-soname,libvicinity.so.1",
+         "-Wl,--whole-archive", folder / "libvicinity.a", "-Wl,--no-whole-archive",
+         f"-Wl,--version-script={tmp_path / 'old.map'}")
+    for place, status, said in ((folder, 0, "refused at line 1: Header"),
+                                (tmp_path, 1, "version `VICINITY_1.2' not found")):
+        done = run(tmp_path / "listed", env={"LD_LIBRARY_PATH": str(place)})
+        assert (done.returncode, said in (done.stdout + done.stderr).decode()) == (status, True)

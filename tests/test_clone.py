@@ -1,0 +1,312 @@
+"""What somebody gets who clones the repository: an answer at once, and what building says and
+keeps. It is built by a kit that proves all at once; and by the real one, a program of two
+functions."""
+import os
+import re
+import resource
+import shutil
+import subprocess
+
+import pytest
+
+from helpers.program import TOP, Program, needs
+from helpers.trees import copy
+
+# What a new machine has, and what building takes beside it.
+TOOLS = ("bash env readlink dirname uname grep sed sha256sum cut tail head tar gzip mkdir mv "
+         "chmod").split()
+FOR_BUILDING = "cat find sort xargs".split()
+LOG = "examples/whole-shelf.log"
+COMPLETE = b"complete 4\n"
+LIBRARIES = re.findall(r"^(vic_\w+):", (TOP / "crates.txt").read_text(), re.M)
+# Stands for the prover: what it is told to make says what it is, and each crate has two functions.
+RATTLE = """#!/bin/sh
+while [ $# -gt 0 ]; do
+    case $1 in
+    -o) out=$2 ;;
+    --crate-name) name=$2 ;;
+    esac
+    shift
+done
+case $out in
+*.rlib) mkdir -p "$out" ;;
+*) printf '#!/bin/sh\\necho built here\\n' >"$out" && chmod +x "$out" ;;
+esac
+printf 'fn %s::one: proved\\nfn %s::two: proved\\nlogic=proved functions=2\\n' "$name" "$name"
+"""
+LINK = """#!/bin/sh
+while [ "$1" != -o ]; do shift; done
+cp "$3" "$2"
+"""
+
+
+def script(path, text):
+    path.write_text(text)
+    path.chmod(0o755)
+
+
+class Clone:
+    """A clone, on a machine with few tools."""
+
+    def __init__(self, folder):
+        self.top, self.tools, self.kit = folder / "clone", folder / "tools", folder / "kit"
+        for made in self.top, self.tools, self.kit / "bin":
+            made.mkdir(parents=True)
+        copy(self.top)
+        self.add(TOOLS)
+        (self.kit / "KIT-ID").write_text("kit\n")
+        script(self.kit / "bin/rattle", RATTLE)
+        script(self.kit / "bin/rattle-link", LINK)
+        script(self.kit / "bin/rt", "")
+
+    def add(self, tools):
+        for tool in tools:
+            (self.tools / tool).symlink_to(shutil.which(tool))
+
+    def ask(self, *words, before=()):
+        """What ./vicinity writes, which has two seconds of a processor."""
+        words = words or ("check", LOG)
+        path = os.pathsep.join([*map(str, before), str(self.tools)])
+        return Program(self.top / "vicinity").run(
+            *words, cwd=self.top, env={"PATH": path}, timeout=20, stdin=subprocess.DEVNULL,
+            preexec_fn=lambda: resource.setrlimit(resource.RLIMIT_CPU, (2, 2)))
+
+    def build(self, *words, **more):
+        """What ./build writes, by the kit that proves all at once."""
+        path = f"{self.kit}/bin{os.pathsep}{os.environ['PATH']}"
+        return Program(self.top / "build").run("vicinity", *words, cwd=self.top,
+                                               env={**os.environ, "PATH": path, **more})
+
+    def change(self, name):
+        with open(self.top / name, "a") as file:
+            file.write("// changed\n")
+
+
+@pytest.fixture
+def clone(tmp_path):
+    return Clone(tmp_path)
+
+
+@pytest.fixture
+def built(clone):
+    """A clone in which the program is built."""
+    clone.add(FOR_BUILDING)
+    assert clone.build().status == 0
+    assert clone.ask() == (b"built here\n", b"", 0)
+    return clone
+
+
+RELEASE = re.findall(r"  vicinity_(.*)-1_amd64\.deb", (TOP / "dist/SHA256SUMS").read_text())[0]
+PACKAGED = f"vicinity: this is the packaged program of release {RELEASE}, "
+
+
+def is_packaged(said, of):
+    """Whether the packaged program answered and said so: of the same code, or of another."""
+    assert (said.out, said.status) == (COMPLETE, 0)
+    assert said.err.decode().startswith(PACKAGED + of) and said.err.count(b"\n") == 1
+
+
+def test_a_fresh_clone_answers(clone):
+    """And says by what, each time."""
+    code = subprocess.run([TOP / "release/sources", "code"], capture_output=True, check=True).stdout
+    (clone.top / "dist/SOURCES").write_bytes(code)
+    for _ in range(2):
+        is_packaged(clone.ask(), "of the same code")
+
+
+def test_the_code_was_changed_since_the_release(clone):
+    clone.change("crates/vic_frame/src/uid.rt")
+    is_packaged(clone.ask(), "NOT of this code")
+
+
+def test_a_program_that_is_not_proved_is_not_run(clone):
+    (clone.top / "crates/vicinity/out").mkdir()
+    script(clone.top / "crates/vicinity/out/vicinity", "#!/bin/sh\necho not proved\n")
+    is_packaged(clone.ask(), "")
+
+
+def test_a_damaged_package_is_not_unpacked(clone):
+    package, = clone.top.glob("dist/vicinity_*_amd64.deb")
+    content = bytearray(package.read_bytes())
+    content[1000] ^= 1
+    package.write_bytes(content)
+    assert clone.ask()[::2] == (b"", 4)
+
+
+@pytest.fixture
+def odd(clone, tmp_path):
+    """A processor of another kind."""
+    def of(kind):
+        (tmp_path / "odd").mkdir()
+        script(tmp_path / "odd/uname", f"#!/bin/sh\necho {kind}\n")
+        return tmp_path / "odd"
+    return of
+
+
+def test_a_processor_for_which_there_is_no_package(clone, odd):
+    assert clone.ask("check", before=[odd("riscv64")])[::2] == (b"", 4)
+
+
+def test_the_packaged_program_for_arm(clone, odd):
+    needs("readelf")
+    env = {**os.environ, "PATH": f"{odd('aarch64')}{os.pathsep}{os.environ['PATH']}"}
+    made = Program(clone.top / "release/packaged").run(cwd=clone.top, env=env).out.decode().strip()
+    assert b"AArch64" in subprocess.run(["readelf", "-h", made], capture_output=True,
+                                        check=True).stdout
+
+
+@pytest.mark.parametrize(("word", "status"), [("--help", 0), ("it", 2)])
+def test_words_after_test(clone, word, status):
+    """It says how, and starts nothing."""
+    said = Program(clone.top / "test").run(word, cwd=clone.top, timeout=5)
+    assert said.err.startswith(b"usage: ./test") and said.status == status
+
+
+def test_what_is_said_while_it_is_proved(clone):
+    said = clone.build().err.decode().splitlines()
+    crates = sum(line.startswith("proving ") for line in said)
+    assert crates > 10
+    assert said[-1] == f"proved vicinity: {2 * crates} of {2 * crates} functions proved"
+    assert any(re.fullmatch(r"proved vic_frame: .* of .* functions proved, about .* min left",
+                            line) for line in said)
+
+
+def test_a_program_older_than_the_code_is_not_run(built):
+    built.change("crates/vic_frame/src/uid.rt")
+    is_packaged(built.ask(), "NOT of this code")
+
+
+def test_the_code_as_it_was_built_is_run(built):
+    """Though other files were changed, or the same ones and back."""
+    file = built.top / "crates/vic_frame/src/uid.rt"
+    text = file.read_text()
+    built.change("crates/vic_frame/src/uid.rt")
+    file.write_text(text)
+    (built.top / "crates/vic_tests/src/lib.rt").touch()
+    (built.top / "crates/vic_frame/must-fail/other.edit").touch()
+    assert built.ask() == (b"built here\n", b"", 0)
+
+
+def test_a_build_that_was_broken_off(built):
+    built.change("crates/vic_frame/src/uid.rt")
+    (built.top / "crates/vicinity/out/rlib/vic_frame.sum").unlink()
+    is_packaged(built.ask(), "NOT of this code")
+
+
+def test_progress_on_a_terminal(built, tmp_path):
+    """Is one line, which goes."""
+    needs("script")
+    built.change("crates/vicinity/src/main.rt")
+    env = {**os.environ, "PATH": f"{built.kit}/bin{os.pathsep}{os.environ['PATH']}"}
+    said = subprocess.run(["script", "-qec", "./build vicinity", "/dev/null"], cwd=built.top,
+                          env=env, check=True,
+                          stdin=subprocess.DEVNULL,
+                          capture_output=True).stdout.decode().replace("\r", "\n").splitlines()
+    assert sum("vicinity: 0 of 2 functions proved" in line for line in said) == 1
+    assert "functions" not in said[-1]
+
+
+# Beside the kit's gate, which says what it has proved.
+
+@pytest.fixture
+def gate(clone, tmp_path):
+    """Builds beside a gate that has said these lines. Gives what the program says, and which crates
+    were proved here."""
+    copied = tmp_path / "gate"
+    copied.mkdir()
+    copy(copied, "crates", "crates.txt")
+    for crate in LIBRARIES:
+        (copied / f"crates/{crate}/out/rlib/{crate}.rlib").mkdir(parents=True)
+    (copied / "crates/vicinity/out").mkdir()
+    script(copied / "crates/vicinity/out/vicinity", "#!/bin/sh\necho of the gate\n")
+
+    def build(lines, is_broken_off=False):
+        said = tmp_path / "said"
+        said.write_text("".join(f"{line}\n" for line in lines))
+        if is_broken_off:
+            (tmp_path / "said.status").touch()
+        assert clone.build("--gate", str(copied), str(said)).status == 0
+        out = clone.top / "crates/vicinity/out"
+        here = sorted(took.stem for took in out.glob("rlib/*.took"))
+        return Program(out / "vicinity").run().out, here
+    return build
+
+
+def proved(*without):
+    return [line for crate in LIBRARIES if crate not in without
+            for line in (f"== {crate}", f"fn {crate}::one: proved", f"rt: {crate} proved")]
+
+
+KEPT = "rt: vicinity is kept: an earlier run"
+
+
+def test_what_the_gate_has_proved_is_taken(clone, gate):
+    assert gate([*proved(), KEPT]) == (b"of the gate\n", [])
+    said = (clone.top / "crates/vicinity/out/rlib/vic_log.said").read_text()
+    assert said == "== vic_log\nfn vic_log::one: proved\nrt: vic_log proved\n"
+
+
+def test_what_the_gate_has_not_proved_is_proved_here(gate):
+    lines = [*proved("vic_words"), "rt: vic_words NOT PROVED",
+             "rt: vicinity NOT PROVED: its library vic_words failed"]
+    assert gate(lines) == (b"built here\n", ["vic_words", "vicinity"])
+
+
+def test_what_the_gate_has_proved_of_other_files_is_proved_here(clone, gate):
+    clone.change("crates/vic_answer/src/lib.rt")
+    given = gate([*proved(), "rt: vicinity proved"])
+    assert given == (b"built here\n", ["vic_answer", "vic_words", "vicinity"])
+
+
+def test_a_gate_that_was_broken_off(gate):
+    given = gate(proved("vic_words"), is_broken_off=True)
+    assert given == (b"built here\n", ["vic_words", "vicinity"])
+
+
+# The kit itself.
+
+@pytest.fixture
+def small(tmp_path):
+    """A library of one function, and a program that ends with its number."""
+    needs("rt")
+    for crate in "vic_one", "vicinity":
+        (tmp_path / f"crates/{crate}/src").mkdir(parents=True)
+    copy(tmp_path, "build")
+    (tmp_path / "crates.txt").write_text("vic_one:\nvicinity: vic_one\n")
+    (tmp_path / "crates/vicinity/src/main.rt").write_text(
+        "#![tactic(auto)]\n\nuse std::process::ExitCode;\n\nfn main() -> ExitCode {\n    "
+        "ExitCode::from(vic_one::one())\n}\n")
+
+    def build(number):
+        (tmp_path / "crates/vic_one/src/lib.rt").write_text(
+            "#![tactic(auto)]\n\nghost use Rattle.std.specs.Prelude.{◌≡◌};\n\npub fn one() -> u8\n "
+            "   ensures { result ≡ 1 }\n"
+            f"{{\n    {number}\n}}\n")
+        return Program(tmp_path / "build").run("vicinity", cwd=tmp_path)
+    return build
+
+
+@pytest.mark.slow
+def test_what_is_not_proved_is_not_built(small, tmp_path):
+    assert "vic_one is not proved, or not built: " in small(2).err.decode()
+    assert not [*tmp_path.glob("crates/**/vic*.rlib"),
+                *tmp_path.glob("crates/vicinity/out/vicinity")]
+
+
+@pytest.mark.slow
+def test_what_is_proved_is_built(small, tmp_path):
+    assert small(1).status == 0
+    assert Program(tmp_path / "crates/vicinity/out/vicinity").run().status == 1
+
+
+@pytest.mark.slow
+def test_what_docs_let_a_reader_break(clone):
+    """'Break it yourself', from nothing."""
+    needs("rt")
+    page = (TOP / "docs/PROOFS.md").read_text()
+    commands = re.search(r"^cd crates.*?(?=^git checkout|^```$)", page, re.M | re.S)[0]
+    refusal = re.search(r"^rt check .*# \.\. (.*)$", commands, re.M)[1]
+    said = subprocess.run(["bash", "-ec", commands], cwd=clone.top, stdout=subprocess.PIPE,
+                          stderr=subprocess.STDOUT, timeout=200,
+                          text=True, check=False)
+    assert refusal in said.stdout

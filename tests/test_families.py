@@ -1,0 +1,92 @@
+"""Reconciles random logs with random lists by brute force (helpers/families.py), and asks the
+program and the library for the same. The library answers by the surveys of the logs, in the
+opposite order. It names no log, line or open mask.
+
+The cases are the same each time, or others with `--logs NUMBER` and `--seed`, as those of
+test_oracle.py. Wrong reconcilers are put in the program's place, each wrong in one rule, and have
+to be found."""
+import collections
+import random
+
+import pytest
+
+from helpers.families import NAMES, WRONG, Families, case_of
+from helpers.random_logs import Listed, text_of
+
+NUMBER, SEED = 5000, 15693
+# In how many parts the cases are asked.
+PARTS = 10
+PLANTED = 1500
+KINDS = ("complete", "absent", "unlisted", "unsettled", "doubtful", "impossible")
+STATUSES = {"complete": 0, "impossible": 2, "refused": 3}
+
+
+def same(told, wanted):
+    """Whether the lines are those, whatever line shows an unlisted UID."""
+    return [" ".join(["by line ?", *line.split()[3:]]) if line.startswith("by line ") else line
+            for line in told] == wanted
+
+
+def plain(lines):
+    """The lines without the logs, lines and open masks that they name."""
+    return [line.split(" in ")[0] for line in lines
+            if not line.startswith(("by line ", "open ", "more open "))]
+
+
+def by_surveys(vicinity, expected, texts):
+    """The lines of what the library answers."""
+    surveys = [vicinity.survey(text) for text in texts]
+    for name, survey in zip(NAMES, surveys):
+        if survey.answer.kind is vicinity.Kind.IMPOSSIBLE:
+            return [f"{survey.answer} of {name}"]
+    report = vicinity.reconcile(expected, surveys[::-1])
+    return list(map(str, report.findings)) or [str(report.answer)]
+
+
+@pytest.fixture
+def answer(program, tmp_path):
+    """The lines of the program, which ends with the status of the first."""
+    def ask(expected, texts):
+        texts = [text_of(1, map(Listed, expected)), *texts]
+        names = ["EXPECTED", *NAMES][:len(texts)]
+        for name, text in zip(names, texts):
+            (tmp_path / name).write_bytes(text)
+        out, err, status = program.run("reconcile", *names, cwd=tmp_path)
+        told = out.decode().splitlines()
+        assert (err, status) == (b"", STATUSES.get(told[0].split()[0] if told else "", 1))
+        return told
+    return ask
+
+
+def cases_of(options, part):
+    """The cases of a part, each with its seed."""
+    number, seed = options.getoption("--logs"), options.getoption("--seed")
+    if seed is None:
+        seed = SEED if number is None else random.randrange(10**9)
+    for index in range(part, number or NUMBER, PARTS):
+        yield f"{seed} {index}", *case_of(random.Random(f"{seed} {index}"))
+
+
+@pytest.mark.slow
+@pytest.mark.parametrize("part", range(PARTS))
+def test_random_logs(vicinity, answer, pytestconfig, part):
+    seen, number = collections.Counter(), 0
+    for seed, uids, expected, logs in cases_of(pytestconfig, part):
+        texts = [text_of(version, lines) for version, lines in logs]
+        wanted = Families(uids, expected, logs).answer()
+        assert same(answer(expected, texts), wanted), seed
+        assert by_surveys(vicinity, expected, texts) == plain(wanted), seed
+        seen.update(line.split()[0] for line in wanted)
+        number += 1
+    if number >= NUMBER // PARTS:
+        assert not [kind for kind in KINDS if not seen[kind]]
+
+
+@pytest.mark.parametrize("rule", WRONG)
+def test_a_wrong_reconciler_is_found(rule):
+    for index in range(PLANTED):
+        uids, expected, logs = case_of(random.Random(f"{SEED} {index}"))
+        right = Families(uids, expected, logs).answer()
+        if not same(right, WRONG[rule](uids, expected, logs).answer()):
+            return
+    pytest.fail("it is not found")

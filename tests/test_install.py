@@ -1,0 +1,288 @@
+"""What ./install puts, under scratch folders: the program, the library, man pages and completions
+there, and how it is taken away again."""
+import os
+import re
+import shutil
+import subprocess
+import sys
+
+import pytest
+
+from helpers.program import TOP, Program, needs
+from helpers.trees import tree
+
+VERSION = (TOP / "VERSION").read_text().strip().removesuffix("~dev")
+MAJOR = VERSION.partition(".")[0]
+LOG = TOP / "examples/whole-shelf.log"
+COMPLETE = (b"complete 4\n", b"", 0)
+STRICT = ("-Wall", "-Wextra", "-Werror")
+EXAMPLES = sorted(TOP.glob("examples/c/*.c"))
+CALLS = re.findall(r"^[a-z][a-z0-9_ *]*[ *](vicinity_[a-z_]+)\(",
+                   (TOP / "include/vicinity.h").read_text(), re.M)
+COMMANDS = sorted(set(re.findall(r"^\.Cm ([a-z]+)$", (TOP / "docs/vicinity.1").read_text(), re.M)))
+
+
+def install(*words):
+    return Program(TOP / "install").run(*words)
+
+
+@pytest.fixture(scope="session")
+def root(release, tmp_path_factory):
+    """A root in which it is installed under /usr, for all tests that change nothing there."""
+    made = tmp_path_factory.mktemp("install") / "root"
+    assert release and install("--prefix", "/usr", "--destdir", made).status == 0
+    return made
+
+
+@pytest.fixture(scope="session")
+def pages(root):
+    """The man pages."""
+    return sorted(root.glob("usr/share/man/man[135]/*"))
+
+
+def test_the_program(root):
+    assert Program(root / "usr/bin/vicinity").run("check", LOG) == COMPLETE
+
+
+def test_the_list_of_files(root):
+    listed = (root / "usr/share/vicinity/files").read_text().splitlines()
+    usr = root / "usr"
+    there = [str(file.relative_to(usr)) for file in usr.rglob("*") if file.is_symlink()
+             or file.is_file()]
+    assert sorted(name for name in listed if not name.endswith("/")) == sorted(there)
+
+
+def test_every_user_can_read_all(root):
+    assert not [file for file in root.rglob("*") if not file.is_symlink()
+                and not file.stat().st_mode & 4]
+
+
+def test_installed_again_it_is_the_same(root):
+    before = tree(root)
+    assert install("--prefix", "/usr", "--destdir", root).status == 0
+    assert tree(root) == before
+
+
+def test_soname_and_exported_calls(root):
+    needs("readelf")
+    library = root / f"usr/lib/libvicinity.so.{MAJOR}"
+
+    def read(*words):
+        return subprocess.run(["readelf", "-W", *words, library], capture_output=True, text=True,
+                              check=True).stdout
+    assert re.findall(r"SONAME.*\[(.*)\]", read("-d")) == [f"libvicinity.so.{MAJOR}"]
+    assert sorted(re.findall(r" (vicinity_[a-z_]+)@@VICINITY_[\w.]+(?: .*)?$", read("--dyn-syms"),
+                             re.M)) == sorted(CALLS)
+
+
+def test_the_library_says_which_processors_it_needs(root):
+    """The loader refuses it on others."""
+    needs("readelf")
+    library = root / f"usr/lib/libvicinity.so.{MAJOR}"
+    said = subprocess.run(["readelf", "-nW", library], capture_output=True, text=True, check=True)
+    assert re.findall(r"x86 ISA needed: (.*)", said.stdout) == ["x86-64-v2"]
+
+
+@pytest.fixture
+def pkg_config(root):
+    """What pkg-config says of the installed library."""
+    needs("cc", "pkg-config")
+    env = {**os.environ, "PKG_CONFIG_LIBDIR": f"{root}/usr/lib/pkgconfig",
+           "PKG_CONFIG_SYSROOT_DIR": str(root),
+           "PKG_CONFIG_ALLOW_SYSTEM_CFLAGS": "1", "PKG_CONFIG_ALLOW_SYSTEM_LIBS": "1"}
+
+    def ask(*words):
+        done = subprocess.run(["pkg-config", *words, "vicinity"], env=env, capture_output=True,
+                              text=True, check=True)
+        return done.stdout.split()
+    return ask
+
+
+def test_pkg_config_knows_the_version(pkg_config):
+    assert pkg_config("--modversion") == [VERSION]
+
+
+@pytest.mark.parametrize("source", EXAMPLES, ids=lambda source: source.stem)
+def test_an_example_with_the_shared_object_and_with_the_archive(root, pkg_config, tmp_path, source):
+    subprocess.run(["cc", *STRICT, source, "-o", tmp_path / "shared",
+                    *pkg_config("--cflags", "--libs")], check=True)
+    subprocess.run(["cc", *STRICT, source, "-o", tmp_path / "static", *pkg_config("--cflags"),
+                    root / "usr/lib/libvicinity.a"], check=True)
+    if source.stem == "check":
+        assert Program(tmp_path / "static").run(LOG) == COMPLETE
+        assert Program(tmp_path / "shared", LD_LIBRARY_PATH=f"{root}/usr/lib").run(LOG) == COMPLETE
+
+
+def test_a_program_finds_the_library_after_ldconfig(root, pkg_config, tmp_path):
+    """In a root of its own, in a folder that the loader doesn't search by itself."""
+    needs("ldconfig", "ldd", "chroot")
+    if os.getuid():
+        pytest.skip("only root may chroot")
+    cell = tmp_path / "cell"
+    shutil.copytree(root, cell, symlinks=True)
+    source = TOP / "examples/c/check.c"
+    subprocess.run(["cc", source, "-o", cell / "check", *pkg_config("--cflags", "--libs")],
+                   check=True)
+    said = subprocess.run(["ldd", "/bin/true"], capture_output=True, text=True, check=True).stdout
+    for file in re.findall(r"(?<!\S)/[^ ]+", said):
+        (cell / file[1:]).parent.mkdir(parents=True, exist_ok=True)
+        shutil.copy(file, cell / file[1:])
+    (cell / "opt").mkdir()
+    (cell / "etc").mkdir()
+    (cell / "usr/lib").rename(cell / "opt/lib")
+    (cell / "etc/ld.so.conf").write_text("/opt/lib\n")
+    shutil.copy(LOG, cell / "log")
+    chroot = Program("chroot", cell, "/check")
+    assert chroot.run("/log").status == 127
+    subprocess.run(["ldconfig", "-r", cell], check=True)
+    assert chroot.run("/log") == COMPLETE
+
+
+@pytest.mark.parametrize("call", CALLS)
+def test_a_man_page_of_each_call(root, call):
+    assert (root / f"usr/share/man/man3/{call}.3").exists()
+
+
+def test_man_pages_have_no_faults(pages):
+    needs("mandoc")
+    said = subprocess.run(["mandoc", "-T", "lint", *pages], capture_output=True, text=True,
+                          check=False).stdout
+    assert not [line for line in said.splitlines() if "referenced manual not found" not in line]
+    assert len(pages) > len(CALLS)
+
+
+def test_man_pages_refer_to_manuals_that_are_there(root, pages):
+    asked = {match for page in pages
+             for match in re.findall(r"^\.Xr ([^ ]+) ([135])", page.read_text(), re.M)}
+    assert not [it for it in asked
+                if not (root / "usr/share/man/man{1}/{0}.{1}".format(*it)).exists()]
+
+
+def test_the_version_stands_on_each_man_page(pages):
+    assert not [page.name for page in pages if f"version {VERSION}" not in page.read_text()]
+
+
+def test_man_finds_the_pages(root, pages):
+    needs("man")
+    for page in pages:
+        name, _, section = page.name.rpartition(".")
+        subprocess.run(["man", "-M", root / "usr/share/man", "-P", "cat", section, name],
+                       check=True, capture_output=True)
+
+
+def test_the_newest_entry_of_the_changes():
+    """Has the changes since the release in dist/, or is that of the release."""
+    changes = (TOP / "CHANGELOG.md").read_text()
+    newest = changes.index("## ") == changes.find("## Unreleased\n")
+    dated = re.findall(r"^## (\d[\d.]*), ", changes, re.M)[0]
+    is_between = (TOP / "VERSION").read_text().endswith("~dev\n")
+    assert newest if is_between else dated == VERSION
+    assert f"vicinity_{dated}-1_amd64.deb" in (TOP / "dist/SHA256SUMS").read_text()
+
+
+# Completions, which offer the commands of the man page.
+
+BASH = """source "$0"; compopt() { :; }; COMP_WORDS=(vicinity "$@"); COMP_CWORD=$#; _vicinity
+printf '%s\\n' "${COMPREPLY[@]}" """
+ZSH = """compadd() { print -l $@ }; _files() { print file }
+complete_it() { local script=$1; shift; local CURRENT=$(($# + 1)); local words=(vicinity "$@")
+source $script }; complete_it "$0" "$@" """
+
+
+def completed(*words):
+    needs(words[0])
+    return subprocess.run(words, capture_output=True, text=True, check=True).stdout.split()
+
+
+def test_completion_for_bash(root):
+    script = root / "usr/share/bash-completion/completions/vicinity"
+    assert sorted(completed("bash", "-c", BASH, script, "")) == COMMANDS
+    assert completed("bash", "-c", BASH, script, "check",
+                     str(LOG).removesuffix(".log")) == [str(LOG)]
+
+
+def test_completion_for_zsh(root):
+    script = root / "usr/share/zsh/site-functions/_vicinity"
+    subprocess.run(["zsh", "-n", script], check=True)
+    assert sorted(completed("zsh", "-fc", ZSH, script, "")) == COMMANDS
+    assert completed("zsh", "-fc", ZSH, script, "check", "") == ["file"]
+    assert completed("zsh", "-fc", ZSH, script, "frame", "") == []
+
+
+# What fails, and removal.
+
+@pytest.mark.parametrize("name", ["usr/bin/vicinity", "usr/share/man", "usr/lib/libvicinity.so"])
+def test_a_file_of_another_stays(release, tmp_path, name):
+    """And nothing else is put there."""
+    (tmp_path / name).parent.mkdir(parents=True)
+    (tmp_path / name).write_text("of another\n")
+    before = tree(tmp_path)
+    assert release and install("--prefix", "/usr", "--destdir", tmp_path).status == 1
+    assert tree(tmp_path) == before
+
+
+def test_removed_beside_other_files(release, tmp_path):
+    (tmp_path / "usr/share").mkdir(parents=True)
+    (tmp_path / "usr/share/notes").write_text("mine\n")
+    before = tree(tmp_path)
+    assert release and install("--prefix", "/usr", "--destdir", tmp_path).status == 0
+    assert install("--remove", "--prefix", "/usr", "--destdir", tmp_path).status == 0
+    assert tree(tmp_path) == before
+
+
+def test_nothing_is_left(release, tmp_path):
+    assert release and install("--prefix", "/usr", "--destdir", tmp_path).status == 0
+    assert install("--remove", "--prefix", "/usr", "--destdir", tmp_path).status == 0
+    assert not [*tmp_path.iterdir()]
+    assert install("--remove", "--prefix", "/usr", "--destdir", tmp_path).status == 1
+
+
+def test_a_prefix_of_ones_own(release, tmp_path):
+    needs("cc", "pkg-config")
+    own = tmp_path / "own"
+    assert release and install("--prefix", own).status == 0
+    flags = subprocess.run(["pkg-config", "--cflags", "--libs", "vicinity"], capture_output=True,
+                           text=True, check=True,
+                           env={**os.environ,
+                                "PKG_CONFIG_PATH": f"{own}/lib/pkgconfig"}).stdout.split()
+    subprocess.run(["cc", TOP / "examples/c/check.c", "-o", tmp_path / "check",
+                    f"-Wl,-rpath,{own}/lib", *flags], check=True)
+    assert Program(tmp_path / "check").run(LOG) == COMPLETE
+    assert install("--remove", "--prefix", own).status == 0
+    assert not own.exists()
+
+
+def test_installed_for_arm(arm, arm_release, tmp_path):
+    assert arm_release and install("--target", "arm64", "--prefix", "/usr", "--destdir",
+                                   tmp_path).status == 0
+    assert Program(*arm.words[:-1], tmp_path / "usr/bin/vicinity").run("check", LOG) == COMPLETE
+    assert install("--target", "arm64", "--remove", "--prefix", "/usr", "--destdir",
+                   tmp_path).status == 0
+    assert not [*tmp_path.iterdir()]
+
+
+# The Python package, over the installed library.
+
+@pytest.mark.parametrize("log", sorted(TOP.glob("examples/*.log")), ids=lambda log: log.name)
+def test_the_python_example(root, log):
+    python = Program(sys.executable, LIBVICINITY=f"{root}/usr/lib/libvicinity.so",
+                     PYTHONPATH=str(TOP / "python"))
+    assert python.run("examples/python/check.py",
+                      log) == Program(root / "usr/bin/vicinity").run("check", log)
+
+
+def test_pip_installs_the_package(root, tmp_path):
+    """Without a network, and leaves nothing behind."""
+    needs("/usr/share/doc/python3-pip")
+    shutil.copytree(TOP / "python", tmp_path / "source",
+                    ignore=shutil.ignore_patterns("__pycache__"))
+    before = tree(tmp_path / "source")
+    subprocess.run([sys.executable, "-m", "pip", "install", "-q", "--no-index", "--target",
+                    tmp_path / "site",
+                    tmp_path / "source"], check=True,
+                   env={**os.environ, "PIP_ROOT_USER_ACTION": "ignore"})
+    assert tree(tmp_path / "source") == before
+    assert (tmp_path / "site/vicinity/py.typed").exists()
+    python = Program(sys.executable, LIBVICINITY=f"{root}/usr/lib/libvicinity.so",
+                     PYTHONPATH=str(tmp_path / "site"))
+    assert python.run("examples/python/check.py", LOG) == COMPLETE

@@ -1,0 +1,83 @@
+"""Leaves out each line of the conflicts of random impossible logs.
+
+`report` names the lines that no tags fit together. A log of these lines alone, each asked by its
+mask, with the Stay Quiets and the field cycles as they were, has to be impossible, and possible
+without any one of them. `--logs NUMBER` says how many impossible logs there are."""
+import random
+
+import pytest
+
+from helpers import random_logs
+from helpers.random_logs import COLLISION, FIELD_CYCLE, SILENT, Ask, Listed, StayQuiet, text_of
+from helpers.reports import slots_of
+
+NUMBER, PARTS = 1000, 8
+
+
+def contradicted(rng):
+    """A few sessions one after the other, each over other tags, though nothing says so, behind
+    first lines or none."""
+    version, uids = rng.randint(1, 2), random_logs.eight_uids(rng)
+    lines = random_logs.opening(rng, version, uids) if rng.randrange(2) else []
+    for _ in range(rng.randint(2, 8)):
+        lines += [line for line in random_logs.rounds(rng, version, uids, ())
+                  if not isinstance(line, Listed)]
+    return version, lines
+
+
+@pytest.fixture
+def asked(program):
+    """The lines that the program writes of a log."""
+    def ask(command, version, lines):
+        return program.run(command, given=text_of(version, lines)).out.decode().splitlines()
+    return ask
+
+
+def log_of(lines, kept):
+    """A log of some slots of another one, each asked by its mask, where the same tags are Quiet."""
+    left = []
+    for number, line in enumerate(lines, 2):
+        if isinstance(line, StayQuiet) or line == FIELD_CYCLE:
+            left.append(line)
+        elif number in kept:
+            left += [Ask(False, *kept[number].mask), line]
+    return left
+
+
+@pytest.mark.slow
+@pytest.mark.parametrize("part", range(PARTS))
+def test_no_line_of_a_conflict_can_be_left_out(asked, pytestconfig, part):
+    def is_impossible(kept):
+        return asked("check", 2, log_of(lines, kept))[0].startswith("impossible")
+
+    rng, left = random.Random(f"56 {part}"), (pytestconfig.getoption("--logs") or NUMBER) // PARTS
+    while left:
+        version, lines = contradicted(rng)
+        first, *rest = asked("report", version, lines)
+        if not first.startswith("impossible"):
+            continue
+        left -= 1
+        numbers = [int(line.split()[-1]) for line in rest if line.startswith("by line ")]
+        kept = {slot.number: slot for slot in slots_of(lines) if slot.number in numbers}
+        text = text_of(version, lines).decode()
+        assert numbers and numbers == sorted(kept) and is_impossible(kept), text
+        for number in numbers:
+            assert not is_impossible({n: slot
+                                      for n, slot in kept.items()
+                                      if n != number}), f"{number} of {text}"
+
+
+def test_no_line_of_a_large_conflict_can_be_left_out(asked):
+    """Of a collision of all tags, after which each mask of 19 bits is silent, the first one twice:
+    a conflict has the collision, each mask once and the last line, and without any one of them two
+    tags are left."""
+    bits, lines = 15, [Ask(False, 0, 0), COLLISION, Ask(False, 19, 0), SILENT]
+    for value in range(2**bits):
+        lines += [Ask(True, bits, value)] + [SILENT] * 16
+    first, *rest = asked("report", 2, lines)
+    numbers = [int(line.removeprefix("by line ")) for line in rest]
+    kept = set(numbers)
+    slots = [slot for slot in slots_of(lines) if slot.number in kept]
+    assert first == f"impossible at line {len(lines) + 1}"
+    assert numbers == [slot.number for slot in slots] and numbers[0] == 3
+    assert len(numbers) == len({slot.mask for slot in slots}) == 2**19 + 1

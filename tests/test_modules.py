@@ -1,0 +1,49 @@
+"""Holds that no two modules of a crate use each other, also not by way of others."""
+import re
+
+import pytest
+
+from helpers.program import TOP
+
+CRATES = TOP / "crates"
+USE = re.compile(r"\bcrate::(\w+)")
+
+
+def module_of(file, src):
+    """The module of a file: what stands in a folder belongs to the module of the folder."""
+    return file.relative_to(src).parts[0].removesuffix(".rt")
+
+
+def uses_of(crate):
+    """The modules of a crate, each with those that it names."""
+    src = crate / "src"
+    uses = {}
+    for file in src.rglob("*.rt"):
+        if file.name not in ("lib.rt", "main.rt"):
+            uses.setdefault(module_of(file, src), set()).update(USE.findall(file.read_text()))
+    return {module: (names & uses.keys()) - {module} for module, names in uses.items()}
+
+
+def way_back(uses, module):
+    """The modules on a way from a module to itself, none where there is none."""
+    ways, seen = [[module]], set()
+    while ways:
+        way = ways.pop()
+        for name in sorted(uses[way[-1]] - seen):
+            if name == module:
+                return way + [module]
+            seen.add(name)
+            ways.append(way + [name])
+    return []
+
+
+@pytest.mark.parametrize("crate", sorted(CRATES.iterdir()), ids=lambda crate: crate.name)
+def test_no_two_modules_use_each_other(crate):
+    uses = uses_of(crate)
+    assert not [" -> ".join(way) for way in (way_back(uses, module) for module in sorted(uses))
+                if way]
+
+
+def test_a_way_back_is_found():
+    assert way_back({"a": {"b"}, "b": {"c"}, "c": {"a"}}, "a") == ["a", "b", "c", "a"]
+    assert not way_back({"a": {"b"}, "b": {"c"}, "c": {"b"}}, "a")

@@ -1,0 +1,110 @@
+"""Judges random logs by brute force (helpers/oracle.py), and asks the library and the program for
+the same.
+
+The logs are the same each time; `pytest tests/test_oracle.py --logs 100000` judges others, of a new
+seed, which is printed, or of `--seed`. Wrong judges and wrong reports are put in the library's
+place, each wrong in one rule, and have to be found."""
+import collections
+import ctypes
+import random
+
+import pytest
+from vicinity._native import AnswerStruct
+
+from helpers import oracle, reports
+from helpers.oracle import Case
+from helpers.random_logs import hex_of, random_log, text_of
+
+NUMBER, SEED = 15000, 15693
+# In how many parts the logs are judged.
+PARTS = 15
+# How many logs a wrong judge is given to be found, and how many of a thousand must have each
+# verdict.
+PLANTED = 8000
+LEAST_SHARE = 20
+KINDS = ("no answer", "complete", "absent", "unlisted", "unsettled", "doubtful", "impossible")
+STATUSES = {"complete": 0, "absent": 1, "unlisted": 1, "unsettled": 1, "doubtful": 1,
+            "impossible": 2}
+ROOM = 64
+
+
+@pytest.fixture
+def answer(library):
+    """The line of `vicinity_check`, and the population of `vicinity_explain`."""
+    room = (ctypes.c_uint64 * ROOM)()
+
+    def ask(version, lines):
+        text = text_of(version, lines)
+        told, again, needed = AnswerStruct(), AnswerStruct(), ctypes.c_size_t()
+        library.calls.vicinity_check(text, len(text), ctypes.byref(told))
+        library.calls.vicinity_explain(text, len(text), ctypes.byref(again), room, ROOM,
+                                       ctypes.byref(needed))
+        assert bytes(told) == bytes(again)
+        return line_of(told), room[:needed.value]
+    return ask
+
+
+def line_of(told):
+    """The line of an answer. The numbers beside it have to say the same."""
+    line = told.text.decode()
+    kind = line.split()[0]
+    numbers = {"complete": f"complete {told.count}",
+               "impossible": f"impossible at line {told.line}",
+               "unsettled": f"unsettled {told.mask_len} {hex_of(told.mask_len, told.mask_value)}"}
+    wanted = numbers.get(kind, f"{kind} {told.uid:016X}")
+    assert (line, KINDS[told.kind], told.status) == (wanted + "\n", kind, STATUSES[kind])
+    return wanted
+
+
+@pytest.fixture
+def report(program):
+    """The lines of `vicinity report`, which ends with the status of the first."""
+    def ask(version, lines):
+        out, err, status = program.run("report", given=text_of(version, lines))
+        told = out.decode().splitlines()
+        assert (err, status) == (b"", STATUSES.get(told[0].split()[0] if told else ""))
+        return told
+    return ask
+
+
+@pytest.fixture
+def logs(pytestconfig):
+    """How many logs a part has, and their seed."""
+    number, seed = pytestconfig.getoption("--logs"), pytestconfig.getoption("--seed")
+    if seed is None:
+        seed = SEED if number is None else random.randrange(10**9)
+    return (number or NUMBER) // PARTS, seed
+
+
+@pytest.mark.slow
+@pytest.mark.parametrize("part", range(PARTS))
+def test_random_logs(answer, report, logs, part):
+    number, seed = logs
+    rng, seen = random.Random(f"{seed} {part}"), collections.Counter()
+    for _ in range(number):
+        version, uids, lines = random_log(rng)
+        case = Case(version, uids, lines)
+        seen[case.answer.text.split()[0]] += 1
+        wrong = (case.wrong_answer(*answer(version, lines))
+                 or case.wrong_report(report(version, lines)))
+        assert not wrong, f"seed {seed}:\n{text_of(version, lines).decode()}"
+    if number >= NUMBER // PARTS:
+        assert not [kind for kind in STATUSES if seen[kind] * 1000 < LEAST_SHARE * number]
+
+
+def found(is_found):
+    """Whether something wrong is found in as many logs as it is given."""
+    rng = random.Random(SEED)
+    return any(is_found(Case(*random_log(rng))) for _ in range(PLANTED))
+
+
+@pytest.mark.parametrize("rule", oracle.WRONG)
+def test_a_wrong_judge_is_found(rule):
+    kind = oracle.WRONG[rule]
+    assert found(lambda case: case.uids
+                 and case.wrong_answer(*kind(case.uids).answer(case.version, case.lines)))
+
+
+@pytest.mark.parametrize("rule", reports.WRONG)
+def test_a_wrong_report_is_found(rule):
+    assert found(lambda case: case.wrong_report(reports.WRONG[rule].of(case.report).given()))

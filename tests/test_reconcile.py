@@ -1,0 +1,96 @@
+"""Reconciles logs with lists of what is expected, by the program and the commands in C: the rows of
+tests/data/rows/reconciliations, and files that fail."""
+import re
+import subprocess
+
+import pytest
+
+from helpers.lines import NAMES, log_of, rows
+from helpers.rows import PROGRAMS
+
+AROUND = re.compile(r"~(\w+) (\d+) (\w)")
+# The names of the logs, in their order.
+LOGS = "abc"
+
+
+def around(tag, most, log):
+    """The open masks of 1 to `most` bits around a tag: its low bits, the last of them turned."""
+    uid = int(NAMES[f"U{tag}"].split()[1], 16)
+    for length in range(1, most + 1):
+        value = uid % (1 << length) ^ 1 << length - 1
+        yield f"open {length} {value:0{(length + 7) // 8 * 2}X} in {log}"
+
+
+def lines_of(expected):
+    """The lines of an answer."""
+    for line in expected.split(" / "):
+        match = AROUND.fullmatch(line)
+        yield from around(match[1], int(match[2]), match[3]) if match else [line]
+
+
+def all_rows():
+    for place, row in rows("reconciliations"):
+        status, expected, logs, lines = (part.strip() for part in row.split("|"))
+        logs = [log.strip() for log in logs.split(";")] if logs else []
+        yield pytest.param(expected, logs, lines, int(status),
+                           id=place.removeprefix("tests/data/rows/"))
+
+
+@pytest.fixture
+def reconcile(one, tmp_path):
+    """Runs `reconcile` in a folder of a list, a log and a folder."""
+    for name, text in (("EXPECTED", "UA"), ("a", "I1 RA")):
+        (tmp_path / name).write_bytes(log_of(text))
+    (tmp_path / "folder").mkdir()
+
+    def run(*words, **how):
+        return one.run("reconcile", *words, cwd=tmp_path, stdin=subprocess.DEVNULL, **how)
+    return run
+
+
+@pytest.fixture(params=(*PROGRAMS, "windows"))
+def one(request):
+    """Each program."""
+    return request.getfixturevalue(request.param)
+
+
+@pytest.mark.parametrize(("expected", "logs", "lines", "status"), all_rows())
+def test_row(reconcile, tmp_path, expected, logs, lines, status):
+    for name, text in zip(("EXPECTED", *LOGS), (expected, *logs)):
+        (tmp_path / name).write_bytes(log_of("" if text == "empty" else text))
+    wanted = "".join(f"{line}\n" for line in lines_of(lines)).encode()
+    assert reconcile("EXPECTED", *LOGS[:len(logs)]) == (wanted, b"", status)
+
+
+@pytest.mark.parametrize(("words", "said"), [
+    (["EXPECTED", "a", "none"], "cannot open none"), (["none", "a"], "cannot open none"),
+    (["EXPECTED", "folder"], "read failed"), ([], "usage")], ids=repr)
+def test_what_ends_without_an_answer(reconcile, words, said):
+    assert reconcile(*words) == (b"", f"vicinity: {said}\n".encode(), 4)
+
+
+@pytest.mark.parametrize("behind", ["none", "folder", "b"])
+@pytest.mark.parametrize(("expected", "log", "lines", "status"), [
+    ("I1 S", "I1 RA", "refused at line 2 of EXPECTED: NotListed", 3),
+    ("UA UA", "I1 RA", "refused at line 3 of EXPECTED: DuplicateListed", 3),
+    ("UA", '"vicinity-log 1\\nT 260100F60B\\n"', "refused at line 2 of a: Crc", 3),
+    ("UA", "I1 S I1 RA", "impossible at line 5 of a", 2)])
+def test_what_is_behind_the_end(reconcile, tmp_path, expected, log, lines, status, behind):
+    """A file that can't be opened, one that can't be read, an impossible log: none is looked at."""
+    for name, text in (("EXPECTED", expected), ("a", log), ("b", "I1 RA I1 S")):
+        (tmp_path / name).write_bytes(log_of(text))
+    assert reconcile("EXPECTED", "a", behind) == (f"{lines}\n".encode(), b"", status)
+
+
+@pytest.mark.parametrize(("before", "said"), [
+    ("none", "cannot open none"), ("folder", "read failed")])
+@pytest.mark.parametrize("log", ['"vicinity-log 1\\nT 260100F60B\\n"', "I1 S I1 RA"])
+def test_what_is_before_a_text_that_would_end_the_run(reconcile, tmp_path, before, said, log):
+    (tmp_path / "a").write_bytes(log_of(log))
+    for words in ([before, "a"], ["EXPECTED", before, "a"]):
+        assert reconcile(*words) == (b"", f"vicinity: {said}\n".encode(), 4)
+
+
+def test_a_full_disk(reconcile):
+    with open("/dev/full", "wb") as full:
+        assert reconcile("EXPECTED", "a", stdout=full) == (b"", b"vicinity: write failed\n", 4)

@@ -1,0 +1,54 @@
+"""Asks for the rows of tests/data/rows, and for damaged logs: the program, the calls for C by both
+compilers, the commands in C, those for ARM and for Windows, and the module for WebAssembly.
+`pytest tests -k 'row and verdicts:17'` asks for one row."""
+import pytest
+
+from helpers.lines import log_of
+from helpers.rows import MODULES, PROGRAMS, all_fit, all_rows
+
+EVERYBODY = (*PROGRAMS, "windows", *MODULES)
+COMPLETE = "I16 S RA RB S13 UA UB"
+# A log that is impossible from its second tag in a round on; and how it begins, which is possible.
+IMPOSSIBLE, POSSIBLE = "I16 S C S14 N1 S10 RA S S4 UA", "I16 S C S14 N1 S10 RA S4"
+
+
+@pytest.mark.parametrize(("asked", "command", "given", "answers", "status"), all_rows(EVERYBODY),
+                         indirect=["asked"])
+def test_row(asked, command, given, answers, status):
+    asked.row(command, given, answers, status)
+
+
+@pytest.mark.parametrize("asked", EVERYBODY, indirect=True)
+def test_beginnings_of_a_complete_log(asked):
+    """Nothing shorter is complete, but for the last LF."""
+    log = log_of(COMPLETE)
+    lengths = [length for length in range(len(log) + 1)
+               if asked.begins(log[:length]).startswith(b"complete")]
+    assert lengths == [len(log) - 1, len(log)]
+
+
+@pytest.mark.parametrize("asked", EVERYBODY, indirect=True)
+def test_beginnings_of_an_impossible_log(asked):
+    """It is impossible or refused from its impossible line on, and not impossible before."""
+    log, possible = log_of(IMPOSSIBLE), len(log_of(POSSIBLE))
+    kinds = [asked.begins(log[:length]).split()[0] for length in range(len(log) + 1)]
+    assert b"impossible" not in kinds[:possible + 1]
+    assert set(kinds[possible + 1:]) == {b"impossible", b"refused"}
+
+
+@pytest.mark.parametrize(("line", "start", "end"), [(2, 17, 27), (3, 30, 54)])
+@pytest.mark.parametrize("asked", EVERYBODY, indirect=True)
+def test_a_changed_bit_is_found_by_the_crc(asked, line, start, end):
+    log = log_of("I1 RA UA")
+    for at in range(start, end):
+        for bit in 1, 2, 4, 8:
+            digit = b"%X" % (int(log[at:at + 1], 16) ^ bit)
+            said = asked.begins(log[:at] + digit + log[at + 1:])
+            assert said == b"refused at line %d: Crc\n" % line, f"bit {bit} at {at}"
+
+
+@pytest.mark.parametrize(("logged", "given", "fit"), [
+    ("T 1/S/T 2/C/D/U 1", "T 1/S/S/T 2/C/C/S/U 1", True), ("T 1/S/S", "T 1/S/T 2/S", False),
+    ("T 1/D", "T 1/S", False)])
+def test_what_replay_goes_by(logged, given, fit):
+    assert all_fit(logged.split("/"), given.split("/")) == fit

@@ -1,0 +1,233 @@
+"""The library as WebAssembly, by node and in a browser: what the module is, and that it answers as
+the library for C does. tests/test_rows.py asks it for the rows of tests/data/rows over texts."""
+import ctypes
+import json
+import re
+import shutil
+import subprocess
+
+import pytest
+
+from helpers.lines import log_of, rows
+from helpers.program import TOP
+from helpers.wasm import Module
+
+MOST_BYTES = 300_000
+# What the module exports besides the calls: the linker says where the heap begins.
+EXPORTS = "__heap_base", "memory", "vicinity_allocate", "vicinity_free"
+HEADER = (TOP / "include/vicinity.h").read_text()
+CALLS = re.findall(r"^[a-z][a-z0-9_ *]*[ *](vicinity_[a-z_]+)\(", HEADER, re.M)
+NAMES_OF = """
+const it = new WebAssembly.Module(require("fs").readFileSync(process.argv[1]));
+const exported = WebAssembly.Module.exports(it).map((one) => one.name);
+console.log(JSON.stringify([WebAssembly.Module.imports(it), exported]));
+"""
+# A session of this many tags has a million lines.
+LARGE = 115_600
+UID_A, UID_B = 0xE0040100000000A1, 0xE0040100000000B2
+# How many elements a buffer has, of at most so many bytes, and what is in it before a call.
+PLACES, SIZE, UNWRITTEN = 64, 32, 7
+ANSWER, NUMBER = 104, 8
+# The status of a call that was refused memory.
+REFUSED = 4
+# Logs of which each allocation is refused.
+GROWING = ("I16 S C S14 N1 S10 RA RB1 S4 UA UB1", "I1 S I1 RA", "I1 RA", "I1 S UA", "I1 C UA")
+
+
+def test_the_module_needs_nothing_and_exports_the_calls(wasm_module):
+    said = subprocess.run(["node", "-e", NAMES_OF, wasm_module], capture_output=True, check=True)
+    imported, exported = json.loads(said.stdout)
+    assert imported == []
+    assert sorted(exported) == sorted([*CALLS, *EXPORTS])
+    assert wasm_module.stat().st_size < MOST_BYTES
+
+
+def test_the_types_of_its_calls_hold():
+    if not shutil.which("tsc"):
+        pytest.skip("there is no tsc: tests/setup installs it")
+    done = subprocess.run(["tsc", "-p", TOP / "web"], capture_output=True, text=True, check=False)
+    assert (done.stdout, done.returncode) == ("", 0)
+
+
+@pytest.mark.slow
+def test_the_same_bytes_come_out_again(wasm_module, tmp_path):
+    again, heap = tmp_path / "again.wasm", TOP / "targets/wasm/heap.c"
+    subprocess.run([TOP / "targets/wasm/make", again, heap, tmp_path / "object.o"], check=True)
+    assert again.read_bytes() == wasm_module.read_bytes()
+
+
+@pytest.mark.parametrize(("old", "new", "why"), [
+    ("  unreachable\n", '  call void asm sideeffect "nop", ""()\n  unreachable\n', "the word asm"),
+    ("declare void @llvm.trap()", "declare void @abort()\ndeclare void @llvm.trap()", "abort"),
+    ("declare void @rattle_dealloc", "declare void @free", "a foreign function"),
+    ("  unreachable\n", "  %f = fadd double 1.0, 2.0\n  unreachable\n", "the word fadd"),
+    ("declare i64 @llvm.cttz.i64", "declare i64 @llvm.x86.sse42.crc32", "a foreign function"),
+    ('"target-cpu"="x86-64-v2"', '"target-cpu"="x86-64-v3"', "x86-64 Linux alone")])
+def test_what_belongs_to_one_system_is_refused(wasm_module, tmp_path, old, new, why):
+    text = (TOP / "out/module/vicinity_c.ll").read_text()
+    assert old in text
+    (tmp_path / "in.ll").write_text(text.replace(old, new, 1))
+    words = [TOP / "targets/retarget", "wasm64", tmp_path / "in.ll", tmp_path / "out.ll"]
+    done = subprocess.run(words, capture_output=True, text=True, check=False)
+    assert done.returncode == 1 and done.stderr.startswith("retarget: ") and why in done.stderr
+    assert not (tmp_path / "out.ll").exists()
+
+
+def test_every_number_by_node(wasm_module, texts, answered):
+    words = ["node", TOP / "tests/wasm/answers.mjs", wasm_module]
+    assert subprocess.run(words, input=texts, capture_output=True, check=True).stdout == answered
+
+
+def test_every_number_in_a_browser(browser, wasm_module, texts, answered, tmp_path):
+    (tmp_path / "texts").write_bytes(texts)
+    given = browser.run_module("tests/wasm/in_browser.mjs", wasm_module, tmp_path / "texts")
+    assert given.encode() == answered
+
+
+def in_words(vicinity, word):
+    """What `frame` says of a frame, by the calls."""
+    try:
+        asked = vicinity.read_request(bytes.fromhex(word))
+        if asked.slots:
+            digits = (asked.mask.length + 7) // 8 * 2
+            value = f"{asked.mask.value:0{digits}X}" if digits else "-"
+            yield (f"request inventory link {asked.link} slots {asked.slots} "
+                   f"mask {asked.mask.length} {value}")
+        else:
+            yield f"request stay-quiet link {asked.link} uid {asked.uid:016X}"
+    except vicinity.FrameFault as fault:
+        yield f"request refused {fault.fault.word}"
+    try:
+        told = vicinity.read_response(bytes.fromhex(word))
+        yield f"response flags {told.flags:02X} dsfid {told.dsfid:02X} uid {told.uid:016X}"
+    except vicinity.FrameFault as fault:
+        yield f"response refused {fault.fault.word}"
+
+
+def frame_rows():
+    """The rows over frames, but for those whose words are no bytes, which are no matter of the
+    calls."""
+    for name in "frames", "spelled":
+        for place, line in rows(name):
+            words, given, wanted = (cell.strip() for cell in line.split("|"))
+            if words == "spell 0":
+                words, given, wanted = "frame 0", wanted, given
+            kind = words.split()[0]
+            is_text = given.startswith('"') or wanted.startswith("refused ")
+            if kind in ("request", "reply") or kind == "frame" and not is_text:
+                yield pytest.param(kind, given, wanted, id=place.rpartition("/")[2])
+
+
+@pytest.mark.parametrize(("kind", "word", "wanted"), frame_rows())
+def test_frames(wasm, kind, word, wanted):
+    with wasm.package() as vicinity:
+        said = list(in_words(vicinity, word))
+    if kind == "frame":
+        assert set(wanted.split(" / ")) <= set(said)
+    else:
+        assert said[kind == "reply"].partition(" ")[2] == wanted
+
+
+def reconciled_rows():
+    """The rows of many logs that are possible, with their findings alone."""
+    for place, line in rows("reconciliations"):
+        status, expected, logs, wanted = (cell.strip() for cell in line.split("|"))
+        if status in "01":
+            logs = [log.strip() for log in logs.split(";")] if logs else []
+            texts = [log_of("" if log == "empty" else log) for log in logs]
+            found = [part.partition(" in ")[0] for part in wanted.split(" / ")
+                     if not part.startswith(("by ", "open ", "more ", "~"))]
+            row = log_of(expected), texts, found, int(status)
+            yield pytest.param(*row, id=place.rpartition("/")[2])
+
+
+@pytest.mark.parametrize(("expected", "texts", "found", "status"), reconciled_rows())
+def test_many_logs(wasm, expected, texts, found, status):
+    uids = [int(uid, 16) for uid in expected.decode().split()[3::2]]
+    with wasm.package() as vicinity:
+        said = vicinity.reconcile(uids, map(vicinity.survey, texts))
+        lines = [line for line in str(said).split("\n") if not line.startswith("by line")]
+    assert (lines, said.answer.status) == (found, status)
+
+
+def test_a_session_of_a_million_lines(wasm, program, tmp_path):
+    """With the tags that it lists, without the last of them, and cut off."""
+    made = [TOP / "tools/biglog.py", "session", str(LARGE)]
+    text = subprocess.run(made, capture_output=True, check=True).stdout
+    lines = text.splitlines(keepends=True)
+    assert 990_000 < len(lines) <= 1_000_000
+    for log in text, b"".join(lines[:-1]), b"".join(lines[:len(lines) // 2]):
+        (tmp_path / "log").write_bytes(log)
+        said = program.run("report", str(tmp_path / "log"))
+        with wasm.package() as vicinity:
+            found = vicinity.report(log)
+            assert (f"{found}\n".encode(), found.answer.status) == (said.out, said.status)
+
+
+def unwritten(size):
+    return (ctypes.c_uint8 * size)(*[UNWRITTEN] * size)
+
+
+def of_text(text):
+    return text, ctypes.c_size_t(len(text))
+
+
+def of_numbers(*lists):
+    """Numbers for a call, each list with its length."""
+    return [part for them in lists
+            for part in ((ctypes.c_uint64 * len(them))(*them), ctypes.c_size_t(len(them)))]
+
+
+class Growing:
+    """The calls that take memory, of a module whose heap refuses the allocation with one number."""
+
+    def __init__(self, path):
+        self.module = Module(path)
+
+    def call(self, name, number, *given):
+        """A call's result, the bytes that it may write, and how many allocations it made."""
+        answer, room, needed = unwritten(ANSWER), unwritten(SIZE * PLACES), unwritten(NUMBER)
+        places = ctypes.c_size_t(SIZE * PLACES if name == "simulate" else PLACES)
+        told = [] if name == "simulate" else [answer]
+        listed = [] if name.startswith("check") else [room, places, needed]
+        self.module.test_refuse(ctypes.c_uint32(number))
+        result = getattr(self.module, f"vicinity_{name}")(*given, *told, *listed)
+        return result, bytes(answer), bytes(room), bytes(needed), self.module.test_grown()
+
+    def refuse_each(self, name, *given):
+        """Refuses each allocation of a call in turn: there is no answer, nothing else is written,
+        no memory is kept, and the same call answers right afterwards."""
+        held = self.module.test_held()
+        right = self.call(name, 0, *given)
+        assert right[0] < REFUSED and right[-1] > 0
+        answer = bytes(4) + REFUSED.to_bytes(4, "little") + bytes(ANSWER - 8)
+        wanted = (REFUSED, bytes(unwritten(ANSWER)) if name == "simulate" else answer,
+                  bytes(unwritten(SIZE * PLACES)),
+                  bytes(unwritten(NUMBER)) if name.startswith("check") else bytes(NUMBER))
+        for number in range(1, right[-1] + 1):
+            assert self.call(name, number, *given)[:-1] == wanted, f"{name}, allocation {number}"
+            assert self.module.test_held() == held, f"{name}, allocation {number}: memory is kept"
+        assert self.call(name, 0, *given) == right
+
+
+@pytest.fixture(scope="module")
+def growing(wasm_module, tmp_path_factory):
+    made = tmp_path_factory.mktemp("growing") / "vicinity.wasm"
+    heap = TOP / "tests/wasm/refusing_heap.c"
+    subprocess.run([TOP / "targets/wasm/make", made, heap], check=True)
+    calls = Growing(made)
+    yield calls
+    calls.module.close()
+
+
+@pytest.mark.parametrize("names", GROWING)
+def test_each_growth_is_refused(growing, names):
+    uids = of_numbers([UID_B, UID_A])
+    beside = log_of(" ".join(name for name in names.split() if not name.startswith("U")))
+    for name in "check", "explain", "report", "certain", "open_masks":
+        growing.refuse_each(name, *of_text(log_of(names)))
+    for name in "check_listed", "explain_listed", "report_listed":
+        growing.refuse_each(name, *of_text(beside), *uids)
+    growing.refuse_each("reconcile", *uids, *of_numbers([UID_A], []))
+    growing.refuse_each("listed", *of_text(log_of("UA UB")))
+    growing.refuse_each("simulate", *of_text(log_of("I1 QA I1 UA UB")))

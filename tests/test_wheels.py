@@ -1,0 +1,129 @@
+"""Wheels of the Python package: the same bytes twice, their licences, and how they work on each
+Python of this machine, in a fresh environment without a network."""
+import glob
+import os
+import re
+import subprocess
+import sys
+import tarfile
+import zipfile
+
+import pytest
+
+from helpers.program import TOP
+
+sys.path.append(str(TOP / "python"))
+import backend  # noqa: E402
+
+TAGS = {"amd64": "manylinux2014_x86_64", "arm64": "manylinux2014_aarch64"}
+LICENSES = ("LICENSE-APACHE", "LICENSE-MIT")
+LEAST = 9
+
+
+def pythons():
+    """Each Python of this machine from 3.9 on."""
+    own = glob.glob(os.path.expanduser("~/.pyenv/versions/*/bin"))
+    paths = (path for folder in ("/usr/bin", "/usr/local/bin", *own)
+             for path in glob.glob(f"{folder}/python3.*"))
+    versions = {path: re.search(r"/python3\.(\d+)$", path) for path in map(os.path.realpath, paths)}
+    return sorted(path for path, number in versions.items() if number and int(number[1]) >= LEAST)
+
+
+def made(library, target, folder):
+    folder.mkdir()
+    subprocess.run([TOP / "release/wheel", library, target, folder], check=True)
+    return next(folder.glob("*.whl"))
+
+
+@pytest.fixture(scope="session")
+def wheel(release, tmp_path_factory):
+    """The wheel for this kind of machine."""
+    return made(release / "libvicinity.so", "amd64", tmp_path_factory.mktemp("wheel") / "one")
+
+
+def test_the_same_bytes_twice(wheel, release, tmp_path):
+    again = made(release / "libvicinity.so", "amd64", tmp_path / "two")
+    assert (again.name, again.read_bytes()) == (wheel.name, wheel.read_bytes())
+    assert TAGS["amd64"] in wheel.name
+
+
+def test_the_same_bytes_of_a_source_distribution(tmp_path):
+    found = []
+    for name in ("one", "two"):
+        (tmp_path / name).mkdir()
+        umask = os.umask(0o077 if name == "two" else 0o022)
+        file = tmp_path / name / backend.build_sdist(str(tmp_path / name))
+        os.umask(umask)
+        found.append(file.read_bytes())
+    assert found[0] == found[1]
+    with tarfile.open(file) as archive:
+        names = {name.partition("/")[2] for name in archive.getnames()}
+    assert {*LICENSES, "README.md", "PKG-INFO", "vicinity/commands/reconcile.py"} <= names
+
+
+def test_what_is_in_it(wheel, release):
+    with zipfile.ZipFile(wheel) as archive:
+        files = {it.filename: archive.read(it) for it in archive.infolist()}
+    about = next(name for name in files if name.endswith("/RECORD")).rpartition("/")[0]
+    for name in LICENSES:
+        assert files[f"{about}/{name}"] == (TOP / name).read_bytes()
+    assert files["vicinity/libvicinity.so.1"] == (release / "libvicinity.so").read_bytes()
+    listed = {line.partition(",")[0] for line in files[f"{about}/RECORD"].decode().splitlines()}
+    assert listed == set(files)
+    sources = TOP / "python"
+    modules = {str(path.relative_to(sources)) for path in sources.glob("vicinity/**/*.py")}
+    assert modules <= set(files)
+
+
+def test_a_wheel_for_arm(arm_release, tmp_path):
+    found = made(arm_release / "libvicinity.so", "arm64", tmp_path / "arm")
+    assert TAGS["arm64"] in found.name
+
+
+def test_a_library_for_another_machine_is_refused(release, tmp_path):
+    said = subprocess.run([TOP / "release/wheel", release / "libvicinity.so", "arm64", tmp_path],
+                          capture_output=True, text=True)
+    assert (said.returncode, "isn't for arm64" in said.stderr) == (1, True)
+    assert not list(tmp_path.iterdir())
+
+
+@pytest.mark.slow
+@pytest.mark.parametrize("python", pythons())
+def test_it_works(wheel, python, tmp_path):
+    clean = {name: value for name, value in os.environ.items()
+             if name not in ("LIBVICINITY", "PYTHONPATH", "LD_LIBRARY_PATH")}
+
+    def run(*words):
+        return subprocess.run([str(word) for word in words], capture_output=True, text=True,
+                              cwd=tmp_path, env=clean)
+
+    assert run(python, "-m", "venv", "there").returncode == 0
+    there = tmp_path / "there/bin"
+    installed = run(there / "pip", "install", "--no-index", wheel)
+    assert installed.returncode == 0, installed.stderr
+    said = run(there / "vicinity-logs", "--tabs", *sorted(TOP.glob("examples/*.log")))
+    answers = [line.split("\t")[1:] for line in said.stdout.splitlines()]
+    assert (answers, said.stderr, said.returncode) == (
+        [["2", "impossible at line 6"], ["1", "unsettled 7 61"], ["0", "complete 4"]], "", 2)
+    for command in ("check", "report", "reconcile", "survey", "compare", "show", "page", "frame"):
+        assert run(there / "vicinity-logs", command, "--help").stdout.startswith(
+            f"usage: vicinity-logs {command}")
+    said = run(there / "python", "-c", "import vicinity as it; print(it.__file__, it.check(b''))")
+    assert said.stdout.endswith("refused at line 1: Header\n") and str(tmp_path) in said.stdout
+    shelves = sorted(TOP.glob("examples/collection/shelf-*.log"))
+    said = run(there / "vicinity-logs", "reconcile", "--csv", "--expected",
+               TOP / "examples/collection/catalogue.csv", *shelves)
+    assert said.stdout.count(",there,") == 10
+
+
+def glibc_of(file):
+    versions = re.findall(rb"\0GLIBC_(\d+)\.(\d+)", file.read_bytes())
+    return max((int(one), int(other)) for one, other in versions)
+
+
+def test_the_versions_of_glibc_that_a_page_names(release, arm_release):
+    page = (TOP / "docs/RUNNING.md").read_text()
+    said = re.search(r"The program needs glibc (\d+\.\d+) .*; the library, and so the wheel, "
+                     r"(\d+\.\d+) \(on 64-bit ARM (\d+\.\d+)\)", page)
+    files = (release / "vicinity", release / "libvicinity.so", arm_release / "libvicinity.so")
+    assert said.groups() == tuple("{}.{}".format(*glibc_of(file)) for file in files)

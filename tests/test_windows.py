@@ -1,0 +1,108 @@
+"""The library and the commands for Windows, under wine. tests/test_rows.py and
+tests/test_reconcile.py ask them for the rows of tests/data/rows. Nothing here says how Windows
+itself behaves."""
+import subprocess
+
+import pytest
+
+from helpers.lines import log_of
+from helpers.program import TOP, Program
+
+CC = ("x86_64-w64-mingw32-gcc", "-O2", "-Wall", "-Wextra", "-Werror",
+      "-D__USE_MINGW_ANSI_STDIO=1", f"-I{TOP}/include", TOP / "tests/c/binary.c")
+LOGS = sorted(str(log) for log in (TOP / "examples").glob("*.log"))
+LOG, EMPTY = log_of("I1 RA UA"), log_of("")
+READ = (b"complete 1\n", b"", 0)
+NAMES = ("shelf 3.log", "Größe.log", "полка.log", "日本の棚.log", "😀.log")
+NO_COMMANDS = ("", "frame", "spell", "check a b", "help", "check -x", "reconcile")
+# A session of this many tags has a million lines.
+LARGE = 115_600
+
+
+@pytest.fixture(scope="module")
+def built(windows_release, windows, tmp_path_factory):
+    """Builds a C program for Windows beside the DLL, and gives what runs it."""
+    folder = tmp_path_factory.mktemp("windows")
+    (folder / "vicinity.dll").write_bytes((windows_release / "vicinity.dll").read_bytes())
+
+    def build(name, *words):
+        made = folder / f"{name}.exe"
+        subprocess.run([*CC, TOP / f"tests/c/{name}.c", *words, "-o", made], check=True)
+        return Program(*windows.words[:-1], made)
+    return build
+
+
+@pytest.mark.slow
+def test_the_same_bytes_come_out_again(windows_release, tmp_path):
+    subprocess.run([TOP / "targets/windows/make", tmp_path, tmp_path / "object.o"], check=True)
+    for name in "vicinity.dll", "vicinity.exe", "libvicinity.dll.a":
+        assert (tmp_path / name).read_bytes() == (windows_release / name).read_bytes()
+
+
+def test_every_number_by_the_dll(built, windows_release, texts, answered):
+    answers = built("answers", windows_release / "libvicinity.dll.a")
+    said = answers.run(given=texts)
+    assert (said.status, said.err) == (0, b"")
+    assert said.out == answered
+
+
+def test_each_growth_is_refused(built, windows_release):
+    refused = built("calls_refused", "-Wl,--wrap=malloc,--wrap=realloc,--wrap=free",
+                    TOP / "release/heap.c", TOP / "out/module/windows.o")
+    said = refused.run(*LOGS)
+    assert (said.status, said.err) == (0, b"")
+    assert b"growths refused, no answer each" in said.out
+
+
+@pytest.mark.parametrize("name", NAMES)
+def test_a_file_by_its_name(windows, tmp_path, name):
+    (tmp_path / name).write_bytes(LOG)
+    assert windows.run("check", name, given=EMPTY, cwd=tmp_path) == READ
+    refused = f"refused at line 2 of {name}: NotListed\n".encode()
+    assert windows.run("reconcile", name, name, cwd=tmp_path).out == refused
+    unread = f"vicinity: cannot open no {name}\n".encode()
+    assert windows.run("check", f"no {name}", cwd=tmp_path) == (b"", unread, 4)
+
+
+def test_bytes_are_read_as_they_are(windows, tmp_path):
+    """Lines that end with CR LF, and a byte 26, which ends a text for some programs of Windows."""
+    (tmp_path / "log").write_bytes(LOG.replace(b"\n", b"\r\n"))
+    assert windows.run("check", "log", cwd=tmp_path) == READ
+    assert windows.run("check", given=LOG.replace(b"\n", b"\r\n")) == READ
+    (tmp_path / "log").write_bytes(LOG + b"\x1a\n")
+    refused = (b"refused at line 5: UnknownEntry\n", b"", 3)
+    assert windows.run("check", "log", cwd=tmp_path) == refused
+    assert windows.run("check", given=LOG + b"\x1a\n") == refused
+
+
+@pytest.mark.parametrize("words", NO_COMMANDS)
+def test_words_that_are_no_command(windows, words):
+    assert windows.run(*words.split()) == (b"", b"vicinity: usage\n", 4)
+
+
+def test_a_folder_is_not_read(windows):
+    assert windows.run("check", ".") == (b"", b"vicinity: read failed\n", 4)
+
+
+def test_a_full_disk(windows, tmp_path):
+    (tmp_path / "log").write_bytes(LOG)
+    for words in ["check"], ["check", "log"], ["frame", "260100F60A"]:
+        with open("/dev/full", "wb") as full:
+            said = windows.run(*words, given=LOG, stdout=full, cwd=tmp_path)
+        assert said == (b"", b"vicinity: write failed\n", 4)
+
+
+def test_a_pattern_stands_for_its_files(windows, tmp_path):
+    (tmp_path / "list").write_bytes(log_of("UA UB"))
+    for name, log in ("a.log", "I1 RA"), ("b.log", "I1 RB"):
+        (tmp_path / name).write_bytes(log_of(log))
+    said = windows.run("reconcile", "list", "*.log", cwd=tmp_path)
+    assert said == (b"complete 2\n", b"", 0)
+
+
+def test_a_session_of_a_million_lines(windows, program, tmp_path):
+    with open(tmp_path / "log", "wb") as file:
+        subprocess.run([TOP / "tools/biglog.py", "session", str(LARGE)], stdout=file, check=True)
+    for command in "check", "explain", "report":
+        words = {"cwd": tmp_path}
+        assert windows.run(command, "log", **words) == program.run(command, "log", **words)

@@ -1,0 +1,95 @@
+"""What the words of the command line ask for, and the ends without an answer: the program, and the
+commands in C."""
+import os
+
+import pytest
+
+from biglog import ask, at_key, claim, reply, silence
+from helpers.lines import log_of, text_of
+from helpers.rows import PROGRAMS
+
+LOG, EMPTY = log_of("I1 RA UA"), log_of("")
+READ = (b"complete 1\n", b"", 0)
+USAGE = (b"", b"vicinity: usage\n", 4)
+UNREAD, UNWRITTEN = (b"", b"vicinity: read failed\n", 4), (b"", b"vicinity: write failed\n", 4)
+# Tags of a field that are Quiet together are passed over by 64, 4,096 and 262,144: one of each, and
+# two more.
+TAGS = 262_144 + 4096 + 64 + 2
+
+
+@pytest.fixture(params=PROGRAMS)
+def one(request):
+    """Each program."""
+    return request.getfixturevalue(request.param)
+
+
+@pytest.fixture(scope="session")
+def file(tmp_path_factory):
+    name = tmp_path_factory.mktemp("words") / "a.txt"
+    name.write_bytes(LOG)
+    return str(name)
+
+
+@pytest.mark.parametrize("command", ["check", "explain", "report"])
+def test_a_log_is_read_from_a_file_or_standard_input(one, file, command):
+    assert one.run(command, given=LOG) == READ
+    assert one.run(command, file, given=EMPTY) == READ
+
+
+def test_simulate_reads_a_file_or_standard_input(one, file):
+    assert one.run("simulate", given=EMPTY) == (EMPTY, b"", 0)
+    assert one.run("simulate", file) == (b"refused at line 3: OutcomeGiven\n", b"", 3)
+
+
+def test_two_dashes_end_the_options(one, file):
+    assert one.run("check", "--", file, given=EMPTY) == READ
+    assert one.run("spell", "-x", "--", "--help") == (b"refused Words\n", b"", 3)
+
+
+def test_frame_and_spell_end_with_their_status(one):
+    assert one.run("frame", "26").status == 3
+    assert one.run("spell", "request inventory link 2 slots 1 mask 0 -").status == 3
+
+
+@pytest.mark.parametrize("words", [
+    [], ["frame"], ["spell"], ["check", "a", "b"], ["help"], ["list"], ["explain", "a", "b"],
+    ["report", "a", "b"],
+    ["check", "-x"], ["frame", "--"], ["spell", "--"], ["check", b"\xff"],
+    ["spell", b"\xed\xa0\x80"]], ids=repr)
+def test_words_that_are_no_command(one, words):
+    assert one.run(*words) == USAGE
+
+
+def test_another_name_of_the_program(one):
+    assert one.run(name="check") == USAGE
+
+
+def test_a_name_that_names_no_file(one):
+    assert one.run("check", "") == (b"", b"vicinity: cannot open \n", 4)
+
+
+def test_a_folder_is_not_read(one):
+    assert one.run("check", ".") == UNREAD
+
+
+def test_a_full_device(one):
+    with open("/dev/full", "wb") as full:
+        assert one.run("check", given=LOG, stdout=full) == UNWRITTEN
+
+
+def test_closed_streams(one):
+    assert one.run("check", given=LOG, stdout=None, preexec_fn=lambda: os.close(1)) == UNWRITTEN
+    assert one.run("check", stdin=None, preexec_fn=lambda: os.close(0)) == UNREAD
+
+
+def test_many_quiet_tags(one):
+    """All but two, then all but the last in the order of keys, then all."""
+    tags = [at_key(key) for key in range(TAGS)]
+    amid, last = tags[100_000], tags[-1]
+    everybody = ask((0, 0))
+    filled = ["vicinity-log 1", *(silence(uid) for uid in tags if uid not in (amid, last)),
+              everybody, "C",
+              silence(amid), everybody, reply(last), silence(last), everybody, "S",
+              *map(claim, tags)]
+    asked = text_of(line for line in filled if line[0] not in "SCR")
+    assert one.run("simulate", given=asked) == (text_of(filled), b"", 0)

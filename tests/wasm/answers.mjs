@@ -1,0 +1,71 @@
+/**
+ * Everything that the library answers to texts, as tests/c/answers.c writes it.
+ *
+ *     node answers.mjs MODULE.wasm <TEXTS
+ */
+import { Library } from "../../web/library.mjs";
+
+const EXPECTED = [0xE0040100000000B2n, 0xE0040100000000A1n];
+
+/** @param {number | bigint} value */
+const hex = (value) => value.toString(16).toUpperCase();
+
+/** @param {import("../../web/library.mjs").Answer} told */
+function shown(told) {
+  return [told.status, told.kind, told.status, told.count, told.line, told.fault, told.maskLen, hex(told.maskValue),
+    hex(told.uid), told.text].join(" ");
+}
+
+/**
+ * The explanation as one buffer after the other would get it: none, one and as many elements as it needs, behind one that
+ * stays as it was.
+ * @param {Library} library
+ * @param {Uint8Array} text
+ */
+function explained(library, text) {
+  const { answer, list } = library.explain(text), written = [];
+  for (let room = 0; ;) {
+    const held = Array(room + 1).fill(7n);
+    if (room >= list.length) held.splice(0, list.length, ...list);
+    written.push(shown(answer), `${room} of ${list.length}: ${held.map(hex).join(" ")}\n`);
+    if (!(room < list.length && room < 2)) return written.join("");
+    room = room === 0 && list.length > 1 ? 1 : list.length;
+  }
+}
+
+/**
+ * @param {Library} library
+ * @param {Uint8Array} text
+ */
+function surveyed(library, text) {
+  const certain = library.certain(text), open = library.openMasks(text);
+  const written = [shown(certain.answer), shown(open.answer), ...certain.list.map((uid) => ` ${hex(uid)}`),
+    ...open.list.map((mask) => ` ${mask.fault} ${mask.len} ${hex(mask.value)}`), "\n"];
+  const { answer, list } = library.reconcile(EXPECTED, certain.list, open.list);
+  written.push(shown(answer), ...list.map((found) =>
+    `${found.kind} ${found.line} ${found.maskLen} ${hex(found.maskValue)} ${hex(found.uid)}\n`));
+  return written.join("");
+}
+
+/**
+ * Of texts, each after its length in decimal and an LF.
+ * @param {Library} library
+ * @param {Uint8Array} texts
+ */
+export function answers(library, texts) {
+  const written = [];
+  for (let at = 0; at < texts.length;) {
+    const end = texts.indexOf(10, at), length = Number(new TextDecoder().decode(texts.subarray(at, end)));
+    const text = texts.subarray(end + 1, end + 1 + length);
+    written.push(shown(library.check(text)), explained(library, text), surveyed(library, text));
+    at = end + 1 + length;
+  }
+  return written.join("");
+}
+
+if (typeof process !== "undefined" && process.argv[1]?.endsWith("answers.mjs")) {
+  const { readFileSync, writeSync } = await import("node:fs");
+  const library = await Library.of(readFileSync(process.argv[2]));
+  const written = new TextEncoder().encode(answers(library, readFileSync(0)));
+  for (let at = 0; at < written.length;) at += writeSync(1, written, at);
+}

@@ -1,0 +1,105 @@
+/** Why UIDs are open: the slots in which they would answer that weren't read, and the tags that were silenced before. */
+import { UID_BITS, uidOf } from "./words.mjs";
+
+/** @typedef {import("./library.mjs").Library} Library */
+/** @typedef {import("./library.mjs").Mask} Mask */
+/** @typedef {import("./log.mjs").Log} Log */
+/** @typedef {import("./log.mjs").Reading} Reading */
+/** @typedef {{reading: Reading, round: number, slots: number[], asked: Mask}} Cause */
+/** @typedef {{line: number, uid: bigint}} Silenced a Stay Quiet to a tag that was never heard */
+/** @typedef {{row: number, round: number, asked: Mask, number: number, mask: Mask, reading: Reading}} Unread a slot */
+
+/** Of one round first what wasn't reached, as that is where the reader stopped. */
+const ORDER = ["unreached", "collision", "garbled"];
+/** After so many slots only those are looked for that explain one more mask. */
+const MOST_CAUSING = 1000;
+
+/** @param {number} len @param {bigint} value */
+const key = (len, value) => `${len}:${BigInt.asUintN(len, value)}`;
+
+/**
+ * The Stay Quiets to tags that are open alone: those were never heard, since a reply makes a tag certain.
+ * @param {Library} library
+ * @param {Log} log
+ * @param {Mask[]} open
+ * @returns {Silenced[]}
+ */
+export function silencedUnheard(library, log, open) {
+  const alone = new Set(open.filter((mask) => mask.len >= UID_BITS).map(uidOf)), found = [];
+  for (let at = 0; at < log.rowCount && alone.size; at++) {
+    const row = log.isQuiet(at) ? log.row(library, at) : null;
+    if (row?.kind === "quiet" && alone.delete(row.uid)) found.push({ line: row.line, uid: row.uid });
+  }
+  return found;
+}
+
+/**
+ * Whether a mask holds one of these tags, and no other.
+ * @param {Set<bigint>} tags
+ * @param {Mask} mask
+ */
+export function isOf(tags, mask) {
+  return mask.len >= UID_BITS && tags.has(uidOf(mask));
+}
+
+/**
+ * The slots that weren't reached or weren't read: those within an open mask, and for a mask without such slots the narrowest
+ * around it; with the rows of these slots, and whether a mask has neither.
+ * @param {Library} library
+ * @param {Log} log
+ * @param {Mask[]} masks
+ */
+export function causesOf(library, log, masks) {
+  const open = new Set(masks.map((mask) => key(mask.len, mask.value))), lengths = [...new Set(masks.map((mask) => mask.len))];
+  /** @type {Map<string, Unread>} */
+  const unread = new Map(), explained = new Set(), causing = [];
+  for (const slot of masks.length ? unreadSlots(library, log) : []) {
+    const { len, value } = slot.mask;
+    if (!unread.has(key(len, value))) unread.set(key(len, value), slot);
+    const around = lengths.filter((it) => it <= len).map((it) => key(it, value)).find((it) => open.has(it));
+    if (!around || explained.has(around) && causing.length >= MOST_CAUSING) continue;
+    causing.push(slot);
+    explained.add(around);
+    if (explained.size === open.size && causing.length >= MOST_CAUSING) break;
+  }
+  let neverAsked = false;
+  for (const { len, value } of masks.filter((mask) => !explained.has(key(mask.len, mask.value)))) {
+    const around = Array.from({ length: len }, (_, less) => unread.get(key(len - 1 - less, value))).find((it) => it);
+    if (around) causing.push(around); else neverAsked = true;
+  }
+  return { causes: byRound(causing), rows: [...new Set(causing.map((slot) => slot.row))], neverAsked };
+}
+
+/**
+ * Every slot of the log that wasn't reached or wasn't read, those of the last round first.
+ * @param {Library} library
+ * @param {Log} log
+ * @returns {Generator<Unread>}
+ */
+function* unreadSlots(library, log) {
+  for (let at = log.rowCount - 1; at >= 0; at--) {
+    const round = log.hasUnread(library, at) ? log.row(library, at) : null;
+    if (round?.kind !== "round") continue;
+    const asked = { fault: 0, len: round.request.maskLen, value: round.request.maskValue };
+    for (const { number, mask, reading } of round.slots) {
+      if (ORDER.includes(reading)) yield { row: at, round: round.line, asked, number, mask, reading };
+    }
+  }
+}
+
+/**
+ * The causes of each round, the last round first, as it is the one that the reader didn't end.
+ * @param {Unread[]} causing
+ * @returns {Cause[]}
+ */
+function byRound(causing) {
+  /** @type {Map<string, Cause>} */
+  const causes = new Map();
+  for (const { reading, round, asked, number } of causing) {
+    const cause = causes.get(`${round} ${reading}`) ?? { reading, round, slots: [], asked };
+    if (!cause.slots.includes(number)) cause.slots.push(number);
+    causes.set(`${round} ${reading}`, cause);
+  }
+  for (const cause of causes.values()) cause.slots.sort((one, other) => one - other);
+  return [...causes.values()].sort((one, other) => other.round - one.round || ORDER.indexOf(one.reading) - ORDER.indexOf(other.reading));
+}

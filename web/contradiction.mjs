@@ -1,0 +1,110 @@
+/** What a contradiction says, by the form of its lines: a sentence, what may have happened, and what tells these apart. */
+import { count, short } from "./words.mjs";
+
+/** @typedef {import("./conflict.mjs").Conflict} Conflict */
+/** @typedef {import("./log.mjs").Slot} Slot */
+/** @typedef {{sentence: string, causes: string[], test: string}} Contradiction */
+
+const NOISE = "Noise was logged as an answer: a slot that may have been noise gets no line, nor does the rest of its round.";
+const ONE_DAMAGED = "One damaged reply was logged as a collision: if the chip can't tell these apart, write D, in a log of version 2.";
+const HIDDEN = "A strong reply hid a weaker one.";
+const SECOND_READER = "A second reader kept tags powered and silent, or silenced some.";
+const WRONG_PLACE = "The line was logged under the wrong request: a late reply, or lines in the wrong order.";
+const LEFT_OUT = "A Stay Quiet or another request was sent that isn't in the log, or the field was off and the log has no line F.";
+
+/**
+ * @param {Conflict} conflict
+ * @returns {Contradiction}
+ */
+export function contradiction(conflict) {
+  const { heard, unread, silent, silencer } = conflict, two = conflict.count === 2;
+  if (silencer && heard.length) return woke(heard[heard.length - 1], silencer);
+  if (conflict.count === 1 && (unread ?? heard[0])) return alone(unread ?? heard[0]);
+  if (unread) return unmet(conflict, unread);
+  if (two && heard.length === 2) return hidden(heard[0], heard[1]);
+  if (two && heard.length && silent) return lost(heard[0], silent);
+  return { sentence: `${count(conflict.count, "line")} from ${conflict.first} to ${conflict.last} can't all be true.`,
+    causes: [LEFT_OUT, WRONG_PLACE], test: "" };
+}
+
+/** @param {Slot} slot */
+const name = (slot) => short(slot.uid ?? 0n);
+
+/** @param {Slot} unread */
+const noise = (unread) => unread.reading === "collision" ? [NOISE, ONE_DAMAGED] : [NOISE];
+
+/**
+ * @param {Slot} slot
+ * @param {number} silencer
+ * @returns {Contradiction}
+ */
+function woke(slot, silencer) {
+  return { sentence: `tag ${name(slot)} was silenced in line ${silencer}, but answered in line ${slot.line}.`,
+    causes: ["The tag lost power for a moment, at the edge of the field or behind another tag, and woke up.",
+      `The tag didn't receive the Stay Quiet of line ${silencer}.`,
+      "The field was switched off and on in between: then the log needs a line F there, and the header 'vicinity-log 2'.",
+      "A second reader woke it."],
+    test: "Move the tag further into the field and away from others, and count again, in a new log." };
+}
+
+/**
+ * @param {Slot} slot
+ * @returns {Contradiction}
+ */
+function alone(slot) {
+  const { line } = slot;
+  if (slot.reading === "heard") {
+    return { sentence: `line ${line} is a reply of ${name(slot)}, a tag that wasn't asked there.`,
+      causes: [WRONG_PLACE, LEFT_OUT], test: "" };
+  }
+  const sentence = slot.reading === "collision"
+    ? `two or more tags answered in line ${line}, but the mask that was asked there has at most one UID that wasn't silenced.`
+    : `something answered in line ${line}, but no tag of the mask that was asked there could.`;
+  return { sentence, causes: [WRONG_PLACE, ...noise(slot), LEFT_OUT], test: "" };
+}
+
+/**
+ * A collision or garbled slot, for which the other lines leave too few tags.
+ * @param {Conflict} conflict
+ * @param {Slot} unread
+ * @returns {Contradiction}
+ */
+function unmet({ count: number, first, last, heard }, unread) {
+  const two = unread.reading === "collision", others = number === 2 ? `line ${first === unread.line ? last : first} leaves`
+    : `${count(number - 1, "other line")} leave`;
+  const later = last > unread.line ? ["A later reply of one of these tags was lost, so a slot was logged as silent.",
+    `A tag left the field after line ${unread.line}.`] : [];
+  const earlier = first < unread.line ? [`A tag came into the field before line ${unread.line}.`,
+    "A silenced tag lost power for a moment and woke up.", "An earlier reply was lost, so a slot was logged as silent."] : [];
+  return { sentence: `in line ${unread.line} ${two ? "two or more tags" : "a tag"} answered, but ${others} ${two ? "at most one" : "none"}.`,
+    causes: [...later, ...earlier, ...heard.length ? [HIDDEN] : [], ...noise(unread), LEFT_OUT, SECOND_READER],
+    test: `Ask for the tags of line ${unread.line} again, in sixteen slots.` };
+}
+
+/**
+ * @param {Slot} first
+ * @param {Slot} last
+ * @returns {Contradiction}
+ */
+function hidden(first, last) {
+  const one = short(first.uid ?? 0n, [last.uid ?? 0n]), other = short(last.uid ?? 0n, [first.uid ?? 0n]);
+  return { sentence: `tags ${one} (line ${first.line}) and ${other} (line ${last.line}) were each read alone, but both should ` +
+    "have answered in one of these two slots.",
+    causes: [HIDDEN, `A tag came into the field between lines ${first.line} and ${last.line}, or left it.`, LEFT_OUT, SECOND_READER],
+    test: "Move the two apart or lower the gain, and ask in sixteen slots, so that fewer tags answer at once." };
+}
+
+/**
+ * @param {Slot} heard
+ * @param {number} silent
+ * @returns {Contradiction}
+ */
+function lost(heard, silent) {
+  const came = silent < heard.line, always = came ? "it came later, or its reply was lost before"
+    : "its reply was lost, or a Stay Quiet isn't in the log";
+  return { sentence: `tag ${name(heard)} answered in line ${heard.line}, but not in line ${silent}, where it was also asked.`,
+    causes: [`Its reply in line ${silent} was lost: the tag is at the edge of the field, or something interfered.`,
+      came ? `The tag came into the field after line ${silent}.` : `The tag left the field after line ${heard.line}.`, LEFT_OUT, SECOND_READER],
+    test: `Switch the field off and on, and ask only for ${name(heard)}, a few times. If it answers sometimes, replies are being lost; ` +
+      `if always, ${always}; if never, it has left.` };
+}

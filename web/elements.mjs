@@ -1,0 +1,35 @@
+/** Elements of the page. */
+
+/** @typedef {Node | string | (Node | string)[]} Content */
+
+/**
+ * An element with attributes and children, whose texts need no escaping.
+ * @param {string} tag
+ * @param {Record<string, string>} attributes
+ * @param {...Content} content
+ */
+export function el(tag, attributes = {}, ...content) {
+  const made = document.createElement(tag);
+  for (const [name, value] of Object.entries(attributes)) made.setAttribute(name, value);
+  made.append(...content.flat());
+  return made;
+}
+
+/**
+ * A button that leads to a line.
+ * @param {number} line
+ * @param {string} [words]
+ */
+export function toLine(line, words = `line ${line}`) {
+  return el("button", { type: "button", class: "to-line", "data-line": String(line) }, words);
+}
+
+/**
+ * A part with a heading, folded or not.
+ * @param {string} heading
+ * @param {boolean} open
+ * @param {...Content} content
+ */
+export function folded(heading, open, ...content) {
+  return el("details", open ? { open: "" } : {}, el("summary", {}, el("h2", {}, heading)), ...content);
+}

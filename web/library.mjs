@@ -1,0 +1,348 @@
+/**
+ * The library's calls, over its WebAssembly module: for browsers and for node.
+ *
+ * The module was compiled for addresses of 64 bits, so sizes and addresses are passed as BigInt. include/vicinity.h says what
+ * each call does, and has the numbers of kinds, faults and findings.
+ */
+
+import { FOUND } from "./numbers.mjs";
+
+/**
+ * @typedef {Object} Answer
+ * @property {number} kind
+ * @property {number} status 0 to 3
+ * @property {number} count how many UIDs are listed
+ * @property {number} line from 1
+ * @property {number} fault
+ * @property {number} maskLen
+ * @property {bigint} maskValue
+ * @property {bigint} uid
+ * @property {string} text the line that `vicinity check` prints, with its LF
+ */
+/** @typedef {{kind: number, line: number, maskLen: number, maskValue: bigint, uid: bigint}} Finding */
+/** @typedef {{fault: number, len: number, value: bigint}} Mask */
+/** @typedef {{fault: number, link: number, slots: number, maskLen: number, maskValue: bigint, uid: bigint}} Request */
+/** @typedef {{fault: number, flags: number, dsfid: number, uid: bigint}} Reply */
+/** @typedef {(...words: (number | bigint)[]) => number | bigint} Call */
+/** @typedef {(bytes: number) => number} Take reserves bytes until the call has ended, and says where */
+
+const INTERFACE = 1, NO_ANSWER = 4, FIRST_ROOM = 64, MOST_BITS = 64;
+/** The sizes of the header's structs, in bytes, and where the text of an answer begins. */
+const ANSWER = 104, TEXT = 40, FINDING = 32, MASK = 16, UID = 8, REQUEST = 32, REPLY = 16, FRAME = 24, NAME = 32, NUMBER = 8;
+const DECODER = new TextDecoder();
+const ENCODER = new TextEncoder();
+
+/** A log with so many bytes for each of the elements that a call lists is judged once: the first buffer has room for these. */
+const BYTES_FOR_EACH = 32;
+
+/** @param {Uint8Array | string} text */
+const roomFor = (text) => FIRST_ROOM + Math.floor(text.length / BYTES_FOR_EACH);
+
+/** Memory was refused, so there is no answer. */
+export class OutOfMemory extends Error {
+  constructor() { super("out of memory"); }
+}
+
+export class Library {
+  /** @type {Record<string, Call>} */
+  #calls;
+  /** @type {WebAssembly.Memory} */
+  #memory;
+  #broken = false;
+
+  /** @param {WebAssembly.Instance} instance */
+  constructor(instance) {
+    this.#calls = /** @type {any} */ (instance.exports);
+    this.#memory = /** @type {any} */ (instance.exports).memory;
+    if (this.#calls.vicinity_interface() !== INTERFACE) throw new Error("the module is another library");
+  }
+
+  /**
+   * Over the bytes of the module.
+   * @param {BufferSource} bytes
+   */
+  static async of(bytes) {
+    return new Library((await WebAssembly.instantiate(bytes)).instance);
+  }
+
+  /** How much memory it has taken. */
+  get memoryBytes() { return this.#memory.buffer.byteLength; }
+
+  /** The library's version, as in the header. */
+  get version() { return Number(this.#calls.vicinity_version()); }
+
+  get #bytes() { return new Uint8Array(this.#memory.buffer); }
+
+  get #view() { return new DataView(this.#memory.buffer); }
+
+  /**
+   * Does something with bytes of the module's memory that are given back at the end. What has trapped left its memory half
+   * written, so nothing is called after that.
+   * @template T
+   * @param {(take: Take) => T} work
+   * @returns {T}
+   */
+  #within(work) {
+    if (this.#broken) throw new Error("the module has failed: load it again");
+    /** @type {bigint[]} */
+    const taken = [];
+    try {
+      const result = work((bytes) => {
+        const at = /** @type {bigint} */ (this.#calls.vicinity_allocate(BigInt(Math.max(bytes, 1))));
+        if (at === 0n) throw new OutOfMemory();
+        taken.push(at);
+        return Number(at);
+      });
+      return result;
+    } catch (error) {
+      this.#broken = error instanceof WebAssembly.RuntimeError || error instanceof RangeError;
+      throw error;
+    } finally {
+      if (!this.#broken) for (const at of taken) this.#calls.vicinity_free(at);
+    }
+  }
+
+  /**
+   * Sizes and addresses are given as numbers, and passed as BigInt.
+   * @param {string} name
+   * @param {number[]} words
+   */
+  #call(name, ...words) {
+    return Number(this.#calls[`vicinity_${name}`](...words.map(BigInt)));
+  }
+
+  /**
+   * @param {Take} take
+   * @param {Uint8Array | string} text
+   * @returns {[number, number]} where it is, and its length
+   */
+  #put(take, text) {
+    const bytes = typeof text === "string" ? ENCODER.encode(text) : text;
+    const at = take(bytes.length);
+    this.#bytes.set(bytes, at);
+    return [at, bytes.length];
+  }
+
+  /**
+   * @param {Take} take
+   * @param {ArrayLike<bigint>} uids
+   * @returns {[number, number]}
+   */
+  #putUids(take, uids) {
+    const at = take(UID * uids.length), view = this.#view;
+    for (let i = 0; i < uids.length; i++) view.setBigUint64(at + UID * i, uids[i], true);
+    return [at, uids.length];
+  }
+
+  /**
+   * @param {number} at
+   * @returns {Answer}
+   */
+  #answer(at) {
+    const view = this.#view, text = this.#bytes.slice(at + TEXT, at + ANSWER), end = text.indexOf(0);
+    const [kind, status, count, line, fault, maskLen] = [0, 1, 2, 3, 4, 5].map((i) => view.getUint32(at + 4 * i, true));
+    if (status === NO_ANSWER) throw new OutOfMemory();
+    return { kind, status, count, line, fault, maskLen, maskValue: view.getBigUint64(at + 24, true),
+      uid: view.getBigUint64(at + 32, true), text: DECODER.decode(text.subarray(0, end < 0 ? text.length : end)) };
+  }
+
+  /**
+   * Makes a call that lists elements of some size, with a buffer that is large enough, and reads each.
+   * @template T
+   * @param {string} name
+   * @param {(take: Take) => number[]} given what is passed before the answer
+   * @param {number} size
+   * @param {(view: DataView, at: number) => T} read
+   * @param {number} room how many elements the first buffer has
+   * @returns {{answer: Answer, list: T[]}}
+   */
+  #listed(name, given, size, read, room = FIRST_ROOM) {
+    return this.#within((take) => {
+      const words = given(take), answer = take(ANSWER), needed = take(NUMBER);
+      for (;;) {
+        const at = take(room * size);
+        this.#call(name, ...words, answer, at, room, needed);
+        const view = this.#view, count = Number(view.getBigUint64(needed, true));
+        const told = this.#answer(answer);
+        if (count <= room) {
+          /** @type {T[]} */
+          const list = new Array(count);
+          for (let i = 0; i < count; i++) list[i] = read(view, at + i * size);
+          return { answer: told, list };
+        }
+        room = count;
+      }
+    });
+  }
+
+  /**
+   * @param {Uint8Array | string} text
+   * @returns {Answer}
+   */
+  check(text) {
+    return this.#within((take) => {
+      const given = this.#put(take, text), answer = take(ANSWER);
+      this.#call("check", ...given, answer);
+      return this.#answer(answer);
+    });
+  }
+
+  /** @param {Uint8Array | string} text */
+  explain(text) { return this.#listed("explain", (take) => this.#put(take, text), UID, uidAt, roomFor(text)); }
+
+  /**
+   * The answer, the first findings of each kind, how many of each there are, and all lines of a conflict.
+   * @param {Uint8Array | string} text
+   * @param {number} most how many of a kind are listed
+   */
+  report(text, most = Infinity) {
+    const counts = /** @type {number[]} */ (new Array(FOUND.SILENCED_BY + 1).fill(0));
+    /** @type {number[]} */
+    const conflict = [];
+    const { answer, list } = this.#listed("report", (take) => this.#put(take, text), FINDING, (view, at) => {
+      const found = view.getUint32(at, true);
+      if (found === FOUND.CONFLICT) conflict.push(view.getUint32(at + 4, true));
+      return counts[found]++ < most ? findingAt(view, at) : null;
+    }, roomFor(text));
+    return { answer, counts, conflict, list: /** @type {Finding[]} */ (list.filter((it) => it)) };
+  }
+
+  /** @param {Uint8Array | string} text */
+  certain(text) { return this.#listed("certain", (take) => this.#put(take, text), UID, uidAt, roomFor(text)); }
+
+  /**
+   * The answer, the first open masks, and how many there are of each length.
+   * @param {Uint8Array | string} text
+   * @param {number} most how many are listed
+   */
+  openMasks(text, most = Infinity) {
+    const lengths = /** @type {number[]} */ (new Array(MOST_BITS + 1).fill(0));
+    let count = 0;
+    const { answer, list } = this.#listed("open_masks", (take) => this.#put(take, text), MASK, (view, at) => {
+      lengths[view.getUint32(at + 4, true)]++;
+      return count++ < most ? maskAt(view, at) : null;
+    }, roomFor(text));
+    return { answer, count, lengths, list: /** @type {Mask[]} */ (list.filter((it) => it)) };
+  }
+
+  /**
+   * @param {ArrayLike<bigint>} expected
+   * @param {ArrayLike<bigint>} certain
+   * @param {Mask[]} masks
+   */
+  reconcile(expected, certain, masks) {
+    return this.#listed("reconcile", (take) => {
+      const given = [...this.#putUids(take, expected), ...this.#putUids(take, certain)];
+      const at = take(MASK * masks.length), view = this.#view;
+      masks.forEach((mask, i) => {
+        view.setUint32(at + MASK * i, mask.fault, true);
+        view.setUint32(at + MASK * i + 4, mask.len, true);
+        view.setBigUint64(at + MASK * i + 8, mask.value, true);
+      });
+      return [...given, at, masks.length];
+    }, FINDING, findingAt);
+  }
+
+  /**
+   * The text that is written, and its status: 0 for a log, 3 for a refusal.
+   * @param {Uint8Array | string} text
+   * @returns {{status: number, written: Uint8Array}}
+   */
+  simulate(text) {
+    return this.#within((take) => {
+      const given = this.#put(take, text), needed = take(NUMBER);
+      for (let room = FIRST_ROOM + 4 * given[1]; ;) {
+        const at = take(room), status = this.#call("simulate", ...given, at, room, needed);
+        const count = Number(this.#view.getBigUint64(needed, true));
+        if (status === NO_ANSWER) throw new OutOfMemory();
+        if (count <= room) return { status, written: this.#bytes.slice(at, at + count) };
+        room = count;
+      }
+    });
+  }
+
+  /**
+   * The fields of a request's frame, or its first fault.
+   * @param {Uint8Array} frame
+   * @returns {Request}
+   */
+  readRequest(frame) {
+    return this.#within((take) => {
+      const given = this.#put(take, frame), at = take(REQUEST);
+      this.#call("read_request", ...given, at);
+      const view = this.#view, [fault, link, slots, maskLen] = [0, 1, 2, 3].map((i) => view.getUint32(at + 4 * i, true));
+      return { fault, link, slots, maskLen, maskValue: view.getBigUint64(at + 16, true), uid: view.getBigUint64(at + 24, true) };
+    });
+  }
+
+  /**
+   * The fields of a reply's frame, or its first fault.
+   * @param {Uint8Array} frame
+   * @returns {Reply}
+   */
+  readReply(frame) {
+    return this.#within((take) => {
+      const given = this.#put(take, frame), at = take(REPLY);
+      this.#call("read_response", ...given, at);
+      const view = this.#view;
+      return { fault: view.getUint32(at, true), flags: view.getUint16(at + 4, true), dsfid: view.getUint16(at + 6, true),
+        uid: view.getBigUint64(at + 8, true) };
+    });
+  }
+
+  /**
+   * The frame of an Inventory request; empty if there is none.
+   * @param {number} slots
+   * @param {number} maskLen
+   * @param {bigint} maskValue
+   * @param {number} link 2: one subcarrier, high data rate
+   * @returns {Uint8Array}
+   */
+  writeInventory(slots, maskLen, maskValue, link = 2) {
+    return this.#within((take) => {
+      const at = take(FRAME);
+      this.#calls.vicinity_write_inventory(link, slots, maskLen, maskValue, BigInt(at));
+      return this.#bytes.slice(at + 8, at + 8 + this.#view.getUint32(at + 4, true));
+    });
+  }
+
+  /**
+   * The mask of a slot, counted from 0.
+   * @param {Request} request
+   * @param {number} slot
+   * @returns {Mask}
+   */
+  slotMask(request, slot) {
+    return this.#within((take) => {
+      const at = take(MASK);
+      this.#calls.vicinity_slot_mask(request.slots, request.maskLen, request.maskValue, slot, BigInt(at));
+      return maskAt(this.#view, at);
+    });
+  }
+
+  /**
+   * The name of a fault; empty if it has none.
+   * @param {number} fault
+   * @returns {string}
+   */
+  faultName(fault) {
+    return this.#within((take) => {
+      const at = take(NAME), length = Number(this.#calls.vicinity_fault_name(fault, BigInt(at)));
+      return DECODER.decode(this.#bytes.slice(at + 4, at + 4 + length));
+    });
+  }
+}
+
+/** @type {(view: DataView, at: number) => bigint} */
+function uidAt(view, at) { return view.getBigUint64(at, true); }
+
+/** @type {(view: DataView, at: number) => Mask} */
+function maskAt(view, at) {
+  return { fault: view.getUint32(at, true), len: view.getUint32(at + 4, true), value: view.getBigUint64(at + 8, true) };
+}
+
+/** @type {(view: DataView, at: number) => Finding} */
+function findingAt(view, at) {
+  return { kind: view.getUint32(at, true), line: view.getUint32(at + 4, true), maskLen: view.getUint32(at + 8, true),
+    maskValue: view.getBigUint64(at + 16, true), uid: view.getBigUint64(at + 24, true) };
+}

@@ -1,0 +1,41 @@
+/** What a person is told of a text that isn't a log. */
+import { advice } from "./faults.mjs";
+
+/** @typedef {import("./judge.mjs").Told} Told */
+
+const COUNT = "Count again, to a new log. If that is refused too, no count will help: send the log and this page (printed as PDF) " +
+  "to whoever maintains the software that writes it.";
+const COPY = "The file may have been cut off, by a full disk or because it was copied while it was written: copy it again.";
+const NO_LIST = "Open the log, not a list: a list of UIDs isn't enough.";
+const ANOTHER = "Choose another file, or count again.";
+/** How a text begins that somebody meant as a log: with a header, or with a line of it. */
+const OF_A_LOG = /^(vicinity-log|[TRU] [0-9A-F]|[SCDF]$|#)/i;
+/** What an editor adds to it, or a coding makes of it. */
+const CODING = /[\0\uFEFF\uFFFD]/g;
+
+/** @param {Told} told */
+export function refused(told) {
+  const { line } = told.answer, { wrong, fix } = advice(told.answer.fault, told.faulty), last = line === told.counts.lines && line > 1;
+  if (told.counts.lines === 0) return { headline: "The text is empty.", shelf: [ANOTHER], causes: [] };
+  const foreign = line === 1 && !OF_A_LOG.test(told.faulty.replace(CODING, ""));
+  return { headline: `This text isn't a log. Line ${line}: ${wrong}.`,
+    shelf: foreign ? [NO_LIST] : last ? [COPY, COUNT] : [COUNT],
+    causes: [...last && !told.ended ? ["The file may end in the middle of this line: it was cut off, or the software was still writing."] : [],
+      ...line === 1 ? ofFirst(told.faulty, foreign) : [], ...foreign && isTable(told.faulty) ? [] : [fix]] };
+}
+
+/** @param {string} text */
+const isTable = (text) => /[,;\t]/.test(text);
+
+/**
+ * @param {string} text
+ * @param {boolean} foreign
+ */
+function ofFirst(text, foreign) {
+  const causes = [];
+  if (text.startsWith("\uFEFF")) causes.push("The file begins with a byte order mark: save it as UTF-8 without one.");
+  if (text.includes("\0")) causes.push("The file seems to be UTF-16: save it as ASCII or UTF-8.");
+  if (text.includes("\r")) causes.push("The lines end with CR alone: write LF, or CR LF.");
+  if (foreign && isTable(text)) causes.push("This seems to be a table (CSV), not the log of a reader.");
+  return causes;
+}

@@ -1,0 +1,120 @@
+/** Draws the rounds of a log: a row for each, a cell for each slot. */
+import { el, toLine } from "./elements.mjs";
+import { count, ending, hex } from "./words.mjs";
+
+/** @typedef {import("./judge.mjs").Told} Told */
+/** @typedef {import("./drawn.mjs").Gap} Gap */
+/** @typedef {import("./log.mjs").Row} Row */
+/** @typedef {import("./log.mjs").Round} Round */
+/** @typedef {import("./log.mjs").Slot} Slot */
+
+/** What a slot held: the sign of its cell, and words. */
+const LOOKS = {
+  silent: { sign: "·", words: "no tag answered" }, heard: { sign: "", words: "one tag was heard" },
+  collision: { sign: "×", words: "two or more tags answered" }, garbled: { sign: "?", words: "something answered that couldn't be read" },
+  unreached: { sign: "", words: "not reached" }, unknown: { sign: "", words: "" },
+};
+const SLOTS = 16;
+
+/** @param {Told} told */
+export function rounds(told) {
+  if (!told.rows.length) return [];
+  const numbers = Array.from({ length: SLOTS }, (_, slot) => el("th", { scope: "col" }, slot.toString(16).toUpperCase()));
+  const head = el("tr", {}, el("th", { scope: "col" }, "lines"), el("th", { scope: "col" }, "asked"), ...numbers);
+  const ringed = new Set(told.ringed), named = new Set(told.named);
+  const body = told.rows.map((row) => rowOf(row, ringed, named));
+  const table = el("table", { class: "rounds" }, el("caption", {}, "The rounds of the session"), el("thead", {}, head), el("tbody", {}, body));
+  return [el("section", {}, el("h2", {}, "The rounds"), legend(told),
+    el("div", { class: "wide", tabindex: "0", role: "group", "aria-label": "The rounds, scrolled sideways" }, table))];
+}
+
+/**
+ * @param {Row | Gap} row
+ * @param {Set<string>} ringed
+ * @param {Set<number>} named
+ */
+function rowOf(row, ringed, named) {
+  if (row.kind === "gap") return wide("⋮", count(row.rows, "more request"), 0, false);
+  if (row.kind === "cycle") return wide(String(row.line), "field off and on", row.line, named.has(row.line));
+  if (row.kind === "quiet") return wide(String(row.line), `Stay Quiet ${hex(row.uid)}`, row.line, named.has(row.line));
+  const asked = { fault: 0, len: row.request.maskLen, value: row.request.maskValue };
+  const cells = row.slots.map((slot) => cell(row, slot, ringed.has(`${row.line}:${slot.number}`) || named.has(slot.line)));
+  const span = row.end > row.line ? `${row.line}–${row.end}` : String(row.line);
+  return el("tr", {}, el("th", { scope: "row" }, toLine(row.line, span),
+    el("span", { class: "unseen" }, summary(row))), el("td", { class: "mask" }, asked.len ? `..${tail(asked)}` : "all"), ...cells);
+}
+
+/**
+ * The low bits of a mask as a number's last digits; where they are no whole digits, with their number.
+ * @param {import("./library.mjs").Mask} mask
+ */
+function tail(mask) {
+  const digits = hex(mask.value, Math.ceil(mask.len / 4));
+  return mask.len % 4 ? `${digits} (${count(mask.len, "bit")})` : digits;
+}
+
+/**
+ * @param {string} head
+ * @param {string} words
+ * @param {number} line
+ * @param {boolean} named
+ */
+function wide(head, words, line, named) {
+  const attributes = /** @type {Record<string, string>} */ ({ colspan: String(SLOTS + 1), class: named ? "say named" : "say" });
+  if (line) attributes["data-line"] = String(line);
+  return el("tr", {}, el("th", { scope: "row" }, head), el("td", attributes, words, ...marked(named)));
+}
+
+/**
+ * What a round held, in one sentence, for who doesn't see its cells.
+ * @param {Round} round
+ */
+function summary(round) {
+  const number = (/** @type {string} */ reading) => round.slots.filter((slot) => slot.reading === reading).length;
+  const parts = [[number("heard"), "heard"], [number("collision"), "with collisions"], [number("garbled"), "unreadable"],
+    [number("silent"), "silent"], [number("unreached"), "not reached"]];
+  return ` ${count(round.slots.length, "slot")}: ${parts.filter(([many]) => many).map(([many, what]) => `${many} ${what}`).join(", ")}`;
+}
+
+/**
+ * @param {Round} round
+ * @param {Slot} slot
+ * @param {boolean} named
+ */
+function cell(round, slot, named) {
+  const look = LOOKS[slot.reading], uid = slot.uid;
+  const open = BigInt(Math.min(Math.floor(round.request.maskLen / 4) * 4, 56));
+  const one = round.slots.length === 1;
+  const sign = uid === null ? look.sign : one ? hex(uid) : hex(BigInt.asUintN(8, uid >> open), 2);
+  const title = [slot.line ? `line ${slot.line}` : "", `slot ${slot.number.toString(16).toUpperCase()}`, ending(slot.mask),
+    look.words + (uid === null ? "" : ` ${hex(uid)}`), slot.silenced ? `silenced in line ${slot.silenced}` : ""].filter((it) => it).join(", ");
+  const attributes = /** @type {Record<string, string>} */ ({ title,
+    class: `${slot.reading}${slot.silenced ? " quiet" : ""}${named ? " named" : ""}` });
+  if (one) attributes.colspan = String(SLOTS);
+  attributes["data-line"] = String(slot.line || round.line);
+  return el("td", attributes, sign || "\u00A0", ...marked(named));
+}
+
+/**
+ * What a ring says, for who doesn't see it.
+ * @param {boolean} named
+ */
+function marked(named) {
+  return named ? [el("span", { class: "unseen" }, " (the answer rests on it)")] : [];
+}
+
+/**
+ * What the signs mean that are drawn.
+ * @param {Told} told
+ */
+function legend(told) {
+  const drawn = new Set(told.rows.flatMap((row) => row.kind !== "round" ? [] : row.slots.flatMap((slot) => slot.silenced
+    ? ["heard quiet"] : [slot.reading])));
+  const signs = [["silent", "·", "nobody"], ["heard", "A1", "one tag"], ["heard quiet", "A1", "silenced afterwards"],
+    ["collision", "×", "two or more"], ["garbled", "?", "unreadable"], ["unreached", "\u00A0", "not reached"],
+    ["silent named", "·", "the answer rests on it"]];
+  if (told.ringed.length || told.named.length) drawn.add("silent named");
+  const digits = [...drawn].some((look) => look.startsWith("heard")) ? [el("li", {}, "A1: the two digits of the UID before those asked")] : [];
+  return el("ul", { class: "legend" }, signs.filter(([look]) => drawn.has(look))
+    .map(([look, sign, words]) => el("li", {}, el("span", { class: `cell ${look}` }, sign), ` ${words}`)), digits);
+}

@@ -1,0 +1,181 @@
+/** What a person is told of a log, in sentences: the answer, what to do at the shelf, and what the reader's maintainer needs. */
+import { contradiction } from "./contradiction.mjs";
+import { FOUND, KIND } from "./numbers.mjs";
+import { refused } from "./refused.mjs";
+import { UID_BITS, count, ending, lines, listing, short } from "./words.mjs";
+
+/** @typedef {import("./judge.mjs").Told} Told */
+/** @typedef {import("./causes.mjs").Cause} Cause */
+/** @typedef {"yes" | "no" | "read" | "broken" | "refused" | "plain"} Look */
+/** @typedef {{name: string, value: string, look: Look}} Light */
+/**
+ * @typedef {Object} Said
+ * @property {Look} look
+ * @property {string} sign
+ * @property {string} headline
+ * @property {Light[]} lights
+ * @property {string[]} shelf what to do at the shelf
+ * @property {string} why the first cause, for the shelf; empty if there is none
+ * @property {string} lead what the causes are
+ * @property {string[]} causes why it came so, for whoever maintains the reader
+ * @property {string} test what tells the causes apart
+ */
+
+const AGAIN = "Run the inventory again, to its end.";
+const NEW_LOG = "Count again, in a new log: with less interference, tags that lie still and not on top of each other, and no " +
+  "second reader nearby.";
+const CYCLE = "Switch the reader's field off and on, and count again.";
+const LOOK = "Or look whether the item is there: the answer speaks only of what the log shows.";
+const EMPTY = "If items should be here: check the antenna, switch the reader's field off and on, and count again.";
+const COMPARE = "Compare these tags with what should be here.";
+const MISSING = ["If the list is what was expected here: look for the listed tags that can't be here. If an item is in plain sight, " +
+  "its tag is broken or covered: move it, and count again.",
+  "If the list is what the reader found: a tag left, or the list is that of another session. Count again."];
+const STRANGERS = ["If the list is what was expected here: the items that aren't on it belong elsewhere, or the list lacks them.",
+  "If the list is what the reader found: its software left out tags that were here. Count again."];
+const STAYS = "If the answer stays so, send the log and this page (printed as PDF) to whoever maintains the reader.";
+/** For whoever maintains it, of tags that can't be here, and of those that aren't listed. */
+const NOT_HEARD = "If a tag that can't be here answers when no other tag is near: the line that rules it out tells of a slot in which " +
+  "it should have been heard.";
+const NOT_CLAIMED = "If the list is what the reader found: its software has to write a U line for each UID that it heard.";
+
+/** How many rounds are named as causes. */
+const MOST_CAUSES = 24;
+
+/** What no program can check. If one of these fails, an answer may be wrong. */
+export const GRANTED = [
+  "Each tag has power, hears the reader, and is heard: none is shielded, on metal, at a bad angle, stacked on another, or at " +
+    "the edge of the field. A tag that never answers is in no log.",
+  "The log is true: it says what was sent and what each logged slot held, in the order in which it happened.",
+  "Nothing else was sent that changes which tags answer, by this reader or another: no Select, no Reset to Ready, no quiet " +
+    "command of a manufacturer.",
+  "No strong reply hid a weaker one, and every reply came from a tag.",
+  "The tags conform to ISO/IEC 15693-3, and no two have the same UID.",
+  "No tag came or went during the log, all were ready when it began, and the field stayed on, except where the log says that " +
+    "it was switched off and on.",
+  "Only one reader powered the tags.",
+];
+
+/**
+ * @param {Told} told
+ * @returns {Said}
+ */
+export function say(told) {
+  const none = { lights: [], why: "", lead: "", test: "" };
+  if (told.answer.kind === KIND.REFUSED) return { ...none, look: "refused", sign: "?", ...refused(told) };
+  if (!told.conflict) return possible(told);
+  const { sentence: found, causes, test } = contradiction(told.conflict);
+  return { ...none, look: "broken", sign: "≠", headline: `The log contradicts itself: ${found}`, shelf: [NEW_LOG, STAYS],
+    lead: "Mostly it is one of these:", causes, test };
+}
+
+/**
+ * @param {Told} told
+ * @returns {Said}
+ */
+function possible(told) {
+  const { found, counts, answer } = told, ended = told.openCount === 0, hasList = counts.listed > 0;
+  const whole = answer.kind === KIND.COMPLETE && hasList, only = ended && !hasList;
+  const differs = found[FOUND.ABSENT] || found[FOUND.UNLISTED], why = whyOpen(told);
+  const list = !hasList ? "none given" : whole ? "matches" : differs ? "differs" : "not known yet";
+  const causes = [...why, ...hasList && found[FOUND.ABSENT] ? [NOT_HEARD] : [], ...hasList && found[FOUND.UNLISTED] ? [NOT_CLAIMED] : []];
+  return { look: whole ? "yes" : only ? "read" : "no", sign: whole ? "✓" : only ? "i" : "!", headline: headline(told),
+    lights: [{ name: "Search finished", value: ended ? "yes" : "no", look: ended ? "yes" : "no" },
+      { name: "List", value: list, look: whole ? "yes" : list === "differs" ? "no" : "plain" }],
+    shelf: steps(told), why: why[0] ?? "", lead: "", causes, test: "" };
+}
+
+/**
+ * What to do at the shelf.
+ * @param {Told} told
+ */
+function steps({ answer, found, counts, open, openCount }) {
+  if (answer.kind === KIND.COMPLETE) return [counts.listed ? "Nothing to do." : EMPTY];
+  if (!openCount && !counts.listed) return [COMPARE];
+  const steps = [];
+  if (answer.kind === KIND.DOUBTFUL) steps.push(CYCLE, LOOK);
+  else if (openCount) steps.push(open.every((mask) => mask.len >= UID_BITS) ? CYCLE : AGAIN);
+  if (found[FOUND.ABSENT]) steps.push(...MISSING);
+  if (found[FOUND.UNLISTED] && counts.listed) steps.push(...STRANGERS);
+  return [...steps, STAYS];
+}
+
+/** @param {Told} told */
+function headline(told) {
+  const { found, counts, certain, answer, openCount } = told, doubtful = found[FOUND.DOUBTFUL], parts = [];
+  if (answer.kind === KIND.COMPLETE) return whole(answer.count);
+  const quiet = openCount > 0 && told.silenced.length === openCount;
+  if (found[FOUND.ABSENT]) parts.push(`${count(found[FOUND.ABSENT], "listed tag")} can't be here`);
+  if (counts.listed && found[FOUND.UNLISTED]) parts.push(count(found[FOUND.UNLISTED], "tag here isn't listed", "tags here aren't listed"));
+  if (certain && (openCount || !counts.listed)) parts.push(`${count(certain, "tag")} proved`);
+  if (quiet) parts.push(unproved(openCount, doubtful));
+  else if (doubtful) parts.push(`${count(doubtful, "listed tag")} not proved`);
+  const said = quiet ? "" : openCount ? `Not finished: ${settled(told.share)} of all UIDs settled.` : "Search finished.";
+  const without = counts.listed ? "" : "The log has no list to compare with.";
+  return [said, sentence(parts), without].filter((it) => it).join(" ");
+}
+
+/**
+ * Of tags that are open only since they were silenced before they were heard.
+ * @param {number} number
+ * @param {number} listed
+ */
+function unproved(number, listed) {
+  const which = number > listed ? count(number, "tag may be here or not", "tags may be here or not")
+    : count(number, "listed tag isn't proved", "listed tags aren't proved");
+  return `${which}: ${number === 1 ? "it was silenced before it was" : "they were silenced before they were"} heard`;
+}
+
+/** @param {string[]} parts */
+function sentence(parts) {
+  const said = listing(parts);
+  return said && `${said[0].toUpperCase()}${said.slice(1)}.`;
+}
+
+/** @param {number} number */
+function whole(number) {
+  if (number === 0) return "The field is empty, and nothing is listed.";
+  return number === 1 ? "The one listed tag is here, and no other." : `All ${count(number, "listed tag")} are here, and no others.`;
+}
+
+/**
+ * The share of the UIDs that are settled, never rounded up to all.
+ * @param {number} open
+ */
+export function settled(open) {
+  const percent = Math.floor((1 - open) * 100);
+  return percent >= 99 ? "over 99 %" : `${percent} %`;
+}
+
+/**
+ * Why UIDs are open.
+ * @param {Told} told
+ */
+function whyOpen({ causes, silenced, neverAsked, counts }) {
+  const [first] = silenced, numbers = silenced.map((it) => it.line);
+  const why = causes.slice(0, MOST_CAUSES).map(because);
+  if (causes.length > MOST_CAUSES) why.push("And slots of more rounds, before these.");
+  if (neverAsked) why.push(counts.rounds ? "Some UIDs were asked by no request, or only after they were silenced." : "No request asked for any tag.");
+  if (silenced.length === 1) why.push(`Line ${first.line} silenced ${short(first.uid)} before it was heard.`);
+  if (silenced.length > 1) {
+    const said = lines(numbers);
+    why.push(`${said[0].toUpperCase()}${said.slice(1)} silenced ${count(silenced.length, "tag")} before they were heard.`);
+  }
+  return why;
+}
+
+/**
+ * Why slots of a round left UIDs open.
+ * @param {Cause} cause
+ */
+function because(cause) {
+  const slots = cause.slots.map((slot) => slot.toString(16).toUpperCase()), asks = cause.asked.len ? ending(cause.asked) : "all UIDs";
+  const round = `round of line ${cause.round}, which asked ${asks},`;
+  if (cause.reading === "unreached") {
+    if (cause.slots[0] === 0) return `Of the ${round} no slot was logged.`;
+    const which = slots.length > 2 ? `${slots[0]} to ${slots[slots.length - 1]}` : listing(slots);
+    return `The ${round} ended before slot${slots.length > 1 ? "s" : ""} ${which}.`;
+  }
+  return `In slot${slots.length > 1 ? "s" : ""} ${listing(slots)} of the ${round} ` + (cause.reading === "collision" ? "two or more tags answered"
+    : "something answered that couldn't be read") + ", and not all of these UIDs were asked again.";
+}

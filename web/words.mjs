@@ -1,0 +1,88 @@
+/** Numbers, UIDs, masks and lines in words. */
+
+/** @typedef {import("./library.mjs").Mask} Mask */
+
+/** The bits in which UIDs differ; the others are those of E0. */
+export const UID_BITS = 56;
+const E0 = 0xE0n << BigInt(UID_BITS);
+
+/**
+ * The UID that lies in a mask of at least these bits, which fixes it.
+ * @param {Mask} mask
+ */
+export const uidOf = (mask) => mask.value | E0;
+
+/**
+ * 1 tag, 2,000 tags.
+ * @param {number} number
+ * @param {string} one
+ * @param {string} [many]
+ */
+export function count(number, one, many = `${one}s`) {
+  return `${number.toLocaleString("en")} ${number === 1 ? one : many}`;
+}
+
+/**
+ * a, b and c.
+ * @param {string[]} items
+ * @param {string} [last]
+ */
+export function listing(items, last = "and") {
+  return items.length < 2 ? items.join("") : `${items.slice(0, -1).join(", ")} ${last} ${items[items.length - 1]}`;
+}
+
+/**
+ * @param {bigint} value
+ * @param {number} [digits]
+ */
+export function hex(value, digits = 16) {
+  return value.toString(16).toUpperCase().padStart(digits, "0");
+}
+
+/**
+ * The last digits of a UID: four, or as many as tell it from others.
+ * @param {bigint} uid
+ * @param {bigint[]} [others]
+ */
+export function short(uid, others = []) {
+  const digits = [4, 6, 8, 12].find((it) => others.every((other) => other === uid || BigInt.asUintN(4 * it, other ^ uid)));
+  return digits ? `..${hex(uid).slice(-digits)}` : hex(uid);
+}
+
+/**
+ * Which UIDs are in a mask: any UID; UIDs ending in 61 or E1; E0040100000000A1.
+ * @param {Mask} mask
+ */
+export function ending(mask) {
+  const digits = Math.floor(mask.len / 4), bits = mask.len % 4, low = digits ? hex(BigInt.asUintN(4 * digits, mask.value), digits) : "";
+  if (mask.len === 0) return "any UID";
+  if (mask.len >= UID_BITS) return hex(uidOf(mask));
+  if (bits === 0) return `UIDs ending in ${low}`;
+  const top = Number(mask.value >> BigInt(4 * digits));
+  if (bits === 1) return `UIDs ending in an ${top ? "odd" : "even"} digit${low && ` before ${low}`}`;
+  const heads = [...Array(16).keys()].filter((head) => head % (1 << bits) === top);
+  return `UIDs ending in ${listing(heads.map((head) => head.toString(16).toUpperCase() + low), "or")}`;
+}
+
+/**
+ * What isn't seen of a line, and makes it no line of a log.
+ * @type {Record<string, string>}
+ */
+const UNSEEN = { "\0": "NUL", "\t": "TAB", "\r": "CR", "\uFEFF": "BOM", " ": "space" };
+
+/**
+ * A line with a sign for what isn't seen of it.
+ * @param {string} line
+ */
+export function visible(line) {
+  return line.replace(/[\0\t\r\uFEFF]| +$/g, (it) => [...it].map((one) => `‹${UNSEEN[one]}›`).join(""));
+}
+
+/**
+ * line 4; lines 3, 6 and 8; 600 lines from 5 to 900.
+ * @param {number[]} numbers
+ */
+export function lines(numbers) {
+  if (numbers.length > 4) return `${count(numbers.length, "line")} from ${numbers[0]} to ${numbers[numbers.length - 1]}`;
+  return `line${numbers.length > 1 ? "s" : ""} ${listing(numbers.map(String))}`;
+}
