@@ -183,8 +183,9 @@ def contradicted(rng):
 def judged(growths, refuse, text):
     """How often a log is judged, and whether it is impossible, from which line on."""
     times, _, answer = counted(growths, refuse, given=text.encode())
-    limit = MOST_JUDGINGS if answer.startswith("impossible") else 1
-    assert 0 < times <= limit, f"{answer} judged {times} times:\n{text[:2000]}"
+    # where the replies aren't borne out no set is made
+    fewest, most = (0, MOST_JUDGINGS) if answer.startswith("impossible") else (1, 1)
+    assert fewest <= times <= most, f"{answer} judged {times} times:\n{text[:2000]}"
     return answer
 
 

@@ -1,5 +1,5 @@
 -- Lines that tell of UIDs.
-use Rattle.vic_report.proofs.Words.{has, length, ◌≡◌, ℕ, List, true, Some, refl, sym, ap, ◌∙◌, subst, ⊎_elim, slice_get, and_parts, and_from, Entry, Collision, Garbled, Heard, LogLine, entries, answers_at, slots_of, is_open, Forces, ManyReplies, SomeReply, Reply, IsFound, MayAnswer, TellsOf, ShowsCertain, IsPossible, Found, answering, IsPossibleUid-iff, needs_two_or_one, forces_two_iff, forces_one_iff}
+use Rattle.vic_report.proofs.Words.{has, length, ◌≡◌, ℕ, List, true, Some, refl, sym, ap, ◌∙◌, subst, ⊎_elim, slice_get, and_parts, and_from, Entry, Collision, Garbled, Heard, LogLine, entries, answers_at, slots_of, is_open, Forces, ManyReplies, SomeReply, Reply, IsFound, MayAnswer, TellsOf, ShowsCertain, IsPossible, Answering, answering, IsPossibleUid-iff, needs_two_or_one, forces_two_iff, forces_one_iff}
 use Rattle.vic_report.proofs.Conflicts.{line_of}
 
 -- ---- what a line tells
@@ -30,7 +30,7 @@ abbrev pub Exactly : ℕ → List ℕ → ℕ → Type 0
 Exactly n us u = (length us ≡ n) × (has us u ≡ true)
 
 -- found where exactly as many are open, the slot tells of each
-pub found_shows : (lines : List LogLine) (f : Found) (l : LogLine) (u : ℕ) → IsPossible (entries lines) → IsFound (entries lines) f → slice_get lines f.at ≡ Some l → Exactly f.need f.uids.items u → ShowsCertain lines l.number u
+pub found_shows : (lines : List LogLine) (f : Answering) (l : LogLine) (u : ℕ) → IsPossible (entries lines) → IsFound (entries lines) f → slice_get lines f.at ≡ Some l → Exactly f.need f.uids.items u → ShowsCertain lines l.number u
 found_shows lines f l u p found k x =
     let es = entries lines in
     let i = found.0 in

@@ -37,9 +37,8 @@ pub use Rattle.vic_tree.specs.OpenSet.{SameUids, has_key, without_keys}
 pub use Rattle.vic_tree.specs.Ranges.{is_open_in}
 pub use Rattle.vic_tree.specs.declared.open_masks.OpenMasks.{OpenMasks}
 pub use Rattle.vic_verdict.proofs.Decide.{IsPossibleUid-iff}
-pub use Rattle.vic_verdict.proofs.UnreadSlots.{needs_two_or_one}
 pub use Rattle.vic_verdict.proofs.Differing.{AreFacts, AreListed, all_findings, doubtful_list, first_mask, log_facts, missing_least, missing_or_absent, none_unsettled, open_iff}
-pub use Rattle.vic_verdict.proofs.Entries.{entry_allows, forces_one_iff, forces_two_iff, open_step}
+pub use Rattle.vic_verdict.proofs.Entries.{entry_allows, forces_one_iff, forces_two_iff, needs_two_or_one, open_step}
 pub use Rattle.vic_verdict.proofs.Failing.{head_least, member_at, none_of, place_of, rising_order}
 pub use Rattle.vic_verdict.proofs.Possibility.{IsPossible-front}
 pub use Rattle.vic_verdict.proofs.Listing.{entry_at}
@@ -50,7 +49,7 @@ pub use Rattle.vic_verdict.specs.Places.{answering}
 pub use Rattle.vic_verdict.specs.Possible.{IsCertainUid, IsContradictedAt, IsPossible, IsPossibleUid}
 pub use Rattle.vic_verdict.specs.Rising.{IsFailing, IsListOf}
 pub use Rattle.vic_verdict.specs.Verdict.{IsAbsent, IsFirstMask, IsUnlisted, IsVerdict, NoSuch, entries_to}
-pub use Rattle.vic_verdict.specs.declared.unread_slots.Found.{Found}
+pub use Rattle.vic_walk.specs.declared.answers.Answering.{Answering}
 pub use Rattle.vic_verdict.specs.declared.judging.Verdict.TheVariants.{Complete, Impossible}
 pub use Rattle.vic_report.specs.Conflicts.{FitsLines, IsConflictAt, IsNoQuietReply, IsSilencedBefore, IsSilencedBy, IsSlotLine}
 pub use Rattle.vic_report.specs.Findings.{IsRuledOut, IsToldOf, MayAnswer, RulesOut, ShowsCertain, TellsOf, lacks_reply_of, uids_of}

@@ -20,7 +20,8 @@ use crate::shown::ShownUid;
 use std::alloc::{AllocError, Global};
 use vic_frame::Uid;
 use vic_log::{Entry, PackedLine};
-use vic_verdict::{Found, Met};
+use vic_verdict::Met;
+use vic_walk::Answering;
 
 /// For each of some UIDs that are certain by a possible log, a line that shows that it is there.
 /// If they come in rising order, one walk finds all of them.
@@ -86,7 +87,7 @@ fn push_reply(shown: &mut Vec<ShownUid>, line: &PackedLine) -> Result<(), AllocE
 fn shown_by_unread(
     alloc: Global,
     lines: &[PackedLine],
-    found: &[Found],
+    found: &[Answering],
 ) -> Result<Vec<ShownUid>, AllocError>
     requires possible { IsPossible (entries lines.now) }
     requires found { All (IsFound (entries lines.now)) found.now }
@@ -104,7 +105,7 @@ fn shown_by_unread(
 fn push_exact(
     shown: &mut Vec<ShownUid>,
     lines: &[PackedLine],
-    slot: &Found,
+    slot: &Answering,
 ) -> Result<(), AllocError>
     requires possible { IsPossible (entries lines.now) }
     requires found { IsFound (entries lines.now) slot.now }
@@ -119,7 +120,7 @@ fn push_exact(
 
 /// The line of a slot in which no more open UIDs answer than have to be there: it shows that each
 /// of them is there. None if more answer.
-fn exact_line(lines: &[PackedLine], slot: &Found) -> Option<u32>
+fn exact_line(lines: &[PackedLine], slot: &Answering) -> Option<u32>
     requires possible { IsPossible (entries lines.now) }
     requires found { IsFound (entries lines.now) slot.now }
     ensures shows { IfSome result (λ n. (u : ℕ) → has slot.now.uids.items u ≡ true
@@ -248,7 +249,7 @@ fn is_reply_of(line: &PackedLine, uid: Uid) -> bool
 }
 
 /// The line of a slot in which a UID answers, and no more open UIDs than have to be there.
-fn unread_line_of(lines: &[PackedLine], found: &[Found], uid: Uid) -> Option<u32>
+fn unread_line_of(lines: &[PackedLine], found: &[Answering], uid: Uid) -> Option<u32>
     requires possible { IsPossible (entries lines.now) }
     requires found { All (IsFound (entries lines.now)) found.now }
     ensures shows { IfSome result (λ n. ShowsCertain lines.now n uid) }

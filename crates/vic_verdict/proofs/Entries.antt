@@ -1,6 +1,6 @@
 -- What a judge that goes over the entries once needs: what each entry does to the open UIDs, and what the open UIDs that
 -- could have answered in a slot, up to three of them, tell.
-use Rattle.vic_verdict.proofs.Words.{◌≡◌, ℕ, zero, suc, ◌<◌, ◌≤◌, List, [], ◌∷◌, length, Bool, true, ◌&&◌, Option, Some, None, ap, ◌∙◌, arith, nat_tests, inl, inr, ◌⊎◌, ◌↔◌, slice_get, cases_eq, Reply, Entry, Heard, Collision, Garbled, has, AreDifferent, IsWithin, answers_at, Reading, ManyReplies, SomeReply, Slot, reading_of, slots_before, is_open, Asks, SuppliesAll, Forces, IsForcedBy, UpToThree, answering, needs, with_entry, may_be, ⊤, subst}
+use Rattle.vic_verdict.proofs.Words.{◌≡◌, ℕ, zero, suc, ◌<◌, ◌≤◌, List, [], ◌∷◌, length, Bool, true, ◌&&◌, Option, Some, None, ap, ◌∙◌, arith, nat_tests, inl, inr, ◌⊎◌, ◌↔◌, slice_get, cases_eq, Reply, Entry, Heard, Collision, Garbled, has, AreDifferent, IsWithin, answers_at, Reading, ManyReplies, SomeReply, Slot, reading_of, slots_before, is_open, Asks, SuppliesAll, Forces, IsForcedBy, UpToThree, answering, needs, with_entry, may_be, ⊤, subst, needs_of, refl, sym}
 
 -- what a slot line asks of the UIDs that answer there; an entry that is no slot line asks nothing
 abbrev pub EntryAsks : Option Reading → (ℕ → Bool) → Type 0
@@ -112,6 +112,12 @@ pub enough_forced : (e : Entry) (t : ℕ → Bool) (xs : List ℕ) (u : ℕ) →
 enough_forced Collision t xs u some d n k f = (forces_two_iff (has xs) xs u (own xs d)).0 (forces_within ManyReplies (has xs) t u f k (enough_needed Collision (has xs) xs some d n (λ v h. h)))
 enough_forced Garbled t xs u some d n k f = (forces_one_iff (has xs) xs u (own xs d)).0 (forces_within SomeReply (has xs) t u f k (enough_needed Garbled (has xs) xs some d n (λ v h. h)))
 enough_forced e t xs u some d n k f = absurd (omega arith)
+
+-- two in a collision, one in a garbled slot
+pub needs_two_or_one : (o : Option Entry) (n : ℕ) → needs_of o ≡ n → 0 < n → ((o ≡ Some Collision) × (n ≡ 2)) ⊎ ((o ≡ Some Garbled) × (n ≡ 1))
+needs_two_or_one (Some Collision) n e lt = inl (refl, sym e)
+needs_two_or_one (Some Garbled) n e lt = inr (refl, sym e)
+needs_two_or_one o n e lt = absurd (omega arith)
 
 -- an entry that forces a UID heard it, or needs tags
 pub forces_cases : (e : Entry) (t : ℕ → Bool) (u : ℕ) → EntryForces (reading_of e) t u → ((r : Reply) × (e ≡ Heard r) × (r.uid ≡ u)) ⊎ (0 < needs e)

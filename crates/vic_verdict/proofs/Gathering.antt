@@ -1,9 +1,8 @@
 -- A small population, gathered from what the slots of a possible log ask for.
-use Rattle.vic_verdict.proofs.Words.{take-append-drop, drop, ◌≡◌, ℕ, suc, ◌+◌, ◌<◌, ◌≤◌, List, [], ◌∷◌, ◌++◌, length, take, get_or, Bool, true, false, ◌||◌, Option, Some, refl, sym, ap, ◌∙◌, subst, arith, nat_tests, inl, inr, ⊎_elim, length-append, ◌⊎◌, nat_eq, slice_get, filter, sum_by, ne_eqb, length-take, IsStrictlyIncreasing, both_ways, and_parts, and_from, or_cases, or_left, or_right, list_any, list_any_at, list_any_none, list_any-append, Any-from_list_any, slice_get_within, IsUid, has, AreDifferent, Entry, Collision, Heard, Garbled, IsPopulation, answers_at, Reading, ManyReplies, SomeReply, reading_of, slots_of, is_open, Asks, IsWithin, AreDifferent-population, AreDifferent-filter, has_filter, has_here, has_at, has_there, MeetsAll-iff, IsUid-from, CouldHaveGiven-slots, Found, Met, IsFoundAt, IsFound, IsMet, is_other, chosen, chosen_population, answering, IsPossible, IsPossibleUid, IsCertainUid, SameMembers, AllPairs-from_increasing, sum_by-cons, AllByRecursion, IsDistinct, or_parts, nat_eq_equiv, IsDistinct-cons, IsDistinct-from_apart, length-le_from_is_member, asks_within, all_chosen, needs_at, needs_of, IsSmallPopulation}
+use Rattle.vic_verdict.proofs.Words.{take-append-drop, drop, ◌≡◌, ℕ, suc, ◌+◌, ◌<◌, ◌≤◌, List, [], ◌∷◌, ◌++◌, length, take, get_or, Bool, true, false, ◌||◌, Option, Some, refl, sym, ap, ◌∙◌, subst, arith, nat_tests, inl, inr, ⊎_elim, length-append, ◌⊎◌, nat_eq, slice_get, filter, sum_by, ne_eqb, length-take, IsStrictlyIncreasing, both_ways, and_parts, and_from, or_cases, or_left, or_right, list_any, list_any_at, list_any_none, list_any-append, Any-from_list_any, slice_get_within, IsUid, has, AreDifferent, Entry, Collision, Heard, Garbled, IsPopulation, answers_at, Reading, ManyReplies, SomeReply, reading_of, slots_of, is_open, Asks, IsWithin, AreDifferent-population, AreDifferent-filter, has_filter, has_here, has_at, has_there, MeetsAll-iff, IsUid-from, CouldHaveGiven-slots, Answering, Met, IsFoundAt, IsFound, IsMet, is_other, chosen, chosen_population, answering, IsPossible, IsPossibleUid, IsCertainUid, SameMembers, AllPairs-from_increasing, sum_by-cons, AllByRecursion, IsDistinct, or_parts, nat_eq_equiv, IsDistinct-cons, IsDistinct-from_apart, length-le_from_is_member, asks_within, all_chosen, needs_at, needs_of, IsSmallPopulation}
 use Rattle.vic_verdict.specs.Explained.{AreFew}
 use Rattle.vic_verdict.proofs.Decide.{IsPossibleUid-iff, supplied_each}
-use Rattle.vic_verdict.proofs.UnreadSlots.{needs_two_or_one}
-use Rattle.vic_verdict.proofs.Entries.{EntryAsks, EntryForces, SuppliesBefore, SuppliesAll-places, forces_two_iff, forces_one_iff}
+use Rattle.vic_verdict.proofs.Entries.{EntryAsks, EntryForces, SuppliesBefore, SuppliesAll-places, forces_two_iff, forces_one_iff, needs_two_or_one}
 use Rattle.vic_verdict.proofs.Populations.{is_open-is_uid}
 use Rattle.vic_verdict.proofs.Possibility.{Heard-certain}
 
@@ -49,19 +48,19 @@ append_right xs ys u h = list_any-append (nat_eq u) xs ys ∙ or_right _ _ h
 pub has_take : (n : ℕ) (xs : List ℕ) (u : ℕ) → has (take n xs) u ≡ true → has xs u ≡ true
 has_take n xs u h = ap (λ ys. has ys u) (sym (take-append-drop n xs)) ∙ append_left (take n xs) (drop n xs) u h
 
-chosen_parts : (avoid : Option ℕ) (f : Found) (u : ℕ) → has (chosen avoid f) u ≡ true → (has f.uids.items u ≡ true) × (is_other avoid u ≡ true)
+chosen_parts : (avoid : Option ℕ) (f : Answering) (u : ℕ) → has (chosen avoid f) u ≡ true → (has f.uids.items u ≡ true) × (is_other avoid u ≡ true)
 chosen_parts avoid f u h =
     and_parts _ _ (has_filter (is_other avoid) f.uids.items u (has_take f.need (filter (is_other avoid) f.uids.items) u h))
 
 -- each of all that are chosen is chosen of one that was found
-all_chosen-has : (avoid : Option ℕ) (fs : List Found) (u : ℕ) → has (all_chosen avoid fs) u ≡ list_any (λ f. has (chosen avoid f) u) fs
+all_chosen-has : (avoid : Option ℕ) (fs : List Answering) (u : ℕ) → has (all_chosen avoid fs) u ≡ list_any (λ f. has (chosen avoid f) u) fs
 all_chosen-has avoid [] u = refl
 all_chosen-has avoid (f ∷ fs) u = list_any-append (nat_eq u) (chosen avoid f) (all_chosen avoid fs) ∙ ap (λ b. has (chosen avoid f) u || b) (all_chosen-has avoid fs u)
 
 -- no more than are needed
-few_chosen : (avoid : Option ℕ) (fs : List Found) → length (all_chosen avoid fs) ≤ sum_by (λ (f : Found). f.need) fs
+few_chosen : (avoid : Option ℕ) (fs : List Answering) → length (all_chosen avoid fs) ≤ sum_by (λ (f : Answering). f.need) fs
 few_chosen avoid [] = omega arith
-few_chosen avoid (f ∷ fs) = grind (arith, length-append, length-take, sum_by-cons (λ (g : Found). g.need) f fs, few_chosen avoid fs)
+few_chosen avoid (f ∷ fs) = grind (arith, length-append, length-take, sum_by-cons (λ (g : Answering). g.need) f fs, few_chosen avoid fs)
 
 -- of different UIDs all are others, or all but the one to avoid
 most_are_others : (avoid : Option ℕ) (xs : List ℕ) → AreDifferent xs → (length xs ≤ length (filter (is_other avoid) xs)) ⊎ ((a : ℕ) × (avoid ≡ Some a) × (has xs a ≡ true) × (length xs ≤ length (filter (is_other avoid) xs) + 1))
@@ -98,17 +97,17 @@ abbrev pub AvoidsNoneCertain : List Entry → Option ℕ → Type 0
 AvoidsNoneCertain es avoid = (a : ℕ) → avoid ≡ Some a → IsCertainUid es a → ⊥
 
 -- exactly as many as are needed are forced there
-pub exact_forces : (es : List Entry) (i u : ℕ) (f : Found) → IsFoundAt es i f → length f.uids.items ≡ f.need → has f.uids.items u ≡ true → (e : Entry) × (slice_get es i ≡ Some e) × EntryForces (reading_of e) (answering (is_open (slots_of es)) es i) u
+pub exact_forces : (es : List Entry) (i u : ℕ) (f : Answering) → IsFoundAt es i f → length f.uids.items ≡ f.need → has f.uids.items u ≡ true → (e : Entry) × (slice_get es i ≡ Some e) × EntryForces (reading_of e) (answering (is_open (slots_of es)) es i) u
 exact_forces es i u f h long m = grind (arith, needs_two_or_one (slice_get es i) f.need h.need h.needed, forces_two_iff _ f.uids.items u h.uids, forces_one_iff _ f.uids.items u h.uids)
 
 -- so there are enough others
-enough_others : (es : List Entry) (f : Found) (avoid : Option ℕ) → AvoidsNoneCertain es avoid → IsFound es f → f.need ≤ length (filter (is_other avoid) f.uids.items)
+enough_others : (es : List Entry) (f : Answering) (avoid : Option ℕ) → AvoidsNoneCertain es avoid → IsFound es f → f.need ≤ length (filter (is_other avoid) f.uids.items)
 enough_others es f avoid n h = grind (arith, most_are_others avoid f.uids.items h.1.uids.different, n, exact_forces es h.0, certain_there es h.0)
 
 -- ---- the UIDs that were gathered
 
 -- each was heard, and is certain, or chosen of what was found
-gathered_from : (es : List Entry) (m : Met) (avoid : Option ℕ) (u : ℕ) → IsMet es m → has (chosen_population avoid m) u ≡ true → IsCertainUid es u ⊎ ((f : Found) × IsFound es f × (has (chosen avoid f) u ≡ true))
+gathered_from : (es : List Entry) (m : Met) (avoid : Option ℕ) (u : ℕ) → IsMet es m → has (chosen_population avoid m) u ≡ true → IsCertainUid es u ⊎ ((f : Answering) × IsFound es f × (has (chosen avoid f) u ≡ true))
 gathered_from es m avoid u met h =
     ⊎_elim
     (λ a. let heard = (met.heard u).0 a in inl (subst (IsCertainUid es) heard.3 (Heard-certain es heard.0 heard.1 heard.2)))

@@ -1,11 +1,9 @@
 -- What is met makes a log possible, and UIDs certain.
-use Rattle.vic_verdict.proofs.Words.{◌≡◌, ℕ, ◌+◌, ◌<◌, ◌≤◌, ◌==◌, ◌&&◌, ◌||◌, ◌++◌, List, [], ◌∷◌, length, take, get_or, Bool, true, false, Some, refl, sym, ap, ◌∙◌, arith, nat_tests, inl, inr, ◌↔◌, slice_get, Any, list_all, list_any, cases_lt, and_parts, and_from, both_ways, slice_get_within, list_all_at, list_any-append, list_any-from_Any, list_any_more, take_all, Any-from_list_any, has, SameUids, LogLine, entries, Reply, Entry, Collision, Heard, Garbled, answers_at, OneReply, reading_of, slots_of, is_open, IsForcedBy, IsUid-from, Found, Met, IsPossible, IsContradictedAt, Lacks, answering, needs, needs_of, HasHeard, IsFound, AreFound, IsMet, IsMetFor, IsHeard, NoneRulesOutAfter, RepliesAnswer, AreDifferent, IsWithin}
+use Rattle.vic_verdict.proofs.Words.{◌≡◌, ℕ, ◌+◌, ◌<◌, ◌≤◌, ◌==◌, ◌&&◌, ◌||◌, ◌++◌, List, [], ◌∷◌, length, take, get_or, Bool, true, Some, sym, ap, ◌∙◌, arith, nat_tests, inl, inr, ◌↔◌, slice_get, Any, list_any, and_from, slice_get_within, list_any-append, list_any-from_Any, list_any_more, take_all, Any-from_list_any, has, Reply, Entry, Collision, Heard, Garbled, reading_of, slots_of, is_open, IsForcedBy, Answering, Met, IsPossible, answering, needs, needs_of, HasHeard, IsFound, AreFound, IsMet, IsMetFor, IsHeard, AreBorneOut, AreDifferent, IsWithin}
 use Rattle.vic_verdict.proofs.Entries.{EntryAsks, EntryForces, IsForcedBy-places, enough_needed, enough_forced, forces_cases}
 use Rattle.vic_verdict.proofs.Gathering.{exact_forces}
 use Rattle.vic_verdict.specs.Rising.{Adds}
-use Rattle.vic_verdict.proofs.KeyOrder.{not_all}
-use Rattle.vic_verdict.proofs.Lacking.{lacking_lines}
-use Rattle.vic_verdict.proofs.Populations.{is_open-is_uid}
+use Rattle.vic_verdict.proofs.Walking.{heard_at, hears_own}
 use Rattle.vic_verdict.proofs.Decide.{supplied_all}
 
 -- ---- who was heard
@@ -17,34 +15,13 @@ heard_kept es i us e k none h u = let before = h u in grind (arith, none)
 pub heard_pushed : (es : List Entry) (i : ℕ) (us : List ℕ) (r : Reply) → slice_get es i ≡ Some (Heard r) → HasHeard es i us → HasHeard es (i + 1) (us ++ r.uid ∷ [])
 heard_pushed es i us r k h u = let before = h u in grind (arith, nat_tests, list_any-append)
 
--- ---- whether they are open
-
-all_has : (p : ℕ → Bool) (us : List ℕ) (u : ℕ) → list_all p us ≡ true → has us u ≡ true → p u ≡ true
-all_has p us u h k = grind (arith, nat_tests, list_all_at, Any-from_list_any)
-
--- where not all that were heard are open, the lines up to a later one after which none is ruled out are contradicted
-pub heard_lacks : (lines : List LogLine) (set : ℕ → Bool) (us : List ℕ) → SameUids set (is_open (slots_of (entries lines))) → HasHeard (entries lines) (length lines) us → list_all set us ≡ false → (0 < length lines) × ((c : ℕ) → c < length lines → NoneRulesOutAfter (entries lines) c → IsContradictedAt (entries lines) c)
-heard_lacks lines set us same h some =
-    let es = entries lines in
-    let w = not_all set us some in
-    let at = (h w.0).0 w.1 in
-    let closed : is_open (slots_of es) w.0 ≡ true → ⊥ = λ yes. both_ways _ w.2 (same w.0 (IsUid-from w.0 (is_open-is_uid (slots_of es) w.0 yes)) ∙ yes) in
-    let lacks : Lacks es at.0 = (Heard at.1, OneReply at.1.uid, at.3, refl, λ asks. closed (rw at.4 at (and_parts (is_open (slots_of es) at.1.uid) (answers_at es at.0 at.1.uid) asks).0)) in
-    let lacking = lacking_lines lines at.0 lacks in (
-      omega (arith, lacking.0),
-      λ c lt settled. elim (cases_lt c at.0) [
-        | inl below ↦ absurd (both_ways _ (settled at.0 (Heard at.1) below at.3) refl)
-        | inr upto ↦ lacking.1 c upto lt settled
-      ],
-    )
-
 -- ---- what makes a log possible
 
 -- what was found for an entry that needs tags: different UIDs that answer there, as many as it needs
-abbrev IsEnough : List Entry → ℕ → Entry → Found → Type 0
+abbrev IsEnough : List Entry → ℕ → Entry → Answering → Type 0
 IsEnough es i e f = AreDifferent f.uids.items × (needs e ≡ f.need) × (needs e ≤ length f.uids.items) × IsWithin (has f.uids.items) (answering (is_open (slots_of es)) es i)
 
-met_found : (es : List Entry) (fs : List Found) (i : ℕ) (e : Entry) → AreFound es fs → slice_get es i ≡ Some e → 0 < needs e → Any (IsEnough es i e) fs
+met_found : (es : List Entry) (fs : List Answering) (i : ℕ) (e : Entry) → AreFound es fs → slice_get es i ≡ Some e → 0 < needs e → Any (IsEnough es i e) fs
 met_found es fs i e a k some =
     let w = a.met i (rw k some) in
     let found : IsFound es w.1 = rw w.3 at (a.found w.0 w.1 w.2) in
@@ -54,32 +31,30 @@ met_found es fs i e a k some =
 was_heard : (es : List Entry) (n : ℕ) (us : List ℕ) (u : ℕ) → length es ≡ n → HasHeard es n us → (has us u ≡ true) ↔ IsHeard es u
 was_heard es n us u long h = let heard = h u in grind (arith, slice_get_within)
 
--- where all that were heard are open, and what the other slots need was found, the log is possible
-pub met_all : (es : List Entry) (n : ℕ) (set : ℕ → Bool) (m : Met) → length es ≡ n → RepliesAnswer es → SameUids set (is_open (slots_of es)) → HasHeard es n m.heard.items → list_all set m.heard.items ≡ true → AreFound es m.found.items → IsPossible es × IsMet es m
-met_all es n set m long replies same heard all found = (supplied_all es (λ i e below k. go i e k), record { heard = λ u. was_heard es n m.heard.items u long heard; found = found })
+-- where the replies are borne out, and what the other slots need was found, the log is possible
+pub met_all : (es : List Entry) (n : ℕ) (m : Met) → length es ≡ n → AreBorneOut es (length es) → HasHeard es n m.heard.items → AreFound es m.found.items → IsPossible es × IsMet es m
+met_all es n m long borne heard found = (supplied_all es (λ i e below k. go i e below k), record { heard = λ u. was_heard es n m.heard.items u long heard; found = found })
   where
     needed : (i : ℕ) (e : Entry) → slice_get es i ≡ Some e → 0 < needs e → EntryAsks (reading_of e) (answering (is_open (slots_of es)) es i)
     needed i e k some = let w = met_found es m.found.items i e found k some in enough_needed e _ w.1.uids.items some w.4.0 w.4.2 w.4.3
 
-    go : (i : ℕ) (e : Entry) → slice_get es i ≡ Some e → EntryAsks (reading_of e) (answering (is_open (slots_of es)) es i)
-    go i (Heard r) k =
-        let a = replies i r k in
-        and_from _ _ (sym (same r.uid a.0) ∙ all_has set m.heard.items r.uid all ((was_heard es n m.heard.items r.uid long heard).1 (i, r, k, refl))) a.1
-    go i Collision k = needed i Collision k (omega arith)
-    go i Garbled k = needed i Garbled k (omega arith)
-    go i e k = tt
+    go : (i : ℕ) (e : Entry) → i < length es → slice_get es i ≡ Some e → EntryAsks (reading_of e) (answering (is_open (slots_of es)) es i)
+    go i (Heard r) below k = and_from _ _ (borne.openness r.uid (heard_at es (length es) i r below k)) (borne.answer i r.uid below (hears_own (slice_get es i) r k))
+    go i Collision below k = needed i Collision k (omega arith)
+    go i Garbled below k = needed i Garbled k (omega arith)
+    go i e below k = tt
 
 -- ---- what makes a UID certain
 
 -- exactly as many were found as are needed, the UID among them
-abbrev pub is_exact : ℕ → Found → Bool
+abbrev pub is_exact : ℕ → Answering → Bool
 is_exact u f = (length f.uids.items == f.need) && has f.uids.items u
 
 -- the list has the UIDs that were heard, and those of the found that are exactly as many as it takes
-abbrev pub HasCertain : List ℕ → List Found → List ℕ → Type 0
+abbrev pub HasCertain : List ℕ → List Answering → List ℕ → Type 0
 HasCertain heard fs us = (u : ℕ) → has us u ≡ (has heard u || list_any (is_exact u) fs)
 
-pub certain_more : (heard old new ys : List ℕ) (fs : List Found) (k : ℕ) (f : Found) → k < length fs → f ≡ get_or fs k f → ys ≡ f.uids.items → Adds (λ u. (length ys ≡ f.need) × (has ys u ≡ true)) old new → HasCertain heard (take k fs) old → HasCertain heard (take (k + 1) fs) new
+pub certain_more : (heard old new ys : List ℕ) (fs : List Answering) (k : ℕ) (f : Answering) → k < length fs → f ≡ get_or fs k f → ys ≡ f.uids.items → Adds (λ u. (length ys ≡ f.need) × (has ys u ≡ true)) old new → HasCertain heard (take k fs) old → HasCertain heard (take (k + 1) fs) new
 certain_more heard old new ys fs k f below is same adds h u =
     let own = rw same at (adds u) in
     rw (list_any_more (is_exact u) fs k f below, ← is) (grind (arith, nat_tests, h u))

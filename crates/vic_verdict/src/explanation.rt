@@ -11,12 +11,12 @@ ghost use Rattle.vic_verdict.specs.Rising.{SameMembers};
 
 use crate::facts::{Facts, Met, facts_of};
 use crate::judging::{Verdict, first_finding, first_impossible_line};
-use crate::unread_slots::Found;
 use std::alloc::{AllocError, Global};
 use vic_frame::Uid;
 use vic_log::{Log, PackedLine};
 use vic_tree::rising::put_in_order;
 use vic_tree::{OpenSet, RangeSet};
+use vic_walk::Answering;
 
 /// The verdict on a log, and a population that shows it.
 #[derive(Drop)]
@@ -105,7 +105,7 @@ fn choose(met: Met, avoid: &Option<Uid>) -> Result<Vec<Uid>, AllocError>
 
 /// Adds as many UIDs as a slot needs, other than the one to avoid. That one isn't certain, so there
 /// are enough without it.
-fn add_chosen(uids: &mut Vec<Uid>, found: &Found, avoid: &Option<Uid>) -> Result<(), AllocError>
+fn add_chosen(uids: &mut Vec<Uid>, found: &Answering, avoid: &Option<Uid>) -> Result<(), AllocError>
     ensures { OnOk result (uids.new.items ≡ uids.old.items ++ chosen avoid.now found.now) }
 {
     let mut lacking = found.need;

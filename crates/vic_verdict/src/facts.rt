@@ -1,9 +1,9 @@
 //! What a possible log tells of the tags: which may be there, and which must; or up to which line
 //! no population could have produced it.
 
-ghost use Rattle.std.specs.Prelude.{IfOk, MatchResult, ◌≡◌, ℕ, ◌≤◌, List, OnOk, length, true, ◌<◌};
+ghost use Rattle.std.specs.Prelude.{IfNone, IfOk, IfSome, MatchResult, ◌≡◌, ℕ, ◌≤◌, List, OnOk, length, true, ◌<◌};
 ghost use Rattle.std.specs.List.Sorted.{IsStrictlyIncreasing};
-ghost use Rattle.std.specs.List.{list_all};
+ghost use Rattle.std.specs.List.{All, Any};
 ghost use Rattle.vic_frame.specs.Uids.{has};
 ghost use Rattle.vic_log.specs.Order.{entries};
 ghost use Rattle.vic_log.specs.declared.entry.Entry.{Entry as EntryValue};
@@ -15,19 +15,15 @@ ghost use Rattle.vic_verdict.specs.Possible.{IsContradiction, IsPossible};
 ghost use Rattle.vic_verdict.specs.Needs.{IsMet, IsMetFor, HasHeard};
 ghost use Rattle.vic_verdict.specs.Rising.{Adds, IsListOf};
 ghost use Rattle.vic_verdict.specs.Keys.{AreKeysOf};
-ghost use Rattle.vic_verdict.specs.inner.Ruling.{rules_out, NoneRulesOutAfter};
-ghost use Rattle.vic_verdict.specs.inner.Replies.{RepliesAnswer};
-ghost use Rattle.vic_verdict.specs.inner.Unread.{AreKept};
+ghost use Rattle.vic_verdict.specs.inner.Ruling.{HasEnough, IsUnmetAt, Lacks, rules_out, NoneRulesOutAfter};
 
-use crate::stretches::{Stretches, stretches_of};
-use crate::unread_slots::{Found, KeptStretch, meet_stretches};
 use std::alloc::{AllocError, Global};
 use vic_frame::Uid;
 use vic_frame::low_bits_first::key;
 use vic_log::{Entry, PackedLine};
 use vic_tree::OpenSet;
-use vic_tree::outside::uids_outside;
 use vic_tree::rising::put_in_order;
+use vic_walk::{Answering, LogWalk, closed_keys, open_answers, walk_log};
 
 /// What a possible log tells of the tags: which may be there, and which must.
 #[derive(Drop)]
@@ -45,9 +41,8 @@ pub struct Facts<S: OpenSet> {
 pub struct Met {
     /// The UIDs that were heard, in any order.
     pub heard: Vec<Uid>,
-    /// What meets the unread slots: each of them is met by the UIDs of one `Found`, which may meet
-    /// many.
-    pub found: Vec<Found>,
+    /// What meets the unread slots, one after another.
+    pub found: Vec<Answering>,
 }
 
 /// What the lines of a log tell, if some population could have produced them; else the position of
@@ -130,60 +125,53 @@ pub fn open_and_met<S: OpenSet>(
         × IsMet (entries lines.now) p.1)
         (IsContradiction (entries lines.now))) }
 {
-    let Stretches { closed, kept, cut } = stretches_of(alloc, lines)?;
-    let set = S::without(alloc, closed)?;
-    match meet_log(alloc, &set, &lines[..cut], &kept)? {
-        Ok(met) => {
-            // if there is a line at the cut, the requests before it make it impossible
-            if cut < lines.len() {
-                return Ok(Err(Contradiction {
-                    at: cut,
-                    before: Before::ArePossible,
-                }));
-            }
-            Ok(Ok((set, met)))
-        }
-        Err(contradiction) => Ok(Err(contradiction)),
-    }
-}
-
-/// The UIDs heard in a log, and the open UIDs that meet its unread slots; or a contradiction, if
-/// one heard isn't open, or a slot is unmet. The caller has seen that each UID heard was Ready, and
-/// lies in the mask of its slot.
-fn meet_log<S: OpenSet>(
-    alloc: Global,
-    set: &S,
-    lines: &[PackedLine],
-    kept: &[KeptStretch],
-) -> Result<Result<Met, Contradiction>, AllocError>
-    requires lines { AreLogLines lines.now }
-    requires kept { AreKept (entries lines.now) (length (entries lines.now)) kept.now }
-    requires answer { RepliesAnswer (entries lines.now) }
-    requires open { SameUids (S.is_open set.now) (is_open (slots_of (entries lines.now))) }
-    ensures { IfOk result (λ r. MatchResult r
-        (λ met. IsPossible (entries lines.now) × IsMet (entries lines.now) met)
-        (IsContradiction (entries lines.now))) }
-{
-    let heard = heard_uids(alloc, lines)?;
-    if !are_open(alloc, set, &heard)? {
+    let LogWalk {
+        parts,
+        mut walk,
+        broken,
+    } = walk_log(alloc, lines)?;
+    if let Some(at) = broken {
         return Ok(Err(Contradiction {
-            at: last_ruling(lines, 0),
-            before: Before::AreUnknown,
+            at,
+            before: Before::SeemPossible,
         }));
     }
-    match meet_stretches(alloc, set, kept)? {
-        Ok(found) => Ok(Ok(Met { heard, found })),
-        Err(unmet) => {
-            let at = last_ruling(lines, unmet);
-            // then the lines before leave the same UIDs open, and this seems the first unmet slot
-            let before = if at == unmet {
-                Before::SeemPossible
-            } else {
-                Before::AreUnknown
-            };
-            Ok(Err(Contradiction { at, before }))
+    let closed = closed_keys(alloc, &parts, &walk)?;
+    let set = S::without(alloc, closed)?;
+    let found = open_answers(alloc, lines, &parts, &mut walk)?;
+    if let Some(unmet) = first_unmet(&found) {
+        return Ok(Err(unmet_slot(lines, unmet)));
+    }
+    let heard = heard_uids(alloc, lines)?;
+    Ok(Ok((set, Met { heard, found })))
+}
+
+/// The position of the first slot in which fewer open UIDs answer than it requires.
+fn first_unmet(found: &[Answering]) -> Option<usize>
+    ensures unmet { IfSome result (λ at. Any (IsUnmetAt at) found.now) }
+    ensures met { IfNone result (All HasEnough found.now) }
+{
+    for answering in found {
+        if answering.uids.len() < answering.need {
+            return Some(answering.at);
         }
     }
+    None
+}
+
+/// The contradiction of a slot in which fewer open UIDs answer than it requires.
+fn unmet_slot(lines: &[PackedLine], unmet: usize) -> Contradiction
+    requires { Lacks (entries lines.now) unmet }
+    ensures { IsContradiction (entries lines.now) result }
+{
+    let at = last_ruling(lines, unmet);
+    // then the lines before leave the same UIDs open, and this seems the first unmet slot
+    let before = if at == unmet {
+        Before::SeemPossible
+    } else {
+        Before::AreUnknown
+    };
+    Contradiction { at, before }
 }
 
 /// The UIDs that the slots of a log heard.
@@ -197,15 +185,6 @@ fn heard_uids(alloc: Global, lines: &[PackedLine]) -> Result<Vec<Uid>, AllocErro
         }
     }
     Ok(heard)
-}
-
-/// Whether all UIDs of a list are in a set.
-fn are_open<S: OpenSet>(alloc: Global, set: &S, uids: &[Uid]) -> Result<bool, AllocError>
-    ensures { IfOk result (λ yes. yes ≡ list_all (S.is_open set.now) uids.now) }
-{
-    let keys = keys_in_order(alloc, uids)?;
-    let outside = uids_outside(alloc, set, &keys)?;
-    Ok(outside.is_empty())
 }
 
 /// The keys of UIDs, in order; those of UIDs that come twice come twice.

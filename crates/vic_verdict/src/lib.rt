@@ -7,16 +7,11 @@
 //! from the definitions.
 #![tactic(auto)]
 
-mod answering;
 mod explanation;
 mod facts;
 mod findings;
 mod judging;
 pub mod laws;
-mod mentions;
-mod read_slots;
-mod stretches;
-mod unread_slots;
 
 pub use explanation::{Explanation, explain, explain_with};
 pub use facts::{
@@ -24,4 +19,3 @@ pub use facts::{
 };
 pub use findings::{Differences, compare, count_listed, listed_uids, missing_from};
 pub use judging::{Verdict, first_finding, first_impossible_line, judge, judge_with};
-pub use unread_slots::Found;

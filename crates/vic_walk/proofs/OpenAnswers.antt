@@ -7,6 +7,7 @@ use Rattle.std.proofs.Common.{length-append}
 use Rattle.vic_tree.specs.OpenSet.{UpToThree}
 use Rattle.vic_log.specs.Slots.{slots_of}
 use Rattle.vic_walk.specs.Answers.{AreAnswering, IsAnsweringAt, is_open_there, is_unread}
+use Rattle.vic_walk.specs.Needs.{needs_at}
 use Rattle.vic_walk.specs.declared.answers.Answering.{Answering}
 use Rattle.vic_walk.specs.declared.parts.Span.{Span}
 use Rattle.vic_walk.specs.declared.walk.Walk.{Walk}
@@ -66,9 +67,10 @@ answers_by false q false = refl
 pub open_by_parts : (bs : List ℕ) (es : List Entry) (i : ℕ) (s : Span) (w : Walk) → IsSpanAt bs es i s → IsReadyAt bs es (is_open (slots_of es)) i w → (u p : ℕ) → IsUid u → IsPartOf bs (mirror u) p → is_open_there es i u ≡ (is_within s p && is_marked w.lasting p)
 open_by_parts bs es i s w span ready u p is at = rw (ready.lasting u p is at, span u p is at) (answers_by (is_open (slots_of es) u) (is_quiet es i u) (is_within s p))
 
-pub answering_here : (bs : List ℕ) (es : List Entry) (i : ℕ) (s : Span) (w : Walk) (a : Answering) → a.at ≡ i → is_unread (slice_get es i) ≡ true → IsSpanAt bs es i s → IsReadyAt bs es (is_open (slots_of es)) i w → ((t : ℕ → Bool) → AreUidsOf bs w.lasting s t → UpToThree t a.uids.items) → IsAnsweringAt es i a
-answering_here bs es i s w a place unread span ready three = record {
+pub answering_here : (bs : List ℕ) (es : List Entry) (i : ℕ) (s : Span) (w : Walk) (a : Answering) → a.at ≡ i → is_unread (slice_get es i) ≡ true → needs_at es i ≡ a.need → IsSpanAt bs es i s → IsReadyAt bs es (is_open (slots_of es)) i w → ((t : ℕ → Bool) → AreUidsOf bs w.lasting s t → UpToThree t a.uids.items) → IsAnsweringAt es i a
+answering_here bs es i s w a place unread need span ready three = record {
   place = place;
   unread = unread;
+  need = need;
   uids = three (is_open_there es i) (record { uids = open_is_uid es i; marked = open_by_parts bs es i s w span ready });
 }

@@ -6,6 +6,7 @@ use Rattle.vic_log.specs.declared.entry.Entry.{Entry}
 use Rattle.vic_log.specs.declared.entry.Entry.TheVariants.{Collision, Garbled}
 use Rattle.vic_log.specs.Populations.{answers_at}
 use Rattle.vic_log.specs.Slots.{slots_of, is_open}
+use Rattle.vic_walk.specs.Needs.{needs_at}
 use Rattle.vic_walk.specs.declared.answers.Answering.{Answering}
 
 -- the entry is a slot line that names none of the tags that answered
@@ -23,6 +24,7 @@ is_open_there es i u = is_open (slots_of es) u && answers_at es i u
 pub record IsAnsweringAt (es : List Entry) (i : ℕ) (a : Answering) : Type 0 where
   pub place : a.at ≡ i
   pub unread : is_unread (slice_get es i) ≡ true
+  pub need : needs_at es i ≡ a.need
   pub uids : UpToThree (is_open_there es i) a.uids.items
 
 -- there is one for each unread slot before position n, in the order of the log, and no others

@@ -2,5 +2,6 @@ pub mod Marked
 pub mod Borders
 pub mod Cuts
 pub mod Walk
+pub mod Needs
 pub mod Answers
 pub mod inner

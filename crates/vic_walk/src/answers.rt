@@ -9,6 +9,7 @@ ghost use Rattle.vic_log.specs.Slots.{slots_of, is_open};
 ghost use Rattle.vic_walk.specs.Answers.{AreAnswering};
 ghost use Rattle.vic_walk.specs.Borders.{AreBorders, part_count};
 ghost use Rattle.vic_walk.specs.Cuts.{AreCut};
+ghost use Rattle.vic_walk.specs.Needs.{needs};
 ghost use Rattle.vic_walk.specs.Walk.{AreOpenParts, HasRoom, IsWalkAt};
 ghost use Rattle.vic_walk.specs.inner.Ready.{IsReadyAt};
 ghost use Rattle.vic_walk.specs.inner.Spans.{IsPlace};
@@ -27,8 +28,22 @@ use vic_log::{Entry, PackedLine, RoundCursor};
 pub struct Answering {
     /// The position of its line.
     pub at: usize,
+    /// How many have to be there: 2 in a collision, 1 in a garbled slot.
+    pub need: usize,
     /// Different ones, in no order.
     pub uids: ArrayVec<Uid, 3>,
+}
+
+/// How many tags, at least, answered in a slot without being named by its line.
+fn needs(entry: &Entry) -> usize
+    ensures { result ≡ needs entry.now }
+{
+    match *entry {
+        Entry::Collision => 2,
+        Entry::Garbled => 1,
+        Entry::Sent(_) | Entry::Silent | Entry::Heard(_) | Entry::Listed(_) | Entry::FieldCycle =>
+            0,
+    }
 }
 
 /// Moves a walk past an entry, ruling nothing out; notes which open UIDs answer there, if it is an
@@ -66,7 +81,11 @@ fn pass_again(
         }
         Entry::Collision | Entry::Garbled => {
             let uids = up_to_three(parts, &walk.lasting, span_of(parts, rounds));
-            found.push(Answering { at, uids })?;
+            found.push(Answering {
+                at,
+                need: needs(entry),
+                uids,
+            })?;
             Ok(())
         }
         Entry::Silent | Entry::Heard(_) | Entry::Listed(_) => Ok(()),

@@ -2,7 +2,7 @@
 use Rattle.std.specs.Prelude.{ℕ, ◌==◌, Bool, true, not, Option, Some, None, List, [], ◌∷◌, ◌++◌, take}
 use Rattle.std.specs.List.{filter}
 use Rattle.vic_verdict.specs.declared.facts.Met.{Met}
-use Rattle.vic_verdict.specs.declared.unread_slots.Found.{Found}
+use Rattle.vic_walk.specs.declared.answers.Answering.{Answering}
 
 -- the UID isn't the one to avoid
 abbrev pub is_other : Option ℕ → ℕ → Bool
@@ -10,10 +10,10 @@ is_other None u = true
 is_other (Some avoided) u = not (u == avoided)
 
 -- as many as are needed, other than the one to avoid
-abbrev pub chosen : Option ℕ → Found → List ℕ
+abbrev pub chosen : Option ℕ → Answering → List ℕ
 chosen avoid f = take f.need (filter (is_other avoid) f.uids.items)
 
-abbrev pub all_chosen : Option ℕ → List Found → List ℕ
+abbrev pub all_chosen : Option ℕ → List Answering → List ℕ
 all_chosen avoid [] = []
 all_chosen avoid (f ∷ fs) = chosen avoid f ++ all_chosen avoid fs
 
