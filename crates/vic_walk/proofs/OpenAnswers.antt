@@ -13,7 +13,7 @@ use Rattle.vic_walk.specs.declared.parts.Span.{Span}
 use Rattle.vic_walk.specs.declared.walk.Walk.{Walk}
 use Rattle.vic_walk.specs.inner.PartUids.{AreUidsOf}
 use Rattle.vic_walk.specs.inner.Spans.{IsSpanAt, is_within}
-use Rattle.vic_walk.proofs.Words.{◌≡◌, ℕ, ◌+◌, ◌<◌, ◌++◌, ◌∷◌, ◌∙◌, ◌&&◌, not, Bool, true, false, List, [], inl, inr, refl, sym, and_parts, arith, cases_lt, false≢true, slice_get, Entry, IsPartOf, IsReadyAt, IsUid, IsUid-from, is_marked, is_open, is_quiet, mirror}
+use Rattle.vic_walk.proofs.Words.{◌≡◌, ℕ, ◌+◌, ◌<◌, ◌≤◌, ◌++◌, ◌∷◌, ◌∙◌, ◌&&◌, not, Bool, true, false, List, [], inl, inr, refl, sym, and_parts, arith, cases_lt, false≢true, slice_get, Entry, IsPartOf, IsReadyAt, IsUid, IsUid-from, is_marked, is_open, is_quiet, mirror}
 
 pub answering_none : (es : List Entry) → AreAnswering es 0 []
 answering_none es = record { rising = λ i j d lt within. absurd (omega (arith, within)); each = All-nil _; all = λ i below. absurd (omega arith) }
@@ -22,18 +22,22 @@ answering_none es = record { rising = λ i j d lt within. absurd (omega (arith, 
 abbrev IsBefore : List Entry → ℕ → Answering → Type 0
 IsBefore es n a = (i : ℕ) × (i < n) × IsAnsweringAt es i a
 
-later : (es : List Entry) (n : ℕ) (found : List Answering) → All (IsBefore es n) found → All (IsBefore es (n + 1)) found
-later es n found each = All-weaker (IsBefore es n) (IsBefore es (n + 1)) (λ a it. (it.0, omega (arith, it.1), it.2)) found each
+later : (es : List Entry) (n m : ℕ) (found : List Answering) → n ≤ m → All (IsBefore es n) found → All (IsBefore es m) found
+later es n m found le each = All-weaker (IsBefore es n) (IsBefore es m) (λ a it. (it.0, omega (arith, it.1, le), it.2)) found each
 
-pub answering_kept : (es : List Entry) (n : ℕ) (found : List Answering) → is_unread (slice_get es n) ≡ false → AreAnswering es n found → AreAnswering es (n + 1) found
-answering_kept es n found read h = record {
+-- nothing unread from position n to the one before m
+pub answering_rest : (es : List Entry) (n m : ℕ) (found : List Answering) → n ≤ m → ((i : ℕ) → n ≤ i → i < m → is_unread (slice_get es i) ≡ false) → AreAnswering es n found → AreAnswering es m found
+answering_rest es n m found le read h = record {
   rising = h.rising;
-  each = later es n found h.each;
+  each = later es n m found le h.each;
   all = λ i below unread. elim (cases_lt i n) [
     | inl before ↦ h.all i before unread
-    | inr not_before ↦ let here : i ≡ n = omega (arith, below, not_before) in absurd (false≢true (sym read ∙ rw here at unread))
+    | inr past ↦ absurd (false≢true (sym (read i past below) ∙ unread))
   ];
 }
+
+pub answering_kept : (es : List Entry) (n : ℕ) (found : List Answering) → is_unread (slice_get es n) ≡ false → AreAnswering es n found → AreAnswering es (n + 1) found
+answering_kept es n found read h = answering_rest es n (n + 1) found (omega arith) (λ i from below. let here : i ≡ n = omega (arith, from, below) in rw here read) h
 
 any_before : {X : Type 0} (P : X → Type 0) (xs ys : List X) → Any P xs → Any P (xs ++ ys)
 any_before P xs ys h = (h.0, h.1, omega (arith, length-append xs ys, h.2), get_or_append_left xs ys h.1 h.0 h.2 ∙ h.3, h.4)
@@ -41,7 +45,7 @@ any_before P xs ys h = (h.0, h.1, omega (arith, length-append xs ys, h.2), get_o
 pub answering_more : (es : List Entry) (n : ℕ) (found new : List Answering) (a : Answering) → new ≡ found ++ a ∷ [] → IsAnsweringAt es n a → AreAnswering es n found → AreAnswering es (n + 1) new
 answering_more es n found new a is here h = rw is (record {
   rising = all_pairs_push (λ (x y : Answering). x.at < y.at) found a h.rising (λ k d within. let it = h.each k d within in omega (arith, it.1, it.2.place, here.place));
-  each = All-push (IsBefore es (n + 1)) found a (later es n found h.each) (n, omega arith, here);
+  each = All-push (IsBefore es (n + 1)) found a (later es n (n + 1) found (omega arith) h.each) (n, omega arith, here);
   all = λ i below unread. elim (cases_lt i n) [
     | inl before ↦ any_before (IsAnsweringAt es i) found (a ∷ []) (h.all i before unread)
     | inr not_before ↦

@@ -10,6 +10,7 @@ use Rattle.std.specs.List.Sorted.{IsStrictlyIncreasing}
 use Rattle.vic_frame.specs.LowBitsFirst.{IsBlock, IsKey, is_in_block}
 use Rattle.vic_walk.specs.Borders.{AreBorders, IsByParts, IsPartOf, part_count}
 use Rattle.vic_walk.specs.inner.Gathered.{HasAll, IsBorder}
+use Rattle.vic_walk.specs.inner.Searching.{IsBetween}
 
 -- ---- borders rise
 
@@ -22,15 +23,15 @@ up_to bs i j rising le within = ⊎_elim
     (λ (ge : j ≤ i). let same : i ≡ j = omega (arith, le, ge) in rw same (omega arith))
     (cases_lt i j)
 
-some_border : (bs : List ℕ) → AreBorders bs → 0 < length bs
-some_border bs borders = ⊎_elim
-    (λ (some : 0 < length bs). some)
-    (λ (none : length bs ≤ 0).
+pub some_part : (bs : List ℕ) → AreBorders bs → 0 < length bs - 1
+some_part bs borders = ⊎_elim
+    (λ (some : 0 < length bs - 1). some)
+    (λ (none : length bs - 1 ≤ 0).
     let first = borders.first in
     let last = borders.last in
     let same : length bs - 1 ≡ 0 = omega (arith, none) in
     absurd (let end = rw same at last in omega (arith, end, first)))
-    (cases_lt 0 (length bs))
+    (cases_lt 0 (length bs - 1))
 
 -- ---- one part for each key
 
@@ -57,7 +58,7 @@ found bs k (suc n) first within below = ⊎_elim
     (cases_lt k (slice_index bs n))
 
 pub part_of_key : (bs : List ℕ) (k : ℕ) → AreBorders bs → IsKey k → (p : ℕ) × IsPartOf bs k p
-part_of_key bs k borders key = let some = some_border bs borders in let last = borders.last in found bs k (length bs - 1) borders.first (omega (arith, some)) (omega (arith, last, key))
+part_of_key bs k borders key = let some = some_part bs borders in let last = borders.last in found bs k (length bs - 1) borders.first (omega (arith, some)) (omega (arith, last, key))
 
 pub key_of_part : (bs : List ℕ) (p : ℕ) → AreBorders bs → p < part_count bs → IsPartOf bs (slice_index bs p) p × IsKey (slice_index bs p)
 key_of_part bs p borders within =
@@ -146,16 +147,17 @@ in_span bs first len k p from last borders block a b alike key own =
     let no : is_in_block first len k ≡ true → (from ≤ p) × (p ≤ last) = λ is. let h = between first len k is in (parts_rise bs first k from p borders h.0 a own, parts_rise bs k (first + (2 ^ (56 - len) - 1)) p last borders h.1 own b) in
     both_true _ _ (λ is. let h = no is in let low = h.0 in let high = h.1 in grind (arith, nat_tests, low, high)) (λ is. let h = and_parts (nat_le from p) (nat_lt p (last + 1)) is in yes (leb-true _ _ h.0) (let lt = ltb-true _ _ h.1 in omega (arith, lt)))
 
--- ---- borders up to a key
+-- ---- a key between two borders
 
-pub part_at : (bs : List ℕ) (key n : ℕ) → AreBorders bs → IsKey key → n ≤ length bs → ((j : ℕ) → j < n → slice_index bs j ≤ key) → ((j : ℕ) → n ≤ j → j < length bs → key < slice_index bs j) → (0 < n) × IsPartOf bs key (n - 1)
-part_at bs key n borders is within upto past =
-    let some = some_border bs borders in
+pub part_between : (bs : List ℕ) (k p q : ℕ) → IsBetween bs k p q → q ≡ p + 1 → IsPartOf bs k p
+part_between bs k p q h next = let within = h.within in record { within = omega (arith, within, next); from = h.low; before = rw (← next) h.high }
+
+pub between_all : (bs : List ℕ) (k : ℕ) → AreBorders bs → IsKey k → IsBetween bs k 0 (length bs - 1)
+between_all bs k borders key =
+    let some = some_part bs borders in
     let first = borders.first in
     let last = borders.last in
-    let one : 0 < n = ⊎_elim (λ (h : 0 < n). h) (λ (h : n ≤ 0). let low = past 0 h some in absurd (omega (arith, low, first))) (cases_lt 0 n) in
-    let more : n < length bs = ⊎_elim (λ (h : n < length bs). h) (λ (h : length bs ≤ n). let high = upto (length bs - 1) (omega (arith, some, h)) in absurd (omega (arith, high, last, is))) (cases_lt n (length bs)) in
-    (one, record { within = omega (arith, one, more); from = upto (n - 1) (omega (arith, one)); before = let same : n ≡ n - 1 + 1 = omega (arith, one) in subst (λ m. key < slice_index bs m) same (past n (omega arith) more) })
+    record { forward = some; within = omega (arith, some); low = omega (arith, first); high = omega (arith, last, key) }
 
 -- ---- borders that were gathered
 

@@ -1,6 +1,7 @@
 -- Definitions that private contracts alone cite.
 pub mod Bits
 pub mod Gathered
+pub mod Searching
 pub mod Spans
 pub mod Ready
 pub mod PartUids

@@ -1,12 +1,12 @@
 //! The unread slots of a log, in which tags answered and none was read: which open UIDs answer
 //! there.
 
-ghost use Rattle.std.specs.Prelude.{◌≡◌, ◌+◌, ◌<◌, ℕ, Bool, true, false, List, IfOk, OnOk, length};
+ghost use Rattle.std.specs.Prelude.{◌≡◌, ◌+◌, ◌<◌, ◌≤◌, ℕ, Bool, Some, true, false, List, IfOk, OnOk, length, slice_get};
 ghost use Rattle.vic_frame.specs.Uids.{has};
 ghost use Rattle.vic_log.specs.declared.entry.Entry.{Entry as EntryValue};
 ghost use Rattle.vic_log.specs.Order.{AreValid, IsInOrder, entries};
 ghost use Rattle.vic_log.specs.Slots.{slots_of, is_open};
-ghost use Rattle.vic_walk.specs.Answers.{AreAnswering};
+ghost use Rattle.vic_walk.specs.Answers.{AreAnswering, is_unread};
 ghost use Rattle.vic_walk.specs.Borders.{AreBorders, part_count};
 ghost use Rattle.vic_walk.specs.Cuts.{AreCut};
 ghost use Rattle.vic_walk.specs.Needs.{needs};
@@ -92,6 +92,34 @@ fn pass_again(
     }
 }
 
+/// Whether an entry is an unread slot.
+fn is_unread(entry: &Entry) -> bool
+    ensures { result ≡ is_unread (Some entry.now) }
+{
+    match *entry {
+        Entry::Collision | Entry::Garbled => true,
+        Entry::Sent(_) | Entry::Silent | Entry::Heard(_) | Entry::Listed(_) | Entry::FieldCycle => {
+            false
+        }
+    }
+}
+
+/// The position after the last unread slot, 0 if there is none: from there on nobody answers unread.
+fn after_unread(lines: &[PackedLine]) -> usize
+    ensures within { result ≤ length lines.now }
+    ensures read { (i : ℕ) → result ≤ i → is_unread (slice_get (entries lines.now) i) ≡ false }
+{
+    let mut after = lines.len();
+    while after > 0 {
+        let entry = lines[after - 1].item();
+        if is_unread(&entry) {
+            return after;
+        }
+        after -= 1;
+    }
+    0
+}
+
 /// For each unread slot of a log, in the order of the log, the open UIDs that answer there. The
 /// walk has come to the end of the log; afterwards its `lasting` marks exactly the open parts,
 /// Quiet ones too, none is listed in `quiet`, and `ends` and `heard` stay as they were.
@@ -118,7 +146,8 @@ pub fn open_answers(
     walk.wake();
     let mut found = Vec::new(alloc);
     let mut rounds = RoundCursor::first();
-    for index in 0..lines.len() {
+    let after = after_unread(lines);
+    for index in 0..after {
         let entry = lines[index].item();
         pass_again(walk, &mut found, parts, &rounds, index, &entry)?;
         rounds.advance(&entry);

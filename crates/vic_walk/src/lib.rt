@@ -5,6 +5,8 @@
 
 mod answers;
 mod closed;
+mod gathered;
+mod index;
 pub mod laws;
 mod marks;
 mod parts;

@@ -224,6 +224,9 @@ impl Marks {
         ensures within { IfSome result (λ p. p < to) }
         ensures none { IfNone result (NoneBetween (is_marked self.now) from to) }
     {
+        if to <= from {
+            return None;
+        }
         match first_place(&self.places, &self.words, &self.groups, from) {
             Some(place) => if place < to { Some(place) } else { None },
             None => None,

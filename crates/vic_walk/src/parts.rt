@@ -13,18 +13,26 @@ ghost use Rattle.vic_log.specs.Rounds.{is_slot};
 ghost use Rattle.vic_walk.specs.Borders.{AreBorders, IsByParts, IsPartOf, part_count};
 ghost use Rattle.vic_walk.specs.Cuts.{AreCut, names};
 ghost use Rattle.vic_walk.specs.inner.Gathered.{HasAll, HasBlock, HasCuts, HasMask, HasUid, IsBorder};
+ghost use Rattle.vic_walk.specs.inner.Searching.{IsBetween};
 
+use crate::gathered::Gathered;
+use crate::index::Index;
 use std::alloc::{AllocError, Global};
 use std::marker::Model;
 use vic_frame::low_bits_first::{KeyBlock, key};
-use vic_frame::{Request, UID_BITS, Uid};
+use vic_frame::{Request, Uid};
 use vic_log::{Entry, PackedLine, RoundCursor};
+
+/// How many parts are looked at before the index is asked, where a key is expected near.
+const FEW: usize = 3;
 
 /// The keys, divided into parts. A part has the keys from one border on and below the next.
 #[derive(Drop)]
 pub struct Parts {
     /// In rising order, from 0 to the end of the keys.
     borders: Vec<u64>,
+    /// A hint of where a key is among them.
+    index: Index,
 }
 
 impl Model for Parts {
@@ -56,9 +64,9 @@ impl Parts {
         ensures borders { IfOk result AreBorders }
         ensures cut { IfOk result (λ parts. AreCut parts (entries lines.now)) }
     {
-        let mut borders = gather(alloc, lines)?;
-        put_in_order(&mut borders);
-        Ok(Parts { borders })
+        let borders = gather(alloc, lines)?.in_order();
+        let index = Index::over(alloc, &borders)?;
+        Ok(Parts { borders, index })
     }
 
     /// How many there are. Clause `borders` tells a proof what is so of any `Parts`.
@@ -90,7 +98,50 @@ impl Parts {
         requires { IsKey key }
         ensures { IsPartOf self.now key result }
     {
-        self.borders.partition_point(|border| *border <= key) - 1
+        let (from, to) = self.index.hint(key);
+        if self.is_between(key, from, to) {
+            self.search(key, from, to)
+        } else {
+            self.search(key, 0, self.count())
+        }
+    }
+
+    /// The part that has a key, which is expected in this part or in one of the next few.
+    pub(crate) fn at_or_after(&self, part: usize, key: u64) -> usize
+        requires { IsKey key }
+        ensures { IsPartOf self.now key result }
+    {
+        for near in part..part.saturating_add(FEW) {
+            if self.is_between(key, near, near + 1) {
+                return near;
+            }
+        }
+        self.at(key)
+    }
+
+    /// Whether a key lies between two borders.
+    fn is_between(&self, key: u64, from: usize, to: usize) -> bool
+        ensures { result ≡ true → IsBetween self.now key from to }
+    {
+        from < to && to < self.borders.len() && self.borders[from] <= key && key < self.borders[to]
+    }
+
+    /// The part that has a key between two borders.
+    fn search(&self, key: u64, from: usize, to: usize) -> usize
+        requires { IsBetween self.now key from to }
+        ensures { IsPartOf self.now key result }
+    {
+        let mut low = from;
+        let mut high = to;
+        while low + 1 < high {
+            let middle = low + (high - low) / 2;
+            if self.borders[middle] <= key {
+                low = middle;
+            } else {
+                high = middle;
+            }
+        }
+        low
     }
 
     /// The parts whose keys are in a block, if the block has all keys of each part or none.
@@ -104,25 +155,25 @@ impl Parts {
     {
         // shows a proof what is so of the borders
         let _ = &self.borders;
+        let from = self.at(block.first);
         Span {
-            from: self.at(block.first),
-            to: self.at(block.last()) + 1,
+            from,
+            to: self.at_or_after(from, block.last()) + 1,
         }
     }
 }
 
 /// The borders that the lines of a log need, in no order.
-fn gather(alloc: Global, lines: &[PackedLine]) -> Result<Vec<u64>, AllocError>
+fn gather(alloc: Global, lines: &[PackedLine]) -> Result<Gathered, AllocError>
     requires order { IsInOrder (entries lines.now) }
     requires valid { AreValid (entries lines.now) }
     ensures cut { IfOk result (λ bs. (i : ℕ) → i < length (entries lines.now)
-        → HasCuts (entries lines.now) bs.items i) }
-    ensures borders { IfOk result (λ bs. All IsBorder bs.items) }
-    ensures first { IfOk result (λ bs. Contains bs.items 0) }
-    ensures end { IfOk result (λ bs. Contains bs.items (2 ^ UID_BITS)) }
+        → HasCuts (entries lines.now) bs i) }
+    ensures borders { IfOk result (λ bs. All IsBorder bs) }
+    ensures first { IfOk result (λ bs. Contains bs 0) }
+    ensures end { IfOk result (λ bs. Contains bs (2 ^ UID_BITS)) }
 {
-    let mut borders = Vec::new(alloc);
-    push_both(&mut borders, 0, 1 << UID_BITS)?;
+    let mut borders = Gathered::new(alloc)?;
     let mut cursor = RoundCursor::first();
     for line in lines {
         let entry = line.item();
@@ -134,11 +185,11 @@ fn gather(alloc: Global, lines: &[PackedLine]) -> Result<Vec<u64>, AllocError>
 }
 
 /// Adds the borders of a slot line's mask.
-fn push_mask(borders: &mut Vec<u64>, cursor: &RoundCursor, entry: &Entry) -> Result<(), AllocError>
-    ensures more { OnOk result (HasAll borders.old.items borders.new.items) }
+fn push_mask(borders: &mut Gathered, cursor: &RoundCursor, entry: &Entry) -> Result<(), AllocError>
+    ensures more { OnOk result (HasAll borders.old borders.new) }
     ensures mask { OnOk result ((es : List EntryValue) (i : ℕ) → AreValid es
         → IsCursorAt es i cursor.now → is_slot entry.now ≡ true
-        → HasMask es i borders.new.items) }
+        → HasMask es i borders.new) }
 {
     match *entry {
         Entry::Silent | Entry::Collision | Entry::Heard(_) | Entry::Garbled => {
@@ -149,10 +200,10 @@ fn push_mask(borders: &mut Vec<u64>, cursor: &RoundCursor, entry: &Entry) -> Res
 }
 
 /// Adds the borders around the UID that an entry silences or hears.
-fn push_named(borders: &mut Vec<u64>, entry: &Entry) -> Result<(), AllocError>
-    ensures more { OnOk result (HasAll borders.old.items borders.new.items) }
+fn push_named(borders: &mut Gathered, entry: &Entry) -> Result<(), AllocError>
+    ensures more { OnOk result (HasAll borders.old borders.new) }
     ensures named { OnOk result ((u : ℕ) → IsUid u → names (Some entry.now) u ≡ true
-        → HasUid borders.new.items u) }
+        → HasUid borders.new u) }
 {
     match *entry {
         Entry::Sent(request) => match request {
@@ -169,10 +220,10 @@ fn push_named(borders: &mut Vec<u64>, entry: &Entry) -> Result<(), AllocError>
 }
 
 /// Adds the borders of a block, if there is one.
-fn push_block(borders: &mut Vec<u64>, block: Option<KeyBlock>) -> Result<(), AllocError>
+fn push_block(borders: &mut Gathered, block: Option<KeyBlock>) -> Result<(), AllocError>
     requires { IfSome block (λ b. IsBlock b.first b.len) }
-    ensures more { OnOk result (HasAll borders.old.items borders.new.items) }
-    ensures block { OnOk result (HasBlock borders.new.items block) }
+    ensures more { OnOk result (HasAll borders.old borders.new) }
+    ensures block { OnOk result (HasBlock borders.new block) }
 {
     match block {
         Some(block) => push_both(borders, block.first, block.last() + 1),
@@ -181,32 +232,23 @@ fn push_block(borders: &mut Vec<u64>, block: Option<KeyBlock>) -> Result<(), All
 }
 
 /// Adds the borders around a UID.
-fn push_uid(borders: &mut Vec<u64>, uid: Uid) -> Result<(), AllocError>
-    ensures more { OnOk result (HasAll borders.old.items borders.new.items) }
-    ensures uid { OnOk result (HasUid borders.new.items uid) }
+fn push_uid(borders: &mut Gathered, uid: Uid) -> Result<(), AllocError>
+    ensures more { OnOk result (HasAll borders.old borders.new) }
+    ensures uid { OnOk result (HasUid borders.new uid) }
 {
     let own = key(uid);
     push_both(borders, own, own + 1)
 }
 
 /// Adds two borders.
-fn push_both(borders: &mut Vec<u64>, from: u64, end: u64) -> Result<(), AllocError>
+fn push_both(borders: &mut Gathered, from: u64, end: u64) -> Result<(), AllocError>
     requires from { IsBorder from }
     requires end { IsBorder end }
-    ensures more { OnOk result (HasAll borders.old.items borders.new.items) }
-    ensures both { OnOk result (Contains borders.new.items from
-        × Contains borders.new.items end) }
+    ensures more { OnOk result (HasAll borders.old borders.new) }
+    ensures both { OnOk result (Contains borders.new from
+        × Contains borders.new end) }
 {
     borders.push(from)?;
     borders.push(end)?;
     Ok(())
-}
-
-/// Sorts borders, and keeps each once.
-fn put_in_order(borders: &mut Vec<u64>)
-    ensures rising { IsStrictlyIncreasing borders.new.items }
-    ensures same { HasAll borders.old.items borders.new.items }
-{
-    borders.sort_unstable();
-    borders.dedup();
 }

@@ -201,8 +201,9 @@ impl Walk {
             }
             Entry::Silent => Ok(!self.rule_out(span_of(parts, rounds), at)),
             Entry::Heard(response) => {
-                let own = parts.at(key(response.uid()));
-                Ok(self.hear(span_of(parts, rounds), own, at))
+                let span = span_of(parts, rounds);
+                let own = parts.at_or_after(span.from, key(response.uid()));
+                Ok(self.hear(span, own, at))
             }
             // these rule out no UID
             Entry::Collision | Entry::Garbled | Entry::Listed(_) => Ok(true),

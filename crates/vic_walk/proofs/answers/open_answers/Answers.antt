@@ -3,7 +3,7 @@ use Rattle.vic_log.specs.declared.entry.LogLine.{LogLine}
 use Rattle.vic_log.specs.Order.{entries}
 use Rattle.vic_log.specs.Slots.{slots_of}
 use Rattle.vic_walk.specs.inner.Spans.{IsPlace}
-use Rattle.vic_walk.proofs.OpenAnswers.{answering_none}
+use Rattle.vic_walk.proofs.OpenAnswers.{answering_none, answering_rest}
 use Rattle.vic_walk.proofs.Lines.{entry_at}
 use Rattle.vic_walk.proofs.Steps.{ready_of, ready_woken}
 use Rattle.vic_walk.proofs.answers.open_answers.Goals as goal
@@ -24,7 +24,7 @@ pub loop-index-preserved : goal.loop-index-preserved
 loop-index-preserved c =
     let es = entries c.args.lines.now in
     let l = c.loop-index in
-    let here = entry_at c.args.lines.now l.index c.index-lines-index.result c.loop-index-test.true c.index-lines-index.is ∙ ap (λ (e : Entry). Some e) (sym c.item-entry.ensures) in
+    let here = entry_at c.args.lines.now l.index c.index-lines-index.result (omega (arith, c.loop-index-test.true, c.after_unread-after.ensures.within)) c.index-lines-index.is ∙ ap (λ (e : Entry). Some e) (sym c.item-entry.ensures) in
     let place : IsPlace c.args.parts.now es l.index c.item-entry.result l.rounds = record { here = here; valid = c.requires.valid; rounds_here = l.invariant.rounds; borders = c.requires.borders; cut = c.requires.cut } in
     record {
       ready = c.in_ok-pass_again.ensures.ready es (is_open (slots_of es)) place l.invariant.ready;
@@ -36,8 +36,10 @@ loop-index-preserved c =
 
 pub returns-clause-found : goal.returns-clause-found
 returns-clause-found c =
-    let end : length (entries c.args.lines.now) ≡ c.loop-index.index = omega (arith, length-map c.args.lines.now (λ (x : LogLine). x.item), c.loop-index-test.false, c.loop-index.auto.index-end) in
-    rw end c.loop-index.invariant.found
+    let es = entries c.args.lines.now in
+    let after = c.after_unread-after in
+    let end : c.loop-index.index ≡ after.result = omega (arith, c.loop-index-test.false, c.loop-index.auto.index-end) in
+    answering_rest es after.result (length es) _ (omega (arith, length-map c.args.lines.now (λ (x : LogLine). x.item), after.ensures.within)) (λ i from below. after.ensures.read i from) (rw end at c.loop-index.invariant.found)
 
 pub returns-clause-parts : goal.returns-clause-parts
 returns-clause-parts c u p is at =

@@ -1,20 +1,18 @@
 use Rattle.std.proofs.Common.{Some, arith, ap, slice_get, length, refl, sym, ◌∙◌, ◌≡◌, option_map}
-use Rattle.std.proofs.lemmas.List.Elements.{All-nil}
 use Rattle.std.proofs.lemmas.Option.{slice_get-map, slice_get_read}
 use Rattle.vic_log.specs.Order.{entries}
 use Rattle.vic_log.specs.declared.entry.Entry.{Entry}
 use Rattle.vic_log.specs.declared.entry.LogLine.{LogLine}
 use Rattle.vic_walk.proofs.CutLaws.{all_cuts, cuts_here, more_again}
-use Rattle.vic_walk.specs.inner.Gathered.{IsBorder}
 use Rattle.vic_walk.proofs.parts.gather.Goals as goal
 
 pub loop-line-init : goal.loop-line-init
 loop-line-init c = record {
   cursor = c.first-cursor.ensures (entries c.args.lines.now);
   cut = λ i lt. absurd (omega (arith, lt));
-  borders = c.in_ok-push_both.ensures.more.borders (rw c.new-borders.ensures.items (All-nil IsBorder));
-  first = c.in_ok-push_both.ensures.both.0;
-  end = c.in_ok-push_both.ensures.both.1;
+  borders = c.in_ok-borders.ensures.borders;
+  first = c.in_ok-borders.ensures.first;
+  end = c.in_ok-borders.ensures.end;
 }
 
 pub loop-line-preserved : goal.loop-line-preserved

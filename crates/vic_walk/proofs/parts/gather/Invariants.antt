@@ -8,8 +8,8 @@ use Rattle.vic_walk.proofs.parts.gather.Given as goal
 abbrev pub invariant-loop-line : goal.invariant-loop-line
 invariant-loop-line l = record {
   cursor : IsCursorAt (entries l.lines) l.line-index l.cursor;
-  cut : (i : ℕ) → i < l.line-index → HasCuts (entries l.lines) l.borders.items i;
-  borders : All IsBorder l.borders.items;
-  first : Contains l.borders.items 0;
-  end : Contains l.borders.items (2 ^ 56);
+  cut : (i : ℕ) → i < l.line-index → HasCuts (entries l.lines) l.borders i;
+  borders : All IsBorder l.borders;
+  first : Contains l.borders 0;
+  end : Contains l.borders (2 ^ 56);
 }

@@ -5,7 +5,7 @@ use Rattle.vic_walk.proofs.parts.Parts.span.Goals as goal
 
 pub overflow_add-result : goal.overflow_add-result
 overflow_add-result c =
-    let within : IsPartOf c.self.inside.borders.items c.last.result c.at-2.result = rw c.self.view_is c.at-2.ensures in
+    let within : IsPartOf c.self.inside.borders.items c.last.result c.at_or_after.result = rw c.self.view_is c.at_or_after.ensures in
     let some = within.within in
     let small = c.self.inside.borders.small in
     omega (arith, some, small)
@@ -14,5 +14,5 @@ pub returns-clause-inside : goal.returns-clause-inside
 returns-clause-inside c alike k p key own =
     let bs = c.args.self.now in
     let borders : AreBorders bs = subst AreBorders c.self.view_is c.self.invariant in
-    let last : IsPartOf bs (c.args.block.now.first + (2 ^ (56 - c.args.block.now.len) - 1)) c.at-2.result = rw (← c.last.ensures) c.at-2.ensures in
-    in_span bs c.args.block.now.first c.args.block.now.len k p c.at.result c.at-2.result borders c.requires c.at.ensures last alike key own
+    let last : IsPartOf bs (c.args.block.now.first + (2 ^ (56 - c.args.block.now.len) - 1)) c.at_or_after.result = rw (← c.last.ensures) c.at_or_after.ensures in
+    in_span bs c.args.block.now.first c.args.block.now.len k p c.at-from.result c.at_or_after.result borders c.requires c.at-from.ensures last alike key own

@@ -31,20 +31,20 @@ pub returns-in-Heard-clause-walk : goal.returns-in-Heard-clause-walk
 returns-in-Heard-clause-walk c es place h =
     let r = c.in-Heard.response in
     let k = rw c.in-Heard.is at place.here in
-    let span = c.span_of-in-Heard.ensures.inside es c.args.at _ place (rw c.in-Heard.is refl) in
+    let span = c.span_of-span.ensures.inside es c.args.at _ place (rw c.in-Heard.is refl) in
     let is : IsUid r.uid = rw c.uid.ensures.value at c.key.ensures.is_uid in
-    let own : IsPartOf c.args.parts.now (mirror r.uid) c.at-own.result = rw (c.key.ensures.value, c.uid.ensures.value) at c.at-own.ensures in
+    let own : IsPartOf c.args.parts.now (mirror r.uid) c.at_or_after-own.result = rw (c.key.ensures.value, c.uid.ensures.value) at c.at_or_after-own.ensures in
     let w = c.hear.ensures in
-    walk_read _ es c.args.at _ c.args.self.now _ (heard_rules_out _ es c.args.at c.at-own.result r c.span_of-in-Heard.result k is own place.borders place.cut span) w.ruled_out (λ u p is_u at. rw (w.heard p, k, heard_part _ es c.args.at u p c.at-own.result r k place.borders place.cut is is_u own at) refl) w.room h
+    walk_read _ es c.args.at _ c.args.self.now _ (heard_rules_out _ es c.args.at c.at_or_after-own.result r c.span_of-span.result k is own place.borders place.cut span) w.ruled_out (λ u p is_u at. rw (w.heard p, k, heard_part _ es c.args.at u p c.at_or_after-own.result r k place.borders place.cut is is_u own at) refl) w.room h
 
 pub returns-in-Heard-clause-fine : goal.returns-in-Heard-clause-fine
 returns-in-Heard-clause-fine c es place h b =
     let r = c.in-Heard.response in
     let k = rw c.in-Heard.is at place.here in
-    let span = c.span_of-in-Heard.ensures.inside es c.args.at _ place (rw c.in-Heard.is refl) in
+    let span = c.span_of-span.ensures.inside es c.args.at _ place (rw c.in-Heard.is refl) in
     let is : IsUid r.uid = rw c.uid.ensures.value at c.key.ensures.is_uid in
-    let own : IsPartOf c.args.parts.now (mirror r.uid) c.at-own.result = rw (c.key.ensures.value, c.uid.ensures.value) at c.at-own.ensures in
-    borne_heard _ es c.args.at c.at-own.result r c.span_of-in-Heard.result c.args.self.now c.hear.result k is own span c.span_of-in-Heard.ensures.within place.borders place.cut h c.hear.ensures.fine b
+    let own : IsPartOf c.args.parts.now (mirror r.uid) c.at_or_after-own.result = rw (c.key.ensures.value, c.uid.ensures.value) at c.at_or_after-own.ensures in
+    borne_heard _ es c.args.at c.at_or_after-own.result r c.span_of-span.result c.args.self.now c.hear.result k is own span c.span_of-span.ensures.within place.borders place.cut h c.hear.ensures.fine b
 
 nothing : (c : goal.In-Collision) → DoesNothing c.args.entry.now
 nothing c = elim c.in-Collision.is [

@@ -1,0 +1,20 @@
+use Rattle.vic_walk.proofs.Words.{◌≡◌, ◌-◌, ◌∙◌, Entry, Some, ap, arith, cases_lt, inl, inr, sym}
+use Rattle.vic_walk.proofs.Lines.{entry_at, read_past}
+use Rattle.vic_walk.proofs.answers.after_unread.Goals as goal
+
+pub loop-after-init : goal.loop-after-init
+loop-after-init c = record { within = omega arith; read = λ i past. read_past c.args.lines.now i past }
+
+pub loop-after-preserved : goal.loop-after-preserved
+loop-after-preserved c =
+    let l = c.loop-after in
+    let within = l.invariant.within in
+    let lines = c.args.lines.now in
+    let here = entry_at lines (l.after - 1) c.index-lines-after.result (omega (arith, c.loop-after-test.true, within)) c.index-lines-after.is ∙ ap (λ (e : Entry). Some e) (sym c.item-entry.ensures) in
+    record {
+      within = omega (arith, within);
+      read = λ i from. elim (cases_lt i l.after) [
+        | inl before ↦ let same : i ≡ l.after - 1 = omega (arith, from, before) in rw (same, here) (sym c.is_unread.ensures ∙ c.if-is_unread.false)
+        | inr past ↦ l.invariant.read i past
+      ];
+    }
