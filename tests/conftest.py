@@ -17,7 +17,7 @@ sys.dont_write_bytecode = True
 os.environ["PYTHONDONTWRITEBYTECODE"] = "1"
 
 from helpers.library import Library  # noqa: E402
-from helpers.program import TOP, Program, build, needs, program_of  # noqa: E402
+from helpers.program import MAKE, TOP, Program, build, needs, program_of  # noqa: E402
 from helpers.rows import OfLibrary, OfProgram  # noqa: E402
 from helpers.texts import texts as all_texts  # noqa: E402
 from helpers.wasm import WasmLibrary  # noqa: E402
@@ -69,7 +69,7 @@ def program(pytestconfig):
 def release(pytestconfig):
     """The folder with the program, libvicinity.so, libvicinity.a and vicinity.h, as they are
     released."""
-    build(pytestconfig, TOP / "release/make")
+    build(pytestconfig, *MAKE, "release")
     return OUT / "release"
 
 
@@ -83,7 +83,7 @@ def library(release):
 @pytest.fixture(scope="session")
 def library_rattle(pytestconfig):
     """The same, made by the kit's other compiler."""
-    build(pytestconfig, TOP / "release/make", "amd64", "rattle")
+    build(pytestconfig, *MAKE, "release", "BACKEND=rattle")
     return Library(OUT / "release-rattle/libvicinity.so")
 
 
@@ -110,7 +110,7 @@ def commands(release, tmp_path_factory):
 def arm_release(pytestconfig):
     """The folder of what is released for 64-bit ARM."""
     needs("aarch64-linux-gnu-gcc", "/usr/aarch64-linux-gnu/include/stdio.h", "qemu-aarch64-static")
-    build(pytestconfig, TOP / "release/make", "arm64")
+    build(pytestconfig, *MAKE, "release", "TARGET=arm64")
     return OUT / "release-arm64"
 
 
@@ -124,7 +124,7 @@ def arm(arm_release):
 def wasm_module(pytestconfig):
     """The file of the library as WebAssembly."""
     needs("wasm-opt", "node")
-    build(pytestconfig, TOP / "targets/wasm/make")
+    build(pytestconfig, *MAKE, "wasm")
     return OUT / "wasm/vicinity.wasm"
 
 
@@ -140,7 +140,7 @@ def wasm(wasm_module):
 def windows_release(pytestconfig):
     """The folder of what is released for Windows."""
     needs("x86_64-w64-mingw32-gcc")
-    build(pytestconfig, TOP / "targets/windows/make")
+    build(pytestconfig, *MAKE, "windows")
     return OUT / "windows"
 
 

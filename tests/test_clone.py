@@ -1,6 +1,7 @@
 """What somebody gets who clones the repository: an answer at once, and what building says and
 keeps. It is built by a kit that proves all at once; and by the real one, a program of two
 functions."""
+import concurrent.futures
 import os
 import re
 import resource
@@ -15,7 +16,7 @@ from helpers.trees import copy
 # What a new machine has, and what building takes beside it.
 TOOLS = ("bash env readlink dirname uname grep sed sha256sum cut tail head tar gzip mkdir mv "
          "chmod").split()
-FOR_BUILDING = "cat find sort xargs".split()
+FOR_BUILDING = ["make"]
 LOG = "examples/whole-shelf.log"
 COMPLETE = b"complete 4\n"
 LIBRARIES = re.findall(r"^(vic_\w+):", (TOP / "crates.txt").read_text(), re.M)
@@ -71,11 +72,14 @@ class Clone:
             *words, cwd=self.top, env={"PATH": path}, timeout=20, stdin=subprocess.DEVNULL,
             preexec_fn=lambda: resource.setrlimit(resource.RLIMIT_CPU, (2, 2)))
 
-    def build(self, *words, **more):
-        """What ./build writes, by the kit that proves all at once."""
+    def build(self, *words):
+        """What make writes, by the kit that proves all at once."""
         path = f"{self.kit}/bin{os.pathsep}{os.environ['PATH']}"
-        return Program(self.top / "build").run("vicinity", *words, cwd=self.top,
-                                               env={**os.environ, "PATH": path, **more})
+        return Program("make", PATH=path).run(*words, cwd=self.top)
+
+    def proved_now(self):
+        """The crates that building proves."""
+        return re.findall(r"^proving (\w+)", self.build().out.decode(), re.M)
 
     def change(self, name):
         with open(self.top / name, "a") as file:
@@ -120,6 +124,7 @@ def test_the_code_was_changed_since_the_release(clone):
 
 
 def test_a_program_that_is_not_proved_is_not_run(clone):
+    clone.add(FOR_BUILDING)
     (clone.top / "crates/vicinity/out").mkdir()
     script(clone.top / "crates/vicinity/out/vicinity", "#!/bin/sh\necho not proved\n")
     is_packaged(clone.ask(), "")
@@ -163,12 +168,10 @@ def test_words_after_test(clone, word, status):
 
 
 def test_what_is_said_while_it_is_proved(clone):
-    said = clone.build().err.decode().splitlines()
-    crates = sum(line.startswith("proving ") for line in said)
-    assert crates > 10
-    assert said[-1] == f"proved vicinity: {2 * crates} of {2 * crates} functions proved"
-    assert any(re.fullmatch(r"proved vic_frame: .* of .* functions proved, about .* min left",
-                            line) for line in said)
+    said = clone.build().out.decode()
+    begun, ended = (re.findall(rf"^{word} (\w+)", said, re.M) for word in ("proving", "proved"))
+    assert begun == ended and len(begun) > 10
+    assert re.search(r"^proved vicinity: 2 functions in \d+ s\n\Z", said, re.M)
 
 
 def test_a_program_older_than_the_code_is_not_run(built):
@@ -193,17 +196,35 @@ def test_a_build_that_was_broken_off(built):
     is_packaged(built.ask(), "NOT of this code")
 
 
-def test_progress_on_a_terminal(built, tmp_path):
-    """Is one line, which goes."""
-    needs("script")
-    built.change("crates/vicinity/src/main.rt")
-    env = {**os.environ, "PATH": f"{built.kit}/bin{os.pathsep}{os.environ['PATH']}"}
-    said = subprocess.run(["script", "-qec", "./build vicinity", "/dev/null"], cwd=built.top,
-                          env=env, check=True,
-                          stdin=subprocess.DEVNULL,
-                          capture_output=True).stdout.decode().replace("\r", "\n").splitlines()
-    assert sum("vicinity: 0 of 2 functions proved" in line for line in said) == 1
-    assert "functions" not in said[-1]
+def test_what_is_proved_again(built):
+    """A crate that was changed, and those above it; none for the time of a file."""
+    (built.top / "crates/vic_frame/src/uid.rt").touch()
+    assert built.proved_now() == []
+    built.change("crates/vic_words/src/lib.rt")
+    assert built.proved_now() == ["vic_words", "vicinity"]
+    assert built.proved_now() == []
+
+
+def test_what_is_kept_in_another_clone(built, tmp_path):
+    """Nothing of it is proved again there."""
+    other = Clone(tmp_path / "other")
+    made = "crates/vicinity/out"
+    subprocess.run(["cp", "-a", built.top / made, other.top / made], check=True)
+    assert other.proved_now() == []
+
+
+def test_two_builds_at_once(clone):
+    """Prove each crate once."""
+    with concurrent.futures.ThreadPoolExecutor() as at_once:
+        first, second = at_once.map(Clone.proved_now, [clone, clone])
+    assert not set(first) & set(second) and len(first + second) > 10
+
+
+def test_a_program_that_another_tool_has_made(built):
+    """`rt run` leaves one at the same place."""
+    script(built.top / "crates/vicinity/out/vicinity", "#!/bin/sh\necho of another\n")
+    is_packaged(built.ask(), "NOT of this code")
+    assert built.proved_now() == ["vicinity"]
 
 
 # Beside the kit's gate, which says what it has proved.
@@ -212,23 +233,22 @@ def test_progress_on_a_terminal(built, tmp_path):
 def gate(clone, tmp_path):
     """Builds beside a gate that has said these lines. Gives what the program says, and which crates
     were proved here."""
-    copied = tmp_path / "gate"
+    copied = tmp_path / "copy"
     copied.mkdir()
-    copy(copied, "crates", "crates.txt")
+    copy(copied, "crates", "crates.txt", "release")
     for crate in LIBRARIES:
         (copied / f"crates/{crate}/out/rlib/{crate}.rlib").mkdir(parents=True)
     (copied / "crates/vicinity/out").mkdir()
     script(copied / "crates/vicinity/out/vicinity", "#!/bin/sh\necho of the gate\n")
 
     def build(lines, is_broken_off=False):
-        said = tmp_path / "said"
-        said.write_text("".join(f"{line}\n" for line in lines))
+        (tmp_path / "gate").write_text("".join(f"{line}\n" for line in lines))
         if is_broken_off:
-            (tmp_path / "said.status").touch()
-        assert clone.build("--gate", str(copied), str(said)).status == 0
-        out = clone.top / "crates/vicinity/out"
-        here = sorted(took.stem for took in out.glob("rlib/*.took"))
-        return Program(out / "vicinity").run().out, here
+            (tmp_path / "gate.status").touch()
+        built = clone.build(f"GATE={tmp_path}")
+        assert built.status == 0
+        here = re.findall(r"^proving (\w+)", built.out.decode(), re.M)
+        return Program(clone.top / "crates/vicinity/out/vicinity").run().out, here
     return build
 
 
@@ -271,7 +291,7 @@ def small(tmp_path):
     needs("rt")
     for crate in "vic_one", "vicinity":
         (tmp_path / f"crates/{crate}/src").mkdir(parents=True)
-    copy(tmp_path, "build")
+    copy(tmp_path, "Makefile", "release", "targets")
     (tmp_path / "crates.txt").write_text("vic_one:\nvicinity: vic_one\n")
     (tmp_path / "crates/vicinity/src/main.rt").write_text(
         "#![tactic(auto)]\n\nuse std::process::ExitCode;\n\nfn main() -> ExitCode {\n    "
@@ -282,13 +302,16 @@ def small(tmp_path):
             "#![tactic(auto)]\n\nghost use Rattle.std.specs.Prelude.{◌≡◌};\n\npub fn one() -> u8\n "
             "   ensures { result ≡ 1 }\n"
             f"{{\n    {number}\n}}\n")
-        return Program(tmp_path / "build").run("vicinity", cwd=tmp_path)
+        return Program("make").run(cwd=tmp_path)
     return build
 
 
 @pytest.mark.slow
 def test_what_is_not_proved_is_not_built(small, tmp_path):
-    assert "vic_one is not proved, or not built: " in small(2).err.decode()
+    said = small(2)
+    assert said.status == 2
+    assert "must prove: ◌≡◌ {A = ℕ} 2 1\n" in said.err.decode()
+    assert "vic_one is not proved, or not built: " in said.err.decode()
     assert not [*tmp_path.glob("crates/**/vic*.rlib"),
                 *tmp_path.glob("crates/vicinity/out/vicinity")]
 

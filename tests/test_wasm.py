@@ -9,7 +9,7 @@ import subprocess
 import pytest
 
 from helpers.lines import log_of, rows
-from helpers.program import TOP
+from helpers.program import MAKE, TOP
 from helpers.wasm import Module
 
 MOST_BYTES = 300_000
@@ -51,8 +51,8 @@ def test_the_types_of_its_calls_hold():
 
 @pytest.mark.slow
 def test_the_same_bytes_come_out_again(wasm_module, tmp_path):
-    again, heap = tmp_path / "again.wasm", TOP / "targets/wasm/heap.c"
-    subprocess.run([TOP / "targets/wasm/make", again, heap, tmp_path / "object.o"], check=True)
+    again = tmp_path / "again.wasm"
+    subprocess.run([*MAKE, "wasm", f"wasm={again}", f"objects={tmp_path}"], check=True)
     assert again.read_bytes() == wasm_module.read_bytes()
 
 
@@ -214,7 +214,7 @@ class Growing:
 def growing(wasm_module, tmp_path_factory):
     made = tmp_path_factory.mktemp("growing") / "vicinity.wasm"
     heap = TOP / "tests/wasm/refusing_heap.c"
-    subprocess.run([TOP / "targets/wasm/make", made, heap], check=True)
+    subprocess.run([*MAKE, "wasm", f"wasm={made}", f"heap={heap}"], check=True)
     calls = Growing(made)
     yield calls
     calls.module.close()

@@ -6,7 +6,7 @@ import subprocess
 import pytest
 
 from helpers.lines import log_of
-from helpers.program import TOP, Program
+from helpers.program import MAKE, TOP, Program
 
 CC = ("x86_64-w64-mingw32-gcc", "-O2", "-Wall", "-Wextra", "-Werror",
       "-D__USE_MINGW_ANSI_STDIO=1", f"-I{TOP}/include", TOP / "tests/c/binary.c")
@@ -34,7 +34,7 @@ def built(windows_release, windows, tmp_path_factory):
 
 @pytest.mark.slow
 def test_the_same_bytes_come_out_again(windows_release, tmp_path):
-    subprocess.run([TOP / "targets/windows/make", tmp_path, tmp_path / "object.o"], check=True)
+    subprocess.run([*MAKE, "windows", f"windows={tmp_path}", f"objects={tmp_path}"], check=True)
     for name in "vicinity.dll", "vicinity.exe", "libvicinity.dll.a":
         assert (tmp_path / name).read_bytes() == (windows_release / name).read_bytes()
 

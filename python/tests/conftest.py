@@ -11,6 +11,6 @@ TOP = Path(__file__).resolve().parent.parent.parent
 @pytest.fixture(scope="session", autouse=True)
 def _library():
     if "LIBVICINITY" not in os.environ:
-        subprocess.run([TOP / "release/make"], check=True)
+        subprocess.run(["make", "-sj2", "-C", TOP, "release"], check=True)
         os.environ["LIBVICINITY"] = str(TOP / "out/release/libvicinity.so")
     os.environ.update(PYTHONPATH=str(TOP / "python"), PYTHONDONTWRITEBYTECODE="1")

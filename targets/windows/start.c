@@ -1,6 +1,6 @@
 /* What the commands in C lack on Windows: their words and the names of files in UTF-8, and bytes as they are.
  *
- * The commands are compiled with main and open named as here (targets/windows/make). */
+ * The commands are compiled with main and open named as here (targets/windows/link). */
 #include <fcntl.h>
 #include <io.h>
 #include <stdio.h>

@@ -9,6 +9,7 @@ from typing import NamedTuple
 import pytest
 
 TOP = Path(__file__).resolve().parent.parent.parent
+MAKE = "make", "-sj2", "-C", TOP
 
 
 class Said(NamedTuple):
@@ -49,7 +50,7 @@ def build(config, *command):
 
 def program_of(config, crate):
     """The proved program of a crate."""
-    build(config, TOP / "build", crate)
+    build(config, *MAKE, crate)
     return Program(TOP / f"crates/{crate}/out/{crate}")
 
 
