@@ -155,6 +155,14 @@ def test_changed_logs(ask, pair, part):
         ask([command], text)
 
 
+def test_beginnings_of_a_log(ask):
+    with open(LOGS[0], "rb") as log:
+        text = log.read()
+    for end in range(len(text) + 1):
+        for command in "explain", "report":
+            ask([command], text[:end])
+
+
 @pytest.mark.slow
 def test_many_changed_logs(ask, pair, tmp_path):
     """Random lists and logs: possible ones, and changed ones; also under names that are long, and

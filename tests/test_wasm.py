@@ -1,5 +1,6 @@
 """The library as WebAssembly, by node and in a browser: what the module is, and that it answers as
-the library for C does. tests/test_rows.py asks it for the rows of tests/data/rows over texts."""
+the library for C does. tests/test_rows.py asks it for the rows of tests/data/rows over texts, and
+tests/test_calls.py makes its calls one by one."""
 import ctypes
 import json
 import re
@@ -8,7 +9,7 @@ import subprocess
 
 import pytest
 
-from helpers.lines import log_of, rows
+from helpers.lines import log_of
 from helpers.program import TOP
 from helpers.wasm import Module
 
@@ -82,72 +83,6 @@ def test_every_number_in_a_browser(browser, wasm_module, texts, answered, tmp_pa
     (tmp_path / "texts").write_bytes(texts)
     given = browser.run_module("tests/wasm/in_browser.mjs", wasm_module, tmp_path / "texts")
     assert given.encode() == answered
-
-
-def in_words(vicinity, word):
-    """What `frame` says of a frame, by the calls."""
-    try:
-        asked = vicinity.read_request(bytes.fromhex(word))
-        if asked.slots:
-            digits = (asked.mask.length + 7) // 8 * 2
-            value = f"{asked.mask.value:0{digits}X}" if digits else "-"
-            yield (f"request inventory link {asked.link} slots {asked.slots} "
-                   f"mask {asked.mask.length} {value}")
-        else:
-            yield f"request stay-quiet link {asked.link} uid {asked.uid:016X}"
-    except vicinity.FrameFault as fault:
-        yield f"request refused {fault.fault.word}"
-    try:
-        told = vicinity.read_response(bytes.fromhex(word))
-        yield f"response flags {told.flags:02X} dsfid {told.dsfid:02X} uid {told.uid:016X}"
-    except vicinity.FrameFault as fault:
-        yield f"response refused {fault.fault.word}"
-
-
-def frame_rows():
-    """The rows over frames, but for those whose words are no bytes, which are no matter of the
-    calls."""
-    for name in "frames", "spelled":
-        for place, line in rows(name):
-            words, given, wanted = (cell.strip() for cell in line.split("|"))
-            if words == "spell 0":
-                words, given, wanted = "frame 0", wanted, given
-            kind = words.split()[0]
-            is_text = given.startswith('"') or wanted.startswith("refused ")
-            if kind in ("request", "reply") or kind == "frame" and not is_text:
-                yield pytest.param(kind, given, wanted, id=place.rpartition("/")[2])
-
-
-@pytest.mark.parametrize(("kind", "word", "wanted"), frame_rows())
-def test_frames(wasm, kind, word, wanted):
-    with wasm.package() as vicinity:
-        said = list(in_words(vicinity, word))
-    if kind == "frame":
-        assert set(wanted.split(" / ")) <= set(said)
-    else:
-        assert said[kind == "reply"].partition(" ")[2] == wanted
-
-
-def reconciled_rows():
-    """The rows of many logs that are possible, with their findings alone."""
-    for place, line in rows("reconciliations"):
-        status, expected, logs, wanted = (cell.strip() for cell in line.split("|"))
-        if status in "01":
-            logs = [log.strip() for log in logs.split(";")] if logs else []
-            texts = [log_of("" if log == "empty" else log) for log in logs]
-            found = [part.partition(" in ")[0] for part in wanted.split(" / ")
-                     if not part.startswith(("by ", "open ", "more ", "~"))]
-            row = log_of(expected), texts, found, int(status)
-            yield pytest.param(*row, id=place.rpartition("/")[2])
-
-
-@pytest.mark.parametrize(("expected", "texts", "found", "status"), reconciled_rows())
-def test_many_logs(wasm, expected, texts, found, status):
-    uids = [int(uid, 16) for uid in expected.decode().split()[3::2]]
-    with wasm.package() as vicinity:
-        said = vicinity.reconcile(uids, map(vicinity.survey, texts))
-        lines = [line for line in str(said).split("\n") if not line.startswith("by line")]
-    assert (lines, said.answer.status) == (found, status)
 
 
 def test_a_session_of_a_million_lines(wasm, program, tmp_path):
