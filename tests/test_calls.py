@@ -11,7 +11,7 @@ from vicinity._native import AnswerStruct, FindingStruct, MaskStruct
 
 from helpers.frames import with_crc
 from helpers.library import SIZE, U64, answer_to, findings_of, masks, uids
-from helpers.lines import log_of, rows
+from helpers.lines import log_of, reconciled_rows
 from helpers.program import TOP
 from helpers.rows import LIBRARIES, MODULES
 
@@ -255,19 +255,17 @@ def test_each_refusal_of_many_logs(library_of, expected, certain, open_masks, en
     reconciled(library_of, expected, certain, open_masks, lines, fault)
 
 
-@pytest.mark.parametrize("row", [pytest.param(row, id=name.removeprefix("tests/data/rows/"))
-                                 for name, row in rows("reconciliations") if row[0] in "01"])
-def test_row_of_many_logs(library_of, row):
+@pytest.mark.parametrize(("expected", "logs", "lines"), [
+    pytest.param(*row, id=place) for place, *row, status in reconciled_rows() if status < 2])
+def test_row_of_many_logs(library_of, expected, logs, lines):
     """By the two calls for one log and the one for many. The logs, lines and open masks are the
     program's alone."""
-    _, expected, logs, lines = (part.strip() for part in row.split("|"))
-    names = [name.strip() for name in logs.split(";")] if logs else []
     certain, asked = [], []
-    for log in (log_of("" if name == "empty" else name) for name in names):
+    for log in logs:
         for name, element, known in ("certain", U64, certain), ("open_masks", MaskStruct, asked):
             _, needed, room = library_of.into(element, 64, name, log)
             known += room[:needed]
-    listed = [int(uid, 16) for uid in log_of(expected).decode().split()[3::2]]
+    listed = [int(uid, 16) for uid in expected.decode().split()[3::2]]
     found = [line.partition(" in ")[0] for line in lines.split(" / ")
              if not line.startswith(("by ", "open ", "more ", "~"))]
     told = library_of.into_each(FindingStruct, findings_of(found), "reconcile", uids(listed),

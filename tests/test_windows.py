@@ -5,7 +5,7 @@ import subprocess
 
 import pytest
 
-from helpers.lines import log_of
+from helpers.lines import biglog, log_of
 from helpers.program import TOP, Program
 
 CC = ("x86_64-w64-mingw32-gcc", "-O2", "-Wall", "-Wextra", "-Werror",
@@ -107,8 +107,7 @@ def test_a_pattern_stands_for_its_files(released, tmp_path):
 
 
 def test_a_session_of_a_million_lines(released, program, tmp_path):
-    with open(tmp_path / "log", "wb") as file:
-        subprocess.run([TOP / "tools/biglog.py", "session", str(LARGE)], stdout=file, check=True)
+    (tmp_path / "log").write_bytes(biglog("session", LARGE))
     for command in "check", "explain", "report":
         words = {"cwd": tmp_path}
         assert released.run(command, "log", **words) == program.run(command, "log", **words)

@@ -179,3 +179,13 @@ def random_log(rng):
     silenced = [line.uid for line in first if isinstance(line, StayQuiet) and not cycled]
     lines = list(rounds(rng, version, uids, silenced))
     return version, uids, first + (ended(lines) if rng.random() < 0.4 else lines) + one_more(rng)
+
+
+def contradicted(rng):
+    """A version, and the lines of a few sessions one after the other, each over other tags, though
+    nothing says so, behind first lines or none."""
+    version, uids = rng.randint(1, 2), eight_uids(rng)
+    lines = opening(rng, version, uids) if rng.randrange(2) else []
+    for _ in range(rng.randint(2, 8)):
+        lines += [line for line in rounds(rng, version, uids, ()) if not isinstance(line, Listed)]
+    return version, lines
