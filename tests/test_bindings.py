@@ -19,6 +19,8 @@ from helpers.rows import LIBRARIES
 # Debian's compilers first: what they take, newer ones take too
 TOOLS = {"PATH": "/usr/bin:" + os.environ["PATH"], "GOFLAGS": "-buildvcs=false"}
 PYTHON = {"PYTHONPATH": str(TOP / "python")}
+# On a busy machine Dask's processes may be slow to find each other.
+PATIENT = {f"DASK_DISTRIBUTED__COMM__TIMEOUTS__{it}": "600s" for it in ("CONNECT", "TCP")}
 
 
 def made(*words, cwd=TOP, **environment):
@@ -78,7 +80,8 @@ def example(request, tmp_path_factory):
 @pytest.fixture(scope="session")
 def in_python(folder):
     """Debian's Python, which has Dask, with the package over the library."""
-    return Program("/usr/bin/python3", LIBVICINITY=str(folder / "libvicinity.so.1"), **PYTHON)
+    return Program("/usr/bin/python3", LIBVICINITY=str(folder / "libvicinity.so.1"), **PYTHON,
+                   **PATIENT)
 
 
 @pytest.mark.parametrize("log", sorted(TOP.glob("examples/*.log")), ids=lambda log: log.name)

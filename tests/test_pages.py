@@ -39,7 +39,7 @@ from helpers.program import TOP, needs
 FOLDERS = ("crates", "examples", "include", "out", "python", "tools")
 PAGES = ["README.md", "CHANGELOG.md", *sorted(str(page.relative_to(TOP)) for pattern in (
     "docs/*.md", "docs/*.[15]", "crates/*/README.md") for page in TOP.glob(pattern))]
-SECONDS = 120
+SECONDS = 600
 FRAME_FAULT = re.compile(r"\| `([0-9A-F]+)` \| (request|reply) \| `(\w+)` \|")
 FRAME = re.compile(r"\| `([0-9A-F]+)` \| "
                    r"(?:Inventory, (one|sixteen) slots?, (?:no mask|mask of (\d+) bits ([0-9A-F]+))"
