@@ -21,6 +21,7 @@ from helpers.program import MAKE, TOP, Program, build, needs, program_of  # noqa
 from helpers.rows import OfLibrary, OfProgram  # noqa: E402
 from helpers.texts import texts as all_texts  # noqa: E402
 from helpers.wasm import WasmLibrary  # noqa: E402
+from helpers.wine import Commands, wine_in  # noqa: E402
 
 OUT = TOP / "out"
 WARNINGS = ("-std=c99", "-O2", "-Wall", "-Wextra", "-Wpedantic", "-Werror")
@@ -145,15 +146,29 @@ def windows_release(pytestconfig):
 
 
 @pytest.fixture(scope="session")
-def windows(pytestconfig, windows_release):
-    """The commands in C for Windows, under wine. What wine starts besides would hold on to the
-    streams of the first program that runs, so one runs before and until the end."""
-    needs("wine", "wineserver")
-    wine = "env", f"WINEPREFIX={OUT / 'wine'}", "WINEDEBUG=-all", "LC_ALL=C.UTF-8"
-    nowhere = {"stdout": subprocess.DEVNULL, "stderr": subprocess.DEVNULL}
-    build(pytestconfig, *wine, "wineboot")
-    with subprocess.Popen([*wine, "wine", "cmd", "/c", "pause"], stdin=subprocess.PIPE, **nowhere):
-        yield Program(*wine, "wine", windows_release / "vicinity.exe")
+def wine():
+    """What starts a program for Windows."""
+    needs("wine", "wineserver", "setarch")
+    OUT.mkdir(exist_ok=True)
+    with wine_in(OUT / "wine") as started:
+        yield started
+
+
+@pytest.fixture(scope="session")
+def windows(wine, windows_release, tmp_path_factory):
+    """The commands in C for Windows, all runs in one process."""
+    folder = tmp_path_factory.mktemp("windows")
+    compiler = "x86_64-w64-mingw32-gcc", "-O2", "-D__USE_MINGW_ANSI_STDIO=1", f"-I{TOP}/include"
+    subprocess.run([*compiler, "-c", "-Dmain=vicinity_main", "-Dopen=open_utf8",
+                    *TOP.glob("commands/*.c")], cwd=folder, check=True)
+    made = folder / "many.exe"
+    subprocess.run([*compiler, TOP / "tests/c/many.c", TOP / "targets/windows/start.c",
+                    *folder.glob("*.o"), TOP / "release/heap.c", OUT / "module/windows.o",
+                    "-o", made], check=True)
+    commands = Commands(Program(*wine.words, made),
+                        Program(*wine.words, windows_release / "vicinity.exe"), folder)
+    yield commands
+    commands.close()
 
 
 @pytest.fixture(scope="session")

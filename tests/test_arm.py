@@ -8,6 +8,7 @@ import subprocess
 
 import pytest
 
+from helpers.lines import biglog
 from helpers.program import TOP, Program
 
 STRICT = ("-O2", "-Wall", "-Wextra", "-Werror")
@@ -37,8 +38,7 @@ def both(release, arm_release, tmp_path_factory):
 def large(tmp_path_factory):
     """A log of over 100,000 lines."""
     log = tmp_path_factory.mktemp("large") / "large.log"
-    log.write_bytes(subprocess.run([TOP / "tools/biglog.py", "session", str(TAGS)],
-                                   capture_output=True, check=True).stdout)
+    log.write_bytes(biglog("session", TAGS))
     assert log.read_bytes().count(b"\n") > LEAST
     return log
 

@@ -1,48 +1,33 @@
-"""Programs over the library in C++, Go, Rust, C and Python: what is expected is read by the library
-alone, and no text that isn't a list of UIDs, and no log that says nothing, gives a wrong
-`complete`."""
+"""Programs over the library in C, C++, Go, Rust and Python: they answer as the program does, what
+is expected is read by the library alone, and no text that isn't a list of UIDs, and no log that
+says nothing, gives a wrong `complete`."""
+import functools
 import hashlib
 import os
 import platform
 import re
 import subprocess
-from pathlib import Path
+import sys
 
 import pytest
 
-TOP = Path(__file__).resolve().parent.parent
+from helpers.frames import hex_of
+from helpers.library import STRICT
+from helpers.program import TOP, Program
+from helpers.rows import LIBRARIES
+
 # Debian's compilers first: what they take, newer ones take too
-ENVIRONMENT = dict(os.environ, PATH="/usr/bin:" + os.environ["PATH"], PYTHONDONTWRITEBYTECODE="1",
-                   GOFLAGS="-buildvcs=false")
-WARNINGS = ("-Wall", "-Wextra", "-Wpedantic", "-Wshadow", "-Werror")
+TOOLS = {"PATH": "/usr/bin:" + os.environ["PATH"], "GOFLAGS": "-buildvcs=false"}
+PYTHON = {"PYTHONPATH": str(TOP / "python")}
+# On a busy machine Dask's processes may be slow to find each other.
+PATIENT = {f"DASK_DISTRIBUTED__COMM__TIMEOUTS__{it}": "600s" for it in ("CONNECT", "TCP")}
 
 
-def run(*words, **more):
-    environment = ENVIRONMENT | more.pop("env", {})
-    return subprocess.run([str(word) for word in words], capture_output=True, env=environment,
-                          **more)
-
-
-def made(*words, **more):
-    done = run(*words, **more)
-    assert done.returncode == 0, done.stderr.decode()
-    return done.stdout.decode()
-
-
-@pytest.fixture(scope="session")
-def folder(request):
-    """The folder with the libraries and the header: VICINITY_LIB names it, or it is built."""
-    if "VICINITY_LIB" in os.environ:
-        return Path(os.environ["VICINITY_LIB"])
-    return request.getfixturevalue("release")
-
-
-@pytest.fixture(scope="session")
-def in_cpp(folder, tmp_path_factory):
-    program = tmp_path_factory.mktemp("cpp") / "check"
-    made("g++", "-std=c++11", *WARNINGS, f"-I{folder}", f"-I{TOP}/bindings/cpp",
-         TOP / "examples/cpp/check.cpp", folder / "libvicinity.a", "-o", program)
-    return [program]
+def made(*words, cwd=TOP, **environment):
+    """What a tool writes."""
+    said = Program(*words, **TOOLS, **environment).run(cwd=cwd)
+    assert said.status == 0, said.err.decode()
+    return said.out.decode()
 
 
 def go_environment(folder):
@@ -51,47 +36,71 @@ def go_environment(folder):
     return {"CGO_CFLAGS": f"-I{folder} -DMADE_OF={made_of}", "CGO_LDFLAGS": f"-L{folder}"}
 
 
+def rust_environment(library, target):
+    return {"VICINITY_LIB": str(library), "RUSTFLAGS": "-D warnings",
+            "CARGO_TARGET_DIR": str(target)}
+
+
 @pytest.fixture(scope="session")
-def in_go(folder, tmp_path_factory):
-    program = tmp_path_factory.mktemp("go") / "check"
-    made("go", "build", "-o", program, cwd=TOP / "examples/go", env=go_environment(folder))
-    return [program]
+def folder(release):
+    """The folder with the library and its header."""
+    return release
 
 
 @pytest.fixture(scope="session")
 def rust_target(folder, tmp_path_factory):
-    return {"VICINITY_LIB": str(folder), "RUSTFLAGS": "-D warnings",
-            "CARGO_TARGET_DIR": str(tmp_path_factory.mktemp("rust"))}
+    return rust_environment(folder, tmp_path_factory.mktemp("rust"))
 
 
 @pytest.fixture(scope="session")
-def in_rust(rust_target):
-    made("cargo", "build", "--offline", "--locked", cwd=TOP / "examples/rust", env=rust_target)
-    return [Path(rust_target["CARGO_TARGET_DIR"]) / "debug/vicinity-check"]
-
-
-@pytest.fixture(scope="session")
-def commands_in_c(folder, tmp_path_factory):
-    program = tmp_path_factory.mktemp("c") / "vicinity"
-    made("cc", "-std=c99", *WARNINGS, f"-I{folder}", *sorted((TOP / "commands").glob("*.c")),
-         folder / "libvicinity.a", "-o", program)
-    return [program, "reconcile"]
-
-
-class InPython:
-    """The package `vicinity` over the library, as Debian's Python runs it, which has Dask."""
-
-    def __init__(self, folder):
-        self.environment = {"LIBVICINITY": str(folder / "libvicinity.so.1"),
-                            "PYTHONPATH": str(TOP / "python")}
-
-    def run(self, *words, **more):
-        return run("/usr/bin/python3", *words, env=self.environment, **more)
+def example(request, tmp_path_factory):
+    """Builds an example in a language over a library, once."""
+    @functools.lru_cache(None)
+    def build(language, library, name="check"):
+        if language == "commands":
+            return Program(*request.getfixturevalue("commands").words, "reconcile")
+        one, made_in = request.getfixturevalue(library), tmp_path_factory.mktemp(language)
+        source, program = TOP / "examples" / language, made_in / "program"
+        if language == "python":
+            return Program(sys.executable, source / f"{name}.py", LIBVICINITY=str(one.path),
+                           **PYTHON)
+        if language == "c":
+            return one.compiled(source / f"{name}.c", program)
+        if language == "cpp":
+            return one.compiled(source / f"{name}.cpp", program, "-std=c++11", compiler="g++")
+        if language == "go":
+            made("go", "build", "-o", program, cwd=source, **go_environment(one.path.parent))
+            return Program(program)
+        made("cargo", "build", "--offline", "--locked", cwd=source,
+             **rust_environment(one.path.parent, made_in))
+        return Program(made_in / "debug/vicinity-check")
+    return build
 
 
 @pytest.fixture(scope="session")
 def in_python(folder):
-    return InPython(folder)
+    """Debian's Python, which has Dask, with the package over the library."""
+    return Program("/usr/bin/python3", LIBVICINITY=str(folder / "libvicinity.so.1"), **PYTHON,
+                   **PATIENT)
+
+
+@pytest.mark.parametrize("log", sorted(TOP.glob("examples/*.log")), ids=lambda log: log.name)
+@pytest.mark.parametrize("by", LIBRARIES)
+@pytest.mark.parametrize("language", ["c", "cpp", "go", "rust", "python"])
+def test_an_example_answers_as_the_program(program, example, language, by, log):
+    given, wanted = example(language, by).run(log), program.run("check", log)
+    assert (given.out, given.status) == (wanted.out, wanted.status)
+
+
+@pytest.mark.parametrize("by", LIBRARIES)
+@pytest.mark.parametrize("language", ["c", "python"])
+def test_a_reader_loop(example, language, by):
+    """It finds a large field by a few calls of the checker alone, and takes nothing but a
+    number."""
+    loop = example(language, by, "reader_loop")
+    assert re.fullmatch(rb"complete 4000 .* [1-9] calls of the checker\n", loop.run("4000").out)
+    for word in "abc", "-1", "5x", "":
+        assert loop.run(word)[::2] == (b"", 4)
 
 
 # ---- lists of what is expected; logs in which all tags were asked
@@ -137,7 +146,14 @@ LOGS = {
     "refused": ("uid\n", ("refused at line 1: Header", 3)),
     "empty": ("", ("refused at line 1: Header", 3)),
 }
-PROGRAMS = ("in_cpp", "in_go", "in_rust", "commands_in_c")
+PROGRAMS = [*((language, library) for language in ("cpp", "go", "rust") for library in LIBRARIES),
+            ("commands", None)]
+
+
+@pytest.fixture(scope="session", params=PROGRAMS, ids=lambda it: "-".join(filter(None, it)))
+def program_over_many(request, example):
+    """A program that takes a list and logs."""
+    return example(*request.param)
 
 
 @pytest.fixture
@@ -150,63 +166,45 @@ def texts(tmp_path):
     return write
 
 
-def answered(done):
+def answered(said):
     """The answer's line, in which the commands also name a file, and the status."""
-    line = done.stdout.decode().split("\n")[0]
-    return re.sub(r" (?:of|in) [^:]*", "", line), done.returncode
+    return re.sub(r" (?:of|in) [^:]*", "", said.out.decode().split("\n")[0]), said.status
 
 
 @pytest.mark.parametrize("name", LISTS)
-@pytest.mark.parametrize("program", PROGRAMS)
-def test_list(program, name, texts, request):
+def test_list(program_over_many, name, texts):
     text, wanted = LISTS[name]
-    files = texts(list=text, log=SILENT)
-    assert answered(run(*request.getfixturevalue(program), *files)) == wanted
+    assert answered(program_over_many.run(*texts(list=text, log=SILENT))) == wanted
 
 
 @pytest.mark.parametrize("name", LOGS)
-@pytest.mark.parametrize("program", PROGRAMS)
-def test_log(program, name, texts, request):
+def test_log(program_over_many, name, texts):
     text, wanted = LOGS[name]
     files = texts(list="vicinity-log 1\n", good=SILENT, log=text)
-    assert answered(run(*request.getfixturevalue(program), *files)) == wanted
+    assert answered(program_over_many.run(*files)) == wanted
 
 
-@pytest.mark.parametrize("program", PROGRAMS)
-def test_both_are_there(program, texts, request):
+def test_both_are_there(program_over_many, texts):
     """Two logs, in each of which one was heard, and a third that repeats the first."""
     expected = f"vicinity-log 1\r\nU {A}\r\nU {B}\r\n"
     files = texts(list=expected, one=HEARD, again=HEARD, other=heard(B))
-    assert answered(run(*request.getfixturevalue(program), *files)) == ("complete 2", 0)
+    assert answered(program_over_many.run(*files)) == ("complete 2", 0)
 
 
 def heard(uid):
-    """A log in which all were asked, and this tag answered, with the CRC of ISO/IEC 13239."""
-    frame = bytes(2) + bytes.fromhex(uid)[::-1]
-    crc = 0xFFFF
-    for byte in frame:
-        crc ^= byte
-        for _ in range(8):
-            crc = crc >> 1 ^ (0x8408 if crc & 1 else 0)
-    frame += (crc ^ 0xFFFF).to_bytes(2, "little")
-    return f"vicinity-log 1\nT 260100F60A\nR {frame.hex().upper()}\n"
+    """A log in which all were asked, and this tag answered."""
+    return f"vicinity-log 1\nT 260100F60A\nR {hex_of(bytes(2) + bytes.fromhex(uid)[::-1])}\n"
 
 
-def test_heard_is_the_frame_of_the_format():
-    assert heard(A) == HEARD
-
-
-@pytest.mark.parametrize("program", PROGRAMS[:3])
-def test_file_that_is_not_there(program, texts, request):
+def test_file_that_is_not_there(program_over_many, texts):
     files = texts(list="vicinity-log 1\n")
-    done = run(*request.getfixturevalue(program), *files, files[0].parent / "nowhere")
-    assert (done.stdout, done.returncode) == (b"", 4)
+    assert program_over_many.run(*files, files[0].parent / "nowhere")[::2] == (b"", 4)
 
 
 # ---- the libraries' own tests
 
 def test_go_library(folder):
-    place = {"cwd": TOP / "bindings/go", "env": go_environment(folder)}
+    place = {"cwd": TOP / "bindings/go", **go_environment(folder)}
     made("go", "vet", "./...", **place)
     assert made("gofmt", "-l", TOP / "bindings/go", TOP / "examples/go") == ""
     assert "ok" in made("go", "test", "-count=1", "./...", **place)
@@ -214,18 +212,18 @@ def test_go_library(folder):
 
 def test_rust_library(rust_target):
     said = made("cargo", "test", "--offline", "--locked", cwd=TOP / "bindings/rust",
-                env=rust_target)
+                **rust_target)
     assert sum(map(int, re.findall(r"test result: ok. (\d+) passed; 0 failed", said))) >= 8
 
 
 @pytest.mark.parametrize("standard", ("c++11", "c++14", "c++17", "c++20"))
 def test_cpp_header(standard, folder):
-    made("g++", f"-std={standard}", *WARNINGS, f"-I{folder}", f"-I{TOP}/bindings/cpp",
+    made("g++", f"-std={standard}", *STRICT, f"-I{folder}", f"-I{TOP}/bindings/cpp",
          "-fsyntax-only", "-include", "vicinity.hpp", "-x", "c++", "/dev/null")
 
 
 def test_cpp_library(folder, tmp_path):
-    made("g++", "-std=c++11", *WARNINGS, f"-I{folder}", f"-I{TOP}/bindings/cpp",
+    made("g++", "-std=c++11", *STRICT, f"-I{folder}", f"-I{TOP}/bindings/cpp",
          "-fsanitize=address,undefined", "-fno-sanitize-recover=all",
          TOP / "bindings/cpp/test.cpp", folder / "libvicinity.a", "-o", tmp_path / "test")
     assert made(tmp_path / "test").endswith(" passed\n")
@@ -252,7 +250,7 @@ def test_readme_of_go(folder, tmp_path):
     (tmp_path / "main.go").write_text(
         'package main\n\nimport (\n"fmt"\n\n"vicinity"\n)\n\nfunc main() {\n'
         + fence("go", page) + "}\n")
-    assert made("go", "run", ".", cwd=tmp_path, env=go_environment(folder)) == "complete 0 <nil>\n"
+    assert made("go", "run", ".", cwd=tmp_path, **go_environment(folder)) == "complete 0 <nil>\n"
 
 
 def test_readme_of_rust(rust_target, tmp_path):
@@ -263,7 +261,7 @@ def test_readme_of_rust(rust_target, tmp_path):
                                          f'edition = "2021"\n\n[dependencies]\n{dependency}')
     (tmp_path / "src/main.rs").write_text("fn main() -> Result<(), vicinity::OutOfMemory> {\n"
                                           + fence("rust", page) + "Ok(())\n}\n")
-    assert made("cargo", "run", "--offline", cwd=tmp_path, env=rust_target) == "complete 0\n"
+    assert made("cargo", "run", "--offline", cwd=tmp_path, **rust_target) == "complete 0\n"
 
 
 # ---- Python
@@ -281,16 +279,16 @@ except vicinity.ListFault as fault:
 @pytest.mark.parametrize("name", LISTS)
 def test_listed_in_python(name, in_python):
     text, (line, status) = LISTS[name]
-    done = in_python.run("-c", LISTED, input=text.encode())
+    said = in_python.run("-c", LISTED, given=text.encode())
     uids = sorted(int(uid, 16) for uid in set(re.findall("[eE]0[0-9A-Fa-f]{14}", text)))
     wanted = (line, 3) if status == 3 else (str(uids), 0)
-    assert (done.stdout.decode().rstrip("\n"), done.returncode) == wanted
+    assert (said.out.decode().rstrip("\n"), said.status) == wanted
 
 
 @pytest.fixture(scope="session")
 def fleet(in_python):
-    def run(*words, **more):
-        return in_python.run(TOP / "examples/python/fleet.py", 2, *words, **more)
+    def run(*words):
+        return in_python.run(TOP / "examples/python/fleet.py", "2", *words)
     return run
 
 
@@ -312,17 +310,16 @@ def test_logs_of_a_fleet_that_say_nothing(fleet, texts):
     """They are named with the reason. All that is expected is there, but other tags may be in
     their fields: the first mask without an expected UID has two bits, both 0."""
     files = texts(list=BOTH, one=HEARD, other=heard(B), bad=IMPOSSIBLE, csv="uid\n")
-    done = fleet(*files, files[0].parent / "nowhere")
-    line, *named = done.stdout.decode().splitlines()
-    assert (line, done.returncode) == ("unsettled 2 00", 1)
+    said = fleet(*files, files[0].parent / "nowhere")
+    line, *named = said.out.decode().splitlines()
+    assert (line, said.status) == ("unsettled 2 00", 1)
     assert [it.rpartition("/")[2] for it in named] == [
         "bad: impossible at line 5", "csv: refused at line 1: Header",
         "nowhere: No such file or directory"]
 
 
 def test_fleet_without_logs(fleet, texts):
-    done = fleet(*texts(list="vicinity-log 1\n"))
-    assert (done.stdout, done.returncode) == (b"", 4)
+    assert fleet(*texts(list="vicinity-log 1\n"))[::2] == (b"", 4)
 
 
 # A fleet in which the log of this name ends the process that reads it: always, or once.
@@ -352,7 +349,7 @@ def killing_fleet(in_python, tmp_path):
     (tmp_path / "killing.py").write_text(KILLING.format(fleet=fleet))
 
     def run(*words):
-        return in_python.run(tmp_path / "killing.py", 2, *words)
+        return in_python.run(tmp_path / "killing.py", "2", *words)
     return run
 
 
@@ -366,19 +363,18 @@ def test_worker_that_is_killed(killing_fleet, texts):
 def test_log_that_kills_its_worker(killing_fleet, texts):
     """It is named, it alone, and the answer isn't complete."""
     files = texts(list=BOTH, one=HEARD, always=HEARD, other=heard(B), silent=SILENT, more=SILENT)
-    done = killing_fleet(*files)
-    assert done.stdout.decode().splitlines() == [
+    said = killing_fleet(*files)
+    assert said.out.decode().splitlines() == [
         "unsettled 2 00", f"{files[2]}: the process that read it was ended"]
-    assert done.returncode == 1
+    assert said.status == 1
 
 
 def test_fleet_listens_on_the_loopback_alone(in_python, texts, tmp_path):
     """While it waits for the end of a log, each of its sockets that listens is of 127.0.0.1."""
     files = texts(list=BOTH)
     os.mkfifo(tmp_path / "endless")
-    words = [TOP / "examples/python/fleet.py", 2, *files, tmp_path / "endless"]
-    environment = ENVIRONMENT | in_python.environment
-    with subprocess.Popen(["/usr/bin/python3", *map(str, words)], env=environment,
+    words = [*in_python.words, TOP / "examples/python/fleet.py", "2", *files, tmp_path / "endless"]
+    with subprocess.Popen(words, env={**os.environ, **in_python.environment},
                           stdout=subprocess.PIPE, start_new_session=True) as going:
         with open(tmp_path / "endless", "wb"):  # a worker has opened it
             found = listening(going.pid)
@@ -411,8 +407,9 @@ def linked(request, folder, tmp_path):
     ("qemu64", 127, "CPU ISA level is lower than required"), ("Nehalem", 0, "complete 4")))
 def test_processor(linked, processor, status, said):
     """One below x86-64-v2 gets a sentence of the loader, not a signal."""
-    done = run("qemu-x86_64-static", "-cpu", processor, linked, TOP / "examples/whole-shelf.log")
-    assert (done.returncode, said in (done.stdout + done.stderr).decode()) == (status, True)
+    emulated = Program("qemu-x86_64-static", "-cpu", processor, linked)
+    out, err, ended = emulated.run("examples/whole-shelf.log")
+    assert (ended, said in (out + err).decode()) == (status, True)
 
 
 def test_library_that_is_too_old(folder, tmp_path):
@@ -430,5 +427,5 @@ def test_library_that_is_too_old(folder, tmp_path):
          f"-Wl,--version-script={tmp_path / 'old.map'}")
     for place, status, said in ((folder, 0, "refused at line 1: Header"),
                                 (tmp_path, 1, "version `VICINITY_1.2' not found")):
-        done = run(tmp_path / "listed", env={"LD_LIBRARY_PATH": str(place)})
-        assert (done.returncode, said in (done.stdout + done.stderr).decode()) == (status, True)
+        out, err, ended = Program(tmp_path / "listed", LD_LIBRARY_PATH=str(place)).run()
+        assert (ended, said in (out + err).decode()) == (status, True)

@@ -1,36 +1,88 @@
-"""Asks the library's calls on frames, lines, lists, findings and many logs, of both compilers. What
-is expected is worked out by hand, by the tables of docs/FRAMES.md and AIR.md; of random frames it
-is what the program says."""
+"""Asks the library's calls on frames, lines, lists, findings and many logs: of both compilers, and
+as WebAssembly. What is expected is worked out by hand, by the tables of docs/FRAMES.md and AIR.md;
+of random frames it is what the program says."""
 import ctypes
 import random
 import re
 
 import pytest
+from vicinity import _native
+from vicinity._native import AnswerStruct, FindingStruct, MaskStruct
 
-from helpers import calls as c
-from helpers.calls import (ABSENT, BESIDES_A, BESIDES_BOTH, CONFLICT, DOUBTFUL, FAULTS, FINDING,
-                           KINDS, LETTER, LINE_FAULTS,
-                           LINK, MASK, MASKED, MORE, OPEN, REFUSALS, REPLY, SILENCED, SIZE, SLOT,
-                           SLOTS, TOO_LONG, U64,
-                           UID_A, UID_B, UID_Y, UID_Z, UNLISTED, UNSETTLED, Calls, arrays, bytes_of,
-                           finding, framed,
-                           in_room, lined, no_frame, with_crc)
-from helpers.lines import log_of, rows
+from helpers.frames import with_crc
+from helpers.library import SIZE, U64, answer_to, findings_of, masks, uids
+from helpers.lines import log_of, reconciled_rows
 from helpers.program import TOP
-from helpers.rows import LIBRARIES
+from helpers.rows import LIBRARIES, MODULES
 
-# How many random numbers are written and random frames read.
-NUMBER = 200
+LINK, SLOTS, MASK, SLOT, REPLY, TOO_LONG, LETTER = range(201, 208)
+KINDS = "complete absent unlisted unsettled doubtful impossible refused".split()
+LINE_FAULTS = """TooManyLines LineTooLong Header UnknownEntry Hex ListedLength NotVicinity
+    SlotOutsideRound EntryAfterList DuplicateListed NotListed""".split()
+REFUSALS = "WrongLink WrongSlots WrongMask WrongSlot WrongReply TooLong WrongLetter".split()
+FAULTS = """Short Crc Extension Reserved OptionFlag OtherCommand InventoryFlag Afi Length
+    MaskTooLong MaskPadding SelectFlag NotAddressed ErrorFlag NotVicinity""".split()
+UID_A, UID_B = 0xE0040100000000A1, 0xE0040100000000B2
+UID_Z, UID_Y = 0xE000000000000000, 0xE080000000000000
 LITTLE_A = UID_A.to_bytes(8, "little")
 ALONE = 56, 0x040100000000A1
+# The masks around the low byte of A; and around both that of A and that of B.
+BESIDES_A = [(1, 0), (2, 3), (3, 5), (4, 9), (5, 0x11), (6, 1), (7, 0x61), (8, 0x21)]
+BESIDES_BOTH = sorted({*BESIDES_A[1:], (2, 0), (3, 6), (4, 0xA), (5, 2), (6, 0x12), (7, 0x72),
+                       (8, 0x32)})
+# How many random numbers are written and random frames read.
+NUMBER = 200
+
+
+class Calls:
+    """The calls on frames and lines: what each writes, field by field."""
+
+    STRUCTS = {"write_line": _native.LineStruct, "slot_mask": MaskStruct,
+               "read_request": _native.RequestStruct, "read_response": _native.ReplyStruct,
+               "kind_name": _native.NameStruct, "fault_name": _native.NameStruct}
+
+    def __init__(self, library):
+        self.library = library
+
+    def __getattr__(self, name):
+        def call(*given):
+            told = self.library.told(self.STRUCTS.get(name, _native.FrameStruct), name, *given)
+            fields = (getattr(told, field) for field, _ in told._fields_)
+            return tuple(bytes(it) if isinstance(it, ctypes.Array) else it for it in fields)
+        return call
+
+
+@pytest.fixture(scope="session", params=MODULES)
+def library_of(request):
+    """The library by each compiler, and as WebAssembly."""
+    return request.getfixturevalue(request.param)
 
 
 @pytest.fixture(scope="session", params=LIBRARIES)
-def calls(request):
-    return Calls(request.getfixturevalue(request.param).path)
+def native(request):
+    """The library by each compiler."""
+    return request.getfixturevalue(request.param)
 
 
-def test_versions(calls):
+@pytest.fixture(scope="session")
+def calls(library_of):
+    return Calls(library_of)
+
+
+def framed(digits):
+    data = bytes.fromhex(digits)
+    return 0, len(data), data.ljust(16, b"\0")
+
+
+def no_frame(fault):
+    return fault, 0, bytes(16)
+
+
+def lined(text):
+    return 0, len(text), text.encode()
+
+
+def test_versions(native):
     """The header and the library are of the version in VERSION, or of the one to come."""
     version = (TOP / "VERSION").read_text().strip().removesuffix("~dev")
     first, second, third = map(int, version.split("."))
@@ -38,7 +90,7 @@ def test_versions(calls):
     number = 10_000 * first + 100 * second + third
     assert re.findall(r'#define VICINITY_VERSION "(.*)"', header) == [version]
     assert re.findall(r"#define VICINITY_VERSION_NUMBER (\d+)u", header) == [str(number)]
-    assert calls.library.vicinity_version() == number
+    assert native.call("version") == number
 
 
 @pytest.mark.parametrize(("numbers", "frame"), [
@@ -66,9 +118,8 @@ def test_a_reply_is_written(calls):
     assert calls.write_response(0, 0, UID_A) == framed("0000A1000000000104E06745")
 
 
-@pytest.mark.parametrize("numbers",
-                         [(1, 0, UID_A), (256, 0, UID_A), (0, 256, UID_A), (0, 0, 0xE1 << 56),
-                          (0, 0, 0xDF << 56)])
+@pytest.mark.parametrize("numbers", [
+    (1, 0, UID_A), (256, 0, UID_A), (0, 256, UID_A), (0, 0, 0xE1 << 56), (0, 0, 0xDF << 56)])
 def test_a_reply_is_refused(calls, numbers):
     assert calls.write_response(*numbers) == no_frame(REPLY)
 
@@ -90,11 +141,11 @@ def test_the_mask_of_a_slot(calls, numbers, told):
 @pytest.mark.parametrize(("letter", "data", "told"), [
     ("T", bytes.fromhex("260100F60A"), lined("T 260100F60A\n")),
     ("R", bytes(63), lined("R " + "00" * 63 + "\n")),
-    ("R", bytes(64), (TOO_LONG, 0, bytes(132))), ("U", b"", lined("U E0040100000000A1\n")),
+    ("R", bytes(64), (TOO_LONG, 0, b"")), ("U", b"", lined("U E0040100000000A1\n")),
     *((letter, bytes(64), lined(letter + "\n")) for letter in "SCDF"),
-    *((letter, b"", (LETTER, 0, bytes(132))) for letter in "tX#\0")])
+    *((letter, b"", (LETTER, 0, b"")) for letter in "tX#\0")])
 def test_a_line_is_written(calls, letter, data, told):
-    assert calls.write_line(letter, data, UID_A if letter == "U" else 0) == told
+    assert calls.write_line(ord(letter), data, UID_A if letter == "U" else 0) == told
 
 
 @pytest.mark.parametrize(("name", "frame"), [
@@ -123,53 +174,11 @@ def test_each_fault_of_a_reply(calls, name, frame):
     ("fault", 201, REFUSALS)])
 def test_the_name_of_each_number(calls, what, first, words):
     """And none of those beside them."""
+    name = getattr(calls, f"{what}_name")
     for number, word in enumerate(["", *words, ""], first - 1):
-        assert calls.name(what, number) == in_room(word.encode(), 28), number
+        assert name(number) == (len(word), word.encode()), number
     for number in (50, 99, 300, 1000, 1 << 31, (1 << 32) - 1):
-        assert calls.name(what, number) == in_room(b"", 28), number
-
-
-CONFLICTS = [finding(CONFLICT, line) for line in range(20)]
-# Logs by the short names of their lines, with the status of each and what is found.
-FOUND = [
-    ("I1 S I1 RA", 2, [CONFLICTS[3], CONFLICTS[5]]),
-    ("I1 RA I1 RA I1 S", 2, [CONFLICTS[3], CONFLICTS[7]]),
-    ("I1 RA QA I1 RA", 2, [CONFLICTS[6], finding(SILENCED, 4)]),
-    ("MB RA", 2, [CONFLICTS[3]]),
-    ("V2 QZ I1 S F MA S I1 S I1 D", 2, [CONFLICTS[9], CONFLICTS[11]]),
-    ("I1 S UA UB", 1, [finding(ABSENT, 3, uid=UID_A), finding(ABSENT, 3, uid=UID_B)]),
-    ("I1 RA", 1, [finding(UNLISTED, 3, uid=UID_A)]),
-    ("V2 QZ I1 S F I1 D", 1, [finding(UNLISTED, 7, uid=UID_Z)]),
-    ("", 1, [finding(UNSETTLED), finding(OPEN)]),
-    ("I1 C UA", 1, [
-        finding(UNSETTLED, mask=(1, 0)), finding(OPEN), finding(DOUBTFUL, uid=UID_A)]),
-    ("QA I1 S UA", 1, [finding(DOUBTFUL, uid=UID_A)]),
-    ("V2 QZ QY QA I1 S F I1 C M55 C", 1, [
-        finding(UNLISTED, 11, uid=UID_Z), finding(UNLISTED, 11, uid=UID_Y),
-        finding(UNSETTLED, mask=ALONE), finding(OPEN, mask=ALONE)]),
-    ("MA RA UA", 1, [
-        finding(UNSETTLED, mask=(1, 0)), *(finding(OPEN, mask=mask) for mask in BESIDES_A)]),
-    ("MA RA MB S UB", 1, [
-        finding(ABSENT, 5, uid=UID_B), finding(UNLISTED, 3, uid=UID_A),
-        finding(UNSETTLED, mask=(2, 0)), *(finding(OPEN, mask=mask) for mask in BESIDES_BOTH)]),
-    # 55 masks are open: 1, 10, 100 and so on, from the highest bit
-    ("M55 S", 1, [
-        finding(UNSETTLED, mask=(1, 1)),
-        *(finding(OPEN, mask=(length, 1 << length - 1)) for length in range(1, 17)),
-        finding(MORE)]),
-    ("I1 S", 0, []), ("I1 RA UA", 0, []), ("UA UA", 3, [])]
-
-
-@pytest.mark.parametrize(("short", "status", "wanted"), FOUND,
-                         ids=[short or "nothing" for short, _, _ in FOUND])
-def test_findings(calls, short, status, wanted):
-    """In buffers of every size, and with a separate list."""
-    log = log_of(short)
-    text, listed, rest = log.partition(b"U ")
-    uids = [int(line, 16) for line in (rest if listed else b"").split() if line != b"U"]
-    beside = (*bytes_of(text), (U64 * len(uids))(*uids), SIZE(len(uids)))
-    for call, given in (("report", bytes_of(log)), ("report_listed", beside)):
-        assert calls.into_each(FINDING, wanted, call, *given).status == status
+        assert name(number) == (0, b""), number
 
 
 # What the list of a log is changes nothing.
@@ -186,35 +195,34 @@ SURVEYED = [
     ("I1 S I1 RA", 2, [], []), ("UA UA", 3, [], [])]
 
 
-@pytest.mark.parametrize(("short", "status", "certain", "masks"), SURVEYED,
+@pytest.mark.parametrize(("short", "status", "certain", "open_masks"), SURVEYED,
                          ids=[row[0] or "nothing" for row in SURVEYED])
-def test_surveys(calls, short, status, certain, masks):
+def test_surveys(library_of, short, status, certain, open_masks):
     """The certain UIDs and all open masks of a log, in buffers of every size. The answer is that of
     `check`."""
-    log, checked = log_of(short), c.ANSWER()
-    calls.library.vicinity_check(*bytes_of(log), ctypes.byref(checked))
-    for name, element, wanted in (("certain", U64, list(map(U64, certain))),
-                                  ("open_masks", MASKED, [MASKED(0, *mask) for mask in masks])):
-        told = calls.into_each(element, wanted, name, *bytes_of(log))
+    log = log_of(short)
+    checked = library_of.told(AnswerStruct, "check", log)
+    for name, wanted in ("certain", uids(certain)), ("open_masks", masks(open_masks)):
+        told = library_of.into_each(wanted._type_, wanted, name, log)
         assert (told.status, bytes(told)) == (status, bytes(checked))
 
 
-def reconciled(calls, expected, certain, masks, lines, entry=0, fault=0):
+def reconciled(library, expected, certain, open_masks, lines, fault=0):
     """What many logs say, in buffers of every size; faultless arrays also in other orders, and with
     elements twice."""
-    wanted, found = c.answer_to(lines[0], entry, fault), list(c.findings_of(lines))
-    masks = [MASKED(*mask) if len(mask) == 3 else MASKED(0, *mask) for mask in masks]
-    ways = [(expected, certain, masks)]
+    ways = [(expected, certain, open_masks)]
     if not fault:
-        ways += [(expected[::-1], [*certain, *certain[::-1]], masks[::-1] * 2)]
-    for way in ways:
-        assert bytes(calls.into_each(FINDING, found, "reconcile", *arrays(*way))) == wanted
+        ways += [(expected[::-1], [*certain, *certain[::-1]], open_masks[::-1] * 2)]
+    for listed, heard, asked in ways:
+        told = library.into_each(FindingStruct, [] if fault else findings_of(lines), "reconcile",
+                                 uids(listed), uids(heard), masks(asked))
+        assert bytes(told) == bytes(answer_to(lines[0], fault))
 
 
 A, B, Z = "E0040100000000A1", "E0040100000000B2", "E000000000000000"
 
 
-@pytest.mark.parametrize(("expected", "certain", "masks", "lines"), [
+@pytest.mark.parametrize(("expected", "certain", "open_masks", "lines"), [
     ([], [], [], ["complete 0"]), ([UID_B, UID_A], [UID_A, UID_B], [], ["complete 2"]),
     ([UID_A, UID_B, UID_Z], [UID_Y], [],
      [f"absent {Z}", f"absent {A}", f"absent {B}", "unlisted E080000000000000"]),
@@ -226,11 +234,11 @@ A, B, Z = "E0040100000000A1", "E0040100000000B2", "E000000000000000"
     ([UID_A, UID_B], [UID_A], [(2, 3), (3, 1)], [f"absent {B}", "unsettled 2 03"]),
     ([UID_A, UID_B], [UID_A, UID_Z], [(4, 2), (8, 0xB2)],
      [f"unlisted {Z}", "unsettled 5 02", f"doubtful {B}"])])
-def test_each_answer_to_many_logs(calls, expected, certain, masks, lines):
-    reconciled(calls, expected, certain, masks, lines)
+def test_each_answer_to_many_logs(library_of, expected, certain, open_masks, lines):
+    reconciled(library_of, expected, certain, open_masks, lines)
 
 
-@pytest.mark.parametrize(("expected", "certain", "masks", "entry", "name"), [
+@pytest.mark.parametrize(("expected", "certain", "open_masks", "entry", "name"), [
     ([UID_A, 0], [], [], 2, "NotVicinity"), ([UID_A, 0xDF << 56, UID_A], [], [], 2, "NotVicinity"),
     ([UID_A, UID_B, UID_B, UID_A], [], [], 3, "DuplicateListed"),
     ([UID_A, UID_A], [0], [], 2, "DuplicateListed"),
@@ -241,28 +249,69 @@ def test_each_answer_to_many_logs(calls, expected, certain, masks, lines):
     ([], [], [(0, 1)], 1, "WrongMask"), ([], [], [(4, 15), (4, 16)], 2, "WrongMask"),
     ([], [], [(56, 1 << 56)], 1, "WrongMask"),
     ([], [UID_A], [(0, 0, 0), (MASK, 0, 0)], 3, "WrongMask")])
-def test_each_refusal_of_many_logs(calls, expected, certain, masks, entry, name):
+def test_each_refusal_of_many_logs(library_of, expected, certain, open_masks, entry, name):
     fault = MASK if name == "WrongMask" else 1 + LINE_FAULTS.index(name)
-    reconciled(calls, expected, certain, masks, [f"refused at line {entry}: {name}"], entry, fault)
+    lines = [f"refused at line {entry}: {name}"]
+    reconciled(library_of, expected, certain, open_masks, lines, fault)
 
 
-@pytest.mark.parametrize("row", [pytest.param(row, id=name.removeprefix("tests/data/rows/"))
-                                 for name, row in rows("reconciliations") if row[0] in "01"])
-def test_row_of_many_logs(calls, row):
+@pytest.mark.parametrize(("expected", "logs", "lines"), [
+    pytest.param(*row, id=place) for place, *row, status in reconciled_rows() if status < 2])
+def test_row_of_many_logs(library_of, expected, logs, lines):
     """By the two calls for one log and the one for many. The logs, lines and open masks are the
     program's alone."""
-    _, expected, logs, lines = (part.strip() for part in row.split("|"))
-    names = [name.strip() for name in logs.split(";")] if logs else []
-    texts = [bytes_of(log_of("" if name == "empty" else name)) for name in names]
-    known = [(calls.into(U64, 64, "certain", *text),
-              calls.into(MASKED, 64, "open_masks", *text)) for text in texts]
-    certain = [uid for (_, needed, uids), _ in known for uid in uids[:needed]]
-    masks = [mask for _, (_, needed, them) in known for mask in them[:needed]]
-    told = calls.into_each(FINDING, list(c.findings_of(lines.split(" / "))), "reconcile",
-                           *arrays([int(line,
-                                        16) for line in log_of(expected).decode().split()[3::2]],
-                                   certain, masks))
-    assert bytes(told.text).rstrip(b"\0").decode() == lines.split(" / ")[0].split(" in ")[0] + "\n"
+    certain, asked = [], []
+    for log in logs:
+        for name, element, known in ("certain", U64, certain), ("open_masks", MaskStruct, asked):
+            _, needed, room = library_of.into(element, 64, name, log)
+            known += room[:needed]
+    listed = [int(uid, 16) for uid in expected.decode().split()[3::2]]
+    found = [line.partition(" in ")[0] for line in lines.split(" / ")
+             if not line.startswith(("by ", "open ", "more ", "~"))]
+    told = library_of.into_each(FindingStruct, findings_of(found), "reconcile", uids(listed),
+                                uids(certain), (MaskStruct * len(asked))(*asked))
+    assert bytes(told) == bytes(answer_to(found[0]))
+
+
+# Nothing at a pointer, or an address that isn't aligned: what has no length isn't looked at.
+SOMETHING = uids([0, 0])
+NOTHING = (None, ctypes.addressof(SOMETHING) + 1)
+LIST, SILENT = log_of("UA"), log_of("I1 S")
+WITHOUT_TEXT = "refused at line 1: Header"
+# Calls by what stands before the answer, with the answer and how many elements each array needs.
+EMPTY = [
+    ("check", [0], WITHOUT_TEXT, []), ("explain", [0], WITHOUT_TEXT, [0]),
+    ("report", [0], WITHOUT_TEXT, [0]), ("certain", [0], WITHOUT_TEXT, [0]),
+    ("open_masks", [0], WITHOUT_TEXT, [0]), ("survey", [0], WITHOUT_TEXT, [0, 0]),
+    ("listed", [0], WITHOUT_TEXT, [0]), ("check_listed", [SILENT, 0], "complete 0", []),
+    ("explain_listed", [SILENT, 0], "complete 0", [0]),
+    ("report_listed", [SILENT, uids([UID_A])], "absent E0040100000000A1", [1]),
+    ("explain", [LIST], "unsettled 1 00", [1]), ("survey", [LIST], "unsettled 1 00", [0, 1]),
+    ("open_masks", [LIST], "unsettled 1 00", [1]), ("listed", [LIST], "listed 1", [1]),
+    ("reconcile", [0, 0, 0], "complete 0", [0]),
+    ("reconcile", [uids([UID_A]), 0, 0], "absent E0040100000000A1", [1])]
+
+
+@pytest.mark.parametrize("nothing", NOTHING, ids=["NULL", "not aligned"])
+def test_nothing_at_a_pointer(native, nothing):
+    """The answer is that to a pointer to something."""
+    calls = ctypes.CDLL(str(native.path))
+    empty, told = (ctypes.c_void_p(nothing), SIZE(0)), AnswerStruct()
+    for name, given, line, counts in EMPTY:
+        words = [part for it in given for part in (empty if it == 0 else (it, SIZE(len(it))))]
+        needed = [SIZE(9) for _ in counts]
+        rooms = [part for it in needed for part in (*empty, ctypes.byref(it))]
+        calls[f"vicinity_{name}"](*words, ctypes.byref(told), *rooms)
+        wanted = f"{line}\n".encode(), counts
+        assert (told.text, [it.value for it in needed]) == wanted, name
+    room, number = (ctypes.c_char * 64)(), SIZE(9)
+    assert calls.vicinity_simulate(*empty, room, SIZE(64), ctypes.byref(number)) == 3
+    assert room.value == f"{WITHOUT_TEXT}\n".encode() and number.value == len(room.value)
+    frame = ctypes.byref((U64 * 32)())
+    assert [calls.vicinity_add_crc(*empty, frame), calls.vicinity_read_request(*empty, frame),
+            calls.vicinity_read_response(*empty, frame),
+            calls.vicinity_write_line(ord("S"), *empty, U64(0), frame)] == [
+                0, 101 + FAULTS.index("Short"), 101 + FAULTS.index("Length"), 0]
 
 
 @pytest.fixture
@@ -352,43 +401,28 @@ def test_random_lines_and_masks_of_slots(calls):
     for _ in range(NUMBER):
         data, letter = chance.randbytes(chance.randrange(64)), chance.choice("TR")
         uid = chance.getrandbits(64)
-        assert calls.write_line(letter, data) == lined(f"{letter} {data.hex().upper()}\n")
-        assert calls.write_line("U", data, uid) == lined(f"U {uid:016X}\n")
+        assert calls.write_line(ord(letter), data, 0) == lined(f"{letter} {data.hex().upper()}\n")
+        assert calls.write_line(ord("U"), data, uid) == lined(f"U {uid:016X}\n")
         bits, slot = chance.randrange(61), chance.randrange(16)
         value = chance.getrandbits(bits)
         assert calls.slot_mask(16, bits, value, slot) == (0, bits + 4, value | slot << bits)
 
 
 @pytest.mark.parametrize("log", sorted(TOP.glob("examples/*.log")), ids=lambda log: log.name)
-def test_a_list_beside_the_log(calls, program, log):
+def test_a_list_beside_the_log(library_of, program, log):
     """With its list removed and passed separately, also in another order, a log gets the answer of
     the complete log."""
     lines = log.read_bytes().splitlines(keepends=True)
     text = b"".join(given for given in lines if not given.startswith(b"U"))
-    uids = [int(given[2:], 16) for given in lines if given.startswith(b"U")]
-    for some in (uids, uids[::-1], uids[1:], [*uids, UID_B], [*uids, *uids], [0, *uids], []):
-        judged(calls, program, text, some)
-
-
-def judged(calls, program, text, uids):
-    """What the calls with a list say about a text, and what the program says about the complete
-    text."""
-    def run(command):
-        out, err, status = program.run(command,
-                                       given=text + b"".join(b"U %016X\n" % uid for uid in uids))
-        assert not err
-        return out, status
-
-    listed = (*bytes_of(text), (U64 * len(uids))(*uids), SIZE(len(uids)))
-    told = c.ANSWER.from_buffer_copy(b"\x09" * ctypes.sizeof(c.ANSWER))
-    status = calls.library.vicinity_check_listed(*listed, ctypes.byref(told))
-    assert (bytes(told.text).rstrip(b"\0"), status) == run("check")
-    explained, needed, room = calls.into(U64, 64, "explain_listed", *listed)
-    out, status = run("explain")
-    written = bytes(explained.text).rstrip(b"\0")
-    if needed or b"population" in out:
+    listed = [int(given[2:], 16) for given in lines if given.startswith(b"U")]
+    for some in (listed, listed[::-1], listed[1:], [*listed, UID_B], listed * 2, [0, *listed], []):
+        whole = text + b"".join(b"U %016X\n" % uid for uid in some)
+        told = library_of.told(AnswerStruct, "check_listed", text, uids(some))
+        assert (told.text, b"", told.status) == program.run("check", given=whole)
+        again, needed, room = library_of.into(U64, 64, "explain_listed", text, uids(some))
+        out, _, status = program.run("explain", given=whole)
         shown = b"".join(b"U %016X\n" % uid for uid in room[:needed])
-        written += b"population %d\n" % needed + shown
-    assert (written, explained.status) == (out, status)
-    assert bytes(explained) == bytes(told)
-    assert set(room[needed:]) <= {0x0707070707070707}
+        if needed or b"population" in out:
+            shown = b"population %d\n" % needed + shown
+        assert (told.text + shown, told.status, bytes(told)) == (out, status, bytes(again))
+        assert set(room[needed:]) <= {0x0707070707070707}

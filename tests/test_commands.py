@@ -8,6 +8,7 @@ import os
 import random
 import subprocess
 import time
+from pathlib import Path
 
 import pytest
 
@@ -27,6 +28,7 @@ OUTCOMES = b"S", b"C", b"R", b"D"
 HEADER = b"vicinity-log 1\r\n"
 LONG_LINE = b"#" * 128 + b"\r\n"
 LOGS = sorted(map(str, TOP.glob("examples/*.log")))
+SEEDS = [Path(log).read_bytes() for log in LOGS]
 SPELLED = [line.split() for line in (
     "request inventory link 2 slots 1 mask 8 A1", "request inventory link 2 slots 16 mask 4 01",
     "request inventory link 2 slots 1 mask 0 -",
@@ -111,9 +113,7 @@ def test_streams(ask, tmp_path, words):
 
 def test_a_text_in_pieces(pair):
     """Of a few bytes."""
-    with open(LOGS[-1], "rb") as log:
-        text = log.read()
-    answers = []
+    text, answers = SEEDS[-1], []
     for one in pair[:2]:
         with subprocess.Popen([*one.words, "explain"], stdin=subprocess.PIPE,
                               stdout=subprocess.PIPE) as asked:
@@ -142,12 +142,9 @@ def test_long_texts(ask, command, text):
 @pytest.mark.parametrize("part", range(PARTS))
 def test_changed_logs(ask, pair, part):
     """Each is explained, and asked by another command too: by `simulate` without its slots."""
-    chance, seeds = random.Random(f"11 {part}"), []
-    for log in LOGS:
-        with open(log, "rb") as file:
-            seeds.append(file.read())
+    chance = random.Random(f"11 {part}")
     for index in range(pair[2] // PARTS):
-        text = changed(chance, seeds)
+        text = changed(chance, SEEDS)
         command = COMMANDS[index % len(COMMANDS)]
         ask(["explain"], text)
         if command == "simulate":
@@ -155,23 +152,26 @@ def test_changed_logs(ask, pair, part):
         ask([command], text)
 
 
+def test_beginnings_of_a_log(ask):
+    for end in range(len(SEEDS[0]) + 1):
+        for command in "explain", "report":
+            ask([command], SEEDS[0][:end])
+
+
 @pytest.mark.slow
 def test_many_changed_logs(ask, pair, tmp_path):
     """Random lists and logs: possible ones, and changed ones; also under names that are long, and
     with a list that is none."""
-    chance, seeds = random.Random(13), []
-    for log in LOGS:
-        with open(log, "rb") as file:
-            seeds.append(file.read())
+    chance = random.Random(13)
     for index in range(pair[2] // 2):
         _, expected, logs = case_of(chance)
         texts = [text_of(1, map(Claimed, expected)), *(text_of(*log) for log in logs)]
         if index % 3:
-            texts[1:] = [b"\n".join(session(chance)) if index % 3 == 1 else changed(chance, seeds)
+            texts[1:] = [b"\n".join(session(chance)) if index % 3 == 1 else changed(chance, SEEDS)
                          for _ in range(chance.randint(1, 4))]
             texts[0] = b"\n".join([b"vicinity-log 1", *chance.sample(LISTED, chance.randint(0, 2))])
         if not chance.randrange(8):
-            texts[0] = changed(chance, seeds)
+            texts[0] = changed(chance, SEEDS)
         ask(["reconcile", *written(tmp_path, f"{'x' * chance.choice((0, 200))}{index}-", texts)])
 
 

@@ -11,6 +11,7 @@ import random
 import pytest
 
 from helpers.families import NAMES, WRONG, Families, case_of
+from helpers.library import STATUSES
 from helpers.random_logs import Listed, text_of
 
 NUMBER, SEED = 5000, 15693
@@ -18,7 +19,6 @@ NUMBER, SEED = 5000, 15693
 PARTS = 10
 PLANTED = 1500
 KINDS = ("complete", "absent", "unlisted", "unsettled", "doubtful", "impossible")
-STATUSES = {"complete": 0, "impossible": 2, "refused": 3}
 
 
 def same(told, wanted):
@@ -53,7 +53,7 @@ def answer(program, tmp_path):
             (tmp_path / name).write_bytes(text)
         out, err, status = program.run("reconcile", *names, cwd=tmp_path)
         told = out.decode().splitlines()
-        assert (err, status) == (b"", STATUSES.get(told[0].split()[0] if told else "", 1))
+        assert (err, status) == (b"", STATUSES.get(told[0].split()[0], 1))
         return told
     return ask
 

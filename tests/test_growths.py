@@ -15,7 +15,7 @@ import pytest
 
 from biglog import BITS, SHAPES, ask, low, new_tags
 from helpers import random_logs
-from helpers.lines import log_lines, rows, text_of
+from helpers.lines import biglog, log_lines, rows, text_of
 from helpers.program import TOP, Said, program_of
 
 EXAMPLE = (TOP / "examples/unfinished-count.log").read_bytes()
@@ -170,16 +170,6 @@ def hostile(name):
     return "".join(f"{line}\n" for line in [f"vicinity-log {version}", *lines])
 
 
-def contradicted(rng):
-    """A log of a few sessions one after the other, each over other tags, though nothing says so."""
-    version, uids = rng.randint(1, 2), random_logs.eight_uids(rng)
-    lines = random_logs.opening(rng, version, uids) if rng.randrange(2) else []
-    for _ in range(rng.randint(2, 8)):
-        lines += [line for line in random_logs.rounds(rng, version, uids, ())
-                  if not isinstance(line, random_logs.Listed)]
-    return random_logs.text_of(version, lines).decode()
-
-
 def judged(growths, refuse, text):
     """How often a log is judged, and whether it is impossible, from which line on."""
     times, _, answer = counted(growths, refuse, given=text.encode())
@@ -198,7 +188,8 @@ def test_a_log_made_to_hurt_is_judged_a_few_times(growths, refuse, name):
 def test_random_logs_are_judged_a_few_times(growths, refuse, part):
     rng, left = random.Random(f"7 {part}"), IMPOSSIBLE // PARTS
     while left:
-        left -= judged(growths, refuse, contradicted(rng)).startswith("impossible")
+        text = random_logs.text_of(*random_logs.contradicted(rng)).decode()
+        left -= judged(growths, refuse, text).startswith("impossible")
 
 
 @pytest.fixture(scope="session")
@@ -226,16 +217,11 @@ def test_the_first_impossible_line_is_found_at_once(growths, refuse, silent, giv
     assert found == f"impossible at line {before + number}\n"
 
 
-def biglog(shape):
-    return subprocess.run([TOP / "tools/biglog.py", shape, "10000"], capture_output=True,
-                          check=True).stdout
-
-
 @pytest.mark.parametrize("command", ["check", "explain", "report", "simulate"])
 def test_little_memory(program, tmp_path, command):
     """From far too little to enough, the answer is the same, or that there is too little."""
     log = tmp_path / "log"
-    log.write_bytes(biglog("sim-session" if command == "simulate" else "session-cut"))
+    log.write_bytes(biglog("sim-session" if command == "simulate" else "session-cut", 10_000))
 
     def run(space, *words):
         limit = space and (lambda: resource.setrlimit(resource.RLIMIT_AS, (space, space)))

@@ -1,23 +1,15 @@
 """Asks the program for the words of random frames, and for the frames of these words.
 
-The frames and their words are made here, with a CRC of its own: as many requests as replies, with
+The frames and their words are made here: as many requests as replies, with
 masks of every length. `frame` has to write the words, and `spell` the frame. `--logs NUMBER` says
 how many there are."""
 import random
 
 import pytest
 
+from helpers.frames import hex_of
+
 NUMBER, PARTS = 10_000, 8
-
-
-def with_crc(body):
-    """The frame of these bytes, in hex digits."""
-    register = 0xFFFF
-    for byte in body:
-        register ^= byte
-        for _ in range(8):
-            register = register >> 1 ^ (0x8408 if register & 1 else 0)
-    return (bytes(body) + (register ^ 0xFFFF).to_bytes(2, "little")).hex().upper()
 
 
 def inventory(chance):
@@ -28,19 +20,19 @@ def inventory(chance):
     digits = value.to_bytes(size, "big").hex().upper() or "-"
     body = [(0x04 if sixteen else 0x24) + link, 1, bits, *value.to_bytes(size, "little")]
     slots = 16 if sixteen else 1
-    return with_crc(body), f"request inventory link {link} slots {slots} mask {bits} {digits}"
+    return hex_of(body), f"request inventory link {link} slots {slots} mask {bits} {digits}"
 
 
 def stay_quiet(chance):
     link, uid = chance.randrange(4), chance.getrandbits(64)
-    return (with_crc([0x20 + link, 2, *uid.to_bytes(8, "little")]),
+    return (hex_of([0x20 + link, 2, *uid.to_bytes(8, "little")]),
             f"request stay-quiet link {link} uid {uid:016X}")
 
 
 def reply(chance):
     flags, dsfid = chance.randrange(0, 256, 2), chance.randrange(256)
     uid = 0xE0 << 56 | chance.getrandbits(56)
-    return (with_crc([flags, dsfid, *uid.to_bytes(8, "little")]),
+    return (hex_of([flags, dsfid, *uid.to_bytes(8, "little")]),
             f"response flags {flags:02X} dsfid {dsfid:02X} uid {uid:016X}")
 
 

@@ -7,22 +7,11 @@ import random
 
 import pytest
 
-from helpers import random_logs
-from helpers.random_logs import COLLISION, FIELD_CYCLE, SILENT, Ask, Listed, StayQuiet, text_of
+from helpers.random_logs import (COLLISION, FIELD_CYCLE, SILENT, Ask, StayQuiet, contradicted,
+                                 text_of)
 from helpers.reports import slots_of
 
 NUMBER, PARTS = 1000, 8
-
-
-def contradicted(rng):
-    """A few sessions one after the other, each over other tags, though nothing says so, behind
-    first lines or none."""
-    version, uids = rng.randint(1, 2), random_logs.eight_uids(rng)
-    lines = random_logs.opening(rng, version, uids) if rng.randrange(2) else []
-    for _ in range(rng.randint(2, 8)):
-        lines += [line for line in random_logs.rounds(rng, version, uids, ())
-                  if not isinstance(line, Listed)]
-    return version, lines
 
 
 @pytest.fixture
@@ -62,9 +51,8 @@ def test_no_line_of_a_conflict_can_be_left_out(asked, pytestconfig, part):
         text = text_of(version, lines).decode()
         assert numbers and numbers == sorted(kept) and is_impossible(kept), text
         for number in numbers:
-            assert not is_impossible({n: slot
-                                      for n, slot in kept.items()
-                                      if n != number}), f"{number} of {text}"
+            without = {n: slot for n, slot in kept.items() if n != number}
+            assert not is_impossible(without), f"{number} of {text}"
 
 
 def test_no_line_of_a_large_conflict_can_be_left_out(asked):

@@ -5,15 +5,15 @@ The logs are the same each time; `pytest tests/test_oracle.py --logs 100000` jud
 seed, which is printed, or of `--seed`. Wrong judges and wrong reports are put in the library's
 place, each wrong in one rule, and have to be found."""
 import collections
-import ctypes
 import random
 
 import pytest
 from vicinity._native import AnswerStruct
 
 from helpers import oracle, reports
+from helpers.library import STATUSES, U64, answer_to
 from helpers.oracle import Case
-from helpers.random_logs import hex_of, random_log, text_of
+from helpers.random_logs import random_log, text_of
 
 NUMBER, SEED = 15000, 15693
 # In how many parts the logs are judged.
@@ -22,38 +22,21 @@ PARTS = 15
 # verdict.
 PLANTED = 8000
 LEAST_SHARE = 20
-KINDS = ("no answer", "complete", "absent", "unlisted", "unsettled", "doubtful", "impossible")
-STATUSES = {"complete": 0, "absent": 1, "unlisted": 1, "unsettled": 1, "doubtful": 1,
-            "impossible": 2}
+KINDS = ("complete", "absent", "unlisted", "unsettled", "doubtful", "impossible")
 ROOM = 64
 
 
 @pytest.fixture
 def answer(library):
     """The line of `vicinity_check`, and the population of `vicinity_explain`."""
-    room = (ctypes.c_uint64 * ROOM)()
-
     def ask(version, lines):
         text = text_of(version, lines)
-        told, again, needed = AnswerStruct(), AnswerStruct(), ctypes.c_size_t()
-        library.calls.vicinity_check(text, len(text), ctypes.byref(told))
-        library.calls.vicinity_explain(text, len(text), ctypes.byref(again), room, ROOM,
-                                       ctypes.byref(needed))
-        assert bytes(told) == bytes(again)
-        return line_of(told), room[:needed.value]
+        told = library.told(AnswerStruct, "check", text)
+        again, needed, room = library.into(U64, ROOM, "explain", text)
+        line = told.text.decode().rstrip("\n")
+        assert bytes(told) == bytes(again) == bytes(answer_to(line))
+        return line, room[:needed]
     return ask
-
-
-def line_of(told):
-    """The line of an answer. The numbers beside it have to say the same."""
-    line = told.text.decode()
-    kind = line.split()[0]
-    numbers = {"complete": f"complete {told.count}",
-               "impossible": f"impossible at line {told.line}",
-               "unsettled": f"unsettled {told.mask_len} {hex_of(told.mask_len, told.mask_value)}"}
-    wanted = numbers.get(kind, f"{kind} {told.uid:016X}")
-    assert (line, KINDS[told.kind], told.status) == (wanted + "\n", kind, STATUSES[kind])
-    return wanted
 
 
 @pytest.fixture
@@ -62,7 +45,7 @@ def report(program):
     def ask(version, lines):
         out, err, status = program.run("report", given=text_of(version, lines))
         told = out.decode().splitlines()
-        assert (err, status) == (b"", STATUSES.get(told[0].split()[0] if told else ""))
+        assert (err, status) == (b"", STATUSES.get(told[0].split()[0], 1))
         return told
     return ask
 
@@ -89,7 +72,7 @@ def test_random_logs(answer, report, logs, part):
                  or case.wrong_report(report(version, lines)))
         assert not wrong, f"seed {seed}:\n{text_of(version, lines).decode()}"
     if number >= NUMBER // PARTS:
-        assert not [kind for kind in STATUSES if seen[kind] * 1000 < LEAST_SHARE * number]
+        assert not [kind for kind in KINDS if seen[kind] * 1000 < LEAST_SHARE * number]
 
 
 def found(is_found):

@@ -33,12 +33,13 @@ import sys
 
 import pytest
 
+from helpers.frames import hex_of, with_crc
 from helpers.program import TOP, needs
 
 FOLDERS = ("crates", "examples", "include", "out", "python", "tools")
 PAGES = ["README.md", "CHANGELOG.md", *sorted(str(page.relative_to(TOP)) for pattern in (
     "docs/*.md", "docs/*.[15]", "crates/*/README.md") for page in TOP.glob(pattern))]
-SECONDS = 120
+SECONDS = 600
 FRAME_FAULT = re.compile(r"\| `([0-9A-F]+)` \| (request|reply) \| `(\w+)` \|")
 FRAME = re.compile(r"\| `([0-9A-F]+)` \| "
                    r"(?:Inventory, (one|sixteen) slots?, (?:no mask|mask of (\d+) bits ([0-9A-F]+))"
@@ -100,25 +101,10 @@ def is_there(tool):
     return shutil.which(tool) is not None
 
 
-def register(content):
-    """The register of the CRC after bytes, by the rule of docs/FRAMES.md."""
-    held = 0xFFFF
-    for byte in content:
-        for place in range(8):
-            differ = (held ^ byte >> place) & 1
-            held = held >> 1 ^ (0x8408 if differ else 0)
-    return held
-
-
-def frame_of(content):
-    """The hex digits of a frame: its content and its CRC."""
-    return (content + (register(content) ^ 0xFFFF).to_bytes(2, "little")).hex().upper()
-
-
 def inventory(sixteen, length, value):
     """An Inventory request by its slots and its mask, by the table of docs/FRAMES.md."""
     head = bytes([0x06 if sixteen else 0x26, 0x01, length])
-    return frame_of(head + value.to_bytes((length + 7) // 8, "little"))
+    return hex_of(head + value.to_bytes((length + 7) // 8, "little"))
 
 
 def steps(first, lines):
@@ -254,16 +240,16 @@ class Shell:
 
     def is_read(self, content, asked):
         """Whether a frame is read as the request or the response that it is asked for."""
-        got, _ = self.run("vicinity frame " + frame_of(content))
+        got, _ = self.run("vicinity frame " + hex_of(content))
         return any(line.startswith(asked) and " refused " not in line for line in got.split("\n"))
 
     def crc_row(self, place, row):
         name, digits, held, crc, sent = row.groups()
         content = bytes.fromhex(name.strip("`")) if name[0] == "`" else (digits or "").encode()
-        self.note(place, (int(held, 16), int(crc, 16)),
-                  (register(content), register(content) ^ 0xFFFF))
+        found = int.from_bytes(with_crc(content)[-2:], "little")
+        self.note(place, (int(held, 16), int(crc, 16)), (found ^ 0xFFFF, found))
         if sent:
-            self.note(place, sent.replace(" ", ""), frame_of(content)[-4:])
+            self.note(place, sent.replace(" ", ""), hex_of(content)[-4:])
 
     def mask_row(self, place, row):
         """The mask of a slot by the rule, and the UIDs in a row by what `simulate` gives."""

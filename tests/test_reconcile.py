@@ -5,7 +5,7 @@ import subprocess
 
 import pytest
 
-from helpers.lines import NAMES, log_of, rows
+from helpers.lines import NAMES, log_of, reconciled_rows
 from helpers.rows import PROGRAMS
 
 AROUND = re.compile(r"~(\w+) (\d+) (\w)")
@@ -28,14 +28,6 @@ def lines_of(expected):
         yield from around(match[1], int(match[2]), match[3]) if match else [line]
 
 
-def all_rows():
-    for place, row in rows("reconciliations"):
-        status, expected, logs, lines = (part.strip() for part in row.split("|"))
-        logs = [log.strip() for log in logs.split(";")] if logs else []
-        yield pytest.param(expected, logs, lines, int(status),
-                           id=place.removeprefix("tests/data/rows/"))
-
-
 @pytest.fixture
 def reconcile(one, tmp_path):
     """Runs `reconcile` in a folder of a list, a log and a folder."""
@@ -54,10 +46,11 @@ def one(request):
     return request.getfixturevalue(request.param)
 
 
-@pytest.mark.parametrize(("expected", "logs", "lines", "status"), all_rows())
+@pytest.mark.parametrize(("expected", "logs", "lines", "status"), [
+    pytest.param(*row, id=place) for place, *row in reconciled_rows()])
 def test_row(reconcile, tmp_path, expected, logs, lines, status):
     for name, text in zip(("EXPECTED", *LOGS), (expected, *logs)):
-        (tmp_path / name).write_bytes(log_of("" if text == "empty" else text))
+        (tmp_path / name).write_bytes(text)
     wanted = "".join(f"{line}\n" for line in lines_of(lines)).encode()
     assert reconcile("EXPECTED", *LOGS[:len(logs)]) == (wanted, b"", status)
 

@@ -1,5 +1,6 @@
 """The library as WebAssembly, by node and in a browser: what the module is, and that it answers as
-the library for C does. tests/test_rows.py asks it for the rows of tests/data/rows over texts."""
+the library for C does. tests/test_rows.py asks it for the rows of tests/data/rows over texts, and
+tests/test_calls.py makes its calls one by one."""
 import ctypes
 import json
 import re
@@ -7,10 +8,12 @@ import shutil
 import subprocess
 
 import pytest
+from vicinity._native import AnswerStruct, FindingStruct, MaskStruct
 
-from helpers.lines import log_of, rows
+from helpers.library import U8, U32, U64, masks, uids
+from helpers.lines import biglog, log_of
 from helpers.program import MAKE, TOP
-from helpers.wasm import Module
+from helpers.wasm import WasmLibrary
 
 MOST_BYTES = 300_000
 # What the module exports besides the calls: the linker says where the heap begins.
@@ -25,9 +28,11 @@ console.log(JSON.stringify([WebAssembly.Module.imports(it), exported]));
 # A session of this many tags has a million lines.
 LARGE = 115_600
 UID_A, UID_B = 0xE0040100000000A1, 0xE0040100000000B2
-# How many elements a buffer has, of at most so many bytes, and what is in it before a call.
-PLACES, SIZE, UNWRITTEN = 64, 32, 7
-ANSWER, NUMBER = 104, 8
+# What the calls that list something list; how many bytes its buffer has.
+LISTING = {"explain": U64, "certain": U64, "listed": U64, "explain_listed": U64,
+           "open_masks": MaskStruct, "report": FindingStruct, "report_listed": FindingStruct,
+           "reconcile": FindingStruct, "simulate": U8}
+ROOM = 2048
 # The status of a call that was refused memory.
 REFUSED = 4
 # Logs of which each allocation is refused.
@@ -84,76 +89,9 @@ def test_every_number_in_a_browser(browser, wasm_module, texts, answered, tmp_pa
     assert given.encode() == answered
 
 
-def in_words(vicinity, word):
-    """What `frame` says of a frame, by the calls."""
-    try:
-        asked = vicinity.read_request(bytes.fromhex(word))
-        if asked.slots:
-            digits = (asked.mask.length + 7) // 8 * 2
-            value = f"{asked.mask.value:0{digits}X}" if digits else "-"
-            yield (f"request inventory link {asked.link} slots {asked.slots} "
-                   f"mask {asked.mask.length} {value}")
-        else:
-            yield f"request stay-quiet link {asked.link} uid {asked.uid:016X}"
-    except vicinity.FrameFault as fault:
-        yield f"request refused {fault.fault.word}"
-    try:
-        told = vicinity.read_response(bytes.fromhex(word))
-        yield f"response flags {told.flags:02X} dsfid {told.dsfid:02X} uid {told.uid:016X}"
-    except vicinity.FrameFault as fault:
-        yield f"response refused {fault.fault.word}"
-
-
-def frame_rows():
-    """The rows over frames, but for those whose words are no bytes, which are no matter of the
-    calls."""
-    for name in "frames", "spelled":
-        for place, line in rows(name):
-            words, given, wanted = (cell.strip() for cell in line.split("|"))
-            if words == "spell 0":
-                words, given, wanted = "frame 0", wanted, given
-            kind = words.split()[0]
-            is_text = given.startswith('"') or wanted.startswith("refused ")
-            if kind in ("request", "reply") or kind == "frame" and not is_text:
-                yield pytest.param(kind, given, wanted, id=place.rpartition("/")[2])
-
-
-@pytest.mark.parametrize(("kind", "word", "wanted"), frame_rows())
-def test_frames(wasm, kind, word, wanted):
-    with wasm.package() as vicinity:
-        said = list(in_words(vicinity, word))
-    if kind == "frame":
-        assert set(wanted.split(" / ")) <= set(said)
-    else:
-        assert said[kind == "reply"].partition(" ")[2] == wanted
-
-
-def reconciled_rows():
-    """The rows of many logs that are possible, with their findings alone."""
-    for place, line in rows("reconciliations"):
-        status, expected, logs, wanted = (cell.strip() for cell in line.split("|"))
-        if status in "01":
-            logs = [log.strip() for log in logs.split(";")] if logs else []
-            texts = [log_of("" if log == "empty" else log) for log in logs]
-            found = [part.partition(" in ")[0] for part in wanted.split(" / ")
-                     if not part.startswith(("by ", "open ", "more ", "~"))]
-            row = log_of(expected), texts, found, int(status)
-            yield pytest.param(*row, id=place.rpartition("/")[2])
-
-
-@pytest.mark.parametrize(("expected", "texts", "found", "status"), reconciled_rows())
-def test_many_logs(wasm, expected, texts, found, status):
-    uids = [int(uid, 16) for uid in expected.decode().split()[3::2]]
-    with wasm.package() as vicinity:
-        said = vicinity.reconcile(uids, map(vicinity.survey, texts))
-        lines = [line for line in str(said).split("\n") if not line.startswith("by line")]
-    assert (lines, said.answer.status) == (found, status)
-
-
 def test_a_session_of_a_million_lines(wasm, program, tmp_path):
     """With the tags that it lists, without the last of them, and cut off."""
-    made = [TOP / "tools/biglog.py", "session", str(LARGE)]
-    text = subprocess.run(made, capture_output=True, check=True).stdout
+    text = biglog("session", LARGE)
     lines = text.splitlines(keepends=True)
     assert 990_000 < len(lines) <= 1_000_000
     for log in text, b"".join(lines[:-1]), b"".join(lines[:len(lines) // 2]):
@@ -164,50 +102,31 @@ def test_a_session_of_a_million_lines(wasm, program, tmp_path):
             assert (f"{found}\n".encode(), found.answer.status) == (said.out, said.status)
 
 
-def unwritten(size):
-    return (ctypes.c_uint8 * size)(*[UNWRITTEN] * size)
+class Growing(WasmLibrary):
+    """The calls of a module whose heap refuses the allocation with one number."""
 
-
-def of_text(text):
-    return text, ctypes.c_size_t(len(text))
-
-
-def of_numbers(*lists):
-    """Numbers for a call, each list with its length."""
-    return [part for them in lists
-            for part in ((ctypes.c_uint64 * len(them))(*them), ctypes.c_size_t(len(them)))]
-
-
-class Growing:
-    """The calls that take memory, of a module whose heap refuses the allocation with one number."""
-
-    def __init__(self, path):
-        self.module = Module(path)
-
-    def call(self, name, number, *given):
-        """A call's result, the bytes that it may write, and how many allocations it made."""
-        answer, room, needed = unwritten(ANSWER), unwritten(SIZE * PLACES), unwritten(NUMBER)
-        places = ctypes.c_size_t(SIZE * PLACES if name == "simulate" else PLACES)
-        told = [] if name == "simulate" else [answer]
-        listed = [] if name.startswith("check") else [room, places, needed]
-        self.module.test_refuse(ctypes.c_uint32(number))
-        result = getattr(self.module, f"vicinity_{name}")(*given, *told, *listed)
-        return result, bytes(answer), bytes(room), bytes(needed), self.module.test_grown()
+    def result(self, name, number, *given):
+        """All that a call returns and writes, and how many allocations it made."""
+        self.module.test_refuse(U32(number))
+        if name not in LISTING:
+            told, *written = self.told(AnswerStruct, name, *given), 0, b""
+        else:
+            told, *written = self.into(LISTING[name], ROOM // ctypes.sizeof(LISTING[name]), name,
+                                       *given)
+        told = told if name == "simulate" else bytes(told)
+        return told, *map(bytes, written[1:]), written[0], self.module.test_grown()
 
     def refuse_each(self, name, *given):
         """Refuses each allocation of a call in turn: there is no answer, nothing else is written,
         no memory is kept, and the same call answers right afterwards."""
-        held = self.module.test_held()
-        right = self.call(name, 0, *given)
-        assert right[0] < REFUSED and right[-1] > 0
-        answer = bytes(4) + REFUSED.to_bytes(4, "little") + bytes(ANSWER - 8)
-        wanted = (REFUSED, bytes(unwritten(ANSWER)) if name == "simulate" else answer,
-                  bytes(unwritten(SIZE * PLACES)),
-                  bytes(unwritten(NUMBER)) if name.startswith("check") else bytes(NUMBER))
+        held, right = self.module.test_held(), self.result(name, 0, *given)
+        none = REFUSED if name == "simulate" else bytes(AnswerStruct(status=REFUSED))
+        wanted = none, b"\7" * ROOM if name in LISTING else b"", 0
+        assert right[0] != none and right[-1] > 0
         for number in range(1, right[-1] + 1):
-            assert self.call(name, number, *given)[:-1] == wanted, f"{name}, allocation {number}"
+            assert self.result(name, number, *given)[:-1] == wanted, f"{name}, allocation {number}"
             assert self.module.test_held() == held, f"{name}, allocation {number}: memory is kept"
-        assert self.call(name, 0, *given) == right
+        assert self.result(name, 0, *given) == right
 
 
 @pytest.fixture(scope="module")
@@ -222,12 +141,12 @@ def growing(wasm_module, tmp_path_factory):
 
 @pytest.mark.parametrize("names", GROWING)
 def test_each_growth_is_refused(growing, names):
-    uids = of_numbers([UID_B, UID_A])
+    listed = uids([UID_B, UID_A])
     beside = log_of(" ".join(name for name in names.split() if not name.startswith("U")))
     for name in "check", "explain", "report", "certain", "open_masks":
-        growing.refuse_each(name, *of_text(log_of(names)))
+        growing.refuse_each(name, log_of(names))
     for name in "check_listed", "explain_listed", "report_listed":
-        growing.refuse_each(name, *of_text(beside), *uids)
-    growing.refuse_each("reconcile", *uids, *of_numbers([UID_A], []))
-    growing.refuse_each("listed", *of_text(log_of("UA UB")))
-    growing.refuse_each("simulate", *of_text(log_of("I1 QA I1 UA UB")))
+        growing.refuse_each(name, beside, listed)
+    growing.refuse_each("reconcile", listed, uids([UID_A]), masks([]))
+    growing.refuse_each("listed", log_of("UA UB"))
+    growing.refuse_each("simulate", log_of("I1 QA I1 UA UB"))

@@ -5,7 +5,7 @@ import subprocess
 
 import pytest
 
-from helpers.lines import log_of
+from helpers.lines import biglog, log_of
 from helpers.program import MAKE, TOP, Program
 
 CC = ("x86_64-w64-mingw32-gcc", "-O2", "-Wall", "-Wextra", "-Werror",
@@ -20,7 +20,13 @@ LARGE = 115_600
 
 
 @pytest.fixture(scope="module")
-def built(windows_release, windows, tmp_path_factory):
+def released(wine, windows_release):
+    """The commands as they are released, a start for each run."""
+    return Program(*wine.words, windows_release / "vicinity.exe")
+
+
+@pytest.fixture(scope="module")
+def built(windows_release, wine, tmp_path_factory):
     """Builds a C program for Windows beside the DLL, and gives what runs it."""
     folder = tmp_path_factory.mktemp("windows")
     (folder / "vicinity.dll").write_bytes((windows_release / "vicinity.dll").read_bytes())
@@ -28,7 +34,7 @@ def built(windows_release, windows, tmp_path_factory):
     def build(name, *words):
         made = folder / f"{name}.exe"
         subprocess.run([*CC, TOP / f"tests/c/{name}.c", *words, "-o", made], check=True)
-        return Program(*windows.words[:-1], made)
+        return Program(*wine.words, made)
     return build
 
 
@@ -55,54 +61,53 @@ def test_each_growth_is_refused(built, windows_release):
 
 
 @pytest.mark.parametrize("name", NAMES)
-def test_a_file_by_its_name(windows, tmp_path, name):
+def test_a_file_by_its_name(released, tmp_path, name):
     (tmp_path / name).write_bytes(LOG)
-    assert windows.run("check", name, given=EMPTY, cwd=tmp_path) == READ
+    assert released.run("check", name, given=EMPTY, cwd=tmp_path) == READ
     refused = f"refused at line 2 of {name}: NotListed\n".encode()
-    assert windows.run("reconcile", name, name, cwd=tmp_path).out == refused
+    assert released.run("reconcile", name, name, cwd=tmp_path).out == refused
     unread = f"vicinity: cannot open no {name}\n".encode()
-    assert windows.run("check", f"no {name}", cwd=tmp_path) == (b"", unread, 4)
+    assert released.run("check", f"no {name}", cwd=tmp_path) == (b"", unread, 4)
 
 
-def test_bytes_are_read_as_they_are(windows, tmp_path):
+def test_bytes_are_read_as_they_are(released, tmp_path):
     """Lines that end with CR LF, and a byte 26, which ends a text for some programs of Windows."""
     (tmp_path / "log").write_bytes(LOG.replace(b"\n", b"\r\n"))
-    assert windows.run("check", "log", cwd=tmp_path) == READ
-    assert windows.run("check", given=LOG.replace(b"\n", b"\r\n")) == READ
+    assert released.run("check", "log", cwd=tmp_path) == READ
+    assert released.run("check", given=LOG.replace(b"\n", b"\r\n")) == READ
     (tmp_path / "log").write_bytes(LOG + b"\x1a\n")
     refused = (b"refused at line 5: UnknownEntry\n", b"", 3)
-    assert windows.run("check", "log", cwd=tmp_path) == refused
-    assert windows.run("check", given=LOG + b"\x1a\n") == refused
+    assert released.run("check", "log", cwd=tmp_path) == refused
+    assert released.run("check", given=LOG + b"\x1a\n") == refused
 
 
 @pytest.mark.parametrize("words", NO_COMMANDS)
-def test_words_that_are_no_command(windows, words):
-    assert windows.run(*words.split()) == (b"", b"vicinity: usage\n", 4)
+def test_words_that_are_no_command(released, words):
+    assert released.run(*words.split()) == (b"", b"vicinity: usage\n", 4)
 
 
-def test_a_folder_is_not_read(windows):
-    assert windows.run("check", ".") == (b"", b"vicinity: read failed\n", 4)
+def test_a_folder_is_not_read(released):
+    assert released.run("check", ".") == (b"", b"vicinity: read failed\n", 4)
 
 
-def test_a_full_disk(windows, tmp_path):
+def test_a_full_disk(released, tmp_path):
     (tmp_path / "log").write_bytes(LOG)
     for words in ["check"], ["check", "log"], ["frame", "260100F60A"]:
         with open("/dev/full", "wb") as full:
-            said = windows.run(*words, given=LOG, stdout=full, cwd=tmp_path)
+            said = released.run(*words, given=LOG, stdout=full, cwd=tmp_path)
         assert said == (b"", b"vicinity: write failed\n", 4)
 
 
-def test_a_pattern_stands_for_its_files(windows, tmp_path):
+def test_a_pattern_stands_for_its_files(released, tmp_path):
     (tmp_path / "list").write_bytes(log_of("UA UB"))
     for name, log in ("a.log", "I1 RA"), ("b.log", "I1 RB"):
         (tmp_path / name).write_bytes(log_of(log))
-    said = windows.run("reconcile", "list", "*.log", cwd=tmp_path)
+    said = released.run("reconcile", "list", "*.log", cwd=tmp_path)
     assert said == (b"complete 2\n", b"", 0)
 
 
-def test_a_session_of_a_million_lines(windows, program, tmp_path):
-    with open(tmp_path / "log", "wb") as file:
-        subprocess.run([TOP / "tools/biglog.py", "session", str(LARGE)], stdout=file, check=True)
+def test_a_session_of_a_million_lines(released, program, tmp_path):
+    (tmp_path / "log").write_bytes(biglog("session", LARGE))
     for command in "check", "explain", "report":
         words = {"cwd": tmp_path}
-        assert windows.run(command, "log", **words) == program.run(command, "log", **words)
+        assert released.run(command, "log", **words) == program.run(command, "log", **words)

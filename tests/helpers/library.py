@@ -1,9 +1,69 @@
 """The library for C, as Python calls it."""
 import contextlib
+import ctypes
 import os
+import subprocess
 
 import vicinity
-from vicinity import _native
+from vicinity import Kind, _native
+from vicinity._native import AnswerStruct, FindingStruct, MaskStruct
+
+from helpers.program import TOP, Program
+
+STRICT = ("-Wall", "-Wextra", "-Wpedantic", "-Wshadow", "-Werror")
+U8, U32, U64, SIZE = ctypes.c_uint8, ctypes.c_uint32, ctypes.c_uint64, ctypes.c_size_t
+STATUSES = {"complete": 0, "impossible": 2, "refused": 3}
+UNSETTLED, OPEN, MORE, CONFLICT, SILENCED = 4, 8, 9, 10, 11
+
+
+def answer_to(line, fault=0):
+    """The answer that a line says, with each number; a refusal has that of its fault."""
+    kind, *words = line.split()
+    told = AnswerStruct(Kind[kind.upper()], STATUSES.get(kind, 1), fault=fault)
+    told.text = line.encode() + b"\n"
+    if kind == "complete":
+        told.count = int(words[0])
+    elif kind == "unsettled":
+        told.mask_len, told.mask_value = mask_of(words)
+    elif kind in STATUSES:
+        told.line = int(words[2].rstrip(":"))
+    else:
+        told.uid = int(words[0], 16)
+    return told
+
+
+def mask_of(words):
+    """The mask of the words `L V`."""
+    return int(words[0]), int(words[1].replace("-", "0"), 16)
+
+
+def findings_of(lines):
+    """The findings that the lines of a report say."""
+    found = []
+    for line in lines:
+        kind, *words = line.split()
+        if kind in ("absent", "unlisted", "doubtful"):
+            found.append(FindingStruct(Kind[kind.upper()], uid=int(words[0], 16)))
+        elif kind in ("unsettled", "open"):
+            number, (length, value) = UNSETTLED if kind == "unsettled" else OPEN, mask_of(words)
+            found.append(FindingStruct(number, mask_len=length, mask_value=value))
+        elif kind == "more":
+            found.append(FindingStruct(MORE))
+        elif kind == "by" and found and found[-1].uid:
+            found[-1].line = int(words[1])
+        elif kind in ("by", "silenced"):
+            found.append(FindingStruct(CONFLICT if kind == "by" else SILENCED, int(words[-1])))
+    return found
+
+
+def uids(numbers):
+    """UIDs, as calls take them."""
+    return (U64 * len(numbers))(*numbers)
+
+
+def masks(pairs):
+    """Masks, as calls take them; one of three numbers begins with a fault."""
+    return (MaskStruct * len(pairs))(*((*(0,) * (3 - len(it)), *it) for it in pairs))
 
 
 class Library:
@@ -27,3 +87,44 @@ class Library:
             del os.environ["LIBVICINITY"]
             if before is not None:
                 os.environ["LIBVICINITY"] = before
+
+    def compiled(self, source, made, *words, compiler="cc"):
+        """A program in C or C++ over the archive."""
+        folder = self.path.parent
+        subprocess.run([compiler, *STRICT, *words, f"-I{folder}", f"-I{TOP}/bindings/cpp",
+                        TOP / source, folder / "libvicinity.a", "-o", made], check=True)
+        return Program(made)
+
+    def call(self, name, *given):
+        """What a call returns. A text, and each array, is given with its length."""
+        words = [part for it in given for part in
+                 ((it, len(it)) if isinstance(it, (bytes, ctypes.Array)) else (it,))]
+        return getattr(self.calls, f"vicinity_{name}")(*words)
+
+    def told(self, kind, name, *given):
+        """The struct that a call fills, which held other bytes before. It has what the call
+        returns."""
+        told = kind.from_buffer_copy(b"\x09" * ctypes.sizeof(kind))
+        result = self.call(name, *given, ctypes.byref(told))
+        assert result == getattr(told, "status" if kind is AnswerStruct else kind._fields_[0][0])
+        return told
+
+    def into(self, element, room_len, name, *given):
+        """What a call returns with a buffer of that many elements, whose bytes were 7 before: the
+        answer, or the status, how many elements are needed, and the buffer."""
+        told = AnswerStruct.from_buffer_copy(b"\x09" * ctypes.sizeof(AnswerStruct))
+        room, needed = (element * room_len)(), SIZE(9)
+        ctypes.memset(room, 7, ctypes.sizeof(room))
+        answer = [] if name == "simulate" else [ctypes.byref(told)]
+        status = self.call(name, *given, *answer, room, ctypes.byref(needed))
+        assert not answer or status == told.status
+        return told if answer else status, needed.value, room
+
+    def into_each(self, element, wanted, name, *given):
+        """The answer of a call that has to write these elements, in buffers with none, with one too
+        few, with as many as are needed, and with more."""
+        for room_len in sorted({0, max(len(wanted) - 1, 0), len(wanted), len(wanted) + 3}):
+            told, needed, room = self.into(element, room_len, name, *given)
+            held = bytes((element * len(wanted))(*wanted)) if len(wanted) <= room_len else b""
+            assert (needed, bytes(room)) == (len(wanted), held.ljust(ctypes.sizeof(room), b"\7"))
+        return told

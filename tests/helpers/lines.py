@@ -1,5 +1,6 @@
-"""Logs by the short names of their lines, and the rows of the files in tests/data/rows/."""
+"""Logs by the short names of their lines, the rows of the files in tests/data/rows/, large logs."""
 import re
+import subprocess
 
 from helpers.program import TOP
 
@@ -51,3 +52,18 @@ def log_lines(given):
 def log_of(given):
     """The text of a log, by its names or in quotation marks."""
     return spelled(given) if given.startswith('"') else text_of(log_lines(given))
+
+
+def biglog(shape, size):
+    """The text of a log that tools/biglog.py makes."""
+    made = [TOP / "tools/biglog.py", shape, str(size)]
+    return subprocess.run(made, capture_output=True, check=True).stdout
+
+
+def reconciled_rows():
+    """The rows of many logs, by their places: what is expected, the logs, the lines of the answer
+    and its status."""
+    for place, row in rows("reconciliations"):
+        status, expected, logs, lines = (part.strip() for part in row.split("|"))
+        texts = [log_of("" if log.strip() == "empty" else log.strip()) for log in logs.split(";")]
+        yield place.rpartition("/")[2], log_of(expected), texts if logs else [], lines, int(status)

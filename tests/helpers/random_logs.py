@@ -7,6 +7,8 @@ Quiets.
 import collections
 import sys
 
+from helpers.frames import hex_of as digits_of
+
 UID_BITS = 56
 TOP_BYTE = 0xE0 << UID_BITS
 LEFT = 8
@@ -27,25 +29,15 @@ SILENT, COLLISION, GARBLED, FIELD_CYCLE = "S", "C", "D", "F"
 PASSED_OVER = ("", "# a remark")
 
 
-def framed(body):
-    """The digits of a frame: its bytes, and the CRC over them, low byte first."""
-    register = 0xFFFF
-    for byte in body:
-        for place in range(8):
-            differ = (register ^ byte >> place) & 1
-            register = register >> 1 ^ 0x8408 * differ
-    return (body + (register ^ 0xFFFF).to_bytes(2, "little")).hex().upper()
-
-
 def spelled(line):
     if isinstance(line, Ask):
         flags = 0x06 if line.sixteen else 0x26
         value = line.value.to_bytes((line.length + 7) // 8, "little")
-        return "T " + framed(bytes((flags, 1, line.length)) + value)
+        return "T " + digits_of(bytes((flags, 1, line.length)) + value)
     if isinstance(line, StayQuiet):
-        return "T " + framed(b"\x22\x02" + line.uid.to_bytes(8, "little"))
+        return "T " + digits_of(b"\x22\x02" + line.uid.to_bytes(8, "little"))
     if isinstance(line, Reply):
-        return "R " + framed(b"\x00\x07" + line.uid.to_bytes(8, "little"))
+        return "R " + digits_of(b"\x00\x07" + line.uid.to_bytes(8, "little"))
     if isinstance(line, Listed):
         return "U %016X" % line.uid
     return line
@@ -187,3 +179,13 @@ def random_log(rng):
     silenced = [line.uid for line in first if isinstance(line, StayQuiet) and not cycled]
     lines = list(rounds(rng, version, uids, silenced))
     return version, uids, first + (ended(lines) if rng.random() < 0.4 else lines) + one_more(rng)
+
+
+def contradicted(rng):
+    """A version, and the lines of a few sessions one after the other, each over other tags, though
+    nothing says so, behind first lines or none."""
+    version, uids = rng.randint(1, 2), eight_uids(rng)
+    lines = opening(rng, version, uids) if rng.randrange(2) else []
+    for _ in range(rng.randint(2, 8)):
+        lines += [line for line in rounds(rng, version, uids, ()) if not isinstance(line, Listed)]
+    return version, lines

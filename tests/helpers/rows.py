@@ -1,22 +1,26 @@
 """What the rows of tests/data/rows ask for, and what they have to be answered.
 
-    check STATUS | LOG | LINES          the same for `explain`, `simulate` and `report`, which
-    begins as `check` does fill | LOG | LOG | LINE             what `simulate` makes of a log, and
-    what `check` says of that replay | LOG |                      the tags of a log's explanation,
-    asked the same, answer what the log says frame STATUS | WORD | LINES         both lines of
-    `frame`; `spell` makes the frame of each that isn't refused spell STATUS | WORDS | LINE
-    request | WORD | LINE               one of them, without its first word; and `simulate` writes
-    the same frame reply | WORD | LINE
+    check STATUS | LOG | LINES      the same for `explain`, `simulate` and `report`, which begins as
+                                    `check` does
+    fill | LOG | LOG | LINE         what `simulate` makes of a log, and what `check` says of that
+    replay | LOG |                  the tags of a log's explanation, asked the same, answer what the
+                                    log says
+    frame STATUS | WORD | LINES     both lines of `frame`; `spell` makes the frame of each that
+                                    isn't refused
+    spell STATUS | WORDS | LINE
+    request | WORD | LINE           one of them, without its first word; and `simulate` writes the
+    reply | WORD | LINE             same frame
 
 A log is the short names of its lines, as tests/data/rows/lines has them, or a text in quotation
 marks, with Python's escapes: parts are joined by `+`, and `* N` repeats one. Lines are parted by `
 / `. The expected answers are worked out, never taken from the program.
 """
-import ctypes
 import re
 
 import pytest
+from vicinity._native import AnswerStruct, FindingStruct
 
+from helpers.library import U8, U64, answer_to, findings_of, uids
 from helpers.lines import NAMES, log_of, rows, spelled, text_of
 from helpers.program import TOP
 
@@ -25,7 +29,6 @@ PROGRAMS = ("program", "commands", "arm")
 LIBRARIES = ("library", "library_rattle")
 MODULES = (*LIBRARIES, "wasm")
 FILES = ("verdicts", "texts", "populations", "reports", "simulations", "frames", "spelled")
-STATUSES = {"complete": 0, "impossible": 2, "refused": 3}
 
 
 def all_rows(asked):
@@ -153,7 +156,7 @@ class OfLibrary:
     """Asks the calls for C. There are none for the commands that have no method here."""
 
     def __init__(self, library):
-        self.library, self.calls = library, library.calls
+        self.library = library
         header = (TOP / "include/vicinity.h").read_text()
         found = re.findall(r"VICINITY_FAULT_(FRAME_)?(\w+) = (\d+)", header)
         self.faults = {(bool(frame), name.replace("_", "").lower()): int(number) for frame, name,
@@ -161,85 +164,48 @@ class OfLibrary:
 
     def begins(self, log):
         """The line of the answer to a log."""
-        with self.library.package() as vicinity:
-            return str(vicinity.check(log)).encode() + b"\n"
+        return self.library.told(AnswerStruct, "check", log).text
 
     def row(self, command, given, answers, status):
         getattr(self, command)(given, answers, status)
 
-    def answer(self, call, text, *more):
-        """The fields of a call's answer, which is written over other numbers, and its result."""
-        with self.library.package() as vicinity:
-            struct = vicinity._native.AnswerStruct
-        told = struct.from_buffer_copy(b"\x09" * ctypes.sizeof(struct))
-        status = call(text, len(text), ctypes.byref(told), *more)
-        fields = {name: getattr(told, name) for name, _ in told._fields_}
-        return {**fields, "text": bytes(told)[-64:]}, status
-
-    def fields(self, line, text):
-        """The fields of an answer by its line; `text` is the text that it was given to."""
-        kind, *words = line.decode().split()
-        given = dict.fromkeys(("count", "line", "fault", "mask_len", "mask_value", "uid"), 0)
-        if kind == "complete":
-            given["count"] = int(words[0])
-        elif kind == "unsettled":
-            given.update(mask_len=int(words[0]), mask_value=int(words[1].replace("-", "0"), 16))
-        elif kind == "impossible":
-            given["line"] = int(words[2])
-        elif kind == "refused":
-            number = int(words[2].rstrip(":"))
-            lines = text.split(b"\n")
-            frame = number <= len(lines) and lines[number - 1][:2] in (b"T ", b"R ")
-            name = words[3].lower()
-            given.update(line=number,
-                         fault=self.faults.get((frame, name)) or self.faults[False, name])
-        else:
-            given["uid"] = int(words[0], 16)
-        status = STATUSES.get(kind, 1)
-        with self.library.package() as vicinity:
-            given.update(kind=vicinity.Kind[kind.upper()], status=status,
-                         text=line.ljust(64, b"\0"))
-        return given, status
+    def answered(self, line, log, status):
+        """The answer of a line to a log."""
+        fault = 0
+        if status == 3:
+            _, _, _, number, name = line.lower().split()
+            line_of_log = log.split(b"\n")[int(number[:-1]) - 1:][:1]
+            of_frame = line_of_log and line_of_log[0][:2] in (b"T ", b"R ")
+            fault = self.faults.get((bool(of_frame), name)) or self.faults[False, name]
+        wanted = answer_to(line, fault)
+        assert wanted.status == status
+        return bytes(wanted)
 
     def check(self, given, answers, status):
         log = log_of(given)
-        wanted = self.fields(answer_of(answers[0]), log)
-        assert wanted[1] == status
-        assert self.answer(self.calls.vicinity_check, log) == wanted
+        line, = answer_of(answers[0]).decode().splitlines()
+        told = self.library.told(AnswerStruct, "check", log)
+        assert bytes(told) == self.answered(line, log, status)
 
     def explain(self, given, answers, status):
-        """In a buffer with no element, with one too few, with as many as are needed, and with
-        more."""
         log = log_of(given)
-        line, *shown = answer_of(answers[0]).splitlines(keepends=True)
-        wanted = self.fields(line, log)
-        assert wanted[1] == status
-        uids = [int(tag[2:], 16) for tag in shown[1:]]
-        for room_len in sorted({0, max(len(uids) - 1, 0), len(uids), len(uids) + 3}):
-            room, needed = (ctypes.c_uint64 * room_len)(*[7] * room_len), ctypes.c_size_t(9)
-            given = self.answer(self.calls.vicinity_explain, log, room, room_len,
-                                ctypes.byref(needed))
-            held = uids + [7] * (room_len - len(uids)) if len(uids) <= room_len else [7] * room_len
-            assert (given, needed.value, room[:]) == (wanted, len(uids), held)
+        line, *shown = answer_of(answers[0]).decode().splitlines()
+        found = [int(tag[2:], 16) for tag in shown[1:]]
+        told = self.library.into_each(U64, found, "explain", log)
+        assert bytes(told) == self.answered(line, log, status)
 
     def report(self, given, answers, status):
-        with self.library.package() as vicinity:
-            found = vicinity.report(log_of(given))
-            assert b"%s\n" % str(found).encode() == answer_of(answers[0])
-            assert found.answer.status == status
+        """Also with a separate list."""
+        log, lines = log_of(given), answers[0].split(" / ")
+        text, listed, rest = log.partition(b"U ")
+        beside = uids([int(line, 16) for line in (listed + rest).split() if line != b"U"])
+        for name, words in (("report", [log]), ("report_listed", [text, beside])):
+            told = self.library.into_each(FindingStruct, findings_of(lines), name, *words)
+            assert bytes(told) == self.answered(lines[0], log, status)
 
     def fill(self, given, answers, _):
-        self.is_filled(log_of(given), log_of(answers[0]), 0)
+        assert self.library.into_each(U8, log_of(answers[0]), "simulate", log_of(given)) == 0
 
     def simulate(self, given, answers, status):
-        self.is_filled(log_of(given), answer_of(answers[0]), status)
-
-    def is_filled(self, log, written, status):
-        """In a buffer with no element, with one too few, with as many as are needed, and with
-        more."""
-        for room_len in sorted({0, len(written) - 1, len(written), len(written) + 3}):
-            room, needed = (ctypes.c_uint8 * room_len)(*[7] * room_len), ctypes.c_size_t(9)
-            given = self.calls.vicinity_simulate(log, len(log), room, room_len,
-                                                 ctypes.byref(needed))
-            held = (written if len(written) <= room_len else b"").ljust(room_len, b"\7")
-            assert (given, needed.value, bytes(room)) == (status, len(written), held)
+        wanted = answer_of(answers[0])
+        assert self.library.into_each(U8, wanted, "simulate", log_of(given)) == status

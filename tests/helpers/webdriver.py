@@ -1,6 +1,8 @@
 """A browser without a window, Debian's chromium."""
 import functools
 import http.server
+import re
+import subprocess
 import threading
 
 from selenium import webdriver
@@ -9,9 +11,10 @@ from selenium.webdriver.chrome.service import Service
 
 from helpers.program import TOP
 
-WORDS = ("--headless=new", "--no-sandbox", "--disable-dev-shm-usage", "--hide-scrollbars")
+WORDS = ("--headless=new", "--no-sandbox", "--disable-dev-shm-usage", "--hide-scrollbars",
+         "--remote-debugging-pipe")
 LOGGED = {"browser": "ALL", "performance": "ALL"}
-SECONDS = 120
+SECONDS = 600
 RUN = """
 const [module, files, done] = arguments;
 import(module).then((it) => it.run(...files)).then(done, (error) => done(`failed: ${error.stack}`));
@@ -31,6 +34,17 @@ class Handler(http.server.SimpleHTTPRequestHandler):
         """Nothing."""
 
 
+class Driver(Service):
+    """A chromedriver that finds a free port by itself: one that was free a moment ago may be
+    another's by now."""
+
+    def start(self):
+        self.process = subprocess.Popen([self.path, "--port=0"], stdout=subprocess.PIPE,
+                                        stderr=subprocess.DEVNULL, text=True)
+        started = (re.search(r"successfully on port (\d+)", line) for line in self.process.stdout)
+        self.port = int(next(filter(None, started))[1])
+
+
 class Browser:
     """One browser; `driver` is what selenium calls it by."""
 
@@ -39,7 +53,7 @@ class Browser:
         for word in WORDS:
             options.add_argument(word)
         options.set_capability("goog:loggingPrefs", LOGGED)
-        self.driver = webdriver.Chrome(service=Service("/usr/bin/chromedriver"), options=options)
+        self.driver = webdriver.Chrome(service=Driver("/usr/bin/chromedriver"), options=options)
         self.driver.set_script_timeout(SECONDS)
 
     def run_module(self, name, *files):
