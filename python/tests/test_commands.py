@@ -4,11 +4,10 @@ import os
 import signal
 import subprocess
 import sys
-import unittest
 
-from cases import (ALL, ANSWERS, FULL, HEARD_A, LIST_A, NAMES, SIXTEEN, Command, command, least, log,
+from cases import (ALL, ANSWERS, FULL, HEARD_A, NAMES, SIXTEEN, Command, command, least, log,
                    on_a_terminal)
-import vicinity
+import vicinity.__main__
 
 COMPLETE = log(ALL + b"S\n")
 FORMS = ([], ["--tabs"], ["--json"], ["show"], ["page"])
@@ -93,7 +92,7 @@ class Words(Command):
     def test_help_and_version(self):
         said, errors, status = command("--help")
         self.assertEqual((errors, status), (b"", 0))
-        for name in ("check", "report", "reconcile", "survey", "compare", "show", "page"):
+        for name in vicinity.__main__.words()[1]:
             self.assertIn(f"    {name}", said.decode())
             there, errors, status = command(name, "--help")
             self.assertEqual((there.split()[4].decode(), errors, status), (name, b"", 0))
@@ -126,28 +125,6 @@ class Words(Command):
             said = command("report", self.write("some.log", log(before + last)))[0].decode()
             self.assertIn(f"the last round didn't ask all tags: one that {missed}", said)
         self.assertNotIn("last round", command("report", self.write("some.log", log(last + ALL + b"S\n")))[0].decode())
-
-    def test_what_the_program_does_too(self):
-        name = self.names[5]
-        self.assertEqual(command("explain", name), (b"doubtful E0040100000000A1\npopulation 0\n", b"", 1))
-        self.assertEqual(command("explain", self.names[3]),
-                         (b"unlisted E0040100000000A1\npopulation 1\nU E0040100000000A1\n", b"", 1))
-        self.assertEqual(command("explain", self.names[0]), (b"complete 0\n", b"", 0))
-        self.assertEqual(command("simulate", self.write("asked", log(ALL + LIST_A))), (log(ALL + HEARD_A + LIST_A), b"", 0))
-        self.assertEqual(command("simulate", name), (b"refused at line 4: OutcomeGiven\n", b"", 3))
-
-    def test_frames_in_words(self):
-        for digits, lines, status in (
-                ("2202A1000000000104E0662A", ["request stay-quiet link 2 uid E0040100000000A1",
-                                              "response flags 22 dsfid 02 uid E0040100000000A1"], 0),
-                ("260107614C5D", ["request inventory link 2 slots 1 mask 7 61", "response refused Length"], 0),
-                ("060100cd09", ["request inventory link 2 slots 16 mask 0 -", "response refused Length"], 0),
-                ("260100F60B", ["request refused Crc", "response refused Length"], 3),
-                ("26010", ["request refused Hex", "response refused Hex"], 3),
-                ("26 01", ["request refused Hex", "response refused Hex"], 3),
-                ("\uff12" * 2, ["request refused Hex", "response refused Hex"], 3),
-                ("00" * 65, ["request refused LineTooLong", "response refused LineTooLong"], 3)):
-            self.assertEqual(command("frame", digits), ("".join(f"{it}\n" for it in lines).encode(), b"", status), digits)
 
     def test_options_are_not_abbreviated(self):
         self.assertEqual(command("check", "--tab", self.names[0])[::2], (b"", 4))
@@ -266,7 +243,3 @@ class Names(Command):
         errors = command("--\33[2J\n", self.names[0])[1]
         self.assertIn(rb"--\x1b[2J\n", errors)
         self.assertNotIn(b"\33", errors)
-
-
-if __name__ == "__main__":
-    unittest.main()
