@@ -119,3 +119,9 @@ class Command(unittest.TestCase):
         with open(name, "wb") as file:
             file.write(text)
         return name
+
+    def catalogue(self, content):
+        return self.write("catalogue.csv", content if isinstance(content, bytes) else content.encode())
+
+    def ask(self, *words, **more):
+        return command("reconcile", *words, **more)

@@ -2,7 +2,6 @@
 import copy
 import json
 import os
-import unittest
 
 import jsonschema
 
@@ -60,7 +59,3 @@ class Schema(Command):
             changed = copy.deepcopy(told)
             changed["mask_value"] = value
             self.assertEqual(self.fits(changed, "check"), [False, False])
-
-
-if __name__ == "__main__":
-    unittest.main()

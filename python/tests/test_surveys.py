@@ -1,14 +1,10 @@
 """Surveys of logs for other machines, and what has changed between two answers."""
 import json
-import unittest
 
 from cases import LIST_A, LIST_B, Command, command, here, log
 
 
 class Surveys(Command):
-    def ask(self, *words, **more):
-        return command("reconcile", *words, **more)
-
     def test_records_that_are_no_surveys(self):
         listed = self.write("listed", log(LIST_A))
         good = command("survey", self.names[1])[0]
@@ -98,7 +94,3 @@ class Surveys(Command):
             told = json.loads(command(*words)[0])
             self.assertEqual([it["change"] for it in told["changes"]], [what] * bool(what), (old, new))
             self.assertEqual(told["status"], int(bool(what)))
-
-
-if __name__ == "__main__":
-    unittest.main()

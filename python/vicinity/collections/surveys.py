@@ -21,6 +21,7 @@ from .tables import Wrong
 
 #: How many logs a process takes at once, at most; of few logs each gets so many times some.
 SHARE, TURNS = 8, 4
+#: Where the list of a log begins, which no call of the library says.
 LIST = re.compile(rb"^U", re.MULTILINE)
 ALL = Mask(0, 0)
 COUNT_AGAIN, CORRECT = "count it again", "correct it, or count it again"
@@ -163,6 +164,8 @@ def records(files: Sequence[tuple[str, bytes]]) -> list[Log]:
     """The surveys in files of records. Raises Wrong."""
     found: dict[str, Log] = {}
     for name, content in files:
+        if not content:
+            raise Wrong(f"{shown(name)} has no survey; was `survey` ended before it wrote one?")
         for number, line in enumerate(content.splitlines(), 1):
             try:
                 log = _recorded(json.loads(line))
