@@ -6,6 +6,7 @@ import re
 import subprocess
 import sys
 import tarfile
+import time
 import zipfile
 
 import pytest
@@ -44,21 +45,31 @@ def wheel(release, tmp_path_factory):
     return made(release / "libvicinity.so", "amd64", tmp_path_factory.mktemp("wheel") / "one")
 
 
-def test_the_same_bytes_twice(wheel, release, tmp_path):
-    again = made(release / "libvicinity.so", "amd64", tmp_path / "two")
-    assert (again.name, again.read_bytes()) == (wheel.name, wheel.read_bytes())
-    assert TAGS["amd64"] in wheel.name
+@pytest.fixture
+def another_day(monkeypatch):
+    """Another time, and other rights of new files."""
+    monkeypatch.setattr(time, "time", lambda: 1_000_000_000.0)
+    monkeypatch.setattr(time, "localtime", time.gmtime)
+    umask = os.umask(0o077)
+    yield
+    os.umask(umask)
 
 
-def test_the_same_bytes_of_a_source_distribution(tmp_path):
-    found = []
-    for name in ("one", "two"):
-        (tmp_path / name).mkdir()
-        umask = os.umask(0o077 if name == "two" else 0o022)
-        file = tmp_path / name / backend.build_sdist(str(tmp_path / name))
-        os.umask(umask)
-        found.append(file.read_bytes())
-    assert found[0] == found[1]
+def test_the_same_bytes_twice(wheel, release, tmp_path, another_day):
+    again = backend.build_wheel_with(str(tmp_path), release / "libvicinity.so", TAGS["amd64"])
+    assert again == wheel.name and TAGS["amd64"] in again
+    assert (tmp_path / again).read_bytes() == wheel.read_bytes()
+
+
+@pytest.fixture
+def sdist(tmp_path):
+    (tmp_path / "sdist").mkdir()
+    return tmp_path / "sdist" / backend.build_sdist(str(tmp_path / "sdist"))
+
+
+def test_the_same_bytes_of_a_source_distribution(sdist, tmp_path, another_day):
+    file = tmp_path / backend.build_sdist(str(tmp_path))
+    assert file.read_bytes() == sdist.read_bytes()
     with tarfile.open(file) as archive:
         names = {name.partition("/")[2] for name in archive.getnames()}
     assert {*LICENSES, "README.md", "PKG-INFO", "vicinity/commands/reconcile.py"} <= names
