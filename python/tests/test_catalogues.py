@@ -54,7 +54,7 @@ class Catalogues(Command):
     def test_the_form_of_a_catalogue_is_kept(self):
         added = ("state", "certain in", "may be in")
         for before, separator, end, encoding, options in (
-                (b"", ",", "\n", "utf-8", []), (b"\xef\xbb\xbf", ";", "\r\n", "utf-8", []),
+                (b"", ",", "\n", "utf-8", []), (b"\xef\xbb\xbf", ";", "\r\n", "utf-8", []), (b"", ";", "\r", "utf-8", []),
                 (b"", "\t", "\r\n", "windows-1252", ["--encoding", "windows-1252"]),
                 (b"\xff\xfe", ";", "\r\n", "utf-16-le", []), (b"\xfe\xff", ",", "\n", "utf-16-be", []),
                 (b"", "|", "\n", "utf-16-le", ["--encoding", "utf-16"])):
@@ -206,9 +206,14 @@ class Catalogues(Command):
                 (first.encode("utf-16-le"), None, 1, "utf-16-le is UTF-16"),
                 (b"uid,\xff\n", None, 1, "it isn't UTF-8"),
                 (first + "E0040100000000B2,\"b\nE0040100000000B3,c\n", None, 3, "unexpected end of data"),
-                (first + "E0040100000000B2,\"b\"c\n", None, 3, "expected after")):
+                (first + "E0040100000000B2,\"b\"c\n", None, 3, "expected after"),
+                (first + "E0040100000000B2," + "b" * 200_000, None, 3, "field larger than field limit"),
+                ("u" * 200_000 + "\n", None, 1, "field larger than field limit")):
             with self.assertRaisesRegex(Wrong, rf"\Aa\.csv, row {row}: .*{why}.*\Z", msg=content):
                 catalogue("a.csv", content if isinstance(content, bytes) else content.encode(), How(column))
+        for encoding in ("x", "base64", "idna", "undefined"):
+            with self.assertRaisesRegex(Wrong, rf"\Ano encoding is named {encoding}\Z"):
+                catalogue("a.csv", first.encode(), How(encoding=encoding))
         wrong = self.catalogue(first + "-,b\n")
         for form in FORMS_OF_RECONCILE:
             said, errors, status = self.ask("--expected", wrong, *form, self.names[1], "/nowhere")

@@ -13,6 +13,8 @@ class Surveys(Command):
                    {**told, "certain": [{"uid": "E0040100000000A", "line": 3}]}, {**told, "open": [{"mask_len": 1}]},
                    {**told, "open": [{"mask_len": 4, "mask_value": "1F"}]}, {**told, "file": 3},
                    {**told, "open": [{"mask_len": 64, "mask_value": "0" * 16}]},
+                   *[{**told, "certain": [{"uid": "E0040100000000A1", "line": line}]}
+                     for line in (-1, 1.5, "3", True, float("inf"), 1 << 32)],
                    {key: told[key] for key in told if key != "open"}]
         for content in (good[:-9], b"x\n", *[json.dumps(it).encode() for it in changed]):
             name = self.write("surveys", good.replace(b"1.log", b"x.log") + content)

@@ -13,7 +13,7 @@ from typing import Any, Iterator, NamedTuple, Optional, Sequence
 
 from .._answers import Answer, Kind, Mask
 from .._calls import survey
-from .._fields import SCHEMA, answer_of, fields, mask_fields, mask_of, refusal
+from .._fields import SCHEMA, answer_of, fields, mask_fields, mask_of, number_of, refusal
 from .._process import NO_ANSWER, NoAnswer, counted, read, shown
 from ..frames import parse_uid, uid_text
 from ..sessions.findings import Shown, tell
@@ -187,5 +187,5 @@ def _recorded(said: dict[str, Any]) -> Log:
     answer = answer_of(said)
     if answer.status > 1:
         return Log(name, answer, [], [ALL])
-    pairs = sorted((parse_uid(it["uid"]), int(it["line"])) for it in said["certain"])
+    pairs = sorted((parse_uid(it["uid"]), number_of(it["line"])) for it in said["certain"])
     return Log(name, answer, [uid for uid, _ in pairs], [mask_of(it) for it in said["open"]], "", [line for _, line in pairs])
