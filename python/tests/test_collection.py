@@ -291,7 +291,7 @@ class Reconcile(Command):
         listed = self.write("listed", log(LIST_A))
         empty = self.write("empty", b"")
         for words in ([], ["--logs-from", empty], ["--logs-from", "-"], ["--"]):
-            said, errors, status = self.ask("--expected", listed, *words)
+            said, errors, status = self.ask("--expected", listed, *words, given=b"")
             self.assertEqual((said, status), (b"", 4), words)
             self.assertIn(b"no logs: name at least one", errors)
         full = self.write("full", command("survey", self.names[1])[0])

@@ -11,7 +11,7 @@ import io
 import json
 import os
 
-from cases import TOP, Command, command, frame, here
+from cases import TOP, Command, command, frame, here, within
 
 WANTED = os.path.join(TOP, "python/tests/data/shelves")
 ITEMS, EACH = 2000, 50
@@ -172,7 +172,7 @@ class Collection(Command):
     def test_surveys_of_other_machines(self):
         for state, _ in self.states():
             for name, some in (("one.jsonl", self.logs[:25]), ("two.jsonl", self.logs[25:])):
-                said, errors, ended = command("survey", *some)
+                said, errors, ended = within("survey", *some)
                 self.assertEqual((errors, ended), (b"", 2 * (state == "broken" and name == "one.jsonl")))
                 self.write(name, said)
             options = [*self.OPTIONS, "--surveys", "one.jsonl", "two.jsonl"]
@@ -180,7 +180,7 @@ class Collection(Command):
                 self.assertEqual(here(form, "catalogue.csv", options=options), self.ask(form), form)
 
     def test_some_logs_and_the_surveys_of_others(self):
-        self.write("one.jsonl", command("survey", *self.logs[:25])[0])
+        self.write("one.jsonl", within("survey", *self.logs[:25])[0])
         said = here("lines", "catalogue.csv", *self.logs[25:], options=[*self.OPTIONS, "--surveys", "one.jsonl"])
         self.assertEqual(said, (wanted("broken.lines"), "", 2))
 
@@ -218,8 +218,8 @@ class Collection(Command):
             self.write(f"{shelf}.log", self.shelves.log(shelf))
         self.write("S39.log", b"vicinity-log 1\n")
         self.write("new.json", self.ask("json")[0].encode())
-        self.assertEqual(command("compare", "old.json", "old.json"), (b"", b"", 0))
-        said, errors, status = command("compare", "old.json", "new.json")
+        self.assertEqual(within("compare", "old.json", "old.json"), (b"", b"", 0))
+        said, errors, status = within("compare", "old.json", "new.json")
         self.assertEqual((errors, status), (b"", 1))
         self.assertEqual(said.decode(), "".join([
             "no longer provable E004015000000061 from S02.log: B00061, Title, 61, S02\n",
