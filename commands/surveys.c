@@ -51,7 +51,8 @@ uint32_t expect(const struct text *text, const char *file, struct surveys *told,
     return put_wrong(answered, &answer, file);
 }
 
-/* How many bytes of a log come before its list. */
+/* How many bytes of a log come before its list, which no call says. The library has taken the text as a log: in it a
+ * line that begins with U lists a UID. */
 static size_t list_start(const struct text *log)
 {
     const char *at = log->bytes, *end = at + log->len;

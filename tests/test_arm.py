@@ -1,8 +1,7 @@
 """The library for 64-bit ARM, under an emulator: the examples in C, every number that it returns on
 worked, changed and large texts, texts and buffers that end where memory ends, and each allocation
 refused in turn. The library for x86-64 is what it is compared with. The commands are asked in
-test_rows.py and test_commands.py. The Python package isn't run, which would take a Python for
-ARM."""
+test_rows.py and test_commands.py, the Python package in test_wheels.py."""
 import re
 import subprocess
 

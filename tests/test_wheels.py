@@ -6,18 +6,22 @@ import re
 import subprocess
 import sys
 import tarfile
+import time
 import zipfile
 
 import pytest
 
-from helpers.program import TOP
+from helpers.program import TOP, needs
 
 sys.path.append(str(TOP / "python"))
 import backend  # noqa: E402
 
 TAGS = {"amd64": "manylinux2014_x86_64", "arm64": "manylinux2014_aarch64"}
 LICENSES = ("LICENSE-APACHE", "LICENSE-MIT")
+NAME = "libvicinity.so.1"
 LEAST = 9
+# where tests/setup unpacks a Python for 64-bit ARM
+ARM = "/usr/local/lib/arm64"
 
 
 def pythons():
@@ -41,21 +45,31 @@ def wheel(release, tmp_path_factory):
     return made(release / "libvicinity.so", "amd64", tmp_path_factory.mktemp("wheel") / "one")
 
 
-def test_the_same_bytes_twice(wheel, release, tmp_path):
-    again = made(release / "libvicinity.so", "amd64", tmp_path / "two")
-    assert (again.name, again.read_bytes()) == (wheel.name, wheel.read_bytes())
-    assert TAGS["amd64"] in wheel.name
+@pytest.fixture
+def another_day(monkeypatch):
+    """Another time, and other rights of new files."""
+    monkeypatch.setattr(time, "time", lambda: 1_000_000_000.0)
+    monkeypatch.setattr(time, "localtime", time.gmtime)
+    umask = os.umask(0o077)
+    yield
+    os.umask(umask)
 
 
-def test_the_same_bytes_of_a_source_distribution(tmp_path):
-    found = []
-    for name in ("one", "two"):
-        (tmp_path / name).mkdir()
-        umask = os.umask(0o077 if name == "two" else 0o022)
-        file = tmp_path / name / backend.build_sdist(str(tmp_path / name))
-        os.umask(umask)
-        found.append(file.read_bytes())
-    assert found[0] == found[1]
+def test_the_same_bytes_twice(wheel, release, tmp_path, another_day):
+    again = backend.build_wheel_with(str(tmp_path), release / "libvicinity.so", TAGS["amd64"])
+    assert again == wheel.name and TAGS["amd64"] in again
+    assert (tmp_path / again).read_bytes() == wheel.read_bytes()
+
+
+@pytest.fixture
+def sdist(tmp_path):
+    (tmp_path / "sdist").mkdir()
+    return tmp_path / "sdist" / backend.build_sdist(str(tmp_path / "sdist"))
+
+
+def test_the_same_bytes_of_a_source_distribution(sdist, tmp_path, another_day):
+    file = tmp_path / backend.build_sdist(str(tmp_path))
+    assert file.read_bytes() == sdist.read_bytes()
     with tarfile.open(file) as archive:
         names = {name.partition("/")[2] for name in archive.getnames()}
     assert {*LICENSES, "README.md", "PKG-INFO", "vicinity/commands/reconcile.py"} <= names
@@ -67,7 +81,7 @@ def test_what_is_in_it(wheel, release):
     about = next(name for name in files if name.endswith("/RECORD")).rpartition("/")[0]
     for name in LICENSES:
         assert files[f"{about}/{name}"] == (TOP / name).read_bytes()
-    assert files["vicinity/libvicinity.so.1"] == (release / "libvicinity.so").read_bytes()
+    assert files[f"vicinity/{NAME}"] == (release / "libvicinity.so").read_bytes()
     listed = {line.partition(",")[0] for line in files[f"{about}/RECORD"].decode().splitlines()}
     assert listed == set(files)
     sources = TOP / "python"
@@ -75,9 +89,27 @@ def test_what_is_in_it(wheel, release):
     assert modules <= set(files)
 
 
-def test_a_wheel_for_arm(arm_release, tmp_path):
+@pytest.mark.slow
+def test_it_works_on_arm(arm_release, tmp_path):
+    """The wheel for 64-bit ARM, installed by the pip of this machine, and run by a Python for ARM
+    under an emulator."""
+    needs("qemu-aarch64-static", f"{ARM}/usr/bin/python3")
     found = made(arm_release / "libvicinity.so", "arm64", tmp_path / "arm")
-    assert TAGS["arm64"] in found.name
+    there = tmp_path / "there"
+    subprocess.run(["/usr/bin/python3", "-m", "pip", "install", "--no-index", "--target", there,
+                    "--platform", TAGS["arm64"], "--only-binary", ":all:", found], check=True)
+    assert (there / "vicinity" / NAME).read_bytes() == (arm_release / "libvicinity.so").read_bytes()
+
+    def run(*words):
+        return subprocess.run(["qemu-aarch64-static", "-L", ARM, f"{ARM}/usr/bin/python3", *words],
+                              capture_output=True, text=True, cwd=TOP / "python/tests",
+                              env={"PYTHONPATH": str(there), "PYTHONDONTWRITEBYTECODE": "1"})
+
+    said = run("-c", "import os, vicinity; print(os.uname().machine, vicinity.check(b''))")
+    assert said.stdout == "aarch64 refused at line 1: Header\n"
+    said = run("-m", "unittest", "test_vicinity.Frames", "test_vicinity.Calls")
+    assert said.stderr.endswith("\nOK\n"), said.stderr
+    is_answered(lambda *words: run("-m", "vicinity", *words))
 
 
 def test_a_library_for_another_machine_is_refused(release, tmp_path):
@@ -85,6 +117,17 @@ def test_a_library_for_another_machine_is_refused(release, tmp_path):
                           capture_output=True, text=True)
     assert (said.returncode, "isn't for arm64" in said.stderr) == (1, True)
     assert not list(tmp_path.iterdir())
+
+
+def is_answered(run):
+    """What the commands of an installed wheel answer to the example logs."""
+    said = run("--tabs", *sorted(TOP.glob("examples/*.log")))
+    answers = [line.split("\t")[1:] for line in said.stdout.splitlines()]
+    assert (answers, said.stderr, said.returncode) == (
+        [["2", "impossible at line 6"], ["1", "unsettled 7 61"], ["0", "complete 4"]], "", 2)
+    said = run("reconcile", "--csv", "--expected", TOP / "examples/collection/catalogue.csv",
+               *sorted(TOP.glob("examples/collection/shelf-*.log")))
+    assert (said.stdout.count(",there,"), said.stderr, said.returncode) == (10, "", 1)
 
 
 @pytest.mark.slow
@@ -101,19 +144,12 @@ def test_it_works(wheel, python, tmp_path):
     there = tmp_path / "there/bin"
     installed = run(there / "pip", "install", "--no-index", wheel)
     assert installed.returncode == 0, installed.stderr
-    said = run(there / "vicinity-logs", "--tabs", *sorted(TOP.glob("examples/*.log")))
-    answers = [line.split("\t")[1:] for line in said.stdout.splitlines()]
-    assert (answers, said.stderr, said.returncode) == (
-        [["2", "impossible at line 6"], ["1", "unsettled 7 61"], ["0", "complete 4"]], "", 2)
+    is_answered(lambda *words: run(there / "vicinity-logs", *words))
     for command in ("check", "report", "reconcile", "survey", "compare", "show", "page", "frame"):
         assert run(there / "vicinity-logs", command, "--help").stdout.startswith(
             f"usage: vicinity-logs {command}")
     said = run(there / "python", "-c", "import vicinity as it; print(it.__file__, it.check(b''))")
     assert said.stdout.endswith("refused at line 1: Header\n") and str(tmp_path) in said.stdout
-    shelves = sorted(TOP.glob("examples/collection/shelf-*.log"))
-    said = run(there / "vicinity-logs", "reconcile", "--csv", "--expected",
-               TOP / "examples/collection/catalogue.csv", *shelves)
-    assert said.stdout.count(",there,") == 10
 
 
 def glibc_of(file):

@@ -91,6 +91,7 @@ static void try_frames()
     IS((vicinity::Mask{0, 0}.text() == "0 -" && vicinity::Mask{0, 0}.holds(A)));
     IS(vicinity::simulate("vicinity-log 1\nT 260100F60A\nU E0040100000000A1\n") ==
        ONE + "U E0040100000000A1\n");
+    IS(vicinity::version() == VICINITY_VERSION_NUMBER);
     IS(thrown<vicinity::NotSimulated>([] { vicinity::simulate("x"); }) ==
        "refused at line 1: Header");
 }

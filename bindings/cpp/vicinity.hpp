@@ -31,6 +31,12 @@ inline std::string fault_name(std::uint32_t fault)
     return len > 0 ? std::string(name.text, len) : "fault " + std::to_string(fault);
 }
 
+// The version of the library: 10,000 times its first number, 100 times its second, its third.
+inline std::uint32_t version()
+{
+    return vicinity_version();
+}
+
 // ---- errors
 
 // The text is not a log, or not a list: the line and its enum vicinity_fault. Of lists that are

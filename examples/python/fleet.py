@@ -11,6 +11,7 @@ A log that can't be read, is refused or impossible, or ends the process that rea
 after the findings. It says nothing of its field: anything may be there, and the answer isn't
 complete."""
 import sys
+from array import array
 
 from dask.distributed import Client, KilledWorker, LocalCluster, as_completed
 
@@ -33,13 +34,13 @@ def told_by(name):
 
 def told_together(names):
     """What the logs of a batch say together: certain UIDs, open masks, and why some say nothing."""
-    certain, masks, silent = set(), set(), {}
+    certain, masks, silent = array("Q"), set(), {}
     for name in names:
         survey, why = told_by(name)
         if survey is None:
             silent[name] = why
         else:
-            certain.update(survey.certain)
+            certain.extend(survey.certain)
             masks.update(survey.open_masks)
     return certain, masks, silent
 
@@ -47,10 +48,10 @@ def told_together(names):
 def surveyed(client, names):
     """The same of all logs. Those of a batch whose worker ended, again and again, are read one by
     one, so that only a log that does this by itself is blamed."""
-    certain, masks, silent, suspects = set(), set(), {}, []
+    certain, masks, silent, suspects = array("Q"), set(), {}, []
 
     def join(found):
-        certain.update(found[0])
+        certain.extend(found[0])
         masks.update(found[1])
         silent.update(found[2])
 
@@ -84,7 +85,7 @@ def main(scheduler, expected, names):
     with client_of(scheduler) as client:
         certain, masks, silent = surveyed(client, names)
     nothing = vicinity.survey(vicinity.HEADER_LINE)  # nobody was asked: anything may be there
-    told = vicinity.Survey(nothing.answer, sorted(certain), sorted(masks))
+    told = vicinity.Survey(nothing.answer, certain, masks)
     report = vicinity.reconcile(uids, [told, nothing] if silent else [told])
     print(report)
     for name in sorted(silent):

@@ -8,8 +8,8 @@ import tempfile
 import unittest
 from unittest import mock
 
-from vicinity import Fault, Kind
-from vicinity.__main__ import words
+from vicinity import Fault, Kind, _process
+from vicinity.__main__ import main, words
 from vicinity.commands import reconcile
 
 TOP = os.path.dirname(os.path.dirname(os.path.dirname(os.path.abspath(__file__))))
@@ -78,6 +78,25 @@ def command(*words, given=b"", redirected="", limit="unlimited", **env):
     return ran.stdout, ran.stderr, ran.returncode
 
 
+def within(*given):
+    """The same, without a process of its own."""
+    said, errors = bytearray(), []
+
+    def take(waiting):
+        said.extend(waiting)
+        waiting.clear()
+
+    with mock.patch.multiple(_process, _write_out=take, _note=lambda *of: errors.extend(of)), \
+            mock.patch.object(sys, "argv", ["__main__.py", *map(os.fsdecode, given)]):
+        try:
+            status = main()
+        except _process.NoAnswer as why:
+            status = _process.complain(str(why))
+        except SystemExit as ended:  # after help
+            status = ended.code
+    return bytes(said), "".join(errors).encode(), status
+
+
 def on_a_terminal(*words, **env):
     """What a terminal gets."""
     ours, theirs = pty.openpty()
@@ -119,3 +138,9 @@ class Command(unittest.TestCase):
         with open(name, "wb") as file:
             file.write(text)
         return name
+
+    def catalogue(self, content):
+        return self.write("catalogue.csv", content if isinstance(content, bytes) else content.encode())
+
+    def ask(self, *words, **more):
+        return command("reconcile", *words, **more) if more else within("reconcile", *words)

@@ -3,22 +3,15 @@ import csv
 import io
 import json
 import re
-import unittest
 
 from cases import (A, ALL, FORMS_OF_RECONCILE, HEARD_A, HEARD_B, LIST_A, NOTHING, SIXTEEN, Command,
-                   command, here, log)
+                   here, log)
 import vicinity
 from vicinity.collections.catalogue import How, catalogue
 from vicinity.collections.tables import Wrong
 
 
 class Catalogues(Command):
-    def ask(self, *words, **more):
-        return command("reconcile", *words, **more)
-
-    def catalogue(self, content):
-        return self.write("catalogue.csv", content if isinstance(content, bytes) else content.encode())
-
     def test_a_list(self):
         for lines, text in ((b"", "complete 0"), (b"# text\n\nU E0040100000000A1\r\n", "absent E0040100000000A1"),
                             (LIST_A + LIST_A, "refused at line 3 of {}: DuplicateListed"),
@@ -61,7 +54,7 @@ class Catalogues(Command):
     def test_the_form_of_a_catalogue_is_kept(self):
         added = ("state", "certain in", "may be in")
         for before, separator, end, encoding, options in (
-                (b"", ",", "\n", "utf-8", []), (b"\xef\xbb\xbf", ";", "\r\n", "utf-8", []),
+                (b"", ",", "\n", "utf-8", []), (b"\xef\xbb\xbf", ";", "\r\n", "utf-8", []), (b"", ";", "\r", "utf-8", []),
                 (b"", "\t", "\r\n", "windows-1252", ["--encoding", "windows-1252"]),
                 (b"\xff\xfe", ";", "\r\n", "utf-16-le", []), (b"\xfe\xff", ",", "\n", "utf-16-be", []),
                 (b"", "|", "\n", "utf-16-le", ["--encoding", "utf-16"])):
@@ -74,11 +67,11 @@ class Catalogues(Command):
                     given = before + (first + line(*head) + line(*row)).encode(encoding)
                     name = self.write("catalogue.csv", given)
                     wanted = first + line(*head, *added) + line(*row, "there", self.names[1], "")
-                    words = ["--csv", "--expected", name, "--column", "TAG ID", *options, self.names[1]]
                     for _ in range(2):
-                        said = self.ask(*words)
-                        self.assertEqual(said, (before + wanted.encode(encoding), b"", 0), (given, options))
-                        self.write("catalogue.csv", said[0])
+                        said, errors, status = here("csv", name, self.names[1], options=["--column", "TAG ID", *options])
+                        said = said.encode("utf-8", "surrogateescape")
+                        self.assertEqual((said, errors, status), (before + wanted.encode(encoding), "", 0), (given, options))
+                        self.write("catalogue.csv", said)
 
     def test_names_that_another_encoding_lacks(self):
         name = self.write("\u6f22.log", log(ALL + HEARD_A))
@@ -176,7 +169,7 @@ class Catalogues(Command):
         both = self.write("c.log", log(SIXTEEN + b"S\n" + HEARD_A + HEARD_B + b"S\n" * 13))
         said, _, status = here("csv", catalogue, there, broken, both, options=["--place", "shelf"])
         self.assertEqual((said.splitlines()[1:], status), (
-            [f"E0040100000000A1,a,there,{there}; {both},".replace(f"{there}; {both}", f"{there}; {both}"),
+            [f"E0040100000000A1,a,there,{there}; {both},",
              f"E0040100000000B2,b,misplaced,{both},{broken}"], 2))
 
     def test_wrong_places(self):
@@ -213,15 +206,16 @@ class Catalogues(Command):
                 (first.encode("utf-16-le"), None, 1, "utf-16-le is UTF-16"),
                 (b"uid,\xff\n", None, 1, "it isn't UTF-8"),
                 (first + "E0040100000000B2,\"b\nE0040100000000B3,c\n", None, 3, "unexpected end of data"),
-                (first + "E0040100000000B2,\"b\"c\n", None, 3, "expected after")):
+                (first + "E0040100000000B2,\"b\"c\n", None, 3, "expected after"),
+                (first + "E0040100000000B2," + "b" * 200_000, None, 3, "field larger than field limit"),
+                ("u" * 200_000 + "\n", None, 1, "field larger than field limit")):
             with self.assertRaisesRegex(Wrong, rf"\Aa\.csv, row {row}: .*{why}.*\Z", msg=content):
                 catalogue("a.csv", content if isinstance(content, bytes) else content.encode(), How(column))
+        for encoding in ("x", "base64", "idna", "undefined"):
+            with self.assertRaisesRegex(Wrong, rf"\Ano encoding is named {encoding}\Z"):
+                catalogue("a.csv", first.encode(), How(encoding=encoding))
         wrong = self.catalogue(first + "-,b\n")
         for form in FORMS_OF_RECONCILE:
             said, errors, status = self.ask("--expected", wrong, *form, self.names[1], "/nowhere")
             self.assertEqual((said, status, errors.count(b"\n")), (b"", 3, 1))
             self.assertRegex(errors.decode(), rf"\Avicinity: {re.escape(wrong)}, row 3: '-' isn't a UID")
-
-
-if __name__ == "__main__":
-    unittest.main()

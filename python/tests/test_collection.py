@@ -66,7 +66,6 @@ class Calls(unittest.TestCase):
 
     def test_reconcile(self):
         for expected, logs, text in (
-                ([], [], "complete 0"), ([A], [], "absent E0040100000000A1"),
                 ([B, A], [ALL + HEARD_A, ALL + HEARD_B], "complete 2"),
                 ([A, B], [ALL + HEARD_A, ALL + b"S\n"], "absent E0040100000000B2"), ([A], [ALL + HEARD_A] * 2, "complete 1"),
                 ([A], [ALL + HEARD_A, ALL + HEARD_B], "unlisted E0040100000000B2"),
@@ -81,7 +80,11 @@ class Calls(unittest.TestCase):
                 self.assertEqual(str(report), text)
                 self.assertEqual(report.answer.text, text.partition("\n")[0])
                 self.assertEqual(report.answer.status, 0 if text.startswith("complete") else 1)
-        self.assertEqual(vicinity.reconcile([A], []).findings, [(FindingKind.ABSENT, 0, 0, 0, A)])
+        absent = vicinity.reconcile([A], [vicinity.survey(NOTHING)])
+        self.assertEqual(absent.findings, [(FindingKind.ABSENT, 0, 0, 0, A)])
+        for expected in ([], [A]):
+            with self.assertRaisesRegex(ValueError, "no logs"):
+                vicinity.reconcile(expected, [])
 
     def test_logs_that_are_refused_or_impossible(self):
         good, refused, impossible = map(vicinity.survey, (NOTHING, log(b"X\n"), log(ALL + b"S\n" + ALL + b"C\n")))
@@ -102,7 +105,7 @@ class Calls(unittest.TestCase):
             with self.assertRaises(OverflowError):
                 vicinity.reconcile([], [good._replace(open_masks=[Mask(*mask)])])
         with self.assertRaises(OverflowError):
-            vicinity.reconcile([1 << 64], [])
+            vicinity.reconcile([1 << 64], [good])
 
 
 def random_log(rng, pool):
@@ -156,12 +159,6 @@ class TheProgram(Command):
 
 
 class Reconcile(Command):
-    def ask(self, *words, **more):
-        return command("reconcile", *words, **more)
-
-    def catalogue(self, content):
-        return self.write("catalogue.csv", content if isinstance(content, bytes) else content.encode())
-
     def test_three_shelves(self):
         catalogue = os.path.join(COLLECTION, "catalogue.csv")
         for more in ([], ["--jobs", "2"], ["--column", "uid"]):
@@ -294,9 +291,14 @@ class Reconcile(Command):
         listed = self.write("listed", log(LIST_A))
         empty = self.write("empty", b"")
         for words in ([], ["--logs-from", empty], ["--logs-from", "-"], ["--"]):
-            said, errors, status = self.ask("--expected", listed, *words)
+            said, errors, status = self.ask("--expected", listed, *words, given=b"")
             self.assertEqual((said, status), (b"", 4), words)
             self.assertIn(b"no logs: name at least one", errors)
+        full = self.write("full", command("survey", self.names[1])[0])
+        for files in ([empty], [full, empty]):
+            said, errors, status = self.ask("--expected", listed, self.names[0], "--surveys", *files)
+            self.assertEqual((said, status), (b"", 3))
+            self.assertIn(f"vicinity: {empty} has no survey".encode(), errors)
 
     def test_words_that_are_no_command(self):
         listed = self.write("listed", log(LIST_A))
@@ -411,7 +413,3 @@ class Surroundings(Command):
                                        *[self.names[1]] * number], capture_output=True).stdout
                 self.assertEqual((said[:len(wanted)], said[-4:]), (wanted, b"\r\33[K" if wanted else b""))
         self.assertEqual(command("reconcile", "--expected", self.listed, *[self.names[1]] * 60), (b"complete 1\n", b"", 0))
-
-
-if __name__ == "__main__":
-    unittest.main()

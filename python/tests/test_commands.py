@@ -4,11 +4,10 @@ import os
 import signal
 import subprocess
 import sys
-import unittest
 
-from cases import (ALL, ANSWERS, FULL, HEARD_A, LIST_A, NAMES, SIXTEEN, Command, command, least, log,
-                   on_a_terminal)
-import vicinity
+from cases import (ALL, ANSWERS, FULL, HEARD_A, NAMES, SIXTEEN, Command, command, least, log,
+                   on_a_terminal, within)
+import vicinity.__main__
 
 COMPLETE = log(ALL + b"S\n")
 FORMS = ([], ["--tabs"], ["--json"], ["show"], ["page"])
@@ -16,15 +15,15 @@ FORMS = ([], ["--tabs"], ["--json"], ["show"], ["page"])
 
 class Answers(Command):
     def test_a_line_for_each_file(self):
-        said, errors, status = command(*self.names)
+        said, errors, status = within(*self.names)
         wanted = "".join(f"{name}: {text}\n" for name, (_, _, text, _) in zip(self.names, ANSWERS))
         self.assertEqual((said.decode(), errors, status), (wanted, b"", 3))
 
     def test_the_worst_status(self):
         for count, status in ((1, 0), (3, 1), (7, 2), (8, 3)):
-            self.assertEqual(command(*self.names[:count])[2], status)
-            self.assertEqual(command(*reversed(self.names[:count]))[2], status)
-        said, errors, status = command("/nowhere.log", self.names[0])
+            self.assertEqual(within(*self.names[:count])[2], status)
+            self.assertEqual(within(*reversed(self.names[:count]))[2], status)
+        said, errors, status = within("/nowhere.log", self.names[0])
         self.assertEqual((said.decode(), status), (f"{self.names[0]}: complete 0\n", 4))
         self.assertEqual(errors, b"vicinity: cannot read /nowhere.log: No such file or directory\n")
 
@@ -33,14 +32,14 @@ class Answers(Command):
             self.assertEqual(command(*words, given=COMPLETE), (b"-: complete 0\n", b"", 0))
 
     def test_tabs(self):
-        said, _, status = command("--tabs", self.names[0], self.names[6], "/nowhere.log")
+        said, _, status = within("--tabs", self.names[0], self.names[6], "/nowhere.log")
         wanted = [[self.names[0], "0", "complete 0"], [self.names[6], "2", "impossible at line 5"],
                   ["/nowhere.log", "4", "no answer"]]
         self.assertEqual([line.split("\t") for line in said.decode().splitlines()], wanted)
         self.assertEqual(status, 4)
 
     def test_json(self):
-        said, _, status = command("--json", *self.names, "/nowhere.log")
+        said, _, status = within("--json", *self.names, "/nowhere.log")
         found = [json.loads(line) for line in said.decode().splitlines()]
         self.assertEqual([it["file"] for it in found], [*self.names, "/nowhere.log"])
         wanted = [
@@ -65,7 +64,7 @@ class Answers(Command):
         self.assertTrue(errors.startswith(b"vicinity: the library /nowhere.so can't be loaded"))
 
     def test_a_text_without_end_is_read_as_far_as_it_matters(self):
-        self.assertEqual(command("/dev/zero")[::2], (b"/dev/zero: refused at line 1: LineTooLong\n", 3))
+        self.assertEqual(within("/dev/zero")[::2], (b"/dev/zero: refused at line 1: LineTooLong\n", 3))
 
 
 class Words(Command):
@@ -73,17 +72,17 @@ class Words(Command):
         name = self.names[0]
         for words in ([], ["--tabs", "--json", name], ["--other", name], ["show"], ["page", name, name], ["--ascii", name],
                       ["page", "--ascii", name], ["show", "--json", name]):
-            said, errors, status = command(*words)
+            said, errors, status = within(*words)
             self.assertEqual((said, errors.startswith(b"vicinity: "), b"\nusage: " in errors, status), (b"", True, True, 4))
 
     def test_options_stand_anywhere(self):
-        shown = command("show", "--ascii", self.names[0])
+        shown = within("show", "--ascii", self.names[0])
         self.assertEqual(shown[1:], (b"", 0))
         self.assertTrue(shown[0].isascii())
-        self.assertEqual(command("show", self.names[0], "--ascii"), shown)
+        self.assertEqual(within("show", self.names[0], "--ascii"), shown)
         self.assertEqual(command("check", self.names[0], "--tabs", self.names[1]),
-                         command("--tabs", self.names[0], self.names[1]))
-        self.assertEqual(command(self.names[0], "--tabs"), command("--tabs", self.names[0]))
+                         within("--tabs", self.names[0], self.names[1]))
+        self.assertEqual(within(self.names[0], "--tabs"), within("--tabs", self.names[0]))
 
     def test_a_name_that_begins_with_a_dash(self):
         self.write("--tabs", COMPLETE)
@@ -91,19 +90,19 @@ class Words(Command):
         self.assertEqual((ran.stdout, ran.returncode), (b"--tabs: complete 0\n", 0))
 
     def test_help_and_version(self):
-        said, errors, status = command("--help")
+        said, errors, status = within("--help")
         self.assertEqual((errors, status), (b"", 0))
-        for name in ("check", "report", "reconcile", "survey", "compare", "show", "page"):
+        for name in vicinity.__main__.words()[1]:
             self.assertIn(f"    {name}", said.decode())
-            there, errors, status = command(name, "--help")
+            there, errors, status = within(name, "--help")
             self.assertEqual((there.split()[4].decode(), errors, status), (name, b"", 0))
-        self.assertIn("--tabs", command("check", "--help")[0].decode())
-        self.assertEqual(command("--version"), (f"{vicinity.__version__}\n".encode(), b"", 0))
+        self.assertIn("--tabs", within("check", "--help")[0].decode())
+        self.assertEqual(within("--version"), (f"{vicinity.__version__}\n".encode(), b"", 0))
 
     def test_colours(self):
         for colours, env in ((True, {}), (True, {"NO_COLOR": ""}), (False, {"NO_COLOR": "1"})):
             self.assertEqual(b"\33[" in on_a_terminal("show", self.names[1], **env), colours, env)
-        self.assertNotIn(b"\33", command("show", self.names[1])[0])
+        self.assertNotIn(b"\33", within("show", self.names[1])[0])
         self.assertNotIn(b"\33", on_a_terminal("show", self.names[1], TERM="dumb"))
 
     def test_a_locale_without_unicode(self):
@@ -115,51 +114,29 @@ class Words(Command):
     def test_a_text_that_ends_in_the_middle_of_a_line(self):
         for lines, is_cut in ((ALL + HEARD_A[:-5], True), (ALL + HEARD_A[:-5] + b"\n", False),
                               (ALL + b"X\n" + ALL, False), (b"T 26010", True)):
-            told = json.loads(command("report", "--json", self.write("cut.log", log(lines)))[0])
+            told = json.loads(within("report", "--json", self.write("cut.log", log(lines)))[0])
             self.assertEqual((told["kind"], "was it cut?" in told["sentence"]), ("refused", is_cut), lines)
-        self.assertNotIn(b"was it cut?", command("report", "--json", self.write("empty.log", b""))[0])
+        self.assertNotIn(b"was it cut?", within("report", "--json", self.write("empty.log", b""))[0])
 
     def test_a_last_round_that_does_not_ask_all(self):
         last = vicinity.write_line("T", vicinity.write_inventory(2, 1, vicinity.Mask(8, 0xB2))) + b"S\n"
         for before, missed in ((ALL + b"S\n", "stronger replies hid"), (b"", "no earlier round asked"),
                                (SIXTEEN + b"S\n" * 15, "no earlier round asked"), (SIXTEEN + b"S\n" * 16, "stronger")):
-            said = command("report", self.write("some.log", log(before + last)))[0].decode()
+            said = within("report", self.write("some.log", log(before + last)))[0].decode()
             self.assertIn(f"the last round didn't ask all tags: one that {missed}", said)
-        self.assertNotIn("last round", command("report", self.write("some.log", log(last + ALL + b"S\n")))[0].decode())
-
-    def test_what_the_program_does_too(self):
-        name = self.names[5]
-        self.assertEqual(command("explain", name), (b"doubtful E0040100000000A1\npopulation 0\n", b"", 1))
-        self.assertEqual(command("explain", self.names[3]),
-                         (b"unlisted E0040100000000A1\npopulation 1\nU E0040100000000A1\n", b"", 1))
-        self.assertEqual(command("explain", self.names[0]), (b"complete 0\n", b"", 0))
-        self.assertEqual(command("simulate", self.write("asked", log(ALL + LIST_A))), (log(ALL + HEARD_A + LIST_A), b"", 0))
-        self.assertEqual(command("simulate", name), (b"refused at line 4: OutcomeGiven\n", b"", 3))
-
-    def test_frames_in_words(self):
-        for digits, lines, status in (
-                ("2202A1000000000104E0662A", ["request stay-quiet link 2 uid E0040100000000A1",
-                                              "response flags 22 dsfid 02 uid E0040100000000A1"], 0),
-                ("260107614C5D", ["request inventory link 2 slots 1 mask 7 61", "response refused Length"], 0),
-                ("060100cd09", ["request inventory link 2 slots 16 mask 0 -", "response refused Length"], 0),
-                ("260100F60B", ["request refused Crc", "response refused Length"], 3),
-                ("26010", ["request refused Hex", "response refused Hex"], 3),
-                ("26 01", ["request refused Hex", "response refused Hex"], 3),
-                ("\uff12" * 2, ["request refused Hex", "response refused Hex"], 3),
-                ("00" * 65, ["request refused LineTooLong", "response refused LineTooLong"], 3)):
-            self.assertEqual(command("frame", digits), ("".join(f"{it}\n" for it in lines).encode(), b"", status), digits)
+        self.assertNotIn("last round", within("report", self.write("some.log", log(last + ALL + b"S\n")))[0].decode())
 
     def test_options_are_not_abbreviated(self):
-        self.assertEqual(command("check", "--tab", self.names[0])[::2], (b"", 4))
-        self.assertEqual(command("show", "--asc", self.names[0])[::2], (b"", 4))
+        self.assertEqual(within("check", "--tab", self.names[0])[::2], (b"", 4))
+        self.assertEqual(within("show", "--asc", self.names[0])[::2], (b"", 4))
 
     def test_logs_that_are_named_in_a_file(self):
-        wanted = command(*self.names)
+        wanted = within(*self.names)
         for listed in ("\0".join(self.names), "\n".join(self.names)):
             for words in ([], ["check"]):
                 self.assertEqual(command(*words, "--logs-from", "-", given=listed.encode()), wanted)
-        said = command("report", self.names[0], "--logs-from", self.write("names", os.fsencode(self.names[2])))
-        self.assertEqual(said, command("report", self.names[0], self.names[2]))
+        said = within("report", self.names[0], "--logs-from", self.write("names", os.fsencode(self.names[2])))
+        self.assertEqual(said, within("report", self.names[0], self.names[2]))
 
 
 class Memory(Command):
@@ -243,30 +220,26 @@ class Names(Command):
         for name, shown in NAMES.items():
             path, where = os.path.join(os.fsencode(self.folder), name), os.path.join(self.folder, shown)
             missing = f"cannot read {where}: No such file or directory"
-            self.assertEqual(command(path), (b"", f"vicinity: {missing}\n".encode(), 4))
-            self.assertEqual(json.loads(command("--json", path)[0])["error"], missing)
+            self.assertEqual(within(path), (b"", f"vicinity: {missing}\n".encode(), 4))
+            self.assertEqual(json.loads(within("--json", path)[0])["error"], missing)
             with open(path, "wb") as file:
                 file.write(COMPLETE)
-            self.assertEqual(command(path), (f"{where}: complete 0\n".encode(), b"", 0))
-            self.assertEqual(command("--tabs", path), (f"{where}\t0\tcomplete 0\n".encode(), b"", 0))
-            self.assertEqual(os.fsencode(json.loads(command("--json", path)[0])["file"]), path)
+            self.assertEqual(within(path), (f"{where}: complete 0\n".encode(), b"", 0))
+            self.assertEqual(within("--tabs", path), (f"{where}\t0\tcomplete 0\n".encode(), b"", 0))
+            self.assertEqual(os.fsencode(json.loads(within("--json", path)[0])["file"]), path)
             for form in ("show", "page"):
-                said, errors, status = command(form, path)
+                said, errors, status = within(form, path)
                 self.assertEqual((errors, status), (b"", 0))
                 self.assertNotRegex(said.decode(), "[\0-\x08\x0b-\x1f\x7f-\x9f\u2028\u202e]|&#5[5-7][0-9]{3};")
 
     def test_printf_gives_them_back(self):
         for name in NAMES:
             path = os.path.join(os.fsencode(self.folder), name)
-            shown = command("--tabs", path)[0].split(b"\t")[0]
+            shown = within("--tabs", path)[0].split(b"\t")[0]
             given = subprocess.run(["bash", "-c", 'printf %b "$1"', "bash", shown], capture_output=True).stdout
             self.assertEqual(given, path)
 
     def test_words_that_are_refused(self):
-        errors = command("--\33[2J\n", self.names[0])[1]
+        errors = within("--\33[2J\n", self.names[0])[1]
         self.assertIn(rb"--\x1b[2J\n", errors)
         self.assertNotIn(b"\33", errors)
-
-
-if __name__ == "__main__":
-    unittest.main()

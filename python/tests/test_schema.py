@@ -2,11 +2,10 @@
 import copy
 import json
 import os
-import unittest
 
 import jsonschema
 
-from cases import COLLECTION, SHELVES, TOP, Command, command, here
+from cases import COLLECTION, SHELVES, TOP, Command, here, within
 
 
 class Schema(Command):
@@ -25,10 +24,10 @@ class Schema(Command):
         """Each object that the commands write of some logs, with its kind."""
         names = [*self.names, "/nowhere", os.path.join(TOP, "examples/unfinished-count.log")]
         for kind, words in (("check", ["--json"]), ("report", ["report", "--json"])):
-            for line in command(*words, *names)[0].splitlines():
+            for line in within(*words, *names)[0].splitlines():
                 told = json.loads(line)
                 yield told, "check" if told["status"] == 4 else kind
-        for line in command("survey", *names)[0].splitlines():
+        for line in within("survey", *names)[0].splitlines():
             told = json.loads(line)
             yield told, "check" if told["status"] > 1 else "survey"
         catalogue = os.path.join(COLLECTION, "catalogue.csv")
@@ -38,7 +37,7 @@ class Schema(Command):
         yield from ((json.loads(answer), "collection") for answer in answers)
         old, *others = [self.write(f"{index}.json", answer.encode()) for index, answer in enumerate(answers)]
         for new in others:
-            yield json.loads(command("compare", "--json", old, new)[0]), "comparison"
+            yield json.loads(within("compare", "--json", old, new)[0]), "comparison"
 
     def test_what_is_written_fits(self):
         met = set()
@@ -60,7 +59,3 @@ class Schema(Command):
             changed = copy.deepcopy(told)
             changed["mask_value"] = value
             self.assertEqual(self.fits(changed, "check"), [False, False])
-
-
-if __name__ == "__main__":
-    unittest.main()

@@ -1,34 +1,32 @@
 """Surveys of logs for other machines, and what has changed between two answers."""
 import json
-import unittest
 
-from cases import LIST_A, LIST_B, Command, command, here, log
+from cases import LIST_A, LIST_B, Command, here, log, within
 
 
 class Surveys(Command):
-    def ask(self, *words, **more):
-        return command("reconcile", *words, **more)
-
     def test_records_that_are_no_surveys(self):
         listed = self.write("listed", log(LIST_A))
-        good = command("survey", self.names[1])[0]
+        good = within("survey", self.names[1])[0]
         told = json.loads(good)
         changed = [{**told, "schema": 2}, {**told, "status": 1}, {**told, "kind": "absent"}, {**told, "count": "x"}, [],
                    {**told, "certain": [{"uid": "E0040100000000A", "line": 3}]}, {**told, "open": [{"mask_len": 1}]},
                    {**told, "open": [{"mask_len": 4, "mask_value": "1F"}]}, {**told, "file": 3},
                    {**told, "open": [{"mask_len": 64, "mask_value": "0" * 16}]},
+                   *[{**told, "certain": [{"uid": "E0040100000000A1", "line": line}]}
+                     for line in (-1, 1.5, "3", True, float("inf"), 1 << 32)],
                    {key: told[key] for key in told if key != "open"}]
         for content in (good[:-9], b"x\n", *[json.dumps(it).encode() for it in changed]):
             name = self.write("surveys", good.replace(b"1.log", b"x.log") + content)
-            said, errors, status = self.ask("--expected", listed, "--surveys", name)
+            said, errors, status = within("reconcile", "--expected", listed, "--surveys", name)
             self.assertEqual((said, status), (b"", 3), content)
             self.assertIn(b"surveys, line 2: it isn't a survey", errors)
         name = self.write("surveys", good + good)
-        self.assertIn(b"line 2: there is another survey of", self.ask("--expected", listed, "--surveys", name)[1])
+        self.assertIn(b"line 2: there is another survey of", within("reconcile", "--expected", listed, "--surveys", name)[1])
 
     def test_surveys(self):
         listed = self.write("listed", log(LIST_A))
-        said, errors, status = command("survey", *self.names[:7], "/nowhere")
+        said, errors, status = within("survey", *self.names[:7], "/nowhere")
         found = [json.loads(line) for line in said.splitlines()]
         self.assertEqual((errors, status), (b"vicinity: cannot read /nowhere: No such file or directory\n", 4))
         self.assertEqual(found[3], {
@@ -41,7 +39,7 @@ class Surveys(Command):
         listed = self.write("listed", log(LIST_A + LIST_B))
         for logs in ([*self.names[:7], "/nowhere"], self.names[1:2], *([self.names[1], it] for it in (
                 self.names[6], self.names[7], "/nowhere"))):
-            name = self.write("surveys", command("survey", *logs)[0])
+            name = self.write("surveys", within("survey", *logs)[0])
             for form in ("lines", "csv", "json", "page"):
                 ended = here(form, listed, options=["--surveys", name])
                 self.assertEqual(ended, here(form, listed, *logs), logs)
@@ -50,11 +48,11 @@ class Surveys(Command):
         good = self.write("good", here("json", self.write("listed", log(LIST_A)), self.names[1])[0].encode())
         for content in (b"", b"[]", b"{}", b'{"schema": 2}', b'{"schema": 1, "items": [{"uid": "x"}]}'):
             for names in ([good, self.write("bad", content)], [self.write("bad", content), good]):
-                said, errors, status = command("compare", *names)
+                said, errors, status = within("compare", *names)
                 self.assertEqual((said, status), (b"", 3))
                 self.assertIn(b"bad isn't an answer as `reconcile --json` writes it", errors)
-        self.assertEqual(command("compare", good)[2], 4)
-        self.assertEqual(command("compare", good, "/nowhere"), (
+        self.assertEqual(within("compare", good)[2], 4)
+        self.assertEqual(within("compare", good, "/nowhere"), (
             b"", b"vicinity: cannot read /nowhere: No such file or directory\n", 4))
 
     def test_what_has_moved(self):
@@ -68,13 +66,13 @@ class Surveys(Command):
         for old, new, folder, is_moved in (("a", "b", "monday", True), ("a", "a", "tuesday", False),
                                            ("ab", "b", "monday", False), ("a", "ab", "monday", False)):
             words = ["compare", "--json", answer("old", "monday", old), answer("new", folder, new)]
-            told = json.loads(command(*words)[0])
+            told = json.loads(within(*words)[0])
             self.assertEqual((len(told["changes"]), told["logs"]), (int(is_moved), []), (old, new, folder))
         words = ["compare", answer("old", "monday", "a"), answer("new", "tuesday", "a", "a")]
-        self.assertEqual(command(*words), (b"no longer counted monday/b\n", b"", 1))
+        self.assertEqual(within(*words), (b"no longer counted monday/b\n", b"", 1))
         both = ("x/a", "y/a")  # which only their folders tell apart
         words = ["compare", answer("old", "monday", ["x/a"], both), answer("new", "monday", ["y/a"], both)]
-        self.assertEqual(command(*words), (b"moved A from monday/x/a to monday/y/a\n", b"", 1))
+        self.assertEqual(within(*words), (b"moved A from monday/x/a to monday/y/a\n", b"", 1))
 
     def test_changes(self):
         def answer(name, *items):
@@ -95,10 +93,6 @@ class Surveys(Command):
                 ("there", "", "no longer expected"), ("missing", "", "no longer expected"),
                 *[(it, it, "") for it in ("there", "missing", "not provable", "unexpected")]):
             words = ["compare", "--json", answer("old", ("A", old)), answer("new", ("A", new))]
-            told = json.loads(command(*words)[0])
+            told = json.loads(within(*words)[0])
             self.assertEqual([it["change"] for it in told["changes"]], [what] * bool(what), (old, new))
             self.assertEqual(told["status"], int(bool(what)))
-
-
-if __name__ == "__main__":
-    unittest.main()

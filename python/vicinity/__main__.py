@@ -69,7 +69,8 @@ def words() -> tuple[Words, Mapping[str, Words]]:
     for name, what in (("explain", "the answer to a log, and tags that show it"),
                        ("simulate", "the log that listed tags would produce for given requests")):
         commands.add(name, f"{what}, as the program does", f"answers.{name}_one", "LOG", 1, 1)
-    commands.add("frame", "a frame in words, as the program does", "answers.frame", "HEX", 1, 1)
+    commands.add("frame", "a frame in words, as the program does", "frames.frame", "HEX", 1, 1)
+    commands.add("spell", "words as a frame, as the program does", "frames.spell", "WORD", 1, ANY)
     return top, commands.all.choices
 
 

@@ -183,8 +183,11 @@ def reconcile(expected: Iterable[int], surveys: Iterable[Survey], *, strict: boo
     in their fields, in any order. If a log is refused or impossible, the answer is that to the first one; if it isn't
     strict, any UID may be in the field of such a log, and the answer is never complete.
 
-    Raises what `check` raises, and OverflowError if a UID or a mask doesn't fit into 64 bits."""
+    Raises ValueError if there is no survey, what `check` raises, and OverflowError if a UID or a mask doesn't fit into
+    64 bits."""
     found = list(surveys)
+    if not found:
+        raise ValueError("no logs: there is nothing to reconcile")
     broken = [one for one in found if one.answer.status > 1]
     if broken and strict:
         return Report(broken[0].answer, [])

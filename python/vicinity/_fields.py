@@ -37,7 +37,7 @@ def answer_of(said: Mapping[str, Any]) -> Answer:
     status = {Kind.COMPLETE: 0, Kind.IMPOSSIBLE: 2, Kind.REFUSED: 3}.get(kind, 1)
     mask = mask_of(said) if kind is Kind.UNSETTLED else Mask(0, 0)
     uid = parse_uid(said["uid"]) if "uid" in said else 0
-    answer = Answer(kind, status, int(said.get("count", 0)), int(said.get("line", 0)), fault, *mask, uid, "")
+    answer = Answer(kind, status, number_of(said.get("count", 0)), number_of(said.get("line", 0)), fault, *mask, uid, "")
     known = fields(answer)
     if known != {key: said[key] for key in known}:
         raise ValueError
@@ -63,10 +63,17 @@ def mask_fields(mask: Mask) -> dict[str, Any]:
 
 def mask_of(said: Mapping[str, Any]) -> Mask:
     """The mask that has these fields. Raises ValueError if there is none."""
-    mask = Mask(int(said["mask_len"]), 0 if said["mask_value"] == "-" else int(said["mask_value"], 16))
-    if not 0 <= mask.length <= UID_BITS or mask.digits != said["mask_value"] or mask.value >> mask.length:
+    mask = Mask(number_of(said["mask_len"]), 0 if said["mask_value"] == "-" else int(said["mask_value"], 16))
+    if mask.length > UID_BITS or mask.digits != said["mask_value"] or mask.value >> mask.length:
         raise ValueError
     return mask
+
+
+def number_of(value: object) -> int:
+    """A value that is a number of 32 bits. Raises ValueError if it isn't one."""
+    if type(value) is not int or not 0 <= value < 1 << 32:
+        raise ValueError
+    return value
 
 
 def refusal(name: str, answer: Answer) -> str:

@@ -13,7 +13,7 @@ from typing import Any, Iterator, NamedTuple, Optional, Sequence
 
 from .._answers import Answer, Kind, Mask
 from .._calls import survey
-from .._fields import SCHEMA, answer_of, fields, mask_fields, mask_of, refusal
+from .._fields import SCHEMA, answer_of, fields, mask_fields, mask_of, number_of, refusal
 from .._process import NO_ANSWER, NoAnswer, counted, read, shown
 from ..frames import parse_uid, uid_text
 from ..sessions.findings import Shown, tell
@@ -21,6 +21,7 @@ from .tables import Wrong
 
 #: How many logs a process takes at once, at most; of few logs each gets so many times some.
 SHARE, TURNS = 8, 4
+#: Where the list of a log begins, which no call of the library says.
 LIST = re.compile(rb"^U", re.MULTILINE)
 ALL = Mask(0, 0)
 COUNT_AGAIN, CORRECT = "count it again", "correct it, or count it again"
@@ -163,6 +164,8 @@ def records(files: Sequence[tuple[str, bytes]]) -> list[Log]:
     """The surveys in files of records. Raises Wrong."""
     found: dict[str, Log] = {}
     for name, content in files:
+        if not content:
+            raise Wrong(f"{shown(name)} has no survey; was `survey` ended before it wrote one?")
         for number, line in enumerate(content.splitlines(), 1):
             try:
                 log = _recorded(json.loads(line))
@@ -184,5 +187,5 @@ def _recorded(said: dict[str, Any]) -> Log:
     answer = answer_of(said)
     if answer.status > 1:
         return Log(name, answer, [], [ALL])
-    pairs = sorted((parse_uid(it["uid"]), int(it["line"])) for it in said["certain"])
+    pairs = sorted((parse_uid(it["uid"]), number_of(it["line"])) for it in said["certain"])
     return Log(name, answer, [uid for uid, _ in pairs], [mask_of(it) for it in said["open"]], "", [line for _, line in pairs])

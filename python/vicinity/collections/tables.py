@@ -5,6 +5,7 @@ import codecs
 import csv
 import io
 import re
+from contextlib import suppress
 from typing import Iterable, Iterator, NamedTuple, NoReturn, Optional, Sequence
 
 from .._process import shown
@@ -14,7 +15,7 @@ SEPARATORS = ",;\t|"
 #: With which bytes a file begins that says its encoding.
 MARKS = {codecs.BOM_UTF8: "utf-8", codecs.BOM_UTF16_LE: "utf-16-le", codecs.BOM_UTF16_BE: "utf-16-be"}
 #: A first line for spreadsheets, which names the separator.
-SAYS_SEPARATOR = re.compile('"?sep=(.)"?[ \t]*\r?\n', re.IGNORECASE)
+SAYS_SEPARATOR = re.compile('"?sep=([^"\r\n])"?[ \t]*(\r\n?|\n)', re.IGNORECASE)
 OTHER_ENCODINGS = ("as --encoding names it: windows-1252 is what many spreadsheets save, utf-16-le is UTF-16 without its "
                    "first two bytes")
 
@@ -85,9 +86,10 @@ def read_table(name: str, text: bytes, encoding: Optional[str]) -> Table:
     says = SAYS_SEPARATOR.match(content)
     first = says.group() if says else ""
     content = content[len(first):]
-    line = content.partition("\n")[0]
+    ended = _lines(content).readline()
+    line = ended.rstrip("\r\n")
     separator = says.group(1) if says else max(SEPARATORS, key=lambda it: len(_cells(line, it)))
-    form = form._replace(first=first, separator=separator, line_end="\r\n" if line.endswith("\r") else "\n")
+    form = form._replace(first=first, separator=separator, line_end=ended[len(line):] or "\n")
     table = Table(name, form, [], [])
     for number, row in _rows(table, content):
         if number == 1:
@@ -97,8 +99,7 @@ def read_table(name: str, text: bytes, encoding: Optional[str]) -> Table:
                 table.wrong(1, f"two columns are named {shown(twice)}")
         elif any(cell.strip() for cell in row):
             table.rows.append((number, _fitting(table, number, row)))
-    quoted = form._replace(mark=b"", first="", quoting=csv.QUOTE_ALL)
-    is_quoted = b"".join(quoted.written([_cells(line, separator)])) == f"{line}\n".encode(form.encoding)
+    is_quoted = line == separator.join('"{}"'.format(cell.replace('"', '""')) for cell in _cells(line, separator))
     return table._replace(form=form._replace(quoting=csv.QUOTE_ALL)) if is_quoted else table
 
 
@@ -107,7 +108,8 @@ def _decoded(name: str, text: bytes, encoding: Optional[str]) -> tuple[Form, str
     mark = next((it for it in MARKS if text.startswith(it)), b"")
     try:
         named = codecs.lookup(MARKS.get(mark) or encoding or "utf-8").name
-    except LookupError:
+        "".encode(named, "backslashreplace")  # base64 and idna, among others, don't take any text
+    except (LookupError, UnicodeError):
         raise Wrong(f"no encoding is named {shown(encoding or '')}") from None
     named = "utf-16-le" if named == "utf-16" else named
     try:
@@ -117,22 +119,31 @@ def _decoded(name: str, text: bytes, encoding: Optional[str]) -> tuple[Form, str
         return Form(named, mark), content
     except UnicodeDecodeError as error:
         before = text[len(mark):len(mark) + error.start].decode(named, "replace")
-        row = sum(1 for _ in csv.reader(io.StringIO(before + "x", newline="")))
+        row = 1
+        with suppress(csv.Error):
+            row = sum(1 for _ in csv.reader(_lines(before + "x")))
         raise Wrong(f"{shown(name)}, row {row}: it isn't {named.upper()}; it may be in another encoding, {OTHER_ENCODINGS}"
                     ) from None
     except UnicodeError as error:
         raise Wrong(f"{shown(name)}: it can't be read as {shown(named)}: {shown(str(error))}") from None
 
 
+def _lines(content: str) -> io.StringIO:
+    """The lines of a text with their ends: LF, CR LF, or CR as on an old Macintosh."""
+    return io.StringIO(content, newline="")
+
+
 def _cells(line: str, separator: str) -> list[str]:
-    """The cells of a first line."""
-    return next(csv.reader([line], delimiter=separator), [])
+    """The cells of a first line; none if it isn't one, which its row says."""
+    with suppress(csv.Error):
+        return next(csv.reader([line], delimiter=separator), [])
+    return []
 
 
 def _rows(table: Table, content: str) -> Iterator[tuple[int, list[str]]]:
     number = 0
     try:
-        rows = csv.reader(io.StringIO(content, newline=""), delimiter=table.form.separator, strict=True)
+        rows = csv.reader(_lines(content), delimiter=table.form.separator, strict=True)
         for number, row in enumerate(rows, 1):
             yield number, row
     except csv.Error as error:

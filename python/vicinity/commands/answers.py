@@ -1,4 +1,4 @@
-"""`check`, `explain`, `report`, `simulate` and `frame`: what the program says, of many logs in one process."""
+"""`check`, `explain`, `report` and `simulate`: what the program says, of many logs in one process."""
 from __future__ import annotations
 
 import argparse
@@ -10,12 +10,8 @@ from .._calls import check, explain, simulate
 from .._fields import SCHEMA, fields
 from .._native import library
 from .._process import NO_ANSWER, NoAnswer, complain, read, shown, write
-from ..frames import FrameFault, read_request, read_response, uid_text
+from ..frames import uid_text
 from .names import names_of
-
-REFUSED = 3
-#: The bytes of a frame of at most so many digits.
-MOST_DIGITS = 128
 
 
 def judge(name: str) -> Union[Answer, str]:
@@ -90,38 +86,3 @@ def simulate_one(asked: argparse.Namespace) -> int:
     made = simulate(read(asked.names[0]))
     write([made.text])
     return made.status
-
-
-def frame(asked: argparse.Namespace) -> int:
-    """Writes a frame in words, as `vicinity frame` does, and returns the status."""
-    library()
-    (digits,) = asked.names
-    try:
-        content = bytes.fromhex(digits) if digits.isalnum() or not digits else None
-    except ValueError:
-        content = None
-    if content is None or len(digits) > MOST_DIGITS:
-        why = "Hex" if content is None else "LineTooLong"
-        write([f"{kind} refused {why}\n" for kind in ("request", "response")])
-        return REFUSED
-    said = [_request(content), _response(content)]
-    write(f"{it}\n" for it in said)
-    return REFUSED * all(" refused " in it for it in said)
-
-
-def _request(content: bytes) -> str:
-    try:
-        link, slots, mask, uid = read_request(content)
-    except FrameFault as error:
-        return f"request refused {error.fault.word}"
-    if not slots:
-        return f"request stay-quiet link {link} uid {uid_text(uid)}"
-    return f"request inventory link {link} slots {slots} mask {mask.length} {mask.digits}"
-
-
-def _response(content: bytes) -> str:
-    try:
-        flags, dsfid, uid = read_response(content)
-    except FrameFault as error:
-        return f"response refused {error.fault.word}"
-    return f"response flags {flags:02X} dsfid {dsfid:02X} uid {uid_text(uid)}"

@@ -26,7 +26,7 @@ pub enum Verdict {
 }
 
 /// A verdict, with the line and the exit status of the program. It displays as the line.
-#[derive(Clone, Copy, Debug, PartialEq, Eq)]
+#[derive(Clone, Copy, PartialEq, Eq)]
 pub struct Answer {
     pub verdict: Verdict,
     status: u8,
@@ -64,6 +64,12 @@ impl fmt::Display for Answer {
     fn fmt(&self, f: &mut fmt::Formatter<'_>) -> fmt::Result {
         let end = self.line.iter().position(|byte| *byte == b'\n').unwrap_or(0);
         f.write_str(std::str::from_utf8(&self.line[..end]).unwrap_or(""))
+    }
+}
+
+impl fmt::Debug for Answer {
+    fn fmt(&self, f: &mut fmt::Formatter<'_>) -> fmt::Result {
+        write!(f, "Answer({self})")
     }
 }
 

@@ -5,6 +5,7 @@
 //! let answer = vicinity::check(b"vicinity-log 1\nT 260100F60A\nS\n")?;
 //! assert!(answer.is_complete());
 //! assert_eq!(answer.to_string(), "complete 0");
+//! assert_eq!(format!("{answer:?}"), "Answer(complete 0)");
 //! # Ok::<(), vicinity::OutOfMemory>(())
 //! ```
 //!

@@ -9,10 +9,11 @@ use std::str::FromStr;
 /// let uid: vicinity::Uid = "E0040100000000A1".parse()?;
 /// assert_eq!(uid.number(), 0xE004_0100_0000_00A1);
 /// assert_eq!(uid.to_string(), "E0040100000000A1");
+/// assert_eq!(format!("{uid:?}"), "Uid(E0040100000000A1)");
 /// assert!("0123456789ABCDEF".parse::<vicinity::Uid>().is_err());
 /// # Ok::<(), vicinity::NotUid>(())
 /// ```
-#[derive(Clone, Copy, Debug, PartialEq, Eq, PartialOrd, Ord, Hash)]
+#[derive(Clone, Copy, PartialEq, Eq, PartialOrd, Ord, Hash)]
 #[repr(transparent)]
 pub struct Uid(u64);
 
@@ -52,6 +53,12 @@ impl FromStr for Uid {
 impl fmt::Display for Uid {
     fn fmt(&self, f: &mut fmt::Formatter<'_>) -> fmt::Result {
         write!(f, "{:016X}", self.0)
+    }
+}
+
+impl fmt::Debug for Uid {
+    fn fmt(&self, f: &mut fmt::Formatter<'_>) -> fmt::Result {
+        write!(f, "Uid({self})")
     }
 }
 

@@ -1,0 +1,116 @@
+"""`frame` and `spell`: a frame in words, and words as a frame, as the program writes them."""
+from __future__ import annotations
+
+import argparse
+import re
+from typing import Any, Callable
+
+from .._answers import Mask
+from .._native import library
+from .._process import write
+from ..frames import (HEX, FrameFault, read_request, read_response, uid_text, write_inventory,
+                      write_response, write_stay_quiet)
+
+REFUSED = 3
+#: The bytes of a frame of at most so many digits.
+MOST_DIGITS = 128
+MOST_LINK, MOST_BITS, NUMBER_BITS = 3, {1: 64, 16: 60}, 64
+WORDS, RANGE = "Words", "Range"
+
+
+class _Refused(Exception):
+    """Why words spell no frame."""
+
+
+def frame(asked: argparse.Namespace) -> int:
+    """Writes a frame in words, and returns the status."""
+    library()
+    (digits,) = asked.names
+    if len(digits) > MOST_DIGITS or len(digits) % 2 or not HEX.issuperset(digits):
+        write([f"refused {'LineTooLong' if len(digits) > MOST_DIGITS else 'Hex'}\n"])
+        return REFUSED
+    content = bytes.fromhex(digits)
+    said = [_request(content), _response(content)]
+    write(f"{it}\n" for it in said)
+    return REFUSED * all(" refused " in it for it in said)
+
+
+def _request(content: bytes) -> str:
+    try:
+        link, slots, mask, uid = read_request(content)
+    except FrameFault as error:
+        return f"request refused {error.fault.word}"
+    if not slots:
+        return f"request stay-quiet link {link} uid {uid_text(uid)}"
+    return f"request inventory link {link} slots {slots} mask {mask.length} {mask.digits}"
+
+
+def _response(content: bytes) -> str:
+    try:
+        flags, dsfid, uid = read_response(content)
+    except FrameFault as error:
+        return f"response refused {error.fault.word}"
+    return f"response flags {flags:02X} dsfid {dsfid:02X} uid {uid_text(uid)}"
+
+
+def spell(asked: argparse.Namespace) -> int:
+    """Writes the frame that words spell, and returns the status."""
+    library()
+    try:
+        write([f"{_spelled(asked.names).hex().upper()}\n"])
+    except _Refused as why:
+        write([f"refused {why}\n"])
+        return REFUSED
+    return 0
+
+
+def _form(words: str) -> re.Pattern[str]:
+    """Words with a NUL between them, of which a star is any."""
+    return re.compile(words.replace("*", "([^\0]*)").replace(" ", "\0"))
+
+
+INVENTORY = _form("request inventory link * slots * mask * *")
+STAY_QUIET = _form("request stay-quiet link * uid *")
+RESPONSE = _form("response flags * dsfid * uid *")
+
+
+def _spelled(words: list[str]) -> bytes:
+    """The frame that words spell. Raises _Refused for the first of them that doesn't fit."""
+    said = "\0".join(words)
+    if found := INVENTORY.fullmatch(said):
+        link, slots = _decimal(found[1], MOST_LINK), _decimal(found[2])
+        if slots not in MOST_BITS:
+            raise _Refused(WORDS)
+        bits = _decimal(found[3], MOST_BITS[slots])
+        value = 0 if (bits, found[4]) == (0, "-") else _hex(found[4], (bits + 7) // 8 * 2)
+        return _made(RANGE, write_inventory, link, slots, Mask(bits, value))
+    if found := STAY_QUIET.fullmatch(said):
+        return write_stay_quiet(_decimal(found[1], MOST_LINK), _hex(found[2], 16))
+    if found := RESPONSE.fullmatch(said):
+        return _made(WORDS, write_response, _hex(found[1], 2), _hex(found[2], 2),
+                     _hex(found[3], 16))
+    raise _Refused(WORDS)
+
+
+def _decimal(word: str, most: int = (1 << NUMBER_BITS) - 1) -> int:
+    """A number as `frame` writes it."""
+    if not re.fullmatch("0|[1-9][0-9]{0,19}", word) or int(word) >> NUMBER_BITS:
+        raise _Refused(WORDS)
+    if int(word) > most:
+        raise _Refused(RANGE)
+    return int(word)
+
+
+def _hex(word: str, digits: int) -> int:
+    """A number of so many digits, in upper case."""
+    if len(word) != digits or not digits or not HEX.issuperset(word) or word != word.upper():
+        raise _Refused(WORDS)
+    return int(word, 16)
+
+
+def _made(why: str, call: Callable[..., bytes], *given: Any) -> bytes:
+    """What a call makes; if there is no such frame, that is why the words are refused."""
+    try:
+        return call(*given)
+    except ValueError:
+        raise _Refused(why) from None
