@@ -26,15 +26,15 @@ CALLS = re.findall(r"\b(vicinity_\w+);", (TOP / "release/exports.map").read_text
 LINK = re.compile(r"\]\(([^#): ]+)[#)]")
 TARGETS = ["amd64", "arm64"]
 #: What the packages and their tests need of a machine.
-NEEDED = ("coreutils dash diffutils dpkg findutils gcc grep libc-bin libc6-dev pkgconf python3 sed"
-          .split())
+NEEDED = ("coreutils", "dash", "diffutils", "dpkg", "findutils", "gcc", "grep", "libc-bin",
+          "libc6-dev", "pkg-config", "python3", "sed")
 DEPENDS = ("apt-cache", "depends", "--recurse", "--installed", "--no-recommends", "--no-suggests",
            "--no-conflicts", "--no-breaks", "--no-replaces", "--no-enhances")
 
 
 def say(*words, **how):
     """What a command writes."""
-    return subprocess.run(words, check=True, capture_output=True, text=True, **how).stdout
+    return subprocess.run(words, check=True, stdout=subprocess.PIPE, text=True, **how).stdout
 
 
 def bytes_of(folder):
@@ -56,7 +56,7 @@ def packages(request, tmp_path_factory):
         with open(top / "packages.lock", "w") as lock:
             fcntl.flock(lock, fcntl.LOCK_EX)
             if not made.exists():
-                say(TOP / "release/dist", made, target)
+                subprocess.run([TOP / "release/dist", made, target], check=True)
                 for deb in made.glob("*.deb"):
                     say("dpkg-deb", "-x", deb, made / "unpacked")
         return made
@@ -110,7 +110,8 @@ def test_made_elsewhere_they_are_the_same(packages, tmp_path):
         copy(clone)
         shutil.copytree(TOP / "out/release", clone / "out/release", copy_function=shutil.copy2)
         for name in "python", "examples", "docs":
-            subprocess.run(["chmod", "-R", "go-rwx", clone / name], check=True)
+            say("chmod", "-R", "go-rwx", clone / name)
+        say("touch", "-d", "2000-01-01", clone / "CHANGELOG.md", *clone.glob("debian/*.*"))
         subprocess.run(["dpkg-buildpackage", "-b", "-us", "-uc"], cwd=clone, umask=0o077,
                        env={**os.environ, "TZ": "Asia/Tokyo", "LC_ALL": "C.UTF-8"}, check=True)
         assert bytes_of(Path(folder)) == bytes_of(first)
@@ -162,8 +163,8 @@ def cell(tmp_path):
         (tmp_path / "usr" / name).mkdir(parents=True)
         (tmp_path / name).symlink_to(f"usr/{name}")
     names = set(re.findall(r"^\w.*", say(*DEPENDS, *NEEDED), re.M))
-    lists = [f"/var/lib/dpkg/info/{name}" for name in os.listdir("/var/lib/dpkg/info")
-             if name.endswith((".list", "format"))]
+    lists = [str(file) for file in Path("/var/lib/dpkg/info").iterdir()
+             if file.suffix == ".list" or file.name == "format"]
     subprocess.run("tar -C / --no-recursion --ignore-failed-read -T - -c |"
                    " tar --keep-directory-symlink -x", shell=True, cwd=tmp_path, check=True,
                    input=say("dpkg-query", "-L", *names) + "\n".join(lists), text=True,
@@ -172,27 +173,28 @@ def cell(tmp_path):
         (tmp_path / name).mkdir(parents=True, exist_ok=True)
     (tmp_path / "dev/null").touch()
     (tmp_path / "var/lib/dpkg/status").write_text(say("dpkg-query", "-s", *names))
-    return tmp_path
+    yield tmp_path
+    shutil.rmtree(tmp_path)
 
 
 def test_installed_upgraded_tested_and_purged(cell, packages):
     """From the packages of the last release; the tests are those of debian/tests."""
     def run(*words):
-        return say("chroot", cell, "env", "AUTOPKGTEST_TMP=/tmp", *words)
+        say("chroot", cell, *words, env={"PATH": "/usr/sbin:/usr/bin", "AUTOPKGTEST_TMP": "/tmp"})
 
-    def install(*debs):
+    def install(debs):
         for deb in debs:
             shutil.copy(deb, cell / "tmp")
         run("dpkg", "--install", *(f"/tmp/{deb.name}" for deb in debs))
 
     def others():
-        return sorted(str(file.relative_to(cell)) for place in ("etc", "usr")
-                      for file in (cell / place).rglob("*"))
+        """All that is there, but what Python has compiled of its own."""
+        return sorted(file for place in ("etc", "usr") for file in (cell / place).rglob("*")
+                      if "__pycache__" not in file.parts or "vicinity" in file.parts)
     before = others()
-    machine = say("dpkg", "--print-architecture").strip()
-    install(*TOP.glob(f"dist/*_{machine}.deb"), *TOP.glob("dist/*_all.deb"))
+    install([*TOP.glob("dist/*_amd64.deb"), *TOP.glob("dist/*_all.deb")])
     run("python3", "-m", "vicinity", "/usr/share/doc/vicinity/examples/whole-shelf.log")
-    install(*packages(machine).glob("*.deb"))
+    install([*packages("amd64").glob("*.deb")])
     shutil.copytree(TOP / "debian/tests", cell / "tmp/tests")
     for test in re.findall("^Tests: (.*)", (TOP / "debian/tests/control").read_text(), re.M):
         run(f"/tmp/tests/{test}")
