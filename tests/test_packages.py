@@ -1,229 +1,217 @@
-"""The Debian packages of ./package, unpacked, installed and removed in scratch folders, and those
-in dist/."""
+"""The Debian packages: what they have, and that they are the same again; installed, upgraded and
+purged in a root of their own; and those in dist/."""
+import fcntl
 import os
 import re
 import shutil
 import subprocess
-import sys
+from datetime import datetime
+from pathlib import Path
+from tempfile import TemporaryDirectory
 
 import pytest
 
 from helpers.program import TOP, Program, needs
 from helpers.rows import OfProgram, all_rows
-from helpers.trees import copy
+from helpers.trees import copy_built
 
 LOG = TOP / "examples/whole-shelf.log"
 COMPLETE = (b"complete 4\n", b"", 0)
-NAMES = ("vicinity", "libvicinity1", "libvicinity-dev", "python3-vicinity")
+VERSION = (TOP / "VERSION").read_text().strip()
+KINDS = {"vicinity": "foreign", "libvicinity1": "same", "libvicinity-dev": "same",
+         "python3-vicinity": "no"}
 FOR_USERS = "LOG_FORMAT VERDICTS COLLECTIONS READERS COMMANDS AIR FRAMES GLOSSARY RUNNING".split()
 FOR_DEVELOPERS = "WORKING ARCHITECTURE PROOFS HEADLINE DEFINITIONS DECISIONS".split()
 CALLS = re.findall(r"\b(vicinity_\w+);", (TOP / "release/exports.map").read_text())
 LINK = re.compile(r"\]\(([^#): ]+)[#)]")
+TARGETS = ["amd64", "arm64"]
+#: What the packages and their tests need of a machine.
+NEEDED = ("coreutils", "dash", "diffutils", "dpkg", "findutils", "gcc", "grep", "libc-bin",
+          "libc6-dev", "pkg-config", "python3", "sed")
+DEPENDS = ("apt-cache", "depends", "--recurse", "--installed", "--no-recommends", "--no-suggests",
+           "--no-conflicts", "--no-breaks", "--no-replaces", "--no-enhances")
+
+
+def say(*words, **how):
+    """What a command writes."""
+    return subprocess.run(words, check=True, stdout=subprocess.PIPE, text=True, **how).stdout
+
+
+def bytes_of(folder):
+    """What packages have, by their names."""
+    return {deb.name: deb.read_bytes() for deb in folder.glob("*.deb")}
 
 
 @pytest.fixture(scope="session")
-def packages(release, tmp_path_factory):
-    """The folder of the packages."""
-    needs("dpkg-deb", "objdump", "xz")
-    made = tmp_path_factory.mktemp("packages")
-    subprocess.run([TOP / "package", made], check=True)
-    assert release and len([*made.glob("*.deb")]) == len(NAMES)
-    return made
+def packages(request, tmp_path_factory):
+    """The folder of the packages for a kind of machine, with what they have in `unpacked`. It is
+    made once for all processes of a run."""
+    top = tmp_path_factory.getbasetemp()
+    top = top.parent if "PYTEST_XDIST_WORKER" in os.environ else top
+
+    def of(target):
+        needs("dpkg-buildpackage", "dh", "dh_python3")
+        request.getfixturevalue("release" if target == "amd64" else "arm_release")
+        made = top / target
+        with open(top / "packages.lock", "w") as lock:
+            fcntl.flock(lock, fcntl.LOCK_EX)
+            if not made.exists():
+                subprocess.run([TOP / "release/dist", made, target], check=True)
+                for deb in made.glob("*.deb"):
+                    say("dpkg-deb", "-x", deb, made / "unpacked")
+        return made
+    return of
 
 
-@pytest.fixture(scope="session")
-def unpacked(packages, tmp_path_factory):
-    """What they have, together."""
-    made = tmp_path_factory.mktemp("unpacked")
-    for deb in packages.glob("*.deb"):
-        subprocess.run(["dpkg-deb", "-x", deb, made], check=True)
-    return made
-
-
-def over_library(folder, modules):
-    """The Python package of a folder, over a library."""
-    return Program(sys.executable, "-m", "vicinity", LD_LIBRARY_PATH=str(folder),
-                   PYTHONPATH=str(modules))
-
-
-def test_names(packages):
+@pytest.mark.parametrize("target", TARGETS)
+def test_names_and_fields(packages, target):
     """They have the version, which between two releases is none that was released."""
-    version = (TOP / "VERSION").read_text().strip()
-    named = sorted(deb.name.split("_")[:2] for deb in packages.glob("*.deb"))
-    assert named == sorted([name, f"{version}-1"] for name in NAMES)
-
-
-@pytest.mark.parametrize(("name", "kind"), [
-    ("vicinity", "foreign"), ("libvicinity1", "same"), ("libvicinity-dev", "same")])
-def test_packages_of_several_architectures(packages, name, kind):
-    deb, = packages.glob(f"{name}_*.deb")
-    said = subprocess.run(["dpkg-deb", "-f", deb, "Multi-Arch"], capture_output=True, text=True,
-                          check=True)
-    assert said.stdout.strip() == kind
+    named = {say("dpkg-deb", "-f", deb, "Package").strip(): deb
+             for deb in packages(target).glob("*.deb")}
+    assert sorted(named) == sorted(KINDS)
+    for name, deb in named.items():
+        machine = "all" if name.startswith("python3") else target
+        assert deb.name == f"{name}_{VERSION}-1_{machine}.deb"
+        assert say("dpkg-deb", "-f", deb, "Multi-Arch").strip() == KINDS[name]
 
 
 def test_symbols(packages):
     """Each call stands beside the first version that has it, or one before a release to come."""
-    deb, = packages.glob("libvicinity1_*.deb")
-    symbols = subprocess.run(["dpkg-deb", "-I", deb, "symbols"], capture_output=True, text=True,
-                             check=True).stdout
+    deb, = packages("amd64").glob("libvicinity1_*.deb")
+    symbols = say("dpkg-deb", "-I", deb, "symbols")
     listed = dict(re.findall(r"^ (vicinity_\w+)@VICINITY_\S+ (.*)$", symbols, re.M))
     assert sorted(listed) == sorted(set(CALLS))
-    assert listed["vicinity_check"] == "1.1.0" and listed["vicinity_listed"] == "1.2~"
+    assert [listed[f"vicinity_{call}"] for call in ("check", "certain", "listed")] == [
+        "1.0.0", "1.1.0", "1.2.0~"]
 
 
-def test_sums(packages):
-    subprocess.run(["sha256sum", "--quiet", "-c", "SHA256SUMS"], cwd=packages, check=True)
+def test_the_changes_of_the_packages():
+    """Are those of CHANGELOG.md, with their dates, and above them what VERSION says is to come."""
+    entries = re.findall(r"^vicinity \((.*)-1\) (\w+);(?:.*\n)*? -- .*>  (.*)$",
+                         (TOP / "debian/changelog").read_text(), re.M)
+    days = [datetime.strptime(date, "%a, %d %b %Y 00:00:00 +0000").date() for *_, date in entries]
+    said = [(version, str(day)) for (version, _, _), day in zip(entries, days)]
+    dated = re.findall(r"^## ([\d.]+), (.*)$", (TOP / "CHANGELOG.md").read_text(), re.M)
+    assert said[-len(dated):] == dated
+    is_between = VERSION.endswith("~dev")
+    assert len(said) == len(dated) + is_between and said[0][0] == VERSION
+    assert (entries[0][1] == "UNRELEASED") == is_between
+    assert days == sorted(set(days), reverse=True)
 
 
 def test_made_elsewhere_they_are_the_same(packages, tmp_path):
     """In another folder, on another file system where there is one, and for a user with other
     habits."""
-    (tmp_path / "clone").mkdir()
-    copy(tmp_path / "clone")
-    shutil.copytree(TOP / "out/release", tmp_path / "clone/out/release", copy_function=shutil.copy2)
-    for name in "python", "examples", "docs":
-        subprocess.run(["chmod", "-R", "go-rwx", tmp_path / "clone" / name], check=True)
-    env = {**os.environ, "TZ": "Asia/Tokyo", "LC_ALL": "C.UTF-8"}
-    if os.access("/dev/shm", os.W_OK):
-        env["TMPDIR"] = "/dev/shm"
-    subprocess.run([tmp_path / "clone/package", tmp_path / "again"], env=env, umask=0o077,
-                   check=True)
-    assert (tmp_path / "again/SHA256SUMS").read_text() == (packages / "SHA256SUMS").read_text()
+    first = packages("amd64")
+    place = "/dev/shm" if os.access("/dev/shm", os.W_OK) else tmp_path
+    with TemporaryDirectory(dir=place) as folder:
+        clone = Path(folder) / "clone"
+        copy_built(clone)
+        for name in "python", "examples", "docs":
+            say("chmod", "-R", "go-rwx", clone / name)
+        say("touch", "-d", "2000-01-01", clone / "CHANGELOG.md", *clone.glob("debian/*.*"))
+        subprocess.run(["dpkg-buildpackage", "-b", "-us", "-uc"], cwd=clone, umask=0o077,
+                       env={**os.environ, "TZ": "Asia/Tokyo", "LC_ALL": "C.UTF-8"}, check=True)
+        assert bytes_of(Path(folder)) == bytes_of(first)
 
 
-def test_they_have_all_that_install_puts(unpacked, tmp_path):
-    def names(folder):
-        files = [file for file in folder.rglob("*") if file.is_symlink() or file.is_file()]
-        return sorted(re.sub(r"\.gz$", "",
-                             file.name) for file in files if "lib/python3/" not in str(file))
-
-    def kept(names_of):
-        return [it for it in names_of
-                if not re.fullmatch(r"copyright|changelog\.Debian|files|LICENSE-.*", it)]
-    subprocess.run([TOP / "install", "--prefix", "/usr", "--destdir", tmp_path], check=True,
-                   capture_output=True)
-    assert kept(names(unpacked)) == kept(names(tmp_path))
+def test_sums(packages):
+    say("sha256sum", "--quiet", "-c", "SHA256SUMS", cwd=packages("amd64"))
 
 
-def test_the_program_and_its_example(unpacked):
-    example = unpacked / "usr/share/doc/vicinity/examples/whole-shelf.log"
-    assert Program(unpacked / "usr/bin/vicinity").run("check", example) == COMPLETE
+@pytest.mark.parametrize("target", TARGETS)
+def test_lintian_has_nothing_to_say(packages, target):
+    needs("lintian")
+    said = say("lintian", "--allow-root", "--display-info", "--hide-overrides",
+               *packages(target).glob("*.deb"))
+    assert not said
 
 
-def test_the_man_page_of_the_log_format_is_in_one_package(packages):
-    deb, = packages.glob("vicinity_*.deb")
-    listed = subprocess.run(["dpkg-deb", "-c", deb], capture_output=True, text=True,
-                            check=True).stdout
-    assert re.findall(r" \./(.*vicinity-log.*)", listed) == ["usr/share/man/man5/vicinity-log.5.gz"]
-
-
-def test_no_link_leads_nowhere(unpacked):
-    assert not [(page.name, link) for page in unpacked.glob("usr/share/doc/**/*.md")
+def test_no_link_leads_nowhere(packages):
+    doc = packages("amd64") / "unpacked/usr/share/doc"
+    assert not [(page.name, link) for page in doc.rglob("*.md")
                 for link in LINK.findall(page.read_text()) if not (page.parent / link).exists()]
 
 
-def test_pages_for_users_and_for_nobody_else(unpacked):
-    doc = unpacked / "usr/share/doc"
+def test_pages_for_users_and_for_nobody_else(packages):
+    doc = packages("amd64") / "unpacked/usr/share/doc"
     assert not [page for page in FOR_USERS if not (doc / f"vicinity/docs/{page}.md").stat().st_size]
     assert not [page for page in doc.rglob("*.md") if page.stem in FOR_DEVELOPERS]
 
 
-def test_the_python_package_over_the_library(unpacked):
-    library, = unpacked.glob("usr/lib/*/libvicinity.so.1")
-    python = over_library(library.parent, unpacked / "usr/lib/python3/dist-packages")
-    assert python.run(LOG) == (f"{LOG}: complete 4\n".encode(), b"", 0)
-
-
-@pytest.fixture
-def dpkg(tmp_path):
-    """Runs dpkg over a database of packages of its own."""
-    root = tmp_path / "root"
-    for name in "info", "updates", "triggers":
-        (root / "var/lib/dpkg" / name).mkdir(parents=True)
-    (root / "var/log").mkdir()
-    (root / "var/lib/dpkg/status").touch()
-    words = ("dpkg", f"--root={root}", "--log=/dev/null", "--force-depends", "--force-not-root",
-             "--force-script-chrootless")
-
-    def run(*more):
-        return subprocess.run([*words, *more], check=True, capture_output=True, text=True).stdout
-    return root, run
-
-
-def others(root):
-    """What is there beside the database."""
-    return sorted(str(file.relative_to(root)) for file in root.rglob("*")
-                  if not file.is_relative_to(root / "var"))
-
-
-def test_installed_and_purged(dpkg, packages):
-    root, run = dpkg
-    before = others(root)
-    run("--install", *packages.glob("*.deb"))
-    assert Program(root / "usr/bin/vicinity").run("check", LOG) == COMPLETE
-    library, = root.glob("usr/lib/*/libvicinity.so.1")
-    python = over_library(library.parent, root / "usr/lib/python3/dist-packages")
-    python.environment["PYTHONDONTWRITEBYTECODE"] = ""
-    assert python.run(LOG).status == 0
-    assert (root / "usr/lib/python3/dist-packages/vicinity/__pycache__").is_dir()
-    assert len(re.findall("^ii", run("-l"), re.M)) == len(NAMES)
-    run("--purge", *NAMES)
-    assert others(root) == before
-
-
-def test_lintian_finds_no_error(packages):
-    needs("lintian")
-    said = subprocess.run(["lintian", "--allow-root", "--fail-on", "error",
-                           *packages.glob("*.deb")], text=True,
-                          stdout=subprocess.PIPE, stderr=subprocess.STDOUT, check=False).stdout
-    assert not [line for line in said.splitlines() if line.startswith("E:")]
-
-
-@pytest.fixture(scope="session")
-def arm_packages(arm_release, tmp_path_factory):
-    """What the packages for 64-bit ARM have, by package; and together."""
-    made = tmp_path_factory.mktemp("arm")
-    subprocess.run([TOP / "package", made, "--target", "arm64"], check=True)
-    assert arm_release
-    for deb in made.glob("*.deb"):
-        subprocess.run(["dpkg-deb", "-x", deb, made / "unpacked"], check=True)
-    return made
-
-
-@pytest.mark.parametrize("name", [name for name in NAMES if not name.startswith("python")])
-def test_the_architecture_of_a_package_for_arm(arm_packages, name):
-    deb, = arm_packages.glob(f"{name}_*.deb")
-    assert subprocess.run(["dpkg-deb", "-f", deb, "Architecture"], capture_output=True,
-                          check=True).stdout == b"arm64\n"
-
-
-def test_the_packages_for_arm(arm, arm_packages, tmp_path):
-    usr, emulator = arm_packages / "unpacked/usr", arm.words[:-1]
-    for name in ("bin/vicinity", "share/man/man1/vicinity.1.gz",
-                 "share/bash-completion/completions/vicinity"):
+def test_the_packages_for_arm(arm, packages, tmp_path):
+    usr, emulator = packages("arm64") / "unpacked/usr", arm.words[:-1]
+    for name in ("share/man/man1/vicinity.1.gz", "share/bash-completion/completions/vicinity"):
         assert (usr / name).exists()
     assert Program(*emulator, usr / "bin/vicinity").run("check", LOG) == COMPLETE
     library = usr / "lib/aarch64-linux-gnu"
     subprocess.run(["aarch64-linux-gnu-gcc", f"-I{usr}/include", TOP / "examples/c/check.c",
-                    f"-L{library}", "-lvicinity", "-o",
-                    tmp_path / "shared"], check=True)
+                    f"-L{library}", "-lvicinity", "-o", tmp_path / "shared"], check=True)
     assert Program(*emulator, "-E", f"LD_LIBRARY_PATH={library}",
                    tmp_path / "shared").run(LOG) == COMPLETE
+
+
+@pytest.fixture
+def cell(tmp_path):
+    """A root with those packages of this machine that ours and their tests need."""
+    needs("apt-cache", "chroot")
+    if os.getuid():
+        pytest.skip("only root may chroot")
+    for name in "bin", "lib", "lib64", "sbin":
+        (tmp_path / "usr" / name).mkdir(parents=True)
+        (tmp_path / name).symlink_to(f"usr/{name}")
+    names = set(re.findall(r"^\w.*", say(*DEPENDS, *NEEDED), re.M))
+    lists = [str(file) for file in Path("/var/lib/dpkg/info").iterdir()
+             if file.suffix == ".list" or file.name == "format"]
+    subprocess.run("tar -C / --no-recursion --ignore-failed-read -T - -c |"
+                   " tar --keep-directory-symlink -x", shell=True, cwd=tmp_path, check=True,
+                   input=say("dpkg-query", "-L", *names) + "\n".join(lists), text=True,
+                   stderr=subprocess.DEVNULL)
+    for name in "dev", "tmp", "var/lib/dpkg/updates", "var/log":
+        (tmp_path / name).mkdir(parents=True, exist_ok=True)
+    (tmp_path / "dev/null").touch()
+    (tmp_path / "var/lib/dpkg/status").write_text(say("dpkg-query", "-s", *names))
+    yield tmp_path
+    shutil.rmtree(tmp_path)
+
+
+def test_installed_upgraded_tested_and_purged(cell, packages):
+    """From the packages of the last release; the tests are those of debian/tests."""
+    def run(*words):
+        say("chroot", cell, *words, env={"PATH": "/usr/sbin:/usr/bin", "AUTOPKGTEST_TMP": "/tmp"})
+
+    def install(debs):
+        for deb in debs:
+            shutil.copy(deb, cell / "tmp")
+        run("dpkg", "--install", *(f"/tmp/{deb.name}" for deb in debs))
+
+    def others():
+        """All that is there, but what Python has compiled of its own."""
+        return sorted(file for place in ("etc", "usr") for file in (cell / place).rglob("*")
+                      if "__pycache__" not in file.parts or "vicinity" in file.parts)
+    before = others()
+    install([*TOP.glob("dist/*_amd64.deb"), *TOP.glob("dist/*_all.deb")])
+    run("python3", "-m", "vicinity", "/usr/share/doc/vicinity/examples/whole-shelf.log")
+    install([*packages("amd64").glob("*.deb")])
+    shutil.copytree(TOP / "debian/tests", cell / "tmp/tests")
+    for test in re.findall("^Tests: (.*)", (TOP / "debian/tests/control").read_text(), re.M):
+        run(f"/tmp/tests/{test}")
+    assert [*cell.glob("usr/lib/python3/dist-packages/vicinity/**/*.pyc")]
+    run("dpkg", "--purge", *KINDS)
+    assert others() == before
 
 
 # The packages of the last release.
 
 def test_the_sums_of_dist():
-    subprocess.run(["sha256sum", "--quiet", "-c", "SHA256SUMS"], cwd=TOP / "dist", check=True)
+    say("sha256sum", "--quiet", "-c", "SHA256SUMS", cwd=TOP / "dist")
 
 
 @pytest.fixture(scope="session")
 def packaged():
     """The program of the last release. Where it answers otherwise than the rows say, it is time for
-    ./package --release."""
-    done = subprocess.run([TOP / "release/packaged"], capture_output=True, text=True, check=True)
-    return OfProgram(Program(done.stdout.strip()))
+    release/dist --release."""
+    return OfProgram(Program(say(TOP / "release/packaged").strip()))
 
 
 @pytest.mark.parametrize(("asked", "command", "given", "answers", "status"), all_rows(["packaged"]))
@@ -234,6 +222,7 @@ def test_row_of_the_packaged_program(packaged, asked, command, given, answers, s
 def test_the_packages_of_the_release_are_made_again():
     """As long as the sources and the tools are those of the release."""
     needs("rt", "gcc", "ld", "dpkg-deb", "objdump")
-    done = subprocess.run([TOP / "package", "--check"], capture_output=True, text=True, check=False)
+    done = subprocess.run([TOP / "release/dist", "--check"], capture_output=True, text=True,
+                          check=False)
     # 2: of other sources, or by other tools
     assert done.returncode in (0, 2), done.stdout + done.stderr

@@ -46,8 +46,8 @@ FRAME = re.compile(r"\| `([0-9A-F]+)` \| "
                    r"|(Stay Quiet|reply of)[, ]+([0-9A-F]{16}))")
 ANSWER = re.compile(r"\|(?: \d \|)? `(\w+) [^|]*\|.*\| (\d) \|$")
 LINK = re.compile(r"\]\(([^)#:]*)(?:#([^)]*))?\)")
-PATH = re.compile(r"`((?:crates|docs|examples|include|python|release|commands|tests|tools|\.ci"
-                  r"|vic\w+)/[\w./{,}-]+)`")
+PATH = re.compile(r"`((?:crates|debian|docs|examples|include|python|release|commands|tests|tools"
+                  r"|\.ci|vic\w+)/[\w./{,}-]+)`")
 NEEDS = re.compile(r"<!-- needs ([\w.-]+) -->")
 CRC = re.compile(r"\| (none|`[0-9A-F ]+`|the digits `(\d+)` in ASCII) \| ([0-9A-F]{4}) \| "
                  r"([0-9A-F]{4})(?:, sent as `(.*)`)? \|")
