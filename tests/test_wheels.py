@@ -17,6 +17,7 @@ import backend  # noqa: E402
 
 TAGS = {"amd64": "manylinux2014_x86_64", "arm64": "manylinux2014_aarch64"}
 LICENSES = ("LICENSE-APACHE", "LICENSE-MIT")
+PAGE = "vicinity/pages/page.html"
 LEAST = 9
 
 
@@ -58,7 +59,7 @@ def test_the_same_bytes_of_a_source_distribution(tmp_path):
     assert found[0] == found[1]
     with tarfile.open(file) as archive:
         names = {name.partition("/")[2] for name in archive.getnames()}
-    assert {*LICENSES, "README.md", "PKG-INFO", "vicinity/commands/reconcile.py"} <= names
+    assert {*LICENSES, "README.md", "PKG-INFO", "vicinity/commands/reconcile.py", PAGE} <= names
 
 
 def test_what_is_in_it(wheel, release):
@@ -72,7 +73,8 @@ def test_what_is_in_it(wheel, release):
     assert listed == set(files)
     sources = TOP / "python"
     modules = {str(path.relative_to(sources)) for path in sources.glob("vicinity/**/*.py")}
-    assert modules <= set(files)
+    assert {*modules, PAGE} <= set(files)
+    assert files[PAGE].startswith(b"<!doctype html>")
 
 
 def test_a_wheel_for_arm(arm_release, tmp_path):

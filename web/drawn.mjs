@@ -1,6 +1,5 @@
 /** Which rows of a log are drawn. */
 
-/** @typedef {import("./library.mjs").Library} Library */
 /** @typedef {import("./log.mjs").Log} Log */
 /** @typedef {import("./log.mjs").Row} Row */
 /** @typedef {import("./log.mjs").Round} Round */
@@ -12,12 +11,11 @@ const MOST_DRAWN = 60, EDGE = 3;
 /**
  * The rows that are drawn, with gaps between them: those of the lines that are marked, the first and the last, and those of
  * causes.
- * @param {Library} library
  * @param {Log} log
  * @param {number[]} named
  * @param {number[]} causing
  */
-export function drawn(library, log, named, causing) {
+export function drawn(log, named, causing) {
   const edges = [...Array(EDGE).keys()].flatMap((at) => [at, log.rowCount - 1 - at]);
   const all = log.rowCount <= MOST_DRAWN ? [...Array(log.rowCount).keys()] : [];
   const wanted = [...all, ...named.map((line) => log.rowAt(line)), ...edges, ...causing]
@@ -29,11 +27,10 @@ export function drawn(library, log, named, causing) {
   for (const at of rows) {
     if (at < next) continue;
     if (at > next) result.push({ kind: "gap", rows: at - next });
-    const row = log.row(library, at);
+    const row = log.row(at);
     next = at + 1;
-    if (!row) continue;
     result.push(row);
-    if (row.kind === "round") next = withQuiets(library, log, row, next, named);
+    if (row.kind === "round") next = withQuiets(log, row, next, named);
   }
   if (next < log.rowCount) result.push({ kind: "gap", rows: log.rowCount - next });
   return result;
@@ -41,16 +38,15 @@ export function drawn(library, log, named, causing) {
 
 /**
  * Notes with a round the Stay Quiets that follow it, to tags that were heard in it. Returns the row behind them.
- * @param {Library} library
  * @param {Log} log
  * @param {Round} round
  * @param {number} next
  * @param {number[]} named
  */
-function withQuiets(library, log, round, next, named) {
+function withQuiets(log, round, next, named) {
   for (; next < log.rowCount; next++) {
-    const quiet = log.row(library, next);
-    if (quiet?.kind !== "quiet" || named.includes(quiet.line)) break;
+    const quiet = log.row(next);
+    if (quiet.kind !== "quiet" || named.includes(quiet.line)) break;
     const slot = round.slots.find((it) => it.uid === quiet.uid);
     if (!slot) break;
     slot.silenced = quiet.line;

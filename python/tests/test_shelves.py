@@ -12,6 +12,7 @@ import unittest
 from collections import Counter
 
 from cases import Command, command, frame, here
+from helpers.records import drawn_in
 
 SHELVES, EACH = [f"S{number:02}" for number in range(1, 41)], 50
 BROKEN = "S17"
@@ -216,14 +217,14 @@ class Collection(Command):
 
     def test_page(self):
         said, _, status = self.ask("page")
+        told, plain = drawn_in(said)
         self.assertEqual(status, 2)
-        doubtful = sum(1 for _, state, _, _ in self.states(True) if state == "not provable")
-        self.assertIn(f"Not complete: 5 items are misplaced, {doubtful} items may be missing, 2 tags aren&#x27;t expected "
-                      "and 1 log says nothing.", said)
-        self.assertIn(f"Count it again (impossible at line {len(self.lines[BROKEN])} of S17.log).", said)
-        for count in ("5</b> misplaced", "20</b> no tag", "40</b> logs", "1</b> log to be counted again"):
-            self.assertIn(count, said)
-        self.assertRegex(said, r"(?s)<h3>Misplaced.*Title, 3</td><td>S01</td><td>S02.log</td><td></td><td>S01</td>")
+        self.assertEqual(plain, self.ask("lines")[0])
+        broken = [log for log in told["logs"] if log["list"]["status"] > 1]
+        self.assertEqual([log["object"]["answer"] for log in broken], [f"impossible at line {len(self.lines[BROKEN])}"])
+        for part in told.pop("version"), told.pop("name"), *(log.pop("object") for log in told["logs"]):
+            self.assertTrue(part)
+        self.assertEqual(told, self.wanted_object(True))
 
     def test_strict_ends_as_the_program_does(self):
         wanted = f"impossible at line {len(self.lines[BROKEN])} of {BROKEN}.log\n"
@@ -236,8 +237,10 @@ class Collection(Command):
                 self.assertEqual((errors, ended), (b"", 2 * (is_broken and name == "one.jsonl")))
                 self.write(name, said)
             options = [*self.OPTIONS, "--surveys", "one.jsonl", "two.jsonl"]
-            for form in ("lines", "csv", "json", "page"):
+            for form in ("lines", "csv", "json"):
                 self.assertEqual(here(form, "catalogue.csv", options=options), self.ask(form), form)
+            told, plain = drawn_in(here("page", "catalogue.csv", options=options)[0])
+            self.assertEqual(([log.get("object") for log in told["logs"]], plain), ([None] * len(self.logs), self.ask("lines")[0]))
             self.mend()
 
     def test_some_logs_and_the_surveys_of_others(self):
