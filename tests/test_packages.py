@@ -133,6 +133,8 @@ def test_the_python_package_over_the_library(unpacked):
     library, = unpacked.glob("usr/lib/*/libvicinity.so.1")
     python = over_library(library.parent, unpacked / "usr/lib/python3/dist-packages")
     assert python.run(LOG) == (f"{LOG}: complete 4\n".encode(), b"", 0)
+    page = python.run("page", LOG)
+    assert (page.out.startswith(b"<!doctype html>"), page.status) == (True, 0)
 
 
 @pytest.fixture

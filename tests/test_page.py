@@ -243,6 +243,39 @@ def test_the_cause_is_found_far_above(page):
     assert page.texts('.rounds td.named[data-line="3"]')
 
 
+def test_two_that_were_silenced_before_are_told_in_one_mask(page, vicinity):
+    """Their UIDs differ in the last bit alone, so one mask of 55 bits has both, and no other."""
+    uids = [0xE0040100000000A1, 0xE0840100000000A1]
+    quiets = [vicinity.write_line("T", vicinity.write_stay_quiet(2, uid)) for uid in uids]
+    log = b"".join([b"vicinity-log 2\n", *quiets, b"T 260100F60A\nS\n"])
+    assert vicinity.check(log).mask_len == 55
+    page.drop(log=log)
+    page.until("h1", "2 tags may be here or not: they were silenced before they were heard.")
+    assert page.texts(".why") == [
+        "The cause: Lines 2 and 3 silenced 2 tags before they were heard."]
+    assert "by no request" not in page.said()
+
+
+def frames(vicinity):
+    """Frames of all kinds, in upper and lower case."""
+    rng = random.Random(7)
+    for _ in range(500):
+        slots, uid = rng.choice([1, 16]), 0xE0 << 56 | rng.getrandbits(56)
+        bits = rng.randint(0, 64 if slots == 1 else 60)
+        mask = vicinity.Mask(bits, rng.getrandbits(64) & (1 << bits) - 1)
+        yield vicinity.write_inventory(rng.randrange(4), slots, mask).hex()
+        yield vicinity.write_stay_quiet(rng.randrange(4), rng.getrandbits(64)).hex().upper()
+        yield vicinity.write_response(0, rng.randrange(256), uid).hex().upper()
+
+
+def test_the_page_reads_frames_as_the_library_does(vicinity, wasm_module):
+    given = "\n".join(frames(vicinity)).encode()
+    said = subprocess.run(["node", TOP / "tests/wasm/frames.mjs", wasm_module], input=given,
+                          capture_output=True, check=True).stdout
+    told = json.loads(said)
+    assert (told["tried"] >= 1500, told["wrong"]) == (True, [])
+
+
 def test_who_was_silenced_before_is_ringed(page):
     page.drop(log=log_of("I1 QA I1 S UA"))
     page.until(".why", "Line 3 silenced")
@@ -403,7 +436,7 @@ def test_a_slot_is_tried_otherwise(page, tmp_path):
     page.driver.find_element("css selector", 'td[data-line="5"]').click()
     assert page.texts("#trial button") == ["S nobody", "C two or more"]
     page.driver.find_element("css selector", "#trial button").click()
-    page.until("h1", "1 listed tag can't be here")
+    page.until("h1", "A trial: Search finished. 1 listed tag can't be here")
     page.until(".banner", "log (trial: line 5 is S)")
     page.driver.find_element("css selector", 'td[data-line="3"]').click()
     page.driver.find_element("css selector", "#trial button").click()

@@ -327,8 +327,8 @@ def sessions(vicinity):
 def test_page_of_a_longer_session(opened, sessions, name):
     page = opened(name, sessions[name])
     bars = page.run("return document.querySelectorAll('.strip i').length")
-    # of the others all rounds are drawn
-    assert bool(bars) == (name not in ("empty", "conflict"))
+    # that shows all rounds where not all are drawn
+    assert bool(bars) == (name != "empty")
     if name == "conflict":
         page.until("summary", "The 737 lines that can't all be true, of 47 rounds")
 
@@ -345,8 +345,7 @@ def test_picture_of_a_page(pytestconfig, run, browser, tmp_path):
     page = Screen(browser)
     page.open(tmp_path / "page.html")
     page.until("header h1", "Not finished")
-    end = page.run("return document.querySelector('.rounds').getBoundingClientRect().bottom")
-    picture = page.picture(1000, round(end) + 16)
+    picture = page.picture(1000, ".rounds")
     assert picture.startswith(b"\x89PNG")
     if pytestconfig.getoption("--write"):
         (TOP / "docs/page.png").write_bytes(picture)

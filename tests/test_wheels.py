@@ -110,6 +110,7 @@ def test_it_works(wheel, python, tmp_path):
     for command in ("check", "report", "reconcile", "survey", "compare", "show", "page", "frame"):
         assert run(there / "vicinity-logs", command, "--help").stdout.startswith(
             f"usage: vicinity-logs {command}")
+    assert run(there / "vicinity-logs", "page", TOP / "examples/whole-shelf.log").returncode == 0
     said = run(there / "python", "-c", "import vicinity as it; print(it.__file__, it.check(b''))")
     assert said.stdout.endswith("refused at line 1: Header\n") and str(tmp_path) in said.stdout
     shelves = sorted(TOP.glob("examples/collection/shelf-*.log"))

@@ -28,8 +28,8 @@ import { count, ending, listing, printable } from "./words.mjs";
  * @property {OneLog[]} logs
  */
 
-/** How many rows of a table are drawn, how many are seen unfolded, and how many logs are named in a cell. */
-const MOST_ROWS = 2000, FEW_ROWS = 40, MOST_NAMES = 3;
+/** How many rows of a table are drawn, how many are seen unfolded, and how many logs and masks are named. */
+const MOST_ROWS = 2000, FEW_ROWS = 40, MOST_NAMES = 3, MOST_MASKS = 3;
 const CANNOT_BE_READ = 4;
 /** How much text of logs stands in a page that is saved. */
 const MOST_TEXT = 4_000_000;
@@ -92,9 +92,10 @@ export function headlineOf(object) {
     if (tags === 0) return "Nothing is expected, and nothing is here.";
     return tags === 1 ? "The one expected item is here, and no other." : `All ${count(tags, "expected item")}${which} are here, and no others.`;
   }
-  const parts = [[counts.missing, "item missing", "items missing"], [counts.misplaced, "in the wrong place", "in the wrong place"],
-    [counts.unexpected, "unknown", "unknown"], [counts["not provable"], "not known yet", "not known yet"]];
-  const said = parts.filter(([number]) => number).map((part) => count(.../** @type {[number, string, string]} */ (part)));
+  const parts = /** @type {[number, string][]} */ ([[counts.missing, "missing"], [counts.misplaced, "in the wrong place"],
+    [counts.unexpected, "unknown"], [counts["not provable"], "not known yet"]]);
+  const said = parts.filter(([number]) => number).map(([number, words], at) => at ? `${number.toLocaleString("en")} ${words}`
+    : `${count(number, "item")} ${words}`);
   const todo = !again ? "" : again < object.logs.length || again === 1 ? `count ${count(again, "log")} again` : "count all logs again";
   const text = [listing(said), todo].filter((it) => it).join("; ") || "the logs and the catalogue differ";
   return `${text[0].toUpperCase()}${text.slice(1)}.`;
@@ -215,14 +216,16 @@ function drawnLog(object) {
  * What a log says, and what is left to ask in its field.
  * @param {OneLog} log
  */
-function saidOf({ list, certain, open, more_open }) {
+function saidOf({ list, certain, open, more_open, object }) {
   if (list.status === CANNOT_BE_READ) return `can't be read: ${list.error ?? ""}`;
   if (list.kind === KIND.REFUSED) return `isn't a log (line ${list.line}), so nothing is known of its field`;
   if (list.kind === KIND.IMPOSSIBLE) return `contradicts itself (line ${list.line}), so nothing is known of its field`;
   const proved = `${count(certain, "tag")} proved`;
   if (!open.length) return proved;
-  const masks = listing([...open.map((mask) => ending(maskOf(mask))), ...more_open ? ["others"] : []]);
-  return `${proved}; not asked to the end: ${masks}`;
+  // its own masks are wider than what no other log has proved
+  const masks = object?.open.masks ?? open, all = object?.open.count ?? open.length, more = all - MOST_MASKS;
+  const others = more_open && !object ? ["others"] : more > 1 ? [`${more.toLocaleString("en")} others`] : [];
+  return `${proved}; left to ask: ${listing([...masks.slice(0, others.length ? MOST_MASKS : MOST_MASKS + 1).map((mask) => ending(maskOf(mask))), ...others])}`;
 }
 
 /** @param {CollectionObject} object */

@@ -16,8 +16,14 @@
  * @property {number} silencer the line of the Stay Quiet that had silenced the tag of its reply, 0 if there is none
  */
 
-/** How many rounds of a conflict are told. */
-const MOST_PARTS = 1000;
+/** How many rounds of a conflict are told, and how many of its lines are seen in the rounds. */
+const MOST_PARTS = 1000, MOST_SEEN = 8;
+
+/**
+ * Whether a conflict has too many lines to be seen in the rounds.
+ * @param {Conflict | null} conflict
+ */
+export const isLarge = (conflict) => conflict !== null && conflict.count > MOST_SEEN;
 
 /**
  * Over all of its lines, however many they are, and whether they are drawn or not.

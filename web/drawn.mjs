@@ -14,10 +14,11 @@ const MOST_DRAWN = 60, EDGE = 3;
  * @param {Log} log
  * @param {number[]} named
  * @param {number[]} causing
+ * @param {boolean} whole whether a short log is drawn with all its rows
  */
-export function drawn(log, named, causing) {
+export function drawn(log, named, causing, whole) {
   const edges = [...Array(EDGE).keys()].flatMap((at) => [at, log.rowCount - 1 - at]);
-  const all = log.rowCount <= MOST_DRAWN ? [...Array(log.rowCount).keys()] : [];
+  const all = whole && log.rowCount <= MOST_DRAWN ? [...Array(log.rowCount).keys()] : [];
   const wanted = [...all, ...named.map((line) => log.rowAt(line)), ...edges, ...causing]
     .filter((row) => row >= 0 && row < log.rowCount);
   const rows = [...new Set(wanted)].slice(0, MOST_DRAWN).sort((one, other) => one - other);

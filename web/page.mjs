@@ -103,14 +103,14 @@ function show() {
   if (entry?.error) {
     const words = `${entry.name}: no answer (${entry.error}).`;
     shown.replaceChildren(el("h1", { class: "error" }, words));
-    headed(words, words);
+    headed(words);
   } else if (entry?.told) {
     shown.replaceChildren(...view(entry.told));
-    headed(titleOfEntry(entry), say(entry.told).headline);
+    headed(titleOfEntry(entry));
     pane.mark();
   } else if (entry?.collection) {
     shown.replaceChildren(...collectionView(entry.collection));
-    headed(titleOfEntry(entry), headlineOf(entry.collection));
+    headed(titleOfEntry(entry));
   }
   // until a text is judged, what is shown is that of another one
   const old = entry !== undefined && !entry.told && !entry.collection && !entry.error;
@@ -127,11 +127,10 @@ function titleOfEntry({ told, collection, name }) {
 /**
  * Says what is shown, to whoever doesn't see it.
  * @param {string} title
- * @param {string} words
  */
-function headed(title, words) {
+function headed(title) {
   document.title = title;
-  at("said").textContent = words;
+  at("said").textContent = shown.querySelector("h1")?.textContent ?? "";
 }
 
 /**

@@ -5,7 +5,7 @@
  * a finding names, or whose slots overlap what is open.
  */
 import { causesOf, silencedUnheard } from "./causes.mjs";
-import { conflictOf, keyLines } from "./conflict.mjs";
+import { conflictOf, isLarge, keyLines } from "./conflict.mjs";
 import { drawn } from "./drawn.mjs";
 import { KIND } from "./kinds.mjs";
 import { Log } from "./log.mjs";
@@ -104,7 +104,7 @@ function explain(log, told) {
     requests: { open: asked(false), silenced: asked(true) } });
   told.named = named(told);
   told.ringed = causes.flatMap((cause) => cause.slots.map((number) => `${cause.round}:${number}`));
-  told.rows = drawn(log, told.named, rows);
+  told.rows = drawn(log, told.named, rows, !isLarge(told.conflict));
   if (told.rows.some((row) => row.kind === "gap")) told.strip = strip(log, new Set([...rows, ...told.named.map((line) => log.rowAt(line))]));
 }
 

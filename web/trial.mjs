@@ -1,9 +1,9 @@
 /** Tries another letter for a slot: what would be the answer if it had held something else? */
 import { el } from "./elements.mjs";
+import { TRIAL } from "./words.mjs";
 
 /** What a slot may have held, by the letters of lines; the last only in a log of version 2. */
 const TRIED = /** @type {[string, string][]} */ ([["S", "nobody"], ["C", "two or more"], ["D", "unreadable"]]);
-const TRIAL = / \(trial: .*\)$/;
 
 export class Trial {
   /** The text and the name as they were. */

@@ -1,17 +1,16 @@
 /** Draws what is told of a log. */
+import { isLarge } from "./conflict.mjs";
 import { el, folded, toLine } from "./elements.mjs";
 import { maintainer } from "./maintainer.mjs";
 import { KIND } from "./kinds.mjs";
 import { rounds } from "./rounds.mjs";
 import { GRANTED, say } from "./say.mjs";
-import { count, ending, lines, printable } from "./words.mjs";
+import { count, ending, lines, printable, TRIAL } from "./words.mjs";
 
 /** @typedef {import("./told.mjs").Told} Told */
 
 /** How many UIDs are shown without being asked for. */
 const FEW = 24;
-/** So many lines of a contradiction are seen in the rounds. */
-const MOST_SAID = 8;
 
 /**
  * The whole of what is drawn of a log.
@@ -20,8 +19,10 @@ const MOST_SAID = 8;
  * @returns {Node[]}
  */
 export function view(told, heading = "h1") {
-  const said = say(told);
-  return [banner(said, [printable(told.object.file), " · ", el("code", {}, told.object.answer)], heading), shelf(said), ...findings(told),
+  const said = say(told), what = [printable(told.object.file), " · ", el("code", {}, told.object.answer)];
+  // what is only tried is never green
+  const trial = TRIAL.test(told.object.file) ? { look: /** @type {const} */ ("read"), sign: "?", headline: `A trial: ${said.headline}` } : {};
+  return [banner({ ...said, ...trial }, what, heading), shelf(said), ...findings(told),
     ...tags(told), ...conflict(told), ...rounds(told), ...maintainer(told, said), ...granted(told.object.status), record(told)];
 }
 
@@ -74,7 +75,7 @@ function rest(number) {
  * @param {Told} told
  */
 function conflict({ conflict: it }) {
-  if (!it || it.count <= MOST_SAID) return [];
+  if (!it || !isLarge(it)) return [];
   const items = it.parts.map(({ asked, round, lines: numbers, silent }) => el("li", {}, toLine(numbers[0], lines(numbers)),
     `: ${ending(asked)} were asked in line ${round}${silent ? ", and none answered" : ""}`));
   return [folded(`The ${count(it.count, "line")} that can't all be true, of ${count(it.rounds, "round")}`, false, el("ul", {}, items),

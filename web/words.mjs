@@ -12,6 +12,9 @@ const E0 = 0xE0n << BigInt(UID_BITS);
  */
 export const uidOf = (mask) => mask.value | E0;
 
+/** What the name of a log ends with of which a line was tried otherwise. */
+export const TRIAL = / \(trial: .*\)$/;
+
 /**
  * 1 tag, 2,000 tags.
  * @param {number} number

@@ -131,9 +131,13 @@ class Screen:
         data = self.driver.execute_cdp_cmd("Page.printToPDF", {})["data"]
         return len(re.findall(rb"/Type /Page\b", base64.b64decode(data)))
 
-    def picture(self, width, height):
-        """What is seen of it, at twice the size, as PNG."""
-        size = {"width": width, "height": height, "deviceScaleFactor": 2, "mobile": False}
+    def picture(self, width, last):
+        """What is seen of it until the end of an element, at twice the size, as PNG."""
+        size = {"width": width, "height": width, "deviceScaleFactor": 2, "mobile": False}
         self.driver.execute_cdp_cmd("Emulation.setDeviceMetricsOverride", size)
-        data = self.driver.execute_cdp_cmd("Page.captureScreenshot", {"format": "png"})["data"]
-        return base64.b64decode(data)
+        end = self.run("return document.querySelector(arguments[0]).getBoundingClientRect().bottom",
+                       last)
+        clip = {"x": 0, "y": 0, "width": width, "height": round(end) + 16, "scale": 1}
+        words = {"format": "png", "clip": clip}
+        said = self.driver.execute_cdp_cmd("Page.captureScreenshot", words)
+        return base64.b64decode(said["data"])
