@@ -6,6 +6,7 @@ import hashlib
 import io
 import os
 import re
+import runpy
 import tarfile
 import zipfile
 
@@ -13,6 +14,8 @@ HERE = os.path.dirname(os.path.abspath(__file__))
 LICENSES = ("LICENSE-APACHE", "LICENSE-MIT")
 ABOUT = ("README.md", *LICENSES)
 SCRIPTS = "[console_scripts]\nvicinity-logs = vicinity.__main__:entry\n"
+#: The page that the package fills in; in the repository this makes it.
+PAGE, BUILD = "vicinity/pages/page.html", os.path.join(HERE, "../web/build")
 #: The library in a wheel of its own for a kind of machine.
 LIBRARY = "vicinity/libvicinity.so.1"
 EXECUTABLE, PLAIN = 0o755, 0o644
@@ -34,6 +37,12 @@ def _modules():
     found = (os.path.relpath(os.path.join(folder, name), HERE)
              for folder, _, names in os.walk(os.path.join(HERE, "vicinity")) for name in names)
     return sorted(name for name in found if name.endswith((".py", ".typed")))
+
+
+def _package():
+    """The files of the package."""
+    page = _content(PAGE) if os.path.exists(os.path.join(HERE, PAGE)) else runpy.run_path(BUILD)["record"]().encode()
+    return {**{name: _content(name) for name in _modules()}, PAGE: page}
 
 
 def _wheel(folder, files, tag="any"):
@@ -66,13 +75,13 @@ def _content(name):
 
 
 def build_wheel(wheel_directory, config_settings=None, metadata_directory=None):
-    return _wheel(wheel_directory, {name: _content(name) for name in _modules()})
+    return _wheel(wheel_directory, _package())
 
 
 def build_wheel_with(wheel_directory, library, tag):
     """A wheel with the library in it, for the machines of a tag such as manylinux2014_x86_64."""
     with open(library, "rb") as file:
-        return _wheel(wheel_directory, {**{name: _content(name) for name in _modules()}, LIBRARY: file.read()}, tag)
+        return _wheel(wheel_directory, {**_package(), LIBRARY: file.read()}, tag)
 
 
 def build_editable(wheel_directory, config_settings=None, metadata_directory=None):
@@ -81,7 +90,7 @@ def build_editable(wheel_directory, config_settings=None, metadata_directory=Non
 
 def build_sdist(sdist_directory, config_settings=None):
     full = "{name}-{version}".format(**_project())
-    files = {name: _content(name) for name in ["pyproject.toml", "backend.py", *ABOUT, *_modules()]}
+    files = {**{name: _content(name) for name in ["pyproject.toml", "backend.py", *ABOUT]}, **_package()}
     name = f"{full}.tar.gz"
     with open(os.path.join(sdist_directory, name), "wb") as out, gzip.GzipFile("", "wb", fileobj=out, mtime=0) as packed:
         with tarfile.open(fileobj=packed, mode="w", format=tarfile.PAX_FORMAT) as archive:

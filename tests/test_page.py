@@ -4,17 +4,19 @@ import json
 import random
 import re
 import subprocess
-import time
+import sys
 
 import pytest
 
 import biglog
 from helpers.lines import log_of, text_of
 from helpers.program import TOP
+from helpers.records import drawn_in
+from helpers.screen import PHONE, Screen
 
 MOST_BYTES = 700_000
-WAIT = 20
 UNFINISHED = (TOP / "examples/unfinished-count.log").read_bytes()
+LONG = text_of(["vicinity-log 1", *biglog.search(biglog.new_tags(random.Random(1), 400))])
 # Logs by the short names of their lines, with how the headline begins.
 LOGS = (
     ("I16 S RA RB S13 UA UB", "All 2 listed tags are here, and no others."),
@@ -76,54 +78,19 @@ FOREIGN = (("\uFEFFvicinity-log 1\n", "byte order mark"), ("v\0i\0c\0\n\0", "UTF
            ("vicinity-log 1\nT 260100F", "may end in the middle of this line"))
 # Logs whose pages are read by everybody: each look of the answer.
 READ = ("I16 S RA RB S13 UA UB", "I16 S C S14 UA", "I1 RA I1 S", "UA UA", "I1 RA")
-DROP = """
-const data = new DataTransfer(), [files] = arguments;
-for (const [name, text] of files) data.items.add(new File([text], name));
-const how = { dataTransfer: data, bubbles: true, cancelable: true };
-document.dispatchEvent(new DragEvent("drop", how));
-"""
 TYPE = """
 const field = document.getElementById("text");
 field.value = arguments[0];
 field.dispatchEvent(new Event("input", { bubbles: true }));
 """
-TEXTS = "return [...document.querySelectorAll(arguments[0])].map((it) => it.innerText)"
+# Presses the button that stops as soon as it is there.
+STOP = """
+const stop = document.getElementById("stop");
+new MutationObserver(() => { if (!stop.hidden) stop.click(); }).observe(stop, { attributes: true });
+"""
 CHOSEN = """
 const it = document.getElementById("text");
 return it.value.slice(it.selectionStart, it.selectionEnd);
-"""
-# Each text with its contrast to what is behind it.
-CONTRASTS = """
-const luminance = ([r, g, b]) => [r, g, b].map((it) => it / 255)
-  .map((it) => it <= .04045 ? it / 12.92 : ((it + .055) / 1.055) ** 2.4)
-  .reduce((sum, it, i) => sum + it * [.2126, .7152, .0722][i], 0);
-const colour = (text) => text.match(/[\\d.]+/g).map(Number);
-function behind(element) {
-  const layers = [];
-  for (let it = element; it; it = it.parentElement) {
-    const [r, g, b, a = 1] = colour(getComputedStyle(it).backgroundColor);
-    layers.push([r, g, b, a]);
-    if (a === 1) break;
-  }
-  return layers.reduceRight((under, [r, g, b, a]) =>
-    [r, g, b].map((it, i) => it * a + under[i] * (1 - a)), [255, 255, 255]);
-}
-const found = [], walker = document.createTreeWalker(document.body, NodeFilter.SHOW_TEXT);
-for (let it; (it = walker.nextNode());) {
-  const element = it.parentElement;
-  if (!it.data.trim() || !element.checkVisibility()) continue;
-  if (element.closest("script, .unseen, caption")) continue;
-  const one = luminance(colour(getComputedStyle(element).color));
-  const other = luminance(behind(element));
-  found.push([it.data.trim(), (Math.max(one, other) + .05) / (Math.min(one, other) + .05)]);
-}
-return found;
-"""
-# What can be pressed, with its height and its name.
-TARGETS = """
-return [...document.querySelectorAll("button, summary, label.choose")]
-  .filter((it) => it.checkVisibility())
-  .map((it) => [it.textContent, it.getBoundingClientRect().height]);
 """
 
 
@@ -134,50 +101,16 @@ def file(wasm_module, tmp_path_factory):
     return made
 
 
-class Page:
-    """The page as a person uses it."""
-
-    def __init__(self, browser):
-        self.driver = browser.driver
-
-    def drop(self, **files):
-        self.driver.execute_script(DROP, [[name, text.decode()] for name, text in files.items()])
-
-    def type(self, text):
-        self.driver.execute_script(TYPE, text)
-
-    def texts(self, selector):
-        return self.driver.execute_script(TEXTS, selector)
-
-    def said(self):
-        return "\n".join(self.texts("#told"))
-
-    def until(self, selector, words):
-        """Waits for an element with these words."""
-        end = time.monotonic() + WAIT
-        while True:
-            found = self.texts(selector)
-            if any(words in text for text in found):
-                return
-            assert time.monotonic() < end, f"{selector}: {words!r} isn't in {found}"
-            time.sleep(.05)
-
-
 @pytest.fixture
 def page(browser, file):
-    """The page, opened anew; at the end nothing was fetched, and nothing stands on the console."""
-    browser.console()
-    browser.driver.get_log("performance")
-    browser.driver.get(f"file://{file}")
-    yield Page(browser)
-    browser.driver.execute_cdp_cmd("Emulation.setEmulatedMedia", {"media": "", "features": []})
-    browser.driver.execute_cdp_cmd("Emulation.clearDeviceMetricsOverride", {})
-    logged = browser.driver.get_log("performance")
-    asked = [json.loads(entry["message"])["message"] for entry in logged]
-    kinds = {it["params"]["request"]["url"].partition(":")[0] for it in asked
-             if it["method"] == "Network.requestWillBeSent"}
-    assert "file" in kinds and kinds <= {"file", "blob", "data"}
-    assert browser.console() == []
+    one = Screen(browser)
+    one.open(file)
+    yield one
+    one.end()
+
+
+def type_in(page, text):
+    page.run(TYPE, text)
 
 
 def test_one_small_file_that_fetches_nothing(file):
@@ -203,40 +136,30 @@ def test_the_two_lights(page, names, read, listed):
     assert page.texts(".lights dd") == [read, listed]
 
 
-@pytest.mark.parametrize("scheme", ["light", "dark"])
 @pytest.mark.parametrize("names", READ)
-def test_everybody_can_read_it(page, scheme, names):
-    """Contrasts of at least 4.5, one heading of the first order, names and 24 pixels for what is
-    pressed."""
-    media = {"features": [{"name": "prefers-color-scheme", "value": scheme}]}
-    page.driver.execute_cdp_cmd("Emulation.setEmulatedMedia", media)
+def test_everybody_can_read_it(page, names):
     page.drop(log=log_of(names))
     page.until(".banner h1", "")
-    contrasts = page.driver.execute_script(CONTRASTS)
-    assert len(contrasts) > 10
-    assert [it for it in contrasts if it[1] < 4.5] == []
-    targets = page.driver.execute_script(TARGETS)
-    assert [it for it in targets if not it[0].strip() or it[1] < 24] == []
-    assert len(page.texts("h1")) == 1
+    page.is_readable()
 
 
-def test_on_a_phone_nothing_is_wider_than_the_screen(page):
-    size = {"width": 390, "height": 800, "deviceScaleFactor": 1, "mobile": True}
-    page.driver.execute_cdp_cmd("Emulation.setDeviceMetricsOverride", size)
-    page.drop(log=UNFINISHED)
-    page.until("h1", "Not finished")
-    assert page.driver.execute_script("return document.documentElement.scrollWidth") <= 390
-    last = page.driver.execute_script(
-        "return document.querySelector('.rounds td:last-child').getBoundingClientRect().right")
-    assert last <= 390
+@pytest.mark.parametrize("log", [UNFINISHED, LONG], ids=["short", "long"])
+def test_on_a_phone_every_slot_is_seen(page, log):
+    """Also beside numbers of lines with four digits."""
+    page.on_a_phone()
+    page.drop(log=log)
+    page.until(".rounds caption", "The rounds")
+    last = page.run("return [...document.querySelectorAll('.rounds td:last-child')]"
+                    ".map((it) => it.getBoundingClientRect().right)")
+    assert max(last) <= PHONE
 
 
 def test_print_is_a_record(page):
     """With all that is folded, what is taken for granted, a sum of the log, and a line to sign."""
     page.drop(log=log_of("I16 S RA RB S13 UA UB"))
     page.until("h1", "All 2")
-    page.driver.execute_cdp_cmd("Emulation.setEmulatedMedia", {"media": "print"})
-    page.driver.execute_script("window.dispatchEvent(new Event('beforeprint'))")
+    page.media("print")
+    page.run("window.dispatchEvent(new Event('beforeprint'))")
     said = "\n".join(page.texts("body"))
     for words in "E0040100000000A1", "Each tag has power", "SHA-256 of the log", "Counted on":
         assert words in said
@@ -246,10 +169,10 @@ def test_print_is_a_record(page):
 def test_rings_are_explained_on_paper(page):
     page.drop(log=UNFINISHED)
     page.until(".lights", "no")
-    page.driver.execute_cdp_cmd("Emulation.setEmulatedMedia", {"media": "print"})
+    page.media("print")
     assert page.driver.find_element("css selector", ".legend .named").is_displayed()
     size = "return getComputedStyle(document.body).fontSize"
-    assert page.driver.execute_script(size) == "12px"
+    assert page.run(size) == "12px"
 
 
 def test_the_cause_is_ringed(page):
@@ -320,6 +243,39 @@ def test_the_cause_is_found_far_above(page):
     assert page.texts('.rounds td.named[data-line="3"]')
 
 
+def test_two_that_were_silenced_before_are_told_in_one_mask(page, vicinity):
+    """Their UIDs differ in the last bit alone, so one mask of 55 bits has both, and no other."""
+    uids = [0xE0040100000000A1, 0xE0840100000000A1]
+    quiets = [vicinity.write_line("T", vicinity.write_stay_quiet(2, uid)) for uid in uids]
+    log = b"".join([b"vicinity-log 2\n", *quiets, b"T 260100F60A\nS\n"])
+    assert vicinity.check(log).mask_len == 55
+    page.drop(log=log)
+    page.until("h1", "2 tags may be here or not: they were silenced before they were heard.")
+    assert page.texts(".why") == [
+        "The cause: Lines 2 and 3 silenced 2 tags before they were heard."]
+    assert "by no request" not in page.said()
+
+
+def frames(vicinity):
+    """Frames of all kinds, in upper and lower case."""
+    rng = random.Random(7)
+    for _ in range(500):
+        slots, uid = rng.choice([1, 16]), 0xE0 << 56 | rng.getrandbits(56)
+        bits = rng.randint(0, 64 if slots == 1 else 60)
+        mask = vicinity.Mask(bits, rng.getrandbits(64) & (1 << bits) - 1)
+        yield vicinity.write_inventory(rng.randrange(4), slots, mask).hex()
+        yield vicinity.write_stay_quiet(rng.randrange(4), rng.getrandbits(64)).hex().upper()
+        yield vicinity.write_response(0, rng.randrange(256), uid).hex().upper()
+
+
+def test_the_page_reads_frames_as_the_library_does(vicinity, wasm_module):
+    given = "\n".join(frames(vicinity)).encode()
+    said = subprocess.run(["node", TOP / "tests/wasm/frames.mjs", wasm_module], input=given,
+                          capture_output=True, check=True).stdout
+    told = json.loads(said)
+    assert (told["tried"] >= 1500, told["wrong"]) == (True, [])
+
+
 def test_who_was_silenced_before_is_ringed(page):
     page.drop(log=log_of("I1 QA I1 S UA"))
     page.until(".why", "Line 3 silenced")
@@ -351,10 +307,10 @@ def test_a_file_that_cannot_be_read(page):
     """As a folder. The answer before is gone from everywhere."""
     page.drop(log=log_of("I1 RA UA"))
     page.until("h1", "The one listed tag is here")
-    page.driver.execute_script("File.prototype.arrayBuffer = () => Promise.reject(new Error())")
+    page.run("File.prototype.arrayBuffer = () => Promise.reject(new Error())")
     page.drop(folder=b"")
     page.until(".error", "folder: no answer (it can't be read).")
-    assert page.driver.title == page.driver.execute_script(
+    assert page.driver.title == page.run(
         "return document.getElementById('said').textContent") == page.texts(".error")[0]
     assert "listed tag" not in page.said()
 
@@ -371,7 +327,7 @@ def test_an_edit_stays_with_its_log(page):
     """Also if another log is shown before it is judged."""
     page.drop(one=log_of("I1 RA UA"), two=log_of("I1 S UA"))
     page.until("#logs", "1 listed tag can't be here")
-    page.type(log_of("I1 RA").decode())
+    type_in(page, log_of("I1 RA").decode())
     page.driver.find_elements("css selector", "#logs button")[1].click()
     page.until("#logs", "one (edited)")
     page.until("#logs", "no list to compare with")
@@ -386,22 +342,22 @@ def test_the_lines_of_a_large_log_are_shown(page):
                            "R 0000A1000000000104E06745", "T 260100F60A", "S"]))
     page.until("h1", "The log contradicts itself")
     page.driver.find_element("css selector", 'td[data-line="10003"]').click()
-    assert page.driver.execute_script(CHOSEN) == "R 0000A1000000000104E06745"
+    assert page.run(CHOSEN) == "R 0000A1000000000104E06745"
 
 
 def test_the_focus_is_on_what_is_pressed(page):
-    page.driver.execute_script(
+    page.run(
         "document.getElementById('files').focus({ focusVisible: true })")
     ring = "return getComputedStyle(document.querySelector(arguments[0])).outlineStyle"
-    assert page.driver.execute_script(ring, ".choose") == "solid"
-    assert page.driver.execute_script(ring, "#example") == "none"
+    assert page.run(ring, ".choose") == "solid"
+    assert page.run(ring, "#example") == "none"
 
 
 def test_a_log_is_edited(page):
     """Meanwhile the answer to the text before is pale; then the name says that it is changed."""
     page.drop(log=log_of("I1 RA UA"))
     page.until("h1", "The one listed tag is here")
-    page.type(log_of("I1 RA").decode())
+    type_in(page, log_of("I1 RA").decode())
     assert page.driver.find_element("id", "told").get_attribute("aria-busy") == "true"
     page.until("h1", "no list to compare with")
     assert page.driver.find_element("id", "told").get_attribute("aria-busy") == "false"
@@ -412,9 +368,8 @@ def test_a_long_judging_is_stopped(page, tmp_path):
     with open(tmp_path / "log", "wb") as file:
         made = [TOP / "tools/biglog.py", "session", "115600"]
         subprocess.run(made, stdout=file, check=True)
+    page.run(STOP)
     page.driver.find_element("id", "files").send_keys(str(tmp_path / "log"))
-    page.until("#status", "Judging log")
-    page.driver.find_element("id", "stop").click()
     page.until(".error", "no answer (stopped)")
     page.drop(log=log_of("I1 RA UA"))
     page.until("h1", "The one listed tag is here")
@@ -424,7 +379,7 @@ def test_text_and_rounds_are_linked(page):
     page.drop(log=log_of("I16 S RA RB S13 UA UB"))
     page.until("h1", "All 2")
     page.driver.find_element("css selector", 'td[data-line="4"]').click()
-    assert page.driver.execute_script(CHOSEN).startswith("R 0000A1")
+    assert page.run(CHOSEN).startswith("R 0000A1")
     marked = page.driver.find_elements("css selector", "td.here")
     assert [it.get_attribute("data-line") for it in marked] == ["4"]
 
@@ -443,11 +398,102 @@ def test_a_session_of_a_million_lines_does_not_freeze_the_page(page, tmp_path):
     with open(log, "wb") as file:
         made = [TOP / "tools/biglog.py", "session", "115600"]
         subprocess.run(made, stdout=file, check=True)
-    page.driver.execute_script("window.ticks = 0; setInterval(() => window.ticks++, 20)")
-    began = time.monotonic()
+    page.run("window.ticks = 0; setInterval(() => window.ticks++, 20)")
     page.driver.find_element("id", "files").send_keys(str(log))
     page.until("h1", "All 115,600 listed tags are here")
-    took = time.monotonic() - began
-    print(f"{took:.1f} s")
-    # the page went on meanwhile: most of its ticks came
-    assert page.driver.execute_script("return window.ticks") > took * 1000 / 20 / 4
+    # the page went on meanwhile
+    assert page.run("return window.ticks") > 20
+
+
+def saved(page, folder):
+    """The file that the page saves."""
+    folder.mkdir(exist_ok=True)
+    page.driver.execute_cdp_cmd("Browser.setDownloadBehavior",
+                                {"behavior": "allow", "downloadPath": str(folder)})
+    page.driver.find_element("id", "save").click()
+    page.wait(lambda: [it for it in folder.iterdir() if it.suffix == ".html"])
+    return next(folder.iterdir())
+
+
+@pytest.mark.parametrize("names", [*READ, "I1 C UA", "V2 I1 QA I1 S UA", ""])
+def test_what_is_saved_is_what_python_writes(page, vicinity, tmp_path, names):
+    """And is drawn as it was."""
+    page.drop_files({"a <b>.log": log_of(names)})
+    page.until(".banner h1", "")
+    heading = page.texts("h1")
+    file = saved(page, tmp_path / "saved")
+    object, plain = drawn_in(file.read_text())
+    assert object == drawn_in(vicinity.page(log_of(names), "a <b>.log"))[0]
+    assert heading[0] in plain
+    page.open(file)
+    assert (page.texts("h1"), page.driver.title) == (heading, f"{heading[0]} a <b>.log")
+
+
+def test_a_slot_is_tried_otherwise(page, tmp_path):
+    """The trial has a name of its own, and it can be taken back."""
+    page.drop(log=log_of("I16 S RA RB S13 UA UB"))
+    page.until("h1", "All 2")
+    page.driver.find_element("css selector", 'td[data-line="5"]').click()
+    assert page.texts("#trial button") == ["S nobody", "C two or more"]
+    page.driver.find_element("css selector", "#trial button").click()
+    page.until("h1", "A trial: Search finished. 1 listed tag can't be here")
+    page.until(".banner", "log (trial: line 5 is S)")
+    page.driver.find_element("css selector", 'td[data-line="3"]').click()
+    page.driver.find_element("css selector", "#trial button").click()
+    page.until(".banner", "log (trial: line 5 is S, line 3 is C)")
+    page.driver.find_elements("css selector", "#trial button")[-1].click()
+    page.until("h1", "All 2")
+    assert "trial" not in page.said()
+    assert page.driver.find_element("id", "text").get_property("value") == log_of(
+        "I16 S RA RB S13 UA UB").decode()
+
+
+SHELVES = TOP / "examples/collection"
+
+
+def of_python(release, *words):
+    """The page that `python3 -m vicinity reconcile` writes."""
+    environment = {"PYTHONPATH": str(TOP / "python"), "PYTHONDONTWRITEBYTECODE": "1",
+                   "LIBVICINITY": str(release / "libvicinity.so")}
+    return subprocess.run([sys.executable, "-m", "vicinity", "reconcile", "--page", *words],
+                          env=environment, capture_output=True, check=False).stdout.decode()
+
+
+def collected(told):
+    """An object of a collection, with its logs by their names without folders."""
+    return json.loads(re.sub(r'"/[^" ]*/([^"/]*[.](?:log|txt))"', r'"\1"', json.dumps(told)))
+
+
+@pytest.mark.parametrize(("more", "words"), [
+    ({}, "1 item missing, 1 in the wrong place and 1 not known yet; count 1 log again."),
+    ({"broken.log": log_of("I1 RA I1 S")}, "count 2 logs again."),
+    ({"none.txt": b"no log\n", "open.log": log_of("QA I1 S")}, "count 3 logs again.")])
+def test_a_collection_is_judged_as_python_judges_it(page, release, tmp_path, more, words):
+    files = {it.name: it.read_bytes() for it in sorted(SHELVES.iterdir())} | more
+    for name, content in files.items():
+        (tmp_path / name).write_bytes(content)
+    logs = [tmp_path / name for name in files if not name.endswith(".csv")]
+    wanted = of_python(release, "--expected", tmp_path / "catalogue.csv", "--place", "shelf",
+                       "--places", tmp_path / "places.csv", *logs)
+    page.drop_files(files)
+    page.until("h1", words)
+    assert not page.driver.find_elements("css selector", ".banner.yes")
+    page.is_readable()
+    heading, file = page.texts("h1"), saved(page, tmp_path / "saved")
+    assert collected(drawn_in(file.read_text())[0]) == collected(drawn_in(wanted)[0])
+    page.open(file)
+    assert page.texts("h1") == heading
+
+
+def test_a_collection_that_is_complete(page):
+    page.drop(catalogue=b"title;uid\nWalden;E0:04:01:00:00:00:00:A1\n", log=log_of("I1 RA"))
+    page.until(".banner.yes h1", "The one expected item is here, and no other.")
+
+
+@pytest.mark.parametrize(("table", "words"), [
+    (b"uid\nE004\n", "row 2: E004 isn't a UID"), (b"title,uid\na,\nb,\n\n", "Nothing is expected"),
+    (b"uid,x\nE0040100000000A1,\nE0040100000000A1,\n", "E0040100000000A1 is also in row 2"),
+    (b"uid,uid\n", "two columns are named uid"), (b"uid,x\n,,3\n", "it has 3 cells")])
+def test_a_catalogue_that_cannot_be_used(page, table, words):
+    page.drop(catalogue=table, log=log_of("I1 S"))
+    page.until("h1", words)

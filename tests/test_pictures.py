@@ -1,13 +1,10 @@
 """Tries the pictures: what `python3 -m vicinity show` writes of worked logs is what was drawn by
 hand (tests/data/pictures), and the page that `python3 -m vicinity page` writes is opened in a
-headless Chromium. There the sentence, the counts, each kind of finding and each line that the
-report names, quoted, are found; each link leads somewhere, and a count opens its group; nothing of
-a log or of its name is markup; no page is wider than a phone, and its inks have contrast in light
-and in dark; a long session is printed on three sheets; the console is silent.
+browser. It says the answer, everybody can read it, nothing of a log or of its name is markup, a
+long session is printed on few sheets, nothing is fetched, and the console is silent.
 
-The pictures on the pages are made by the same code: `pytest tests/test_pictures.py --write` writes
-them anew, and README's picture of a page, docs/page.png, which isn't compared."""
-import base64
+`pytest tests/test_pictures.py --write` writes README's picture of a page anew, docs/page.png, which
+isn't compared."""
 import json
 import os
 import random
@@ -17,35 +14,34 @@ import sys
 
 import pytest
 
-from helpers import devtools, random_logs
+from helpers import random_logs
 from helpers.program import TOP, needs
+from helpers.records import drawn_in
+from helpers.screen import Screen
 
 DRAWN = TOP / "tests/data/pictures"
 FOLDERS = (TOP / "examples", DRAWN)
 STATUS = {"complete": 0, "absent": 1, "unsettled": 1, "impossible": 2}
-# What the worked logs hold, counted by hand: the chips of their pages, and the groups of what was
-# found.
-FOUND = ("absent", "unlisted", "open masks", "doubtful")
-COUNTS = {
-    "contradiction": "2 lines in conflict, 1 note, 1 listed, 1 tag heard, 2 rounds, 2 slots",
-    "noise": "3 lines in conflict, 1 note, 1 tag heard, 3 rounds, 3 slots",
-    "second-version": "0 absent, 0 unlisted, 4 open masks, 0 doubtful, 2 notes, 3 rounds, 4 slots, "
-                      "1 field cycle",
-    "shelf": "1 absent, 1 unlisted, 3 open masks, 1 doubtful, 3 notes, 3 listed, 2 tags heard, 1 "
-             "round, 14 slots",
-    "unfinished-count": "0 absent, 0 unlisted, 8 open masks, 0 doubtful, 2 notes, 2 listed, 2 tags "
-                        "heard, 2 rounds, 22 slots",
-    "whole-shelf": "0 absent, 0 unlisted, 0 open masks, 0 doubtful, 4 listed, 4 tags heard, 3 "
-                   "rounds, 33 slots",
-    "woke": "2 lines in conflict, 1 tag heard, 2 rounds, 2 slots",
+NAMES = ("contradiction", "noise", "second-version", "shelf", "unfinished-count", "whole-shelf",
+         "woke")
+# How the headlines of their pages begin.
+HEADLINES = {
+    "contradiction": "The log contradicts itself: tag ..A1B0 answered in line 6, but not in line 4",
+    "noise": "The log contradicts itself: in line 3 two or more tags answered, but 2 other lines "
+             "leave at most one.",
+    "second-version": "Not finished: 6 % of all UIDs settled. The log has no list",
+    "shelf": "Not finished: 87 % of all UIDs settled. 1 listed tag can't be here, 1 tag here isn't "
+             "listed, 2 tags proved and 1 listed tag not proved.",
+    "unfinished-count": "Not finished: 96 % of all UIDs settled. 2 tags proved.",
+    "whole-shelf": "All 4 listed tags are here, and no others.",
+    "woke": "The log contradicts itself: tag ..00A1 was silenced in line 4, but answered in line 6",
 }
-GROUPS = {"absent": "Absent", "unlisted": "Unlisted", "open": "Open masks", "doubtful": "Doubtful",
-          "impossible": "Lines that contradict each other", "refused": "The refused line"}
-# How large the page of a session of 100,000 lines may be, in bytes; and what a picture may take: of
-# a session of 100,000 lines and of one of 1,000,000 in seconds of a processor, and in kilobytes. By
-# themselves they take at most 2 and 5 s; beside the gate a processor is up to twice as slow.
+# How large the picture of a session may be, in bytes, a page beside the text of the log, which
+# stands in it; and what a picture may take: of a session of 100,000 lines and of one of 1,000,000
+# in seconds of a processor, and in kilobytes. By themselves they take at most 2 and 5 s; beside the
+# gate a processor is up to twice as slow.
 BYTES, TIMES, PEAK = 2_000_000, {100_000: 4, 1_000_000: 10}, 200_000
-CONTRAST, PHONE, SHEETS = 4.5, 390, 3
+SHEETS = 5
 RANDOM_LOGS = 300
 
 
@@ -75,21 +71,21 @@ def run(release):
     return run_in
 
 
-@pytest.mark.parametrize("name", COUNTS)
+@pytest.mark.parametrize("name", NAMES)
 def test_show(run, name):
     done, wanted = run("show", file_of(name)), drawn(name)
     assert (done.stdout.decode(), done.stderr) == (wanted, b"")
     assert done.returncode == STATUS[wanted.split()[0]]
 
 
-@pytest.mark.parametrize("name", COUNTS)
+@pytest.mark.parametrize("name", NAMES)
 def test_show_in_ascii(run, name):
     ascii_wanted = drawn(name).translate({ord("·"): ".", ord("╳"): "X"})
     assert run("show", "--ascii", file_of(name)).stdout.decode() == ascii_wanted
 
 
 @pytest.mark.parametrize("columns", [40, 60])
-@pytest.mark.parametrize("name", COUNTS)
+@pytest.mark.parametrize("name", NAMES)
 def test_show_in_few_columns(run, name, columns):
     lines = run("show", file_of(name), columns=columns).stdout.decode().splitlines()
     assert not [line for line in lines
@@ -202,28 +198,12 @@ def test_report_as_json(run):
     assert [it["line"] for it in objects[0]["notes"]] == [3, 5, 5]
 
 
-def pictures():
-    """The pictures on the pages, by their files."""
-    from vicinity.pages import svg
-    from vicinity.sessions import findings, reading
-
-    text = file_of("unfinished-count").read_bytes()
-    rows = list(reading.read_session(text, findings.tell(text), set()).rows.values())
-    return {"docs/round.svg": svg.timeline(rows[0]), "docs/unfinished-count.svg": svg.draw(rows)}
-
-
-@pytest.mark.usefixtures("vicinity")
-@pytest.mark.parametrize("name", ["docs/round.svg", "docs/unfinished-count.svg"])
-def test_a_picture_on_the_pages(kept, name):
-    kept(TOP / name, pictures()[name])
-
-
 def test_random_pictures(vicinity):
-    """Every log has a picture: random ones, possible and impossible, each with a sentence, its
-    steps and what was found."""
+    """Every log has a picture: random ones, possible and impossible, each with a sentence and what
+    was found."""
     from vicinity.commands import listing
-    from vicinity.pages import page
-    from vicinity.sessions import findings, reading, sentence, show, todo
+    from vicinity.pages import log
+    from vicinity.sessions import findings, reading, sentence, show
 
     rng, kinds = random.Random(1), set()
     for _ in range(RANDOM_LOGS):
@@ -232,9 +212,10 @@ def test_random_pictures(vicinity):
         found = findings.tell(text)
         kept = reading.read_session(text, found, found.lines(20))
         kinds.add(found.answer.kind.word)
-        parts = [sentence.sentence(kept, found), *todo.steps(kept, found), *show.show(kept, found),
-                 *page.page(kept, found), *listing.lines_of_report("log", kept, found)]
+        parts = [sentence.sentence(kept, found), *show.show(kept, found),
+                 *listing.lines_of_report("log", kept, found)]
         json.loads("".join(listing.object_of_report("log", kept, found)))
+        json.dumps(log.object_of("log", text, found))
         assert all(parts[:2]), text
     assert kinds >= {"complete", "impossible", "unsettled", "unlisted"}
 
@@ -274,7 +255,7 @@ def test_long_pictures(run, tmp_path, name, form):
     done = run(form, "-", input=text, before=["time", "-q", "-f", "%U %S %M", "-o", took])
     seconds, more, peak = map(float, took.read_text().split())
     assert done.returncode in (0, 1)
-    assert len(done.stdout) < BYTES
+    assert len(done.stdout) < BYTES + 2 * len(text) * (form == "page")
     assert seconds + more < TIMES[lines]
     assert peak < PEAK
     if form == "show":
@@ -282,140 +263,39 @@ def test_long_pictures(run, tmp_path, name, form):
         assert bool(re.search(rb"[\d,]+ rows\n", done.stdout)) == (text.count(b"\nT ") > 1000)
 
 
-# What is on a page: text, each row that quotes lines, links that lead nowhere.
-READ = """({
-  heading: document.querySelector('h1').textContent,
-  small: document.querySelector('header p').textContent,
-  chips: [...document.querySelectorAll('.chips li')].map(it => it.textContent),
-  groups: [...document.querySelectorAll('.group h3')].map(it => it.textContent),
-  rows: [...document.querySelectorAll('.group tr')].map(
-    it => [...it.cells].map(cell => cell.textContent)),
-  marked: [...document.querySelectorAll('.rounds .named')].map(
-    it => [it.id, it.querySelector('a') !== null]),
-  labels: [...document.querySelectorAll('.rounds tbody th')].map(it => it.textContent),
-  steps: document.querySelector('.todo').textContent,
-  lost: [...document.querySelectorAll('a')].map(it => it.getAttribute('href')).filter(
-    it => !it.startsWith('#') || !document.getElementById(it.slice(1))),
-  heads: [...document.querySelectorAll('table')].filter(it => !it.querySelector('thead th')).length,
-  scripts: document.scripts.length, bold: document.querySelectorAll('td b').length,
-  foreign: document.querySelectorAll('link, img, iframe, object').length})"""
-MOVED = ("[...document.querySelectorAll('th[scope=row]')].filter("
-         "it => getComputedStyle(it).position !== 'sticky').length")
-# Whether each count opens its group.
-OPENED = """[...document.querySelectorAll('.chips a.found, .chips a[href="#listed"]')].map(link => {
-  const group = document.querySelector(link.getAttribute('href')).closest('details');
-  group.open = false; link.click(); return group.open})"""
-# The texts whose ink has too little contrast with the ground under it.
-FAINT = """(() => {
-  document.querySelectorAll('details').forEach(it => it.open = true);
-  const parts = colour => colour.match(/[\\d.]+/g).map(Number);
-  const linear = it => it <= .03928 ? it / 12.92 : ((it + .055) / 1.055) ** 2.4;
-  const light = colour => parts(colour).slice(0, 3).map(it => linear(it / 255)).reduce(
-    (sum, it, i) => sum + it * [.2126, .7152, .0722][i], 0);
-  const ground = it => { for (; it; it = it.parentElement) {
-    const colour = getComputedStyle(it).backgroundColor; if (parts(colour)[3] !== 0) return colour }
-    return 'rgb(255, 255, 255)' };
-  return [...document.querySelectorAll('body *')].filter(it => [...it.childNodes].some(
-    node => node.nodeType === 3 && node.data.trim())).map(it => {
-    const [a, b] = [light(getComputedStyle(it).color), light(ground(it))];
-    return [(Math.max(a, b) + .05) / (Math.min(a, b) + .05), it.textContent.slice(0, 40)]
-  }).filter(it => it[0] < LEAST)})()"""
-
-
-@pytest.fixture(scope="module")
-def browser(tmp_path_factory):
-    program = devtools.program()
-    needs(program or "chromium")
-    made = devtools.Browser(program, tmp_path_factory.mktemp("profile"))
-    yield made
-    made.end()
-
-
-def quoted(rows, lines):
-    """Which of the lines of a log no row quotes, with its number and its text."""
-    found = set()
-    for cells in rows:
-        for place, text in zip(cells, cells[1:]):
-            ends = re.fullmatch(r"(\d+)(?: to (\d+))?", place)
-            if ends:
-                texts = {it.partition(" ×")[0] for it in text.split(", ")}
-                last = int(ends[2] or ends[1])
-                found |= {(number, it) for number in range(int(ends[1]), last + 1) for it in texts}
-    return [number for number, text in lines.items() if (number, text) not in found]
-
-
 @pytest.fixture
 def opened(vicinity, run, browser, tmp_path):
-    """Opens the page of a text, and tries what each page has to keep. Gives what is on it, and its
-    session."""
+    """Opens the page of a text, and tries what each page has to keep."""
+    one = Screen(browser)
+
     def open_page(name, text):
         (tmp_path / f"{name}.log").write_bytes(text)
-        (tmp_path / "page.html").write_bytes(run("page", tmp_path / f"{name}.log").stdout)
-        session = browser.open(tmp_path / "page.html")
-        told = browser.value(session, READ)
-        has_what_is_reported(vicinity, told, text)
-        is_sound(browser, session, told)
-        is_readable(browser, session)
-        assert browser.console() == []
-        return told, session
-    return open_page
+        written = run("page", tmp_path / f"{name}.log").stdout
+        (tmp_path / "page.html").write_bytes(written)
+        one.open(tmp_path / "page.html")
+        one.until("header h1", "")
+        told, plain = drawn_in(written.decode())
+        assert plain == run("show", tmp_path / f"{name}.log").stdout.decode()
+        assert told["answer"] == str(vicinity.check(text))
+        assert f"{name}.log · {told['answer']}" in one.texts("header p")
+        assert bool(one.texts(".banner.yes")) == (told["kind"] == "complete" and told["count"] > 0)
+        one.is_readable()
+        assert 0 < one.sheets() <= SHEETS
+        return one
+    yield open_page
+    one.end()
 
 
-def has_what_is_reported(vicinity, told, text):
-    """Each line that the report names is quoted, each kind of finding has a group, and the answer
-    stands in small letters."""
-    report = vicinity.report(text)
-    numbers = {int(it) for it in re.findall(r"by line (\d+)",
-                                            str(report))} | {report.answer.line} - {0}
-    texts = text.split(b"\n")
-    if report.answer.kind is not vicinity.Kind.REFUSED:
-        assert quoted(told["rows"],
-                      {it: texts[it - 1].decode(errors="replace") for it in numbers}) == []
-    kinds = {it.split()[0] for it in str(report).splitlines()} & GROUPS.keys()
-    assert [kind for kind in kinds if not any(GROUPS[kind] in it for it in told["groups"])] == []
-    assert str(report.answer) in told["small"]
-
-
-def is_sound(browser, session, told):
-    """No link leads nowhere, each table has header cells, there is no script, markup or file of
-    others, each count opens its group, and it is printed on few sheets."""
-    assert (told["lost"], told["heads"]) == ([], 0)
-    assert (told["scripts"], told["bold"], told["foreign"]) == (0, 0, 0)
-    data = browser.call("Page.printToPDF", session)["data"]
-    assert 0 < len(re.findall(rb"/Type /Page\b", base64.b64decode(data))) <= SHEETS
-    assert set(browser.value(session, OPENED)) <= {True}
-
-
-def is_readable(browser, session):
-    """Its inks have contrast, it is no wider than a phone, and its first columns stay."""
-    for scheme in "light", "dark":
-        browser.call("Emulation.setEmulatedMedia", session,
-                     features=[{"name": "prefers-color-scheme", "value": scheme}])
-        assert browser.value(session, FAINT.replace("LEAST", str(CONTRAST))) == [], scheme
-    browser.call("Emulation.setDeviceMetricsOverride", session, width=PHONE, height=800,
-                 deviceScaleFactor=1, mobile=True)
-    assert browser.value(session, "document.documentElement.scrollWidth") == PHONE
-    assert browser.value(session, MOVED) == 0
-
-
-@pytest.mark.parametrize("name", COUNTS)
-def test_page(opened, browser, name):
-    told, session = opened(name, file_of(name).read_bytes())
-    assert told["heading"] == sentence_in(drawn(name))
-    assert ", ".join(told["chips"]) == COUNTS[name]
-    assert told["labels"] == re.findall(r"^ *(\d+(?: to \d+)?)[ !] ", drawn(name).split("\n\n")[1],
-                                        re.MULTILINE)
-    frames = re.findall(r"^(?:open|doubtful) .*  (T \w+)", drawn(name), re.MULTILINE)
-    assert [it for it in frames if it not in told["steps"]] == []
-    nodes = browser.call("Accessibility.getFullAXTree", session)["nodes"]
-    names = [node.get("name", {}).get("value", "") for node in nodes]
-    assert "The rounds of the session" in names
+@pytest.mark.parametrize("name", NAMES)
+def test_page(opened, name):
+    (heading,) = opened(name, file_of(name).read_bytes()).texts("h1")
+    assert heading.startswith(HEADLINES[name])
 
 
 def test_page_of_a_refused_text(opened):
-    told, _ = opened("<b>&amp;'\"", REFUSED)
-    assert ["4", "S <b>late</b>\\x1b[31m"] in [row[:2] for row in told["rows"]]
-    assert "<b>&amp;'\".log" in told["small"]
+    page = opened("<b>&amp;'\"", REFUSED)
+    assert "S <b>late</b>" in page.said()
+    assert page.run("return document.querySelectorAll('b').length") == 0
 
 
 def long_conflict(vicinity):
@@ -444,27 +324,29 @@ def sessions(vicinity):
 
 
 @pytest.mark.parametrize("name", ["whole", "half", "lost", "unlisted", "woke", "empty", "conflict"])
-def test_page_of_a_longer_session(opened, browser, sessions, name):
-    told, session = opened(name, sessions[name])
-    assert ("the reader silenced some of the absent UIDs" in told["steps"]) == (name == "lost")
-    # named cells lead to their quotes
-    assert [it for it in told["marked"] if not (it[0] and it[1])] == []
+def test_page_of_a_longer_session(opened, sessions, name):
+    page = opened(name, sessions[name])
+    bars = page.run("return document.querySelectorAll('.strip i').length")
+    # that shows all rounds where not all are drawn
+    assert bool(bars) == (name != "empty")
     if name == "conflict":
-        joined = browser.value(session, "[...document.querySelectorAll('.rounds tbody th')].filter("
-                               "it => getComputedStyle(it, '::before').borderLeftWidth === "
-                               "'2px').length")
-        assert joined == 47
+        page.until("summary", "The 737 lines that can't all be true, of 47 rounds")
+
+
+def test_the_page_of_a_log_without_a_script(run):
+    """Its text is that of `show`, so nobody needs a browser."""
+    written = run("page", file_of("shelf")).stdout.decode()
+    assert drawn_in(written)[1] == drawn("shelf")
 
 
 def test_picture_of_a_page(pytestconfig, run, browser, tmp_path):
     """What a browser shows of a page first; --write puts it on README."""
     (tmp_path / "page.html").write_bytes(run("page", "examples/unfinished-count.log").stdout)
-    session = browser.open(tmp_path / "page.html")
-    browser.call("Emulation.setDeviceMetricsOverride", session, width=900, height=540,
-                 deviceScaleFactor=1, mobile=False)
-    browser.call("Emulation.setScrollbarsHidden", session, hidden=True)
-    picture = base64.b64decode(browser.call("Page.captureScreenshot", session,
-                                            format="png")["data"])
+    page = Screen(browser)
+    page.open(tmp_path / "page.html")
+    page.until("header h1", "Not finished")
+    picture = page.picture(1000, ".rounds")
     assert picture.startswith(b"\x89PNG")
     if pytestconfig.getoption("--write"):
         (TOP / "docs/page.png").write_bytes(picture)
+    page.end()

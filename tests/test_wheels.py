@@ -19,6 +19,7 @@ import backend  # noqa: E402
 TAGS = {"amd64": "manylinux2014_x86_64", "arm64": "manylinux2014_aarch64"}
 LICENSES = ("LICENSE-APACHE", "LICENSE-MIT")
 NAME = "libvicinity.so.1"
+PAGE = "vicinity/pages/page.html"
 LEAST = 9
 # where tests/setup unpacks a Python for 64-bit ARM
 ARM = "/usr/local/lib/arm64"
@@ -72,7 +73,7 @@ def test_the_same_bytes_of_a_source_distribution(sdist, tmp_path, another_day):
     assert file.read_bytes() == sdist.read_bytes()
     with tarfile.open(file) as archive:
         names = {name.partition("/")[2] for name in archive.getnames()}
-    assert {*LICENSES, "README.md", "PKG-INFO", "vicinity/commands/reconcile.py"} <= names
+    assert {*LICENSES, "README.md", "PKG-INFO", "vicinity/commands/reconcile.py", PAGE} <= names
 
 
 def test_what_is_in_it(wheel, release):
@@ -86,7 +87,8 @@ def test_what_is_in_it(wheel, release):
     assert listed == set(files)
     sources = TOP / "python"
     modules = {str(path.relative_to(sources)) for path in sources.glob("vicinity/**/*.py")}
-    assert modules <= set(files)
+    assert {*modules, PAGE} <= set(files)
+    assert files[PAGE].startswith(b"<!doctype html>")
 
 
 @pytest.mark.slow
@@ -148,6 +150,7 @@ def test_it_works(wheel, python, tmp_path):
     for command in ("check", "report", "reconcile", "survey", "compare", "show", "page", "frame"):
         assert run(there / "vicinity-logs", command, "--help").stdout.startswith(
             f"usage: vicinity-logs {command}")
+    assert run(there / "vicinity-logs", "page", TOP / "examples/whole-shelf.log").returncode == 0
     said = run(there / "python", "-c", "import vicinity as it; print(it.__file__, it.check(b''))")
     assert said.stdout.endswith("refused at line 1: Header\n") and str(tmp_path) in said.stdout
 

@@ -1,8 +1,7 @@
 /** Why UIDs are open: the slots in which they would answer that weren't read, and the tags that were silenced before. */
-import { UID_BITS, uidOf } from "./words.mjs";
+import { UID_BITS } from "./words.mjs";
 
-/** @typedef {import("./library.mjs").Library} Library */
-/** @typedef {import("./library.mjs").Mask} Mask */
+/** @typedef {import("./frames.mjs").Mask} Mask */
 /** @typedef {import("./log.mjs").Log} Log */
 /** @typedef {import("./log.mjs").Reading} Reading */
 /** @typedef {{reading: Reading, round: number, slots: number[], asked: Mask}} Cause */
@@ -13,47 +12,44 @@ import { UID_BITS, uidOf } from "./words.mjs";
 const ORDER = ["unreached", "collision", "garbled"];
 /** After so many slots only those are looked for that explain one more mask. */
 const MOST_CAUSING = 1000;
+/** How many bits the masks have at least of which each UID may have been silenced. */
+const LEAST_SILENCED = UID_BITS - 6;
 
 /** @param {number} len @param {bigint} value */
 const key = (len, value) => `${len}:${BigInt.asUintN(len, value)}`;
 
 /**
- * The Stay Quiets to tags that are open alone: those were never heard, since a reply makes a tag certain.
- * @param {Library} library
+ * The Stay Quiets to tags that are open since then, and the masks in which there is no other UID. None of these tags was heard,
+ * since a reply makes a tag certain.
  * @param {Log} log
  * @param {Mask[]} open
- * @returns {Silenced[]}
  */
-export function silencedUnheard(library, log, open) {
-  const alone = new Set(open.filter((mask) => mask.len >= UID_BITS).map(uidOf)), found = [];
-  for (let at = 0; at < log.rowCount && alone.size; at++) {
-    const row = log.isQuiet(at) ? log.row(library, at) : null;
-    if (row?.kind === "quiet" && alone.delete(row.uid)) found.push({ line: row.line, uid: row.uid });
+export function silencedUnheard(log, open) {
+  const narrow = open.filter((mask) => mask.len >= LEAST_SILENCED), lengths = [...new Set(narrow.map((mask) => mask.len))];
+  /** @type {Map<string, Map<bigint, Silenced>>} */
+  const within = new Map(narrow.map((mask) => [key(mask.len, mask.value), new Map()]));
+  for (let at = 0; at < log.rowCount && narrow.length; at++) {
+    const row = log.isQuiet(at) ? log.row(at) : null;
+    if (row?.kind !== "quiet") continue;
+    const tags = lengths.map((len) => within.get(key(len, row.uid))).find((it) => it);
+    if (tags && !tags.has(row.uid)) tags.set(row.uid, { line: row.line, uid: row.uid });
   }
-  return found;
-}
-
-/**
- * Whether a mask holds one of these tags, and no other.
- * @param {Set<bigint>} tags
- * @param {Mask} mask
- */
-export function isOf(tags, mask) {
-  return mask.len >= UID_BITS && tags.has(uidOf(mask));
+  const masks = narrow.filter(({ len, value }) => within.get(key(len, value))?.size === 2 ** (UID_BITS - len));
+  const tags = masks.flatMap(({ len, value }) => [...within.get(key(len, value))?.values() ?? []]);
+  return { masks, tags: tags.sort((one, other) => one.line - other.line) };
 }
 
 /**
  * The slots that weren't reached or weren't read: those within an open mask, and for a mask without such slots the narrowest
  * around it; with the rows of these slots, and whether a mask has neither.
- * @param {Library} library
  * @param {Log} log
  * @param {Mask[]} masks
  */
-export function causesOf(library, log, masks) {
+export function causesOf(log, masks) {
   const open = new Set(masks.map((mask) => key(mask.len, mask.value))), lengths = [...new Set(masks.map((mask) => mask.len))];
   /** @type {Map<string, Unread>} */
   const unread = new Map(), explained = new Set(), causing = [];
-  for (const slot of masks.length ? unreadSlots(library, log) : []) {
+  for (const slot of masks.length ? unreadSlots(log) : []) {
     const { len, value } = slot.mask;
     if (!unread.has(key(len, value))) unread.set(key(len, value), slot);
     const around = lengths.filter((it) => it <= len).map((it) => key(it, value)).find((it) => open.has(it));
@@ -72,17 +68,15 @@ export function causesOf(library, log, masks) {
 
 /**
  * Every slot of the log that wasn't reached or wasn't read, those of the last round first.
- * @param {Library} library
  * @param {Log} log
  * @returns {Generator<Unread>}
  */
-function* unreadSlots(library, log) {
+function* unreadSlots(log) {
   for (let at = log.rowCount - 1; at >= 0; at--) {
-    const round = log.hasUnread(library, at) ? log.row(library, at) : null;
+    const round = log.hasUnread(at) ? log.row(at) : null;
     if (round?.kind !== "round") continue;
-    const asked = { fault: 0, len: round.request.maskLen, value: round.request.maskValue };
     for (const { number, mask, reading } of round.slots) {
-      if (ORDER.includes(reading)) yield { row: at, round: round.line, asked, number, mask, reading };
+      if (ORDER.includes(reading)) yield { row: at, round: round.line, asked: round.asked, number, mask, reading };
     }
   }
 }

@@ -1,8 +1,8 @@
 /** What there is of a conflict's lines: the slots that its form is told by. */
 
-/** @typedef {import("./library.mjs").Library} Library */
 /** @typedef {import("./log.mjs").Log} Log */
 /** @typedef {import("./log.mjs").Slot} Slot */
+/** @typedef {{asked: import("./frames.mjs").Mask, round: number, lines: number[], silent: boolean}} Part lines of one round */
 /**
  * @typedef {Object} Conflict
  * @property {number} count how many lines it has
@@ -11,24 +11,53 @@
  * @property {Slot | null} unread its collision or garbled slot, of which it has one at most
  * @property {Slot[]} heard its first and last reply
  * @property {number} silent its first silent slot's line, 0 if it has none
+ * @property {Part[]} parts its lines by rounds, the first of many
+ * @property {number} rounds of how many rounds they are
  * @property {number} silencer the line of the Stay Quiet that had silenced the tag of its reply, 0 if there is none
  */
 
+/** How many rounds of a conflict are told, and how many of its lines are seen in the rounds. */
+const MOST_PARTS = 1000, MOST_SEEN = 8;
+
+/**
+ * Whether a conflict has too many lines to be seen in the rounds.
+ * @param {Conflict | null} conflict
+ */
+export const isLarge = (conflict) => conflict !== null && conflict.count > MOST_SEEN;
+
 /**
  * Over all of its lines, however many they are, and whether they are drawn or not.
- * @param {Library} library
  * @param {Log} log
  * @param {number[]} lines
  * @param {number} silencer
  * @returns {Conflict}
  */
-export function conflictOf(library, log, lines, silencer) {
+export function conflictOf(log, lines, silencer) {
   const heard = lines.filter((line) => log.letter(line) === "R");
   const unread = lines.find((line) => "CD".includes(log.letter(line)));
   return { count: lines.length, first: lines[0], last: lines[lines.length - 1], silencer,
-    unread: unread ? log.slot(library, unread) : null,
-    heard: [...new Set([...heard.slice(0, 1), ...heard.slice(-1)])].flatMap((line) => log.slot(library, line) ?? []),
-    silent: lines.find((line) => log.letter(line) === "S") ?? 0 };
+    unread: unread ? log.slot(unread) : null,
+    heard: [...new Set([...heard.slice(0, 1), ...heard.slice(-1)])].flatMap((line) => log.slot(line) ?? []),
+    silent: lines.find((line) => log.letter(line) === "S") ?? 0, ...partsOf(log, lines) };
+}
+
+/**
+ * The lines by their rounds.
+ * @param {Log} log
+ * @param {number[]} lines
+ */
+function partsOf(log, lines) {
+  /** @type {Map<number, number[]>} */
+  const byRow = new Map();
+  for (const line of lines) {
+    const row = log.rowAt(line), there = byRow.get(row);
+    if (there) there.push(line); else byRow.set(row, [line]);
+  }
+  const parts = [...byRow].slice(0, MOST_PARTS).flatMap(([at, its]) => {
+    const row = log.row(at);
+    return row.kind === "round" ? [{ asked: row.asked, round: row.line, lines: its, silent: its.every((line) => log.letter(line) === "S") }] : [];
+  });
+  return { rounds: byRow.size, parts };
 }
 
 /**

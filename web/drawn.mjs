@@ -1,6 +1,5 @@
 /** Which rows of a log are drawn. */
 
-/** @typedef {import("./library.mjs").Library} Library */
 /** @typedef {import("./log.mjs").Log} Log */
 /** @typedef {import("./log.mjs").Row} Row */
 /** @typedef {import("./log.mjs").Round} Round */
@@ -12,14 +11,14 @@ const MOST_DRAWN = 60, EDGE = 3;
 /**
  * The rows that are drawn, with gaps between them: those of the lines that are marked, the first and the last, and those of
  * causes.
- * @param {Library} library
  * @param {Log} log
  * @param {number[]} named
  * @param {number[]} causing
+ * @param {boolean} whole whether a short log is drawn with all its rows
  */
-export function drawn(library, log, named, causing) {
+export function drawn(log, named, causing, whole) {
   const edges = [...Array(EDGE).keys()].flatMap((at) => [at, log.rowCount - 1 - at]);
-  const all = log.rowCount <= MOST_DRAWN ? [...Array(log.rowCount).keys()] : [];
+  const all = whole && log.rowCount <= MOST_DRAWN ? [...Array(log.rowCount).keys()] : [];
   const wanted = [...all, ...named.map((line) => log.rowAt(line)), ...edges, ...causing]
     .filter((row) => row >= 0 && row < log.rowCount);
   const rows = [...new Set(wanted)].slice(0, MOST_DRAWN).sort((one, other) => one - other);
@@ -29,11 +28,10 @@ export function drawn(library, log, named, causing) {
   for (const at of rows) {
     if (at < next) continue;
     if (at > next) result.push({ kind: "gap", rows: at - next });
-    const row = log.row(library, at);
+    const row = log.row(at);
     next = at + 1;
-    if (!row) continue;
     result.push(row);
-    if (row.kind === "round") next = withQuiets(library, log, row, next, named);
+    if (row.kind === "round") next = withQuiets(log, row, next, named);
   }
   if (next < log.rowCount) result.push({ kind: "gap", rows: log.rowCount - next });
   return result;
@@ -41,16 +39,15 @@ export function drawn(library, log, named, causing) {
 
 /**
  * Notes with a round the Stay Quiets that follow it, to tags that were heard in it. Returns the row behind them.
- * @param {Library} library
  * @param {Log} log
  * @param {Round} round
  * @param {number} next
  * @param {number[]} named
  */
-function withQuiets(library, log, round, next, named) {
+function withQuiets(log, round, next, named) {
   for (; next < log.rowCount; next++) {
-    const quiet = log.row(library, next);
-    if (quiet?.kind !== "quiet" || named.includes(quiet.line)) break;
+    const quiet = log.row(next);
+    if (quiet.kind !== "quiet" || named.includes(quiet.line)) break;
     const slot = round.slots.find((it) => it.uid === quiet.uid);
     if (!slot) break;
     slot.silenced = quiet.line;

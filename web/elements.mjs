@@ -3,6 +3,12 @@
 /** @typedef {Node | string | (Node | string)[]} Content */
 
 /**
+ * The element with an id.
+ * @param {string} id
+ */
+export const at = (id) => /** @type {HTMLElement} */ (document.getElementById(id));
+
+/**
  * An element with attributes and children, whose texts need no escaping.
  * @param {string} tag
  * @param {Record<string, string>} attributes
@@ -18,10 +24,10 @@ export function el(tag, attributes = {}, ...content) {
 /**
  * A button that leads to a line.
  * @param {number} line
- * @param {string} [words]
+ * @param {...Content} words
  */
-export function toLine(line, words = `line ${line}`) {
-  return el("button", { type: "button", class: "to-line", "data-line": String(line) }, words);
+export function toLine(line, ...words) {
+  return el("button", { type: "button", class: "to-line", "data-line": String(line) }, ...words.length ? words : [`line ${line}`]);
 }
 
 /**

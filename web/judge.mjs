@@ -1,118 +1,127 @@
-/**
- * What is told of a log: what the library says of it, and the rows that show why.
- *
- * Nothing here judges. The library's answer, findings and open masks are passed on; of the rows only those are picked out
- * that a finding names, or whose slots overlap what is open.
- */
-import { causesOf, isOf, silencedUnheard } from "./causes.mjs";
-import { conflictOf, keyLines } from "./conflict.mjs";
-import { drawn } from "./drawn.mjs";
-import { Log } from "./log.mjs";
-import { FOUND, KIND } from "./numbers.mjs";
+/** The object of a log, of what the library says of it: the same as python/vicinity/pages/log.py makes. */
+import { linkOf } from "./frames.mjs";
+import { FOUND, KIND } from "./kinds.mjs";
+import { LF } from "./log.mjs";
+import { hex } from "./words.mjs";
 
 /** @typedef {import("./library.mjs").Library} Library */
 /** @typedef {import("./library.mjs").Answer} Answer */
 /** @typedef {import("./library.mjs").Finding} Finding */
-/** @typedef {import("./library.mjs").Mask} Mask */
-/** @typedef {import("./causes.mjs").Cause} Cause */
-/** @typedef {import("./causes.mjs").Silenced} Silenced */
-/** @typedef {import("./conflict.mjs").Conflict} Conflict */
-/** @typedef {import("./drawn.mjs").Gap} Gap */
-/** @typedef {import("./log.mjs").Row} Row */
-/**
- * @typedef {Object} Told
- * @property {string} name
- * @property {Answer} answer
- * @property {string} fault its name, of a refused text
- * @property {string} faulty the refused line
- * @property {boolean} ended whether the text ends with an LF
- * @property {boolean} cycles whether its version has lines for field cycles
- * @property {Finding[]} findings the first of each kind
- * @property {number[]} found how many there are of each kind
- * @property {Conflict | null} conflict of an impossible log
- * @property {number} certain how many tags must be there
- * @property {bigint[]} tags the first of them
- * @property {Mask[]} open the first open masks
- * @property {number} openCount
- * @property {number} share the share of all UIDs that are open
- * @property {bigint | null} unnoticed a UID that isn't listed, and could be there
- * @property {Silenced[]} silenced the tags that are open since they were silenced before they were heard
- * @property {Cause[]} causes slots in which the other open UIDs would answer, by their rounds
- * @property {boolean} neverAsked whether some open mask has no such slot
- * @property {Log["counts"]} counts
- * @property {(Row | Gap)[]} rows those drawn
- * @property {string[]} ringed the slots that are marked, as ROUND:NUMBER
- * @property {number[]} named the lines that are marked
- */
+/** @typedef {import("./told.mjs").LogObject} LogObject */
 
-/** How many findings and open masks are told, how many tags are listed, and how many lines are marked. */
-const MOST_TOLD = 1000, MOST_LISTED = 10_000, MOST_NAMED = 24;
+/** How many findings and open masks are told, how many tags are listed, and how much of a refused line is kept. */
+const MOST_TOLD = 1000, MOST_LISTED = 10_000, MOST_QUOTED = 160;
+const SCHEMA = /** @type {1} */ (1), ANY_LINK = 2;
+/** Findings of these kinds are told in this order. */
+const KINDS = /** @type {[number, string][]} */ ([[FOUND.SILENCED_BY, "silenced by"], [FOUND.CONFLICT, "conflict"],
+  [FOUND.ABSENT, KIND.ABSENT], [FOUND.UNLISTED, KIND.UNLISTED], [FOUND.DOUBTFUL, KIND.DOUBTFUL]]);
+const DECODED = new TextDecoder("utf-8", { ignoreBOM: true });
+const NO_MASKS = { list: /** @type {import("./library.mjs").Mask[]} */ ([]), count: 0, lengths: /** @type {number[]} */ ([]) };
 
 /**
  * @param {Library} library
  * @param {Uint8Array} text
  * @param {string} name
- * @returns {Told}
+ * @returns {Promise<LogObject>}
  */
-export function judge(library, text, name) {
-  const { answer, list, counts, conflict } = library.report(text, MOST_TOLD);
-  const log = new Log(text), refused = answer.kind === KIND.REFUSED, possible = answer.status < 2;
-  const certain = possible ? library.certain(text).list : [];
-  /** @type {{list: Mask[], count: number, lengths: number[]}} */
-  const open = possible ? library.openMasks(text, MOST_TOLD) : { list: [], count: 0, lengths: [] };
-  /** @type {Told} */
-  const told = { name, answer, findings: list, found: counts, conflict: null, fault: refused ? library.faultName(answer.fault) : "",
-    faulty: refused && answer.line <= log.counts.lines ? log.line(answer.line) : "",
-    ended: text.length > 0 && text[text.length - 1] === 10, cycles: log.line(1).endsWith("2"),
-    certain: certain.length, tags: certain.slice(0, MOST_LISTED), open: open.list, openCount: open.count,
-    share: open.lengths.reduce((sum, masks, length) => sum + masks * 2 ** -length, 0),
-    unnoticed: null, silenced: [], causes: [], neverAsked: false, counts: log.counts, rows: [], ringed: [], named: [] };
-  if (!refused) explain(library, text, log, told, conflict);
-  return told;
+export async function judge(library, text, name) {
+  const { answer, list, counts, conflict } = library.report(text, MOST_TOLD), possible = answer.status < 2;
+  const certain = possible ? library.certain(text).list : [], open = possible ? library.openMasks(text, MOST_TOLD) : NO_MASKS;
+  const kept = untilRefused(text, answer), decoded = DECODED.decode(kept), link = linkIn(decoded);
+  const masks = open.list.map(({ len, value }) => ({ ...maskFields(len, value),
+    ask: (len ? [1] : [16, 1]).map((slots) => `T ${hexOf(library.writeInventory(slots, len, value, link))}`) }));
+  return { schema: SCHEMA, version: versionOf(library.version), file: name, ...fields(library, answer), answer: answer.text.trim(),
+    lines: linesIn(text), ended: text[text.length - 1] === LF, sha256: await sumOf(text),
+    findings: [...findingsOf(list.filter((it) => it.kind !== FOUND.CONFLICT)), ...conflict.map((line) => ({ kind: "conflict", line }))],
+    found: { absent: counts[FOUND.ABSENT], unlisted: counts[FOUND.UNLISTED], doubtful: counts[FOUND.DOUBTFUL] },
+    certain: { count: certain.length, uids: certain.slice(0, MOST_LISTED).map((uid) => hex(uid)) },
+    open: { count: open.count, share: open.lengths.reduce((sum, many, length) => sum + many * 2 ** -length, 0), masks },
+    unnoticed: unnoticed(library, text, answer), text: decoded };
 }
 
 /**
- * Adds what shows why.
+ * @param {Finding[]} list
+ * @returns {LogObject["findings"]}
+ */
+function findingsOf(list) {
+  return KINDS.flatMap(([kind, word]) => list.filter((it) => it.kind === kind).map(({ line, uid }) =>
+    ({ kind: word, ...uid ? { uid: hex(uid) } : {}, ...line ? { line } : {} })));
+}
+
+/**
+ * The fields of an answer, as the Python commands write them.
  * @param {Library} library
- * @param {Uint8Array} text
- * @param {Log} log
- * @param {Told} told
- * @param {number[]} conflict
+ * @param {Answer} answer
  */
-function explain(library, text, log, told, conflict) {
-  const { answer } = told;
-  if (answer.kind === KIND.UNSETTLED) {
-    told.unnoticed = library.explain(text).list.find((uid) => lies(uid, answer.maskLen, answer.maskValue)) ?? null;
-  }
-  if (answer.kind === KIND.IMPOSSIBLE) {
-    const silencer = told.findings.find((it) => it.kind === FOUND.SILENCED_BY);
-    told.conflict = conflictOf(library, log, conflict, silencer?.line ?? 0);
-  }
-  told.silenced = silencedUnheard(library, log, told.open);
-  const quiet = new Set(told.silenced.map((it) => it.uid));
-  const { causes, rows, neverAsked } = causesOf(library, log, told.open.filter((mask) => !isOf(quiet, mask)));
-  Object.assign(told, { causes, neverAsked, named: named(told) });
-  told.ringed = causes.flatMap((cause) => cause.slots.map((number) => `${cause.round}:${number}`));
-  told.rows = drawn(library, log, told.named, rows);
+export function fields(library, { kind: number, status, count, line, fault, maskLen, maskValue, uid }) {
+  const kind = library.nameOf("kind", number), said = { kind, status };
+  if (kind === KIND.COMPLETE) return { ...said, count };
+  if (kind === KIND.UNSETTLED) return { ...said, ...maskFields(maskLen, maskValue) };
+  if (kind === KIND.IMPOSSIBLE) return { ...said, line };
+  if (kind === KIND.REFUSED) return { ...said, line, fault: library.nameOf("fault", fault) };
+  return { ...said, uid: hex(uid) };
 }
 
 /**
- * @param {bigint} uid
  * @param {number} len
  * @param {bigint} value
  */
-function lies(uid, len, value) {
-  return BigInt.asUintN(len, uid) === value;
+export function maskFields(len, value) {
+  return { mask_len: len, mask_value: len ? hex(BigInt.asUintN(len, value), 2 * Math.ceil(len / 8)) : "-" };
+}
+
+/** @param {Uint8Array} bytes */
+function hexOf(bytes) {
+  return Array.from(bytes, (byte) => hex(BigInt(byte), 2)).join("");
 }
 
 /**
- * The lines that are marked: those that findings name, the first few and the last; those that a conflict is told by; and Stay
- * Quiets to tags that weren't heard. Without a list the findings are all tags that are there, and none is marked.
- * @param {Told} told
+ * A text as far as it is told: one that is refused until its refused line.
+ * @param {Uint8Array} text
+ * @param {Answer} answer
  */
-function named(told) {
-  const findings = told.findings.filter((it) => it.line && (it.kind !== FOUND.UNLISTED || told.counts.listed));
-  const lines = [...findings.map((it) => it.line), ...told.silenced.map((it) => it.line)];
-  const marked = new Set([...keyLines(told.conflict), ...lines.slice(0, MOST_NAMED), ...lines.slice(-1)]);
-  return [...marked].sort((one, other) => one - other);
+function untilRefused(text, { fault, line }) {
+  if (!fault) return text;
+  let start = 0;
+  for (let number = 1; number < line; number++) start = text.indexOf(LF, start) + 1;
+  const end = text.indexOf(LF, start);
+  return text.subarray(0, Math.min(end < 0 ? text.length : end + 1, start + MOST_QUOTED));
+}
+
+/** @param {Uint8Array} text */
+function linesIn(text) {
+  let lines = text.length && text[text.length - 1] !== LF ? 1 : 0;
+  for (let at = text.indexOf(LF); at >= 0; at = text.indexOf(LF, at + 1)) lines++;
+  return lines;
+}
+
+/**
+ * The link of the first request.
+ * @param {string} text
+ */
+function linkIn(text) {
+  const first = text.match(/^T ([0-9A-Fa-f]{2})/m);
+  return first ? linkOf(first[1]) : ANY_LINK;
+}
+
+/**
+ * A UID that isn't listed, and could be there: of those that explain the answer the one in its mask.
+ * @param {Library} library
+ * @param {Uint8Array} text
+ * @param {Answer} answer
+ */
+function unnoticed(library, text, { maskLen, maskValue, kind }) {
+  if (library.nameOf("kind", kind) !== KIND.UNSETTLED) return null;
+  const found = library.explain(text).list.find((uid) => BigInt.asUintN(maskLen, uid ^ maskValue) === 0n);
+  return found === undefined ? null : hex(found);
+}
+
+/** @param {number} number as the library gives it */
+function versionOf(number) {
+  return [Math.floor(number / 10000), Math.floor(number / 100) % 100, number % 100].join(".");
+}
+
+/** @param {Uint8Array} text */
+async function sumOf(text) {
+  return globalThis.crypto?.subtle ? hexOf(new Uint8Array(await crypto.subtle.digest("SHA-256", text))).toLowerCase() : "";
 }

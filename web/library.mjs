@@ -5,7 +5,7 @@
  * each call does, and has the numbers of kinds, faults and findings.
  */
 
-import { FOUND } from "./numbers.mjs";
+import { FOUND } from "./kinds.mjs";
 
 /**
  * @typedef {Object} Answer
@@ -321,13 +321,14 @@ export class Library {
   }
 
   /**
-   * The name of a fault; empty if it has none.
-   * @param {number} fault
+   * The name of a kind of answer or of a fault; empty if it has none.
+   * @param {"kind" | "fault"} what
+   * @param {number} number
    * @returns {string}
    */
-  faultName(fault) {
+  nameOf(what, number) {
     return this.#within((take) => {
-      const at = take(NAME), length = Number(this.#calls.vicinity_fault_name(fault, BigInt(at)));
+      const at = take(NAME), length = Number(this.#calls[`vicinity_${what}_name`](number, BigInt(at)));
       return DECODER.decode(this.#bytes.slice(at + 4, at + 4 + length));
     });
   }

@@ -1,39 +1,22 @@
-/**
- * A log's text as rows to draw: rounds, Stay Quiets and field cycles. Frames and the masks of slots come from the library.
- */
+/** A log's text as rows to draw: rounds, Stay Quiets and field cycles. */
+import { inventoryOf, isStayQuiet, slotMask, uidIn } from "./frames.mjs";
 
-/** @typedef {import("./library.mjs").Library} Library */
-/** @typedef {import("./library.mjs").Mask} Mask */
-/** @typedef {import("./library.mjs").Request} Request */
-/** @typedef {"silent" | "heard" | "collision" | "garbled" | "unreached" | "unknown"} Reading what a slot held */
+/** @typedef {import("./frames.mjs").Mask} Mask */
+/** @typedef {"silent" | "heard" | "collision" | "garbled" | "unreached"} Reading what a slot held */
 /** @typedef {{line: number, number: number, mask: Mask, reading: Reading, uid: bigint | null, silenced: number}} Slot */
-/** @typedef {{kind: "round", line: number, end: number, frame: string, request: Request, slots: Slot[]}} Round */
+/** @typedef {{kind: "round", line: number, end: number, asked: Mask, slots: Slot[]}} Round */
 /** @typedef {{kind: "quiet", line: number, end: number, uid: bigint}} Quiet */
 /** @typedef {{kind: "cycle", line: number, end: number}} Cycle */
 /** @typedef {Round | Quiet | Cycle} Row */
 
-const LF = 10, CR = 13;
+export const LF = 10;
+const CR = 13;
 /** The letters of lines that tell of slots, and of those that weren't read. */
 const OUTCOMES = new Set("SRCD"), UNREAD = new Set("CD");
-/** The command of a Stay Quiet request, the second byte of its frame, in hex. */
-const STAY_QUIET = "02";
 /** @type {Record<string, Reading>} */
 const READINGS = { S: "silent", R: "heard", C: "collision", D: "garbled" };
 /** A byte order mark stays, since it is why a text is refused. */
 const LINES = new TextDecoder("utf-8", { ignoreBOM: true });
-
-/**
- * The bytes that hex digits write.
- * @param {string} digits
- */
-export function bytesOf(digits) {
-  return Uint8Array.from(digits.match(/../g) ?? [], (pair) => parseInt(pair, 16));
-}
-
-/** @param {Uint8Array} bytes */
-export function hexOf(bytes) {
-  return Array.from(bytes, (byte) => byte.toString(16).toUpperCase().padStart(2, "0")).join("");
-}
 
 /** The lines of a text, by their numbers from 1, and where its rows are. */
 export class Log {
@@ -86,13 +69,30 @@ export class Log {
   /** @param {number} line */
   letter(line) { return String.fromCharCode(this.text[this.#starts[line - 1]]); }
 
+  /**
+   * The digits of the frame that a line has.
+   * @param {number} line
+   */
+  frame(line) { return this.line(line).slice(2).trimEnd(); }
+
   /** @param {number} line */
-  #silences(line) { return this.line(line).slice(4, 6) === STAY_QUIET; }
+  #silences(line) { return isStayQuiet(this.frame(line)); }
+
+  get lineCount() { return this.#starts.length - 1; }
 
   get rowCount() { return this.#rows.length; }
 
+  /**
+   * The line that begins a row.
+   * @param {number} index
+   */
+  lineOf(index) { return this.#rows[index]; }
+
   /** @param {number} index */
-  isQuiet(index) { return this.#silences(this.#rows[index]); }
+  isQuiet(index) { return this.letter(this.#rows[index]) === "T" && this.#silences(this.#rows[index]); }
+
+  /** @param {number} index */
+  isRound(index) { return this.letter(this.#rows[index]) === "T" && !this.#silences(this.#rows[index]); }
 
   /**
    * Which row has a line: the last that begins there or before.
@@ -108,56 +108,42 @@ export class Log {
   }
 
   /**
-   * A row; null if its line is no frame of a request.
-   * @param {Library} library
    * @param {number} index
-   * @returns {Row | null}
+   * @returns {Row}
    */
-  row(library, index) {
-    const line = this.#rows[index], said = this.line(line);
-    if (said === "F") return { kind: "cycle", line, end: line };
-    const request = this.#request(library, line);
-    if (request.fault) return null;
-    if (request.slots === 0) return { kind: "quiet", line, end: line, uid: request.uid };
-    const slots = this.#slots(library, request, this.#outcomes(index));
-    const end = slots.reduce((most, slot) => Math.max(most, slot.line), line);
-    return { kind: "round", line, end, frame: said.slice(2), request, slots };
+  row(index) {
+    const line = this.#rows[index];
+    if (this.letter(line) === "F") return { kind: "cycle", line, end: line };
+    if (this.#silences(line)) return { kind: "quiet", line, end: line, uid: uidIn(this.frame(line)) };
+    const asked = inventoryOf(this.frame(line)), slots = this.#slots(asked, this.outcomes(index));
+    return { kind: "round", line, end: slots.reduce((most, slot) => Math.max(most, slot.line), line), asked: asked.mask, slots };
   }
 
   /**
    * The slot that a line tells of; null if it tells of none.
-   * @param {Library} library
    * @param {number} line
    */
-  slot(library, line) {
-    const row = this.row(library, this.rowAt(line));
-    return row?.kind === "round" ? row.slots.find((slot) => slot.line === line) ?? null : null;
+  slot(line) {
+    const row = this.row(this.rowAt(line));
+    return row.kind === "round" ? row.slots.find((slot) => slot.line === line) ?? null : null;
   }
 
   /**
    * Whether a row is a round in which a slot wasn't reached or wasn't read.
-   * @param {Library} library
    * @param {number} index
    */
-  hasUnread(library, index) {
-    if (this.letter(this.#rows[index]) !== "T") return false;
-    const outcomes = this.#outcomes(index);
-    return outcomes.some((line) => UNREAD.has(this.letter(line))) ||
-      outcomes.length < this.#request(library, this.#rows[index]).slots;
+  hasUnread(index) {
+    if (!this.isRound(index)) return false;
+    const outcomes = this.outcomes(index);
+    return outcomes.some((line) => UNREAD.has(this.letter(line))) || outcomes.length < inventoryOf(this.frame(this.#rows[index])).slots;
   }
-
-  /**
-   * @param {Library} library
-   * @param {number} line
-   */
-  #request(library, line) { return library.readRequest(bytesOf(this.line(line).slice(2))); }
 
   /**
    * The lines of a row that tell of slots.
    * @param {number} index
    */
-  #outcomes(index) {
-    const lines = [], end = index + 1 < this.#rows.length ? this.#rows[index + 1] : this.counts.lines + 1;
+  outcomes(index) {
+    const lines = [], end = index + 1 < this.#rows.length ? this.#rows[index + 1] : this.lineCount + 1;
     for (let line = this.#rows[index] + 1; line < end; line++) {
       if (OUTCOMES.has(this.letter(line))) lines.push(line);
     }
@@ -166,19 +152,14 @@ export class Log {
 
   /**
    * The slots of a round: those that were logged, and those that weren't reached, which have line 0.
-   * @param {Library} library
-   * @param {Request} request
+   * @param {import("./frames.mjs").Inventory} asked
    * @param {number[]} outcomes
    */
-  #slots(library, request, outcomes) {
-    const slots = outcomes.map((line, number) => {
-      const said = this.line(line), reading = READINGS[said[0]];
-      const uid = reading === "heard" ? library.readReply(bytesOf(said.slice(2))).uid : null;
-      return /** @type {Slot} */ ({ line, number, mask: library.slotMask(request, number), reading, uid, silenced: 0 });
+  #slots(asked, outcomes) {
+    return Array.from({ length: asked.slots }, (_, number) => {
+      const line = outcomes[number] ?? 0, reading = line ? READINGS[this.letter(line)] : "unreached";
+      const uid = reading === "heard" ? uidIn(this.frame(line)) : null;
+      return /** @type {Slot} */ ({ line, number, mask: slotMask(asked, number), reading, uid, silenced: 0 });
     });
-    for (let number = slots.length; number < request.slots; number++) {
-      slots.push({ line: 0, number, mask: library.slotMask(request, number), reading: "unreached", uid: null, silenced: 0 });
-    }
-    return slots;
   }
 }

@@ -1,9 +1,8 @@
 /** Draws what whoever maintains the reader needs: the causes, what tells them apart, and what is left to ask. */
 import { el, folded, toLine } from "./elements.mjs";
-import { hex, visible } from "./words.mjs";
+import { visible } from "./words.mjs";
 
-/** @typedef {import("./judge.mjs").Told} Told */
-/** @typedef {{open: string[], silenced: string[]}} Requests what is left to ask, as lines; at once, and after a field cycle */
+/** @typedef {import("./told.mjs").Told} Told */
 
 const MOST_SHOWN = 160;
 const INSERT = "If a slot has a collision, ask its mask in sixteen slots. In the log, the new lines go before the U lines.";
@@ -14,28 +13,26 @@ const NEW_VERSION = "Tags that were silenced before they were heard answer only 
 /**
  * @param {Told} told
  * @param {import("./say.mjs").Said} said
- * @param {Requests} requests
  */
-export function maintainer(told, said, requests) {
+export function maintainer(told, said) {
   if (!said.causes.length) return [];
   const parts = [];
-  if (told.faulty) parts.push(el("p", {}, toLine(told.answer.line), ": ", el("code", {}, visible(told.faulty).slice(0, MOST_SHOWN))));
+  if (told.faulty) parts.push(el("p", {}, toLine(told.object.line ?? 1), ": ", el("code", {}, visible(told.faulty).slice(0, MOST_SHOWN))));
   if (said.lead) parts.push(el("p", {}, said.lead));
   parts.push(el("ul", {}, said.causes.map((cause) => el("li", {}, cause))));
   if (said.test) parts.push(el("p", {}, said.test));
-  if (told.unnoticed !== null) {
-    parts.push(el("p", {}, "A tag ", el("code", {}, hex(told.unnoticed)), " could be here: the log would be the same."));
+  if (told.object.unnoticed) {
+    parts.push(el("p", {}, "A tag ", el("code", {}, told.object.unnoticed), " could be here: the log would be the same."));
   }
-  return [folded("For whoever maintains the reader", true, ...parts, ...left(told, requests))];
+  return [folded("For whoever maintains the reader", true, ...parts, ...left(told))];
 }
 
 /**
  * What is left to ask.
  * @param {Told} told
- * @param {Requests} requests
  */
-function left(told, { open, silenced }) {
-  const parts = [], masks = told.openCount - told.silenced.length, all = told.open[0]?.len === 0;
+function left(told) {
+  const { open, silenced } = told.requests, parts = [], masks = told.object.open.count - told.quiet, all = told.open[0]?.len === 0;
   const more = !all && masks > open.length ? ` (the first ${open.length} of ${masks.toLocaleString("en")})` : "";
   const how = all ? "in sixteen slots, or in one" : `one request for each open mask${more}`;
   if (open.length) parts.push(el("p", {}, `What is left to ask, ${how}. ${INSERT}`), copied(open));

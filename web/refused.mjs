@@ -1,7 +1,7 @@
 /** What a person is told of a text that isn't a log. */
 import { advice } from "./faults.mjs";
 
-/** @typedef {import("./judge.mjs").Told} Told */
+/** @typedef {import("./told.mjs").Told} Told */
 
 const COUNT = "Count again, to a new log. If that is refused too, no count will help: send the log and this page (printed as PDF) " +
   "to whoever maintains the software that writes it.";
@@ -15,12 +15,13 @@ const CODING = /[\0\uFEFF\uFFFD]/g;
 
 /** @param {Told} told */
 export function refused(told) {
-  const { line } = told.answer, { wrong, fix } = advice(told.answer.fault, told.faulty), last = line === told.counts.lines && line > 1;
+  const { line = 0, fault = "", ended } = told.object, { wrong, fix } = advice(fault, told.faulty);
+  const last = line === told.counts.lines && line > 1;
   if (told.counts.lines === 0) return { headline: "The text is empty.", shelf: [ANOTHER], causes: [] };
   const foreign = line === 1 && !OF_A_LOG.test(told.faulty.replace(CODING, ""));
   return { headline: `This text isn't a log. Line ${line}: ${wrong}.`,
     shelf: foreign ? [NO_LIST] : last ? [COPY, COUNT] : [COUNT],
-    causes: [...last && !told.ended ? ["The file may end in the middle of this line: it was cut off, or the software was still writing."] : [],
+    causes: [...last && !ended ? ["The file may end in the middle of this line: it was cut off, or the software was still writing."] : [],
       ...line === 1 ? ofFirst(told.faulty, foreign) : [], ...foreign && isTable(told.faulty) ? [] : [fix]] };
 }
 

@@ -1,8 +1,9 @@
 /** Draws the rounds of a log: a row for each, a cell for each slot. */
 import { el, toLine } from "./elements.mjs";
+import { SLOTS } from "./frames.mjs";
 import { count, ending, hex } from "./words.mjs";
 
-/** @typedef {import("./judge.mjs").Told} Told */
+/** @typedef {import("./told.mjs").Told} Told */
 /** @typedef {import("./drawn.mjs").Gap} Gap */
 /** @typedef {import("./log.mjs").Row} Row */
 /** @typedef {import("./log.mjs").Round} Round */
@@ -12,9 +13,9 @@ import { count, ending, hex } from "./words.mjs";
 const LOOKS = {
   silent: { sign: "·", words: "no tag answered" }, heard: { sign: "", words: "one tag was heard" },
   collision: { sign: "×", words: "two or more tags answered" }, garbled: { sign: "?", words: "something answered that couldn't be read" },
-  unreached: { sign: "", words: "not reached" }, unknown: { sign: "", words: "" },
+  unreached: { sign: "", words: "not reached" },
 };
-const SLOTS = 16;
+
 
 /** @param {Told} told */
 export function rounds(told) {
@@ -24,7 +25,9 @@ export function rounds(told) {
   const ringed = new Set(told.ringed), named = new Set(told.named);
   const body = told.rows.map((row) => rowOf(row, ringed, named));
   const table = el("table", { class: "rounds" }, el("caption", {}, "The rounds of the session"), el("thead", {}, head), el("tbody", {}, body));
-  return [el("section", {}, el("h2", {}, "The rounds"), legend(told),
+  const bars = told.strip.map(({ look, line }) => el("i", { class: look, "data-line": String(line) }));
+  const strip = bars.length ? [el("p", { class: "strip", role: "img", "aria-label": `The whole session of ${count(told.counts.rounds, "round")}` }, bars)] : [];
+  return [el("section", {}, el("h2", {}, "The rounds"), ...strip, legend(told),
     el("div", { class: "wide", tabindex: "0", role: "group", "aria-label": "The rounds, scrolled sideways" }, table))];
 }
 
@@ -37,16 +40,15 @@ function rowOf(row, ringed, named) {
   if (row.kind === "gap") return wide("⋮", count(row.rows, "more request"), 0, false);
   if (row.kind === "cycle") return wide(String(row.line), "field off and on", row.line, named.has(row.line));
   if (row.kind === "quiet") return wide(String(row.line), `Stay Quiet ${hex(row.uid)}`, row.line, named.has(row.line));
-  const asked = { fault: 0, len: row.request.maskLen, value: row.request.maskValue };
   const cells = row.slots.map((slot) => cell(row, slot, ringed.has(`${row.line}:${slot.number}`) || named.has(slot.line)));
-  const span = row.end > row.line ? `${row.line}–${row.end}` : String(row.line);
-  return el("tr", {}, el("th", { scope: "row" }, toLine(row.line, span),
-    el("span", { class: "unseen" }, summary(row))), el("td", { class: "mask" }, asked.len ? `..${tail(asked)}` : "all"), ...cells);
+  const till = row.end > row.line ? [el("span", { class: "till" }, `–${row.end}`)] : [];
+  return el("tr", {}, el("th", { scope: "row" }, toLine(row.line, String(row.line), ...till),
+    el("span", { class: "unseen" }, summary(row))), el("td", { class: "mask" }, row.asked.len ? `..${tail(row.asked)}` : "all"), ...cells);
 }
 
 /**
  * The low bits of a mask as a number's last digits; where they are no whole digits, with their number.
- * @param {import("./library.mjs").Mask} mask
+ * @param {import("./frames.mjs").Mask} mask
  */
 function tail(mask) {
   const digits = hex(mask.value, Math.ceil(mask.len / 4));
@@ -83,7 +85,7 @@ function summary(round) {
  */
 function cell(round, slot, named) {
   const look = LOOKS[slot.reading], uid = slot.uid;
-  const open = BigInt(Math.min(Math.floor(round.request.maskLen / 4) * 4, 56));
+  const open = BigInt(Math.min(Math.floor(round.asked.len / 4) * 4, 56));
   const one = round.slots.length === 1;
   const sign = uid === null ? look.sign : one ? hex(uid) : hex(BigInt.asUintN(8, uid >> open), 2);
   const title = [slot.line ? `line ${slot.line}` : "", `slot ${slot.number.toString(16).toUpperCase()}`, ending(slot.mask),

@@ -1,10 +1,10 @@
 /** What a person is told of a log, in sentences: the answer, what to do at the shelf, and what the reader's maintainer needs. */
 import { contradiction } from "./contradiction.mjs";
-import { FOUND, KIND } from "./numbers.mjs";
+import { KIND } from "./kinds.mjs";
 import { refused } from "./refused.mjs";
-import { UID_BITS, count, ending, lines, listing, short } from "./words.mjs";
+import { count, ending, lines, listing, short } from "./words.mjs";
 
-/** @typedef {import("./judge.mjs").Told} Told */
+/** @typedef {import("./told.mjs").Told} Told */
 /** @typedef {import("./causes.mjs").Cause} Cause */
 /** @typedef {"yes" | "no" | "read" | "broken" | "refused" | "plain"} Look */
 /** @typedef {{name: string, value: string, look: Look}} Light */
@@ -62,7 +62,7 @@ export const GRANTED = [
  */
 export function say(told) {
   const none = { lights: [], why: "", lead: "", test: "" };
-  if (told.answer.kind === KIND.REFUSED) return { ...none, look: "refused", sign: "?", ...refused(told) };
+  if (told.object.kind === KIND.REFUSED) return { ...none, look: "refused", sign: "?", ...refused(told) };
   if (!told.conflict) return possible(told);
   const { sentence: found, causes, test } = contradiction(told.conflict);
   return { ...none, look: "broken", sign: "≠", headline: `The log contradicts itself: ${found}`, shelf: [NEW_LOG, STAYS],
@@ -74,11 +74,11 @@ export function say(told) {
  * @returns {Said}
  */
 function possible(told) {
-  const { found, counts, answer } = told, ended = told.openCount === 0, hasList = counts.listed > 0;
-  const whole = answer.kind === KIND.COMPLETE && hasList, only = ended && !hasList;
-  const differs = found[FOUND.ABSENT] || found[FOUND.UNLISTED], why = whyOpen(told);
+  const { object: { found, kind, open }, counts } = told, ended = open.count === 0, hasList = counts.listed > 0;
+  const whole = kind === KIND.COMPLETE && hasList, only = ended && !hasList;
+  const differs = found.absent || found.unlisted, why = whyOpen(told);
   const list = !hasList ? "none given" : whole ? "matches" : differs ? "differs" : "not known yet";
-  const causes = [...why, ...hasList && found[FOUND.ABSENT] ? [NOT_HEARD] : [], ...hasList && found[FOUND.UNLISTED] ? [NOT_CLAIMED] : []];
+  const causes = [...why, ...hasList && found.absent ? [NOT_HEARD] : [], ...hasList && found.unlisted ? [NOT_CLAIMED] : []];
   return { look: whole ? "yes" : only ? "read" : "no", sign: whole ? "✓" : only ? "i" : "!", headline: headline(told),
     lights: [{ name: "Search finished", value: ended ? "yes" : "no", look: ended ? "yes" : "no" },
       { name: "List", value: list, look: whole ? "yes" : list === "differs" ? "no" : "plain" }],
@@ -89,28 +89,27 @@ function possible(told) {
  * What to do at the shelf.
  * @param {Told} told
  */
-function steps({ answer, found, counts, open, openCount }) {
-  if (answer.kind === KIND.COMPLETE) return [counts.listed ? "Nothing to do." : EMPTY];
-  if (!openCount && !counts.listed) return [COMPARE];
+function steps({ object: { kind, found, open }, counts, quiet }) {
+  if (kind === KIND.COMPLETE) return [counts.listed ? "Nothing to do." : EMPTY];
+  if (!open.count && !counts.listed) return [COMPARE];
   const steps = [];
-  if (answer.kind === KIND.DOUBTFUL) steps.push(CYCLE, LOOK);
-  else if (openCount) steps.push(open.every((mask) => mask.len >= UID_BITS) ? CYCLE : AGAIN);
-  if (found[FOUND.ABSENT]) steps.push(...MISSING);
-  if (found[FOUND.UNLISTED] && counts.listed) steps.push(...STRANGERS);
+  if (kind === KIND.DOUBTFUL) steps.push(CYCLE, LOOK);
+  else if (open.count) steps.push(quiet === open.count ? CYCLE : AGAIN);
+  if (found.absent) steps.push(...MISSING);
+  if (found.unlisted && counts.listed) steps.push(...STRANGERS);
   return [...steps, STAYS];
 }
 
 /** @param {Told} told */
-function headline(told) {
-  const { found, counts, certain, answer, openCount } = told, doubtful = found[FOUND.DOUBTFUL], parts = [];
-  if (answer.kind === KIND.COMPLETE) return whole(answer.count);
-  const quiet = openCount > 0 && told.silenced.length === openCount;
-  if (found[FOUND.ABSENT]) parts.push(`${count(found[FOUND.ABSENT], "listed tag")} can't be here`);
-  if (counts.listed && found[FOUND.UNLISTED]) parts.push(count(found[FOUND.UNLISTED], "tag here isn't listed", "tags here aren't listed"));
-  if (certain && (openCount || !counts.listed)) parts.push(`${count(certain, "tag")} proved`);
-  if (quiet) parts.push(unproved(openCount, doubtful));
-  else if (doubtful) parts.push(`${count(doubtful, "listed tag")} not proved`);
-  const said = quiet ? "" : openCount ? `Not finished: ${settled(told.share)} of all UIDs settled.` : "Search finished.";
+function headline({ object: { kind, count: number = 0, found, certain, open }, counts, silenced, quiet }) {
+  const parts = [], only = open.count > 0 && quiet === open.count;
+  if (kind === KIND.COMPLETE) return whole(number);
+  if (found.absent) parts.push(`${count(found.absent, "listed tag")} can't be here`);
+  if (counts.listed && found.unlisted) parts.push(count(found.unlisted, "tag here isn't listed", "tags here aren't listed"));
+  if (certain.count && (open.count || !counts.listed)) parts.push(`${count(certain.count, "tag")} proved`);
+  if (only) parts.push(unproved(silenced.length, found.doubtful));
+  else if (found.doubtful) parts.push(`${count(found.doubtful, "listed tag")} not proved`);
+  const said = only ? "" : open.count ? `Not finished: ${settled(open.share)} of all UIDs settled.` : "Search finished.";
   const without = counts.listed ? "" : "The log has no list to compare with.";
   return [said, sentence(parts), without].filter((it) => it).join(" ");
 }

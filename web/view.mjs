@@ -1,12 +1,13 @@
 /** Draws what is told of a log. */
+import { isLarge } from "./conflict.mjs";
 import { el, folded, toLine } from "./elements.mjs";
 import { maintainer } from "./maintainer.mjs";
-import { FOUND, KIND } from "./numbers.mjs";
+import { KIND } from "./kinds.mjs";
 import { rounds } from "./rounds.mjs";
 import { GRANTED, say } from "./say.mjs";
-import { count, hex } from "./words.mjs";
+import { count, ending, lines, printable, TRIAL } from "./words.mjs";
 
-/** @typedef {import("./judge.mjs").Told} Told */
+/** @typedef {import("./told.mjs").Told} Told */
 
 /** How many UIDs are shown without being asked for. */
 const FEW = 24;
@@ -14,23 +15,32 @@ const FEW = 24;
 /**
  * The whole of what is drawn of a log.
  * @param {Told} told
- * @param {{requests: import("./maintainer.mjs").Requests, sum: string, version: string}} more what is left to ask, and what a record needs
+ * @param {string} [heading] the element of its heading
  * @returns {Node[]}
  */
-export function view(told, more) {
-  const said = say(told);
-  return [banner(told, said), shelf(said), ...findings(told), ...tags(told), ...rounds(told), ...maintainer(told, said, more.requests),
-    ...granted(told), record(told, more)];
+export function view(told, heading = "h1") {
+  const said = say(told), what = [printable(told.object.file), " · ", el("code", {}, told.object.answer)];
+  // what is only tried is never green
+  const trial = TRIAL.test(told.object.file) ? { look: /** @type {const} */ ("read"), sign: "?", headline: `A trial: ${said.headline}` } : {};
+  return [banner({ ...said, ...trial }, what, heading), shelf(said), ...findings(told),
+    ...tags(told), ...conflict(told), ...rounds(told), ...maintainer(told, said), ...granted(told.object.status), record(told)];
+}
+
+/** @param {Told} told */
+export function titleOf(told) {
+  return `${say(told).headline} ${printable(told.object.file)}`;
 }
 
 /**
- * @param {Told} told
- * @param {import("./say.mjs").Said} said
+ * The answer: a sentence, what was judged, and lights.
+ * @param {Pick<import("./say.mjs").Said, "look" | "sign" | "headline" | "lights">} said
+ * @param {import("./elements.mjs").Content} what
+ * @param {string} heading
  */
-function banner(told, said) {
+export function banner(said, what, heading = "h1") {
   const lights = said.lights.map(({ name, value, look }) => el("div", { class: `light ${look}` }, el("dt", {}, name), el("dd", {}, value)));
   return el("header", { class: `banner ${said.look}` }, el("p", { class: "sign", "aria-hidden": "true" }, said.sign),
-    el("div", {}, el("h1", { tabindex: "-1" }, said.headline), el("p", {}, told.name, " · ", el("code", {}, told.answer.text.trim()))),
+    el("div", {}, el(heading, { class: "answer", tabindex: "-1" }, said.headline), el("p", {}, what)),
     ...lights.length ? [el("dl", { class: "lights" }, lights)] : []);
 }
 
@@ -41,16 +51,16 @@ function shelf(said) {
 }
 
 /** @param {Told} told */
-function findings(told) {
-  const listed = told.counts.listed > 0;
-  const kinds = /** @type {[number, string, string, string][]} */ ([
-    [FOUND.ABSENT, "listed tag that can't be here", "listed tags that can't be here", "ruled out by "],
-    [FOUND.UNLISTED, listed ? "tag here that isn't listed" : "tag that is here", listed ? "tags here that aren't listed" : "tags that are here",
+function findings({ object: { findings, found }, counts }) {
+  const listed = counts.listed > 0;
+  const kinds = /** @type {["absent" | "unlisted" | "doubtful", string, string, string][]} */ ([
+    [KIND.ABSENT, "listed tag that can't be here", "listed tags that can't be here", "ruled out by "],
+    [KIND.UNLISTED, listed ? "tag here that isn't listed" : "tag that is here", listed ? "tags here that aren't listed" : "tags that are here",
       "shown by "],
-    [FOUND.DOUBTFUL, "listed tag that isn't proved", "listed tags that aren't proved", ""]]);
-  return kinds.filter(([kind]) => told.found[kind]).map(([kind, one, many, by]) => {
-    const list = told.findings.filter((it) => it.kind === kind), all = told.found[kind];
-    const items = list.map((it) => el("li", {}, el("code", {}, hex(it.uid)), ...it.line ? [` ${by}`, toLine(it.line)] : []));
+    [KIND.DOUBTFUL, "listed tag that isn't proved", "listed tags that aren't proved", ""]]);
+  return kinds.filter(([kind]) => found[kind]).map(([kind, one, many, by]) => {
+    const list = findings.filter((it) => it.kind === kind), all = found[kind];
+    const items = list.map(({ uid = "", line }) => el("li", {}, el("code", {}, uid), ...line ? [" ", el("span", { class: "by" }, by), toLine(line)] : []));
     return folded(count(all, one, many), all <= FEW, el("ul", { class: "uids" }, items), ...rest(all - list.length));
   });
 }
@@ -61,36 +71,49 @@ function rest(number) {
 }
 
 /**
+ * The lines of a contradiction that are too many to be named in a sentence, by their rounds.
+ * @param {Told} told
+ */
+function conflict({ conflict: it }) {
+  if (!it || !isLarge(it)) return [];
+  const items = it.parts.map(({ asked, round, lines: numbers, silent }) => el("li", {}, toLine(numbers[0], lines(numbers)),
+    `: ${ending(asked)} were asked in line ${round}${silent ? ", and none answered" : ""}`));
+  return [folded(`The ${count(it.count, "line")} that can't all be true, of ${count(it.rounds, "round")}`, false, el("ul", {}, items),
+    ...rest(it.rounds - items.length))];
+}
+
+/**
  * The tags of a log without a list, or of a complete one, which stands on paper in full.
  * @param {Told} told
  */
-function tags(told) {
-  if (!told.certain || told.found[FOUND.UNLISTED] === told.certain) return [];
-  const items = told.tags.map((uid) => el("li", {}, el("code", {}, hex(uid))));
-  return [folded(told.certain === 1 ? "The tag that is here" : `The ${count(told.certain, "tag")} that are here`, false,
-    el("ul", { class: "uids" }, items), ...rest(told.certain - items.length))];
+function tags({ object: { certain, found } }) {
+  if (!certain.count || found.unlisted === certain.count) return [];
+  const items = certain.uids.map((uid) => el("li", {}, el("code", {}, uid)));
+  return [folded(certain.count === 1 ? "The tag that is here" : `The ${count(certain.count, "tag")} that are here`, false,
+    el("ul", { class: "uids" }, items), ...rest(certain.count - items.length))];
 }
 
 /**
  * What an answer about tags takes for granted; open where there is nothing else to do.
- * @param {Told} told
+ * @param {number} status
  */
-function granted(told) {
-  if (told.answer.status > 1) return [];
-  return [folded(`What this takes for granted (${GRANTED.length})`, !told.answer.status, el("ul", {}, GRANTED.map((it) => el("li", {}, it))))];
+export function granted(status) {
+  if (status > 1) return [];
+  return [folded(`What this takes for granted (${GRANTED.length})`, !status, el("ul", {}, GRANTED.map((it) => el("li", {}, it))))];
 }
 
-/**
- * @param {Told} told
- * @param {{sum: string, version: string}} more
- */
-function record(told, more) {
-  const { counts } = told, said = [count(counts.lines, "line")];
+/** @param {Told} told */
+function record({ object: { kind, version, sha256 }, counts }) {
+  const said = [count(counts.lines, "line")];
   const parts = /** @type {[number, string, string?][]} */ ([[counts.rounds, "round"], [counts.slots, "slot"], [counts.heard, "reply", "replies"],
     [counts.quiets, "Stay Quiet"], [counts.cycles, "field cycle"], [counts.listed, "UID listed", "UIDs listed"]]);
   // of a text that isn't a log nothing but its lines is known
-  if (told.answer.kind !== KIND.REFUSED) said.push(...parts.filter(([number]) => number).map((part) => count(...part)));
+  if (kind !== KIND.REFUSED) said.push(...parts.filter(([number]) => number).map((part) => count(...part)));
   return el("footer", { class: "record" }, el("p", {}, said.join(" · ")),
-    el("p", {}, `vicinity ${more.version}`, ...more.sum ? [" · SHA-256 of the log ", el("code", {}, more.sum)] : []),
-    el("p", { class: "signed" }, "Counted on ____________________ by ____________________"));
+    el("p", {}, `vicinity ${version}`, ...sha256 ? [" · SHA-256 of the log ", el("code", {}, sha256)] : []), signed());
+}
+
+/** Who counted, and when: a line on paper. */
+export function signed() {
+  return el("p", { class: "signed" }, "Counted on ____________________ by ____________________");
 }

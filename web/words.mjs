@@ -1,6 +1,6 @@
 /** Numbers, UIDs, masks and lines in words. */
 
-/** @typedef {import("./library.mjs").Mask} Mask */
+/** @typedef {import("./frames.mjs").Mask} Mask */
 
 /** The bits in which UIDs differ; the others are those of E0. */
 export const UID_BITS = 56;
@@ -11,6 +11,9 @@ const E0 = 0xE0n << BigInt(UID_BITS);
  * @param {Mask} mask
  */
 export const uidOf = (mask) => mask.value | E0;
+
+/** What the name of a log ends with of which a line was tried otherwise. */
+export const TRIAL = / \(trial: .*\)$/;
 
 /**
  * 1 tag, 2,000 tags.
@@ -76,6 +79,14 @@ const UNSEEN = { "\0": "NUL", "\t": "TAB", "\r": "CR", "\uFEFF": "BOM", " ": "sp
  */
 export function visible(line) {
   return line.replace(/[\0\t\r\uFEFF]| +$/g, (it) => [...it].map((one) => `‹${UNSEEN[one]}›`).join(""));
+}
+
+/**
+ * A name or a cell without what isn't shown, or changes how the rest is shown.
+ * @param {string} text
+ */
+export function printable(text) {
+  return text.replace(/[\p{C}\u2028\u2029]/gu, (it) => `‹${(it.codePointAt(0) ?? 0).toString(16).toUpperCase().padStart(4, "0")}›`);
 }
 
 /**

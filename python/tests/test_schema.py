@@ -6,6 +6,7 @@ import os
 import jsonschema
 
 from cases import COLLECTION, SHELVES, TOP, Command, here, within
+from helpers.records import drawn_in
 
 
 class Schema(Command):
@@ -30,11 +31,13 @@ class Schema(Command):
         for line in within("survey", *names)[0].splitlines():
             told = json.loads(line)
             yield told, "check" if told["status"] > 1 else "survey"
+        yield from ((drawn_in(command("page", name)[0].decode())[0], "log") for name in names if name != "/nowhere")
         catalogue = os.path.join(COLLECTION, "catalogue.csv")
         place = ["--place", "shelf", "--places", os.path.join(COLLECTION, "places.csv")]
         answers = [here("json", catalogue, *logs, options=place)[0]
                    for logs in (SHELVES, [*SHELVES[:2], *self.names], [*SHELVES, self.names[7]])]
         yield from ((json.loads(answer), "collection") for answer in answers)
+        yield drawn_in(here("page", catalogue, *SHELVES, options=place)[0])[0], "collection"
         old, *others = [self.write(f"{index}.json", answer.encode()) for index, answer in enumerate(answers)]
         for new in others:
             yield json.loads(within("compare", "--json", old, new)[0]), "comparison"
@@ -44,11 +47,11 @@ class Schema(Command):
         for told, kind in self.objects():
             self.assertEqual(self.fits(told, kind), [True, True], told)
             met.add(kind)
-        self.assertEqual(met, {"check", "report", "survey", "collection", "comparison"})
+        self.assertEqual(met, {"check", "report", "survey", "collection", "comparison", "log"})
 
     def test_each_field_is_needed(self):
         for told, kind in {kind: (told, kind) for told, kind in self.objects()}.values():
-            for field in self.schema["$defs"][kind]["required"] if kind == "collection" else told:
+            for field in self.schema["$defs"][kind]["required"] if kind in ("collection", "log") else told:
                 left = {key: value for key, value in told.items() if key != field}
                 self.assertFalse(self.fits(left, kind)[1], (kind, field))
             self.assertFalse(self.fits({**told, "schema": 2}, kind)[1])

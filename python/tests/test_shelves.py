@@ -12,6 +12,7 @@ import json
 import os
 
 from cases import TOP, Command, command, frame, here, within
+from helpers.records import drawn_in
 
 WANTED = os.path.join(TOP, "python/tests/data/shelves")
 ITEMS, EACH = 2000, 50
@@ -158,13 +159,14 @@ class Collection(Command):
 
     def test_page(self):
         said, _, status = self.ask("page")
+        told, plain = drawn_in(said)
         self.assertEqual(status, 2)
-        self.assertIn("Not complete: 5 items are misplaced, 51 items may be missing, 2 tags aren&#x27;t expected "
-                      "and 1 log says nothing.", said)
-        self.assertIn("Count it again (impossible at line 190 of S17.log).", said)
-        for count in ("5</b> misplaced", "20</b> no tag", "40</b> logs", "1</b> log to be counted again"):
-            self.assertIn(count, said)
-        self.assertRegex(said, r"(?s)<h3>Misplaced.*Title, 3</td><td>S01</td><td>S02.log</td><td></td><td>S01</td>")
+        self.assertEqual(plain, wanted("broken.lines"))
+        broken = [log for log in told["logs"] if log["list"]["status"] > 1]
+        self.assertEqual([log["object"]["answer"] for log in broken], ["impossible at line 190"])
+        for part in told.pop("version"), told.pop("name"), *(log.pop("object") for log in told["logs"]):
+            self.assertTrue(part)
+        self.assertEqual(told, self.wanted_object("broken"))
 
     def test_strict_ends_as_the_program_does(self):
         self.assertEqual(self.ask("lines", "--strict"), ("impossible at line 190 of S17.log\n", "", 2))
@@ -176,8 +178,10 @@ class Collection(Command):
                 self.assertEqual((errors, ended), (b"", 2 * (state == "broken" and name == "one.jsonl")))
                 self.write(name, said)
             options = [*self.OPTIONS, "--surveys", "one.jsonl", "two.jsonl"]
-            for form in ("lines", "csv", "json", "page"):
+            for form in ("lines", "csv", "json"):
                 self.assertEqual(here(form, "catalogue.csv", options=options), self.ask(form), form)
+            told, plain = drawn_in(here("page", "catalogue.csv", options=options)[0])
+            self.assertEqual(([log.get("object") for log in told["logs"]], plain), ([None] * len(self.logs), wanted(f"{state}.lines")))
 
     def test_some_logs_and_the_surveys_of_others(self):
         self.write("one.jsonl", within("survey", *self.logs[:25])[0])

@@ -40,7 +40,7 @@ class Surveys(Command):
         for logs in ([*self.names[:7], "/nowhere"], self.names[1:2], *([self.names[1], it] for it in (
                 self.names[6], self.names[7], "/nowhere"))):
             name = self.write("surveys", within("survey", *logs)[0])
-            for form in ("lines", "csv", "json", "page"):
+            for form in ("lines", "csv", "json"):
                 ended = here(form, listed, options=["--surveys", name])
                 self.assertEqual(ended, here(form, listed, *logs), logs)
 

@@ -108,12 +108,13 @@ class Calls(unittest.TestCase):
     def test_the_page_of_a_log(self):
         text = log(ALL + HEARD_A)
         page = vicinity.page(text, "a <b>")
-        self.assertTrue(page.startswith("<!DOCTYPE html>"))
-        self.assertIn("a &lt;b&gt;", page)
+        self.assertTrue(page.startswith("<!doctype html>"))
+        self.assertIn("<title>unlisted E0040100000000A1: a &lt;b&gt;</title>", page)
+        self.assertNotIn("a <b>", page)
         self.assertEqual(page, vicinity.page(bytearray(text), "a <b>"))
         shown = page._repr_html_()
         self.assertRegex(shown, r'\A<iframe srcdoc="[^"]*" style="[^"]*"></iframe>\Z')
-        self.assertIn("&lt;!DOCTYPE html&gt;", shown)
+        self.assertIn("&lt;!doctype html&gt;", shown)
 
     def test_kinds_and_faults_are_enums(self):
         answer = vicinity.check(b"")

@@ -104,6 +104,7 @@ NUMBER, VALUE = ctypes.c_uint32, ctypes.c_uint64
 FRAME = ctypes.POINTER(FrameStruct)
 
 CALLS = {
+    "version": [],
     "check": [*TEXT, *ANSWER],
     "explain": [*TEXT, *ANSWER, *POPULATION],
     "report": [*TEXT, *ANSWER, *FINDINGS],

@@ -107,6 +107,10 @@ class Collection:
         for log in self.logs:
             yield Left([ALL], False) if log.status else Left(*without(log.open_masks, certain, MOST_OPEN))
 
+    def text(self, index: int) -> Optional[bytes]:
+        """The text of a log, if it is still there."""
+        return self._read.text(index)
+
     def shown_by(self) -> dict[int, tuple[int, int]]:
         """For each unlisted UID the first log in which it is certain, and the line that shows it."""
         by_log: dict[int, list[int]] = {}

@@ -100,6 +100,16 @@ class Surveys:
         kept = self.texts.get(index - self.first)
         return certain_lines(read(log.name) if kept is None else kept)
 
+    def text(self, index: int) -> Optional[bytes]:
+        """The text of a log, unless it came as a record, or can't be read again."""
+        name = self.all[index].name
+        if index < self.first or index - self.first not in self.texts and not _is_lasting(name):
+            return None
+        try:
+            return self.texts.get(index - self.first) or read(name)
+        except (NoAnswer, MemoryError):
+            return None
+
 
 def certain_lines(text: bytes) -> Shown:
     """The UIDs that a log makes certain, each with the line that shows it."""

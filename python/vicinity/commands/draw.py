@@ -6,7 +6,7 @@ import os
 import shutil
 
 from .._process import has_colours, has_unicode, read, shown, write
-from ..pages.page import of_log
+from ..pages.log import of_log
 from ..sessions.findings import tell
 from ..sessions.reading import read_session
 from ..sessions.show import MOST_LINES, Look, show

@@ -2,8 +2,9 @@
 from __future__ import annotations
 
 import json
+import os
 from collections import Counter
-from typing import Callable, Iterable, Iterator, Sequence, Union
+from typing import Any, Callable, Iterable, Iterator, Mapping, Sequence, Union
 
 from .._answers import Finding, FindingKind
 from .._fields import SCHEMA, fields, mask_fields
@@ -11,8 +12,12 @@ from .._process import NO_ANSWER, shown
 from ..collections.collection import Collection, Item, Left, State
 from ..collections.surveys import Log
 from ..frames import uid_text
-from ..pages.collection import collection_page
+from ..pages.document import document, version
+from ..pages.log import object_of
+from ..sessions.findings import tell
 
+#: How much text of logs stands in a page.
+MOST_TEXT = 4_000_000
 #: Between the names of logs in a cell, and what stands for it inside of a name.
 BETWEEN, WITHIN = ";", "\\x3b"
 
@@ -63,21 +68,44 @@ def as_csv(found: Collection) -> Iterator[bytes]:
     return found.expected.form.written(row for part in ([head], rows) for row in part)
 
 
-def as_json(found: Collection) -> Iterator[str]:
+def as_json(found: Collection, more: Mapping[str, object] = {}, of_log: Mapping[int, object] = {}) -> Iterator[str]:
     """One object on one line: the answer, how many items there are of each state, the widest mask of which any UID may be
-    there, each item, and each log."""
+    there, each item, and each log; with more fields, and with objects of some logs."""
     unsettled = [mask_fields(it.mask) for it in found.findings if it.kind is FindingKind.UNSETTLED]
     counts = Counter(item.state for item in found.items)
     yield json.dumps({
-        "schema": SCHEMA, **_answer(found), "counts": {state.value: counts[state] for state in State},
+        "schema": SCHEMA, **_answer(found), **more, "counts": {state.value: counts[state] for state in State},
         "unsettled": unsettled[0] if unsettled else None,
         "set_aside": [{**_of_aside(log), "do": log.advice} for log in found.aside]})[:-1] + ', "items": ['
     for index, item in enumerate(found.items):
         yield ", " * (index > 0) + json.dumps(_of_item(found, item))
     yield '], "logs": ['
     for index, (log, left) in enumerate(zip(found.logs, found.left())):
-        yield ", " * (index > 0) + json.dumps(_of_log(log, left))
+        its_own = {"object": of_log[index]} if index in of_log else {}
+        yield ", " * (index > 0) + json.dumps({**_of_log(log, left), **its_own})
     yield "]}\n"
+
+
+def as_page(found: Collection) -> Iterator[str]:
+    """One HTML file: what is written as JSON, drawn, with the logs in it, of many the first that have to be counted again."""
+    name = "standard input" if found.expected.name == "-" else os.path.basename(found.expected.name)
+    plain = [line.rstrip("\n") for line in as_lines(found) if line]
+    return document(f"{shown(name)}: {found.answer}", as_json(found, {"version": version(), "name": name}, _objects(found)), plain)
+
+
+def _objects(found: Collection) -> dict[int, dict[str, Any]]:
+    """Logs with all that a page draws of them, by their places."""
+    left, objects, room = list(found.left()), {}, MOST_TEXT
+    judged = [index for index, log in enumerate(found.logs) if log.answer is not None]
+    for index in sorted(judged, key=lambda it: not left[it].masks):
+        log, text = found.logs[index], found.text(index)
+        room -= len(text or b"")
+        if room < 0:
+            break
+        told = None if text is None else tell(text)
+        if text is not None and told is not None and told.answer == log.answer:
+            objects[index] = object_of(shown(os.path.basename(log.name)), text, told)
+    return objects
 
 
 def _answer(found: Collection) -> dict[str, object]:
@@ -115,4 +143,4 @@ def _named(found: Collection, logs: Sequence[int]) -> list[str]:
 
 
 FORMS: dict[str, Callable[[Collection], Iterator[Union[str, bytes]]]] = {
-    "lines": as_lines, "csv": as_csv, "json": as_json, "page": collection_page}
+    "lines": as_lines, "csv": as_csv, "json": as_json, "page": as_page}

@@ -15,8 +15,7 @@ from ..sessions.quotes import quotes
 from ..sessions.reading import read_session
 from ..sessions.sentence import sentence
 from ..sessions.session import Session
-from ..sessions.todo import of_uid
-from ..sessions.words import ending, uid
+from ..sessions.words import ending, of_uid, uid
 
 #: Of how many findings of each kind the text of the line is quoted.
 MOST = 2000

@@ -13,7 +13,6 @@ from ..collections.collection import Collection
 from ..collections.places import Places, places_of
 from ..collections.surveys import Log, Surveys, certain_lines, record, records
 from ..collections.tables import Wrong
-from ..pages.collection import broken_page
 from .forms import FORMS, set_aside
 from .names import names_of
 
@@ -37,8 +36,8 @@ def reconcile(asked: argparse.Namespace) -> int:
         return REFUSED
     logs = Surveys(names, asked.jobs, asked.strict, recorded)
     broken = next((log for log in logs.all if log.status), None)
-    if asked.strict and broken is not None:
-        write(_ended(asked.form, expected, broken))
+    if asked.strict and broken is not None and (asked.form != "page" or broken.answer is None):
+        write(_ended(asked.form, broken))
         return broken.status
     found = Collection(expected, logs, places)
     if asked.form == "csv":
@@ -61,13 +60,12 @@ def _places(asked: argparse.Namespace, expected: Catalogue, names: list[str]) ->
     return places_of(expected, names, file, asked.encoding)
 
 
-def _ended(form: str, expected: Catalogue, log: Log) -> Iterator[str]:
-    """What is written where a log that is refused or impossible ends it. In CSV it has no place."""
+def _ended(form: str, log: Log) -> Iterator[str]:
+    """What is written where a log that is refused or impossible ends it. In CSV it has no place, and a page shows the logs as
+    far as that one, which is set aside."""
     if log.answer is None:
         raise NoAnswer(log.error)
-    if form == "page":
-        yield from broken_page(log, expected.name)
-    elif form == "json":
+    if form == "json":
         yield json.dumps({"schema": SCHEMA, **fields(log.answer), "file": log.name}) + "\n"
     elif form == "lines":
         yield f"{log.why}\n"

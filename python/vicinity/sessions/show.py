@@ -13,8 +13,7 @@ from .quotes import Quote, quotes
 from .rows import Drawn, Gap, chosen
 from .sentence import sentence
 from .session import FieldCycle, Reading, Round, Session, Slot, StayQuiet
-from .todo import of_uid
-from .words import count, digits_heard, ending, printable, span, uid
+from .words import count, digits_heard, ending, of_uid, printable, span, uid
 
 SIGNS = {Reading.SILENT: "·", Reading.COLLISION: "╳", Reading.GARBLED: "?"}
 #: What replaces a sign outside ASCII.

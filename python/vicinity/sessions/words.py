@@ -70,3 +70,8 @@ def printable(line: bytes) -> str:
     """A line of any text, without anything that a terminal would interpret."""
     text = line.rstrip(b"\r").decode("utf-8", "backslashreplace")
     return "".join(it if it.isprintable() else f"\\x{ord(it):02x}" for it in text) or "(empty)"
+
+
+def of_uid(number: int) -> Mask:
+    """The mask of one UID."""
+    return Mask(UID_BITS, number & (1 << UID_BITS) - 1)

@@ -1,0 +1,143 @@
+"""A page as a person uses it, in a browser: what is said on it, and whether all can read it."""
+import base64
+import json
+import re
+import time
+
+# How long a condition is waited for at most, in seconds, also on a busy machine.
+WAIT = 120
+CONTRAST, TARGET, PHONE = 4.5, 24, 390
+DROP = """
+const data = new DataTransfer(), [files] = arguments;
+for (const [name, text] of files) data.items.add(new File([text], name));
+const how = { dataTransfer: data, bubbles: true, cancelable: true };
+document.dispatchEvent(new DragEvent("drop", how));
+"""
+TEXTS = "return [...document.querySelectorAll(arguments[0])].map((it) => it.innerText)"
+# Each text with its contrast to what is behind it.
+CONTRASTS = """
+const luminance = ([r, g, b]) => [r, g, b].map((it) => it / 255)
+  .map((it) => it <= .04045 ? it / 12.92 : ((it + .055) / 1.055) ** 2.4)
+  .reduce((sum, it, i) => sum + it * [.2126, .7152, .0722][i], 0);
+const colour = (text) => text.match(/[\\d.]+/g).map(Number);
+function behind(element) {
+  const layers = [];
+  for (let it = element; it; it = it.parentElement) {
+    const [r, g, b, a = 1] = colour(getComputedStyle(it).backgroundColor);
+    layers.push([r, g, b, a]);
+    if (a === 1) break;
+  }
+  return layers.reduceRight((under, [r, g, b, a]) =>
+    [r, g, b].map((it, i) => it * a + under[i] * (1 - a)), [255, 255, 255]);
+}
+const found = [], walker = document.createTreeWalker(document.body, NodeFilter.SHOW_TEXT);
+for (let it; (it = walker.nextNode());) {
+  const element = it.parentElement;
+  if (!it.data.trim() || !element.checkVisibility()) continue;
+  if (element.closest("script, .unseen, caption")) continue;
+  const one = luminance(colour(getComputedStyle(element).color));
+  const other = luminance(behind(element));
+  found.push([it.data.trim(), (Math.max(one, other) + .05) / (Math.min(one, other) + .05)]);
+}
+return found;
+"""
+# What can be pressed, with its height and its name.
+TARGETS = """
+return [...document.querySelectorAll("button, summary, label.choose")]
+  .filter((it) => it.checkVisibility())
+  .map((it) => [it.textContent, it.getBoundingClientRect().height]);
+"""
+WIDE = "return document.documentElement.scrollWidth"
+
+
+class Screen:
+    """The page that a browser shows."""
+
+    def __init__(self, browser):
+        self.browser, self.driver = browser, browser.driver
+
+    def open(self, file):
+        """Opens a page anew, and waits until it is drawn."""
+        self.browser.console()
+        self.driver.get_log("performance")
+        self.driver.get(f"file://{file}")
+
+    def end(self):
+        """At the end nothing was fetched, and nothing stands on the console."""
+        self.driver.execute_cdp_cmd("Emulation.setEmulatedMedia", {"media": "", "features": []})
+        self.driver.execute_cdp_cmd("Emulation.clearDeviceMetricsOverride", {})
+        logged = self.driver.get_log("performance")
+        asked = [json.loads(entry["message"])["message"] for entry in logged]
+        kinds = {it["params"]["request"]["url"].partition(":")[0] for it in asked
+                 if it["method"] == "Network.requestWillBeSent"}
+        assert "file" in kinds and kinds <= {"file", "blob", "data"}
+        assert self.browser.console() == []
+
+    def run(self, script, *given):
+        return self.driver.execute_script(script, *given)
+
+    def drop(self, **files):
+        self.drop_files(files)
+
+    def drop_files(self, files):
+        self.run(DROP, [[name, text.decode()] for name, text in files.items()])
+
+    def texts(self, selector):
+        return self.run(TEXTS, selector)
+
+    def said(self):
+        return "\n".join(self.texts("#told"))
+
+    def until(self, selector, words):
+        """Waits for an element with these words."""
+        def is_there():
+            return any(words in text for text in self.texts(selector))
+        self.wait(is_there, lambda: f"{selector}: {words!r} isn't in {self.texts(selector)}")
+
+    @staticmethod
+    def wait(is_so, why=lambda: ""):
+        """Waits for a condition."""
+        end = time.monotonic() + WAIT
+        while not is_so():
+            assert time.monotonic() < end, why()
+            time.sleep(.05)
+
+    def media(self, kind="", scheme="light"):
+        features = [{"name": "prefers-color-scheme", "value": scheme}]
+        self.driver.execute_cdp_cmd("Emulation.setEmulatedMedia",
+                                    {"media": kind, "features": features})
+
+    def on_a_phone(self):
+        size = {"width": PHONE, "height": 800, "deviceScaleFactor": 1, "mobile": True}
+        self.driver.execute_cdp_cmd("Emulation.setDeviceMetricsOverride", size)
+
+    def is_readable(self):
+        """Contrasts of at least 4.5, one heading of the first order, names and 24 pixels for what
+        is pressed; no wider than a phone."""
+        for scheme in "light", "dark":
+            self.media(scheme=scheme)
+            contrasts = self.run(CONTRASTS)
+            assert len(contrasts) > 5
+            assert [it for it in contrasts if it[1] < CONTRAST] == []
+        targets = self.run(TARGETS)
+        assert [it for it in targets if not it[0].strip() or it[1] < TARGET] == []
+        assert len(self.texts("h1")) == 1
+        self.on_a_phone()
+        assert self.run(WIDE) <= PHONE
+        self.driver.execute_cdp_cmd("Emulation.clearDeviceMetricsOverride", {})
+
+    def sheets(self):
+        """How many sheets of paper it takes."""
+        data = self.driver.execute_cdp_cmd("Page.printToPDF", {})["data"]
+        return len(re.findall(rb"/Type /Page\b", base64.b64decode(data)))
+
+    def picture(self, width, last):
+        """What is seen of it until the end of an element, at twice the size, as PNG."""
+        size = {"width": width, "height": width, "deviceScaleFactor": 2, "mobile": False}
+        self.driver.execute_cdp_cmd("Emulation.setDeviceMetricsOverride", size)
+        end = self.run("return document.querySelector(arguments[0]).getBoundingClientRect().bottom",
+                       last)
+        clip = {"x": 0, "y": 0, "width": width, "height": round(end) + 16, "scale": 1}
+        words = {"format": "png", "clip": clip}
+        said = self.driver.execute_cdp_cmd("Page.captureScreenshot", words)
+        return base64.b64decode(said["data"])

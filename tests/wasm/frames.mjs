@@ -1,0 +1,30 @@
+/**
+ * What the pages read of frames and what the library reads, of each line of standard input that is a request's or a reply's:
+ * the lines that differ.
+ *
+ *     node frames.mjs MODULE.wasm <FRAMES
+ */
+import { readFileSync } from "node:fs";
+
+import { inventoryOf, isStayQuiet, linkOf, slotMask, uidIn } from "../../web/frames.mjs";
+import { Library } from "../../web/library.mjs";
+
+const library = await Library.of(readFileSync(process.argv[2]));
+const bytes = (/** @type {string} */ digits) => Uint8Array.from(digits.match(/../g) ?? [], (pair) => parseInt(pair, 16));
+let tried = 0;
+
+/** @param {string} digits */
+function differs(digits) {
+  const request = library.readRequest(bytes(digits)), reply = library.readReply(bytes(digits));
+  tried += Number(!request.fault) + Number(!reply.fault);
+  if (!reply.fault && uidIn(digits) !== reply.uid) return true;
+  if (request.fault) return false;
+  if (linkOf(digits) !== request.link || isStayQuiet(digits) !== (request.slots === 0)) return true;
+  if (request.slots === 0) return uidIn(digits) !== request.uid;
+  const read = inventoryOf(digits), masks = Array.from({ length: request.slots }, (_, slot) => slot);
+  return read.slots !== request.slots || read.mask.len !== request.maskLen || read.mask.value !== request.maskValue ||
+    masks.some((slot) => { const { len, value } = library.slotMask(request, slot), mine = slotMask(read, slot); return mine.len !== len || mine.value !== value; });
+}
+
+const lines = readFileSync(0, "utf8").trim().split("\n"), wrong = lines.filter(differs);
+console.log(JSON.stringify({ tried, wrong }));

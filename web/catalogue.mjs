@@ -1,0 +1,122 @@
+/** What is expected in a collection: a table with a column of UIDs, or a log that only lists them. */
+import { Wrong, columnOf, readTable } from "./tables.mjs";
+import { hex } from "./words.mjs";
+
+/** @typedef {{row: number, uid: bigint | null, cells: string[]}} Entry */
+/** @typedef {{name: string, heads: string[], uidAt: number, entries: Entry[]}} Catalogue */
+/** @typedef {{name: string, text: Uint8Array}} Given a file */
+
+const HEADER = "vicinity-log", OF_UIDS = "uid", PLACE = "place", LOG = "log";
+/** What may be among the digits of a UID, and before them. */
+const BETWEEN = /[\s:\-\u2010-\u2013]/g, BEFORE = /^'?(0x)?/i, DIGITS = /^E0[0-9A-F]{14}$/;
+/** Lines of a log that aren't a list: requests and outcomes. */
+const ASKED = /^[TSRCDF]/m, LISTED = /^U ([0-9A-Fa-f]{16})/gm;
+/** The columns that `reconcile --csv` has added, and the state of rows that it has. */
+const ADDED = ["state", "certain in", "may be in"], UNEXPECTED = "unexpected";
+
+/**
+ * The files of a drop as logs, a catalogue, and which logs are of which place. Without a catalogue all are logs.
+ * @param {Given[]} files
+ */
+export function sorted(files) {
+  const isLog = (/** @type {Given} */ file) => startOf(file).startsWith(HEADER), tables = files.filter((file) => !isLog(file) && looksLikeTable(file));
+  const lists = files.filter((file) => isLog(file) && isList(file));
+  const places = tables.find((file) => { const { heads } = headsOf(file); return heads.includes(PLACE) && heads.includes(LOG); });
+  const expected = [...tables.filter((file) => file !== places), ...tables.length ? [] : lists];
+  if (expected.length !== 1 || files.length < 2) return { logs: files, expected: null, places: null };
+  return { logs: files.filter((file) => file !== places && file !== expected[0]), expected: expected[0], places: places ?? null };
+}
+
+/** @param {Given} file */
+const startOf = (file) => new TextDecoder().decode(file.text.subarray(0, 4096)).replace("\uFEFF", "");
+
+/** @param {Given} file */
+function headsOf(file) {
+  const [first] = startOf(file).replace(/^"?sep=.*\n/i, "").split(/\r?\n/, 1);
+  return { heads: first.replace(/[\0"]/g, "").split(/[,;\t|]/).map((head) => head.trim().toLowerCase()) };
+}
+
+/** @param {Given} file */
+const looksLikeTable = (file) => /\.(csv|tsv)$/i.test(file.name) || headsOf(file).heads.includes(OF_UIDS);
+
+/** @param {Given} file */
+function isList(file) {
+  const text = new TextDecoder().decode(file.text), uids = text.match(LISTED) ?? [];
+  return !ASKED.test(text) && uids.length > 0 && new Set(uids).size === uids.length;
+}
+
+/**
+ * @param {Given} file
+ * @returns {Catalogue}
+ */
+export function readCatalogue(file) {
+  if (startOf(file).startsWith(HEADER)) {
+    const entries = [...new TextDecoder().decode(file.text).matchAll(LISTED)].map(([, digits]) => BigInt(`0x${digits}`))
+      .sort((one, other) => one < other ? -1 : 1).map((uid) => ({ row: 0, uid, cells: [hex(uid)] }));
+    return { name: file.name, heads: [OF_UIDS], uidAt: 0, entries };
+  }
+  const table = withoutAdded(readTable(file.name, file.text)), uidAt = columnOf(table, OF_UIDS), rows = new Map();
+  if (uidAt < 0) throw new Wrong(`${file.name}, row 1: no column is named uid`);
+  const entries = table.rows.map(({ row, cells }) => ({ row, uid: uidOfCell(file.name, row, cells[uidAt]), cells }));
+  for (const { row, uid } of entries) {
+    if (uid !== null && rows.has(uid)) throw new Wrong(`${file.name}, row ${row}: ${hex(uid)} is also in row ${rows.get(uid)}`);
+    if (uid !== null) rows.set(uid, row);
+  }
+  return { name: file.name, heads: table.heads, uidAt, entries };
+}
+
+/**
+ * A table without what an earlier run has added.
+ * @param {import("./tables.mjs").Table} table
+ */
+function withoutAdded(table) {
+  const added = ADDED.map((head) => columnOf(table, head));
+  if (added.includes(-1)) return table;
+  const kept = (/** @type {string[]} */ cells) => cells.filter((_, at) => !added.includes(at));
+  return { ...table, heads: kept(table.heads), rows: table.rows.filter(({ cells }) => cells[added[0]].trim() !== UNEXPECTED)
+    .map(({ row, cells }) => ({ row, cells: kept(cells) })) };
+}
+
+/**
+ * The UID in a cell, or null if it is blank.
+ * @param {string} name
+ * @param {number} row
+ * @param {string} cell
+ */
+function uidOfCell(name, row, cell) {
+  const digits = cell.replace(BETWEEN, "").replace(BEFORE, "").toUpperCase();
+  if (!cell.trim()) return null;
+  if (!DIGITS.test(digits)) throw new Wrong(`${name}, row ${row}: ${cell} isn't a UID: 16 hex digits that begin with E0`);
+  return BigInt(`0x${digits}`);
+}
+
+/**
+ * The logs of each place, by their positions: those that a table names, or else that are named like it.
+ * @param {Given | null} file
+ * @param {string[]} names
+ * @returns {Map<string, number[]>}
+ */
+export function placesOf(file, names) {
+  /** @type {Map<string, number[]>} */
+  const byName = new Map(), places = new Map();
+  const add = (/** @type {Map<string, number[]>} */ to, /** @type {string} */ key, /** @type {number[]} */ logs) =>
+    to.set(key, [...to.get(key) ?? [], ...logs]);
+  names.forEach((name, at) => {
+    for (const key of new Set([name.toLowerCase(), name.toLowerCase().replace(/\.[^.]*$/, "")])) add(byName, key, [at]);
+  });
+  if (!file) return byName;
+  const table = readTable(file.name, file.text), placeAt = columnOf(table, PLACE), logAt = columnOf(table, LOG);
+  for (const { cells } of table.rows) add(places, cells[placeAt].trim().toLowerCase(), byName.get(cells[logAt].trim().toLowerCase()) ?? []);
+  return places;
+}
+
+/**
+ * The column of a catalogue that says where items belong: the one of which most rows name a place, if they are most of all.
+ * @param {Catalogue} catalogue
+ * @param {Map<string, number[]>} places
+ */
+export function placeColumn({ heads, uidAt, entries }, places) {
+  const named = (/** @type {number} */ at) => at === uidAt ? 0 : entries.filter(({ cells }) => places.get(cells[at].trim().toLowerCase())?.length).length;
+  const best = heads.reduce((one, _, at) => named(at) > named(one) ? at : one, 0);
+  return 2 * named(best) > entries.length ? best : -1;
+}

@@ -1,0 +1,241 @@
+/** Draws a collection: what to look for, what to move, what to count again, what is unknown, and each log. */
+import { el, folded } from "./elements.mjs";
+import { KIND } from "./kinds.mjs";
+import { Pane } from "./pane.mjs";
+import { GRANTED } from "./say.mjs";
+import { maskOf, tell } from "./told.mjs";
+import { banner, signed, view } from "./view.mjs";
+import { count, ending, listing, printable } from "./words.mjs";
+
+/** @typedef {import("./told.mjs").LogObject} LogObject */
+/** @typedef {"there" | "misplaced" | "missing" | "not provable" | "unexpected" | "no tag"} State */
+/** @typedef {{uid: string | null, state: State, columns: Record<string, string>, certain_in: string[], may_be_in: string[],
+ *   belongs?: string}} Item */
+/** @typedef {{file: string, certain: number, open: {mask_len: number, mask_value: string, ask?: string}[], more_open: boolean,
+ *   list: {kind: string, status: number, line?: number, error?: string}, object?: LogObject}} OneLog */
+/**
+ * The object of a collection, as docs/answers.schema.json has it.
+ * @typedef {Object} CollectionObject
+ * @property {1} schema
+ * @property {string} version
+ * @property {string} name of the catalogue
+ * @property {string} kind
+ * @property {number} status
+ * @property {Record<string, number>} counts how many items there are of each state
+ * @property {{mask_len: number, mask_value: string} | null} unsettled
+ * @property {{file: string, kind: string, do: string}[]} set_aside
+ * @property {Item[]} items
+ * @property {OneLog[]} logs
+ */
+
+/** How many rows of a table are drawn, how many are seen unfolded, and how many logs and masks are named. */
+const MOST_ROWS = 2000, FEW_ROWS = 40, MOST_NAMES = 3, MOST_MASKS = 3;
+const CANNOT_BE_READ = 4;
+/** How much text of logs stands in a page that is saved. */
+const MOST_TEXT = 4_000_000;
+const LOOK_FOR = "These are in none of the fields. If an item is in plain sight, its tag is broken or covered: move it, and count again. " +
+  "Keep what isn't found in the catalogue.";
+const MOVE = "These are here, but not where they belong.";
+const NOT_EXPECTED = "These tags are here, and aren't in the catalogue: bring them to where they belong, or add them.";
+const NO_TAG = "These rows of the catalogue have no UID, so nothing is known of them: look for them by eye.";
+const UNKNOWN_YET = "Whether these are here isn't known until the logs above are counted again.";
+const COUNT_EACH = "Run the inventory of each again, to its end, in a new log.";
+const OF_LOGS = ["Nothing was carried from one field to another while the logs were written.", "Each place of the catalogue was " +
+  "counted: what stands in a place without a log is called missing."];
+
+/** @param {OneLog} log */
+const isAside = (log) => log.list.status > 1;
+
+/** @param {OneLog} log */
+const isOpen = (log) => log.open.length > 0;
+
+/**
+ * @param {CollectionObject} object
+ * @returns {Node[]}
+ */
+export function collectionView(object) {
+  const of = (/** @type {State} */ state) => object.items.filter((item) => item.state === state);
+  const again = countAgain(object, of("not provable")), first = object.set_aside.length > 0;
+  const said = object.name ? [printable(object.name)] : [];
+  return [banner({ look: isWhole(object) ? "yes" : "no", sign: isWhole(object) ? "✓" : "!", headline: headlineOf(object), lights: lights(object) },
+    [...said, ` · ${count(object.logs.length, "log")}`]),
+    ...first ? again : [],
+    ...items("Look for", LOOK_FOR, of("missing"), {}, true),
+    ...items("Move", MOVE, of("misplaced"), { "is in": (item) => namesOf(item.certain_in), "belongs to": (item) => item.belongs ?? "" }, true),
+    ...first ? [] : again,
+    ...items("Unknown", NOT_EXPECTED, of("unexpected"), { "is in": (item) => namesOf(item.certain_in) }, true),
+    ...items("Without a tag", NO_TAG, of("no tag"), {}, false),
+    ...items("Here, and in place", "", of("there"), { "is in": (item) => namesOf(item.certain_in) }, false),
+    ...logs("Read to the end", "", object.logs.filter((log) => !isOpen(log)), false), ...grantedOfAll(object), recordOfAll(object)];
+}
+
+/**
+ * A collection as it is saved: with so many of its logs as there is room for, those first that have to be counted again.
+ * @param {CollectionObject} object
+ * @returns {CollectionObject}
+ */
+export function withRoom(object) {
+  let room = MOST_TEXT;
+  const ordered = [...object.logs.filter(isOpen), ...object.logs.filter((log) => !isOpen(log))];
+  const kept = new Set(ordered.filter((log) => room >= 0 && (room -= log.object?.text.length ?? 0) >= 0));
+  return { ...object, logs: object.logs.map((log) => kept.has(log) ? log : { ...log, object: undefined }) };
+}
+
+/** @param {CollectionObject} object */
+const isWhole = (object) => object.kind === KIND.COMPLETE && object.status === 0;
+
+/** @param {CollectionObject} object */
+export function headlineOf(object) {
+  const { counts } = object, tags = object.items.filter((item) => item.uid !== null && item.state !== "unexpected").length;
+  const which = counts["no tag"] ? " that have a tag" : "", again = object.logs.filter(isOpen).length;
+  if (isWhole(object)) {
+    if (tags === 0) return "Nothing is expected, and nothing is here.";
+    return tags === 1 ? "The one expected item is here, and no other." : `All ${count(tags, "expected item")}${which} are here, and no others.`;
+  }
+  const parts = /** @type {[number, string][]} */ ([[counts.missing, "missing"], [counts.misplaced, "in the wrong place"],
+    [counts.unexpected, "unknown"], [counts["not provable"], "not known yet"]]);
+  const said = parts.filter(([number]) => number).map(([number, words], at) => at ? `${number.toLocaleString("en")} ${words}`
+    : `${count(number, "item")} ${words}`);
+  const todo = !again ? "" : again < object.logs.length || again === 1 ? `count ${count(again, "log")} again` : "count all logs again";
+  const text = [listing(said), todo].filter((it) => it).join("; ") || "the logs and the catalogue differ";
+  return `${text[0].toUpperCase()}${text.slice(1)}.`;
+}
+
+/**
+ * @param {CollectionObject} object
+ * @returns {import("./say.mjs").Light[]}
+ */
+function lights(object) {
+  const { counts, logs } = object, done = logs.filter((log) => !isOpen(log)).length;
+  const differs = counts.missing || counts.misplaced || counts.unexpected;
+  const value = isWhole(object) ? "matches" : differs ? "differs" : "not known yet";
+  return [{ name: "Read to the end", value: `${done.toLocaleString("en")} of ${count(logs.length, "log")}`, look: done === logs.length ? "yes" : "no" },
+    { name: "Catalogue", value, look: value === "matches" ? "yes" : differs ? "no" : "plain" }];
+}
+
+/**
+ * The logs to be counted again, those first that say nothing, and the items that may be in their fields.
+ * @param {CollectionObject} object
+ * @param {Item[]} unknown
+ */
+function countAgain(object, unknown) {
+  const open = object.logs.filter(isOpen), aside = open.filter(isAside);
+  return [...logs("Count again", COUNT_EACH, [...aside, ...open.filter((log) => !isAside(log))], true),
+    ...items("Not known yet", UNKNOWN_YET, unknown, { "may be in": (item) => namesOf(item.may_be_in) }, false)];
+}
+
+/**
+ * A table of items: what the catalogue says of each, where it is, and last its UID.
+ * @param {string} title
+ * @param {string} words
+ * @param {Item[]} list
+ * @param {Record<string, (item: Item) => string>} where
+ * @param {boolean} open
+ */
+function items(title, words, list, where, open) {
+  if (!list.length) return [];
+  const columns = [...new Set(list.slice(0, MOST_ROWS).flatMap((item) => Object.keys(item.columns)))]
+    .filter((column) => list.some((item) => item.columns[column]));
+  const heads = [...columns, ...Object.keys(where), "UID"];
+  const rows = list.slice(0, MOST_ROWS).map((item) => el("tr", {}, cellsOf(heads, [...columns.map((column) => printable(item.columns[column] ?? "")),
+    ...Object.values(where).map((cell) => cell(item)), el("code", {}, item.uid ?? "none")])));
+  const more = list.length > MOST_ROWS ? [el("p", {}, `and ${(list.length - MOST_ROWS).toLocaleString("en")} more`)] : [];
+  return [folded(`${title} (${list.length.toLocaleString("en")})`, open && list.length <= FEW_ROWS, ...words ? [el("p", {}, words)] : [],
+    table(title, heads, rows), ...more)];
+}
+
+/**
+ * @param {string} caption
+ * @param {string[]} heads
+ * @param {Node[]} rows
+ */
+function table(caption, heads, rows) {
+  return el("table", { class: "items" }, el("caption", {}, caption),
+    el("thead", {}, el("tr", {}, heads.map((head) => el("th", { scope: "col" }, printable(head))))), el("tbody", {}, rows));
+}
+
+/**
+ * Cells that know their heads, for screens on which each row is a card.
+ * @param {string[]} heads
+ * @param {(Node | string)[]} cells
+ */
+function cellsOf(heads, cells) {
+  return cells.map((cell, at) => el(at ? "td" : "th", at ? { "data-head": heads[at] } : { scope: "row" }, cell));
+}
+
+/** @param {string[]} files */
+function namesOf(files) {
+  const more = files.length - MOST_NAMES;
+  return listing([...files.slice(0, more === 1 ? MOST_NAMES + 1 : MOST_NAMES).map(nameOf), ...more > 1 ? [`${more} more`] : []]);
+}
+
+/**
+ * A file without its folders.
+ * @param {string} file
+ */
+const nameOf = (file) => printable(file.split("/").pop() || file);
+
+/**
+ * Logs, each drawn when it is opened.
+ * @param {string} title
+ * @param {string} words
+ * @param {OneLog[]} list
+ * @param {boolean} open
+ */
+function logs(title, words, list, open) {
+  if (!list.length) return [];
+  const more = list.length > MOST_ROWS ? [el("p", {}, `and ${(list.length - MOST_ROWS).toLocaleString("en")} more`)] : [];
+  return [folded(`${title} (${count(list.length, "log")})`, open, ...words ? [el("p", {}, words)] : [],
+    el("ul", { class: "logs" }, list.slice(0, MOST_ROWS).map((log) => el("li", {}, oneLog(log)))), ...more)];
+}
+
+/** @param {OneLog} log */
+function oneLog(log) {
+  const words = [el("b", { title: printable(log.file) }, nameOf(log.file)), ` ${saidOf(log)}`];
+  const { object } = log;
+  if (!object) return el("p", { class: "log" }, words);
+  const it = /** @type {HTMLDetailsElement} */ (el("details", { class: "log aside" }, el("summary", {}, words)));
+  it.addEventListener("toggle", () => {
+    if (it.open && it.childElementCount === 1) it.append(drawnLog(object));
+  });
+  return it;
+}
+
+/**
+ * A log and its text.
+ * @param {LogObject} object
+ */
+function drawnLog(object) {
+  const label = `The text of ${printable(object.file)}`, shown = el("div", {}, view(tell(object), "h3"));
+  const field = /** @type {HTMLTextAreaElement} */ (el("textarea", { class: "text", readonly: "", "aria-label": label }));
+  new Pane(field, shown).put(object.text);
+  return el("div", { class: "both" }, shown, el("div", { class: "beside" }, field));
+}
+
+/**
+ * What a log says, and what is left to ask in its field.
+ * @param {OneLog} log
+ */
+function saidOf({ list, certain, open, more_open, object }) {
+  if (list.status === CANNOT_BE_READ) return `can't be read: ${list.error ?? ""}`;
+  if (list.kind === KIND.REFUSED) return `isn't a log (line ${list.line}), so nothing is known of its field`;
+  if (list.kind === KIND.IMPOSSIBLE) return `contradicts itself (line ${list.line}), so nothing is known of its field`;
+  const proved = `${count(certain, "tag")} proved`;
+  if (!open.length) return proved;
+  // its own masks are wider than what no other log has proved
+  const masks = object?.open.masks ?? open, all = object?.open.count ?? open.length, more = all - MOST_MASKS;
+  const others = more_open && !object ? ["others"] : more > 1 ? [`${more.toLocaleString("en")} others`] : [];
+  return `${proved}; left to ask: ${listing([...masks.slice(0, others.length ? MOST_MASKS : MOST_MASKS + 1).map((mask) => ending(maskOf(mask))), ...others])}`;
+}
+
+/** @param {CollectionObject} object */
+function grantedOfAll(object) {
+  const all = [...OF_LOGS, ...GRANTED];
+  return [folded(`What this takes for granted (${all.length})`, !object.status, el("ul", {}, all.map((it) => el("li", {}, it))))];
+}
+
+/** @param {CollectionObject} object */
+function recordOfAll(object) {
+  return el("footer", { class: "record" }, el("p", {}, `${count(object.items.length, "item")} · ${count(object.logs.length, "log")} · vicinity ${object.version}`),
+    signed());
+}

@@ -1,0 +1,79 @@
+/** The text of a log beside its rounds: a line leads to its cell, and a cell to its line. */
+
+/** A text above this length isn't edited: a few lines around one that is asked for are shown. */
+const MOST_EDITED = 1_000_000, AROUND = 20;
+const NEW_LINE = "\n", LARGE = "This log is too long to be shown here. Press the number of a line to see it.";
+
+export class Pane {
+  /** The text, and the number of the field's first line. */
+  #text = "";
+  #firstLine = 1;
+
+  /**
+   * @param {HTMLTextAreaElement} field
+   * @param {HTMLElement} shown the rounds are somewhere in it
+   * @param {string} [hint] what stands in an empty field; without one it is only read
+   */
+  constructor(field, shown, hint = "") {
+    this.field = field;
+    this.shown = shown;
+    this.hint = hint;
+    shown.addEventListener("click", (event) => {
+      const line = /** @type {HTMLElement} */ (event.target).closest("[data-line]")?.getAttribute("data-line");
+      if (line && this.#text) this.select(Number(line));
+    });
+    document.addEventListener("selectionchange", () => this.mark());
+  }
+
+  /** @param {string} text */
+  put(text) {
+    const isLarge = text.length > MOST_EDITED;
+    this.#text = text;
+    this.#firstLine = 1;
+    this.field.value = isLarge ? "" : text;
+    this.field.readOnly = isLarge || !this.hint;
+    this.field.placeholder = isLarge ? LARGE : this.hint;
+  }
+
+  /** The line in which the cursor is. */
+  get line() {
+    return this.#firstLine - 1 + this.field.value.slice(0, this.field.selectionStart).split(NEW_LINE).length;
+  }
+
+  /** Marks the cell of the line in which the cursor is. */
+  mark() {
+    this.shown.querySelector(".here")?.classList.remove("here");
+    if (document.activeElement === this.field) this.shown.querySelector(`td[data-line="${this.line}"]`)?.classList.add("here");
+  }
+
+  /**
+   * Shows a line, and marks it.
+   * @param {number} line
+   */
+  select(line) {
+    if (!this.field.value || this.#firstLine > 1 || this.field.placeholder === LARGE) this.#excerpt(line);
+    const above = line - this.#firstLine, before = this.field.value.split(NEW_LINE).slice(0, above).join(NEW_LINE).length + (above > 0 ? 1 : 0);
+    const end = this.field.value.indexOf(NEW_LINE, before);
+    this.field.focus();
+    this.field.setSelectionRange(before, end < 0 ? this.field.value.length : end);
+    const height = parseFloat(getComputedStyle(this.field).lineHeight);
+    this.field.scrollTop = Math.max(0, (above - 2) * height);
+    this.mark();
+  }
+
+  /**
+   * Puts the lines around one into the field, of a text that is too long for it.
+   * @param {number} line
+   */
+  #excerpt(line) {
+    const first = Math.max(1, line - AROUND);
+    let from = 0, to = 0;
+    for (let number = 1; number <= line + AROUND && to < this.#text.length; number++) {
+      if (number === first) from = to;
+      const end = this.#text.indexOf(NEW_LINE, to);
+      to = end < 0 ? this.#text.length : end + 1;
+    }
+    this.#firstLine = first;
+    this.field.value = this.#text.slice(from, to);
+  }
+}

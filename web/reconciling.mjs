@@ -1,0 +1,178 @@
+/** The object of a collection, of what the library says of its logs: the same as `python3 -m vicinity reconcile` writes. */
+import { placeColumn, placesOf, readCatalogue } from "./catalogue.mjs";
+import { fields, judge, maskFields } from "./judge.mjs";
+import { FOUND, KIND } from "./kinds.mjs";
+import { UID_BITS, hex } from "./words.mjs";
+
+/** @typedef {import("./library.mjs").Library} Library */
+/** @typedef {import("./frames.mjs").Mask} Mask */
+/** @typedef {import("./catalogue.mjs").Given} Given */
+/** @typedef {import("./collection.mjs").CollectionObject} CollectionObject */
+/** @typedef {import("./collection.mjs").State} State */
+/** @typedef {{object: import("./told.mjs").LogObject, certain: bigint[], open: Mask[], aside: boolean}} Surveyed */
+
+const ALL = { fault: 0, len: 0, value: 0n };
+/** How many of the open masks of a log are told. */
+const MOST_OPEN = 16;
+/** @type {Record<number, State>} */
+const STATES = { [FOUND.ABSENT]: "missing", [FOUND.DOUBTFUL]: "not provable", [FOUND.UNLISTED]: "unexpected" };
+/** @type {State[]} */
+const ALL_STATES = ["there", "misplaced", "missing", "not provable", "unexpected", "no tag"];
+
+/**
+ * The 56 low bits of a number, the lowest first: so ordered, the UIDs in a mask are consecutive.
+ * @param {bigint} number
+ */
+const turned = (number) => BigInt(`0b${[...BigInt.asUintN(UID_BITS, number).toString(2).padStart(UID_BITS, "0")].reverse().join("")}`);
+
+/** Which of many UIDs are in a mask. */
+class Under {
+  /** @param {Iterable<bigint>} uids */
+  constructor(uids) {
+    this.pairs = [...new Set(uids)].map((uid) => ({ key: turned(uid), uid })).sort((one, other) => one.key < other.key ? -1 : 1);
+  }
+
+  /**
+   * The first place of a key that isn't less.
+   * @param {bigint} key
+   */
+  #start(key) {
+    let low = 0, high = this.pairs.length;
+    while (low < high) {
+      const middle = low + high >> 1;
+      if (this.pairs[middle].key < key) low = middle + 1; else high = middle;
+    }
+    return low;
+  }
+
+  /** @param {Mask} mask */
+  of({ len, value }) {
+    const first = turned(value);
+    return this.pairs.slice(this.#start(first), this.#start(first + (1n << BigInt(UID_BITS - len))));
+  }
+}
+
+/**
+ * @param {Library} library
+ * @param {{expected: Given, places: Given | null, logs: Given[]}} given
+ * @returns {Promise<CollectionObject>}
+ */
+export async function reconciled(library, given) {
+  const catalogue = readCatalogue(given.expected), files = given.logs.map((log) => log.name);
+  const uids = catalogue.entries.flatMap(({ uid }) => uid ?? []), logs = [];
+  for (const log of given.logs) logs.push(await surveyed(library, log));
+  const { answer, list } = library.reconcile(uids, logs.flatMap((log) => log.certain), logs.flatMap((log) => log.open.map((mask) => ({ fault: 0, ...mask }))));
+  const items = itemsOf(catalogue, placesOf(given.places, files), logs, list, files), aside = logs.filter((log) => log.aside);
+  const misplaced = items.filter((item) => item.state === "misplaced"), unsettled = list.find((it) => it.kind === FOUND.UNSETTLED);
+  const said = fields(library, answer), worst = Math.max(...aside.map((log) => log.object.status));
+  const first = aside.length ? asideOf(/** @type {Surveyed} */ (aside.find((log) => log.object.status === worst)))
+    : !list.length && misplaced.length ? { status: 1, kind: "misplaced", uid: misplaced[0].uid } : said;
+  return { schema: 1, ...first, version: logs[0].object.version, name: catalogue.name,
+    counts: Object.fromEntries(ALL_STATES.map((state) => [state, items.filter((item) => item.state === state).length])),
+    unsettled: unsettled ? maskFields(unsettled.maskLen, unsettled.maskValue) : null,
+    set_aside: aside.map((log) => ({ ...asideOf(log), do: log.object.kind === KIND.IMPOSSIBLE ? "count it again" : "correct it, or count it again" })),
+    items, logs: leftOf(logs) };
+}
+
+/**
+ * @param {Library} library
+ * @param {Given} log
+ * @returns {Promise<Surveyed>}
+ */
+async function surveyed(library, { name, text }) {
+  const object = await judge(library, text, name), aside = object.status > 1;
+  return aside ? { object, aside, certain: [], open: [ALL] }
+    : { object, aside, certain: library.certain(text).list, open: library.openMasks(text).list };
+}
+
+/** @param {Surveyed} log */
+const asideOf = ({ object }) => ({ file: object.file, ...answerOf(object) });
+
+/**
+ * The fields of a log's answer.
+ * @param {import("./told.mjs").LogObject} object
+ */
+function answerOf({ status, kind, count, line, fault, uid, mask_len, mask_value }) {
+  return /** @type {any} */ (Object.fromEntries(Object.entries({ status, kind, count, line, fault, uid, mask_len, mask_value }).filter(([, it]) => it !== undefined)));
+}
+
+/**
+ * Each row of the catalogue, and then the tags that aren't in it.
+ * @param {import("./catalogue.mjs").Catalogue} catalogue
+ * @param {Map<string, number[]>} places
+ * @param {Surveyed[]} logs
+ * @param {import("./library.mjs").Finding[]} list
+ * @param {string[]} files
+ */
+function itemsOf(catalogue, places, logs, list, files) {
+  const states = new Map(list.flatMap((it) => STATES[it.kind] ? [[it.uid, STATES[it.kind]]] : []));
+  const unlisted = list.filter((it) => it.kind === FOUND.UNLISTED).map((it) => it.uid);
+  const uids = [...catalogue.entries.flatMap(({ uid }) => uid ?? []), ...unlisted], { certain, open } = whereOf(logs, uids);
+  const placeAt = placeColumn(catalogue, places), named = (/** @type {number[]} */ at) => at.map((log) => files[log]);
+  const beside = catalogue.heads.flatMap((head, at) => head && at !== catalogue.uidAt ? [at] : []);
+  const columns = (/** @type {string[]} */ cells) => Object.fromEntries(beside.map((at) => [catalogue.heads[at], cells[at]]));
+  const rows = catalogue.entries.map(({ uid, cells }) => {
+    const belongs = placeAt < 0 ? "" : cells[placeAt].trim(), said = belongs ? { belongs } : {};
+    if (uid === null) return { uid, state: /** @type {State} */ ("no tag"), columns: columns(cells), certain_in: [], may_be_in: [], ...said };
+    const where = certain.get(uid) ?? [], own = new Set(places.get(belongs.toLowerCase()) ?? []);
+    const away = belongs && !where.some((log) => own.has(log));
+    const state = /** @type {State} */ (states.get(uid) ?? (away ? "misplaced" : "there"));
+    const may = (open.get(uid) ?? []).filter((log) => !where.length || own.has(log) || !logs[log].aside);
+    return { uid: hex(uid), state, columns: columns(cells), certain_in: named(where), may_be_in: named(may), ...said };
+  });
+  return [...rows, ...unlisted.map((uid) => ({ uid: hex(uid), state: /** @type {State} */ ("unexpected"), columns: columns(catalogue.heads.map(() => "")),
+    certain_in: named(certain.get(uid) ?? []), may_be_in: named((open.get(uid) ?? []).filter((log) => !logs[log].aside)) }))];
+}
+
+/**
+ * In which logs UIDs are certain, and in which they are possible without that.
+ * @param {Surveyed[]} logs
+ * @param {bigint[]} uids
+ */
+function whereOf(logs, uids) {
+  const certain = /** @type {Map<bigint, number[]>} */ (new Map()), open = /** @type {Map<bigint, number[]>} */ (new Map()), among = new Under(uids);
+  for (const uid of uids) {
+    certain.set(uid, []);
+    open.set(uid, []);
+  }
+  logs.forEach((log, at) => {
+    for (const uid of log.certain) certain.get(uid)?.push(at);
+    for (const mask of log.open) for (const { uid } of among.of(mask)) open.get(uid)?.push(at);
+  });
+  return { certain, open };
+}
+
+/**
+ * Each log with what is left to ask in its field, without UIDs that another makes certain.
+ * @param {Surveyed[]} logs
+ */
+function leftOf(logs) {
+  const certain = new Under(logs.flatMap((log) => log.certain));
+  return logs.map((log) => {
+    const masks = log.aside ? [ALL] : without(log.open, certain);
+    return { file: log.object.file, certain: log.certain.length, open: masks.slice(0, MOST_OPEN).map(({ len, value }) => maskFields(len, value)),
+      more_open: masks.length > MOST_OPEN, list: answerOf(log.object), object: log.object };
+  });
+}
+
+/**
+ * The widest masks of the UIDs that are in one of these masks and aren't taken, the first ones, by length and then by value.
+ * @param {Mask[]} masks
+ * @param {Under} taken
+ */
+function without(masks, taken) {
+  const found = [];
+  let parts = /** @type {Mask[]} */ ([]);
+  for (let len = 0, at = 0; len <= UID_BITS; len++) {
+    const given = [];
+    while (at < masks.length && masks[at].len === len) given.push(masks[at++]);
+    const level = [...parts, ...given].sort((one, other) => one.value < other.value ? -1 : 1);
+    parts = [];
+    for (const mask of level) {
+      if (!taken.of(mask).length) found.push(mask);
+      else if (len < UID_BITS) for (const bit of [0n, 1n]) parts.push({ len: len + 1, value: mask.value | bit << BigInt(len) });
+      if (found.length > MOST_OPEN) return found;
+    }
+  }
+  return found;
+}

@@ -1,0 +1,21 @@
+/** A page that was saved: draws the object that stands in it. */
+import { collectionView, headlineOf } from "./collection.mjs";
+import { at } from "./elements.mjs";
+import { Pane } from "./pane.mjs";
+import { unfoldOnPaper } from "./printing.mjs";
+import { tell } from "./told.mjs";
+import { titleOf, view } from "./view.mjs";
+import { printable } from "./words.mjs";
+
+const object = JSON.parse(at("object").textContent ?? ""), shown = at("told");
+if ("items" in object) {
+  shown.replaceChildren(...collectionView(object));
+  document.title = `${headlineOf(object)} ${printable(object.name)}`;
+} else {
+  const told = tell(object), pane = new Pane(/** @type {HTMLTextAreaElement} */ (at("text")), shown);
+  shown.replaceChildren(...view(told));
+  pane.put(object.text);
+  at("beside").hidden = false;
+  document.title = titleOf(told);
+}
+unfoldOnPaper();

@@ -1,0 +1,93 @@
+/** Tables (CSV) as spreadsheets and library systems save them. */
+
+/** @typedef {{name: string, heads: string[], rows: {row: number, cells: string[]}[]}} Table rows are counted from 1, with that of the heads */
+
+/** Of these the one that makes the most columns of the first row separates the cells. */
+const SEPARATORS = [",", ";", "\t", "|"];
+/** A first line for spreadsheets, which names the separator. */
+const SAYS_SEPARATOR = /^"?sep=(.)"?[ \t]*\r?\n/i;
+/** A cell, with what ends it: in quotes, or not. */
+const QUOTED = /"((?:[^"]|"")*)"/y;
+
+/** Why a file isn't what it should be. */
+export class Wrong extends Error {}
+
+/**
+ * The text of a file: what many spreadsheets save, if it is neither UTF-8 nor begins as UTF-16.
+ * @param {Uint8Array} bytes
+ */
+function decoded(bytes) {
+  const [one, other] = bytes, utf16 = one === 0xFF && other === 0xFE ? "utf-16le" : one === 0xFE && other === 0xFF ? "utf-16be" : "";
+  if (utf16) return new TextDecoder(utf16).decode(bytes);
+  try {
+    return new TextDecoder("utf-8", { fatal: true }).decode(bytes);
+  } catch {
+    return new TextDecoder("windows-1252").decode(bytes);
+  }
+}
+
+/**
+ * @param {string} name
+ * @param {Uint8Array} bytes
+ * @returns {Table}
+ */
+export function readTable(name, bytes) {
+  const whole = decoded(bytes), says = whole.match(SAYS_SEPARATOR), text = says ? whole.slice(says[0].length) : whole;
+  const first = text.split("\n", 1)[0], many = (/** @type {string} */ it) => cellsIn(first, it)[0]?.length ?? 0;
+  const separator = says ? says[1] : SEPARATORS.reduce((best, it) => many(it) > many(best) ? it : best);
+  const [heads = [], ...rows] = cellsIn(text, separator), names = heads.map((head) => head.trim());
+  const twice = names.find((head, at) => head && names.indexOf(head) < at);
+  if (twice) throw new Wrong(`${name}, row 1: two columns are named ${twice}`);
+  return { name, heads: names, rows: rows.map((cells, at) => ({ row: at + 2, cells: fitting(name, names.length, at + 2, cells) }))
+    .filter(({ cells }) => cells.some((cell) => cell.trim())) };
+}
+
+/**
+ * The rows of a text, as cells.
+ * @param {string} text
+ * @param {string} separator
+ */
+function cellsIn(text, separator) {
+  /** @type {string[][]} */
+  const rows = [];
+  let at = 0, cells = /** @type {string[]} */ ([]);
+  while (at < text.length) {
+    QUOTED.lastIndex = at;
+    const quoted = QUOTED.exec(text);
+    if (quoted) at += quoted[0].length;
+    let end = at;
+    while (end < text.length && text[end] !== separator && text[end] !== "\n" && text[end] !== "\r") end++;
+    cells.push((quoted ? quoted[1].replace(/""/g, '"') : "") + text.slice(at, end));
+    at = end + 1;
+    if (text[end] === separator) {
+      if (at >= text.length) cells.push("");
+      else continue;
+    }
+    if (text[end] === "\r" && text[at] === "\n") at++;
+    rows.push(cells);
+    cells = [];
+  }
+  if (cells.length) rows.push(cells);
+  return rows;
+}
+
+/**
+ * A row with a cell for each column.
+ * @param {string} name
+ * @param {number} columns
+ * @param {number} row
+ * @param {string[]} cells
+ */
+function fitting(name, columns, row, cells) {
+  if (cells.slice(columns).some((cell) => cell.trim())) throw new Wrong(`${name}, row ${row}: it has ${cells.length} cells, and row 1 has ${columns}`);
+  return [...cells, ...Array(Math.max(0, columns - cells.length)).fill("")].slice(0, columns);
+}
+
+/**
+ * The place of the only column with a name, in any case; -1 if there is none.
+ * @param {Table} table
+ * @param {string} name
+ */
+export function columnOf(table, name) {
+  return table.heads.findIndex((head) => head.toLowerCase() === name);
+}

@@ -1,0 +1,130 @@
+/**
+ * What is told of a log: what the library says of it, and the rows that show why.
+ *
+ * Nothing here judges. The answer, findings and open masks are those of the library; of the rows only those are picked out that
+ * a finding names, or whose slots overlap what is open.
+ */
+import { causesOf, silencedUnheard } from "./causes.mjs";
+import { conflictOf, isLarge, keyLines } from "./conflict.mjs";
+import { drawn } from "./drawn.mjs";
+import { KIND } from "./kinds.mjs";
+import { Log } from "./log.mjs";
+import { strip } from "./strip.mjs";
+
+/** @typedef {import("./frames.mjs").Mask} Mask */
+/** @typedef {import("./causes.mjs").Cause} Cause */
+/** @typedef {import("./causes.mjs").Silenced} Silenced */
+/** @typedef {import("./conflict.mjs").Conflict} Conflict */
+/** @typedef {import("./drawn.mjs").Gap} Gap */
+/** @typedef {import("./log.mjs").Row} Row */
+/**
+ * The object of a log, as docs/answers.schema.json has it.
+ * @typedef {Object} LogObject
+ * @property {1} schema
+ * @property {string} version of the library
+ * @property {string} file
+ * @property {string} kind
+ * @property {number} status
+ * @property {string} answer the line that `vicinity check` prints
+ * @property {number} [count]
+ * @property {number} [line]
+ * @property {string} [fault]
+ * @property {string} [uid]
+ * @property {number} [mask_len]
+ * @property {string} [mask_value]
+ * @property {number} lines
+ * @property {boolean} ended whether the text ends with an LF
+ * @property {string} sha256 empty where it can't be had
+ * @property {string} text
+ * @property {{kind: string, uid?: string, line?: number}[]} findings the first of each kind, and all lines of a conflict
+ * @property {{absent: number, unlisted: number, doubtful: number}} found how many there are
+ * @property {{count: number, uids: string[]}} certain
+ * @property {{count: number, share: number, masks: {mask_len: number, mask_value: string, ask: string[]}[]}} open
+ * @property {string | null} unnoticed a UID that isn't listed, and could be there
+ */
+/**
+ * @typedef {Object} Told
+ * @property {LogObject} object
+ * @property {string} faulty the refused line
+ * @property {boolean} cycles whether its version has lines for field cycles
+ * @property {Conflict | null} conflict of an impossible log
+ * @property {Mask[]} open the first open masks
+ * @property {Silenced[]} silenced the tags that are open since they were silenced before they were heard
+ * @property {number} quiet how many open masks have no other tags
+ * @property {{open: string[], silenced: string[]}} requests what is left to ask, as lines; at once, and after a field cycle
+ * @property {Cause[]} causes slots in which the other open UIDs would answer, by their rounds
+ * @property {boolean} neverAsked whether some open mask has no such slot
+ * @property {Log["counts"]} counts
+ * @property {(Row | Gap)[]} rows those drawn
+ * @property {import("./strip.mjs").Bar[]} strip the whole session, if not all rows are drawn
+ * @property {string[]} ringed the slots that are marked, as ROUND:NUMBER
+ * @property {number[]} named the lines that are marked
+ */
+
+/** How many lines are marked, and how many requests are told. */
+const MOST_NAMED = 24, MOST_REQUESTS = 64;
+
+/**
+ * @param {{mask_len: number, mask_value: string}} written
+ * @returns {Mask}
+ */
+export function maskOf({ mask_len, mask_value }) {
+  return { len: mask_len, value: mask_value === "-" ? 0n : BigInt(`0x${mask_value}`) };
+}
+
+/**
+ * @param {LogObject} object
+ * @param {Uint8Array} text
+ * @returns {Told}
+ */
+export function tell(object, text = new TextEncoder().encode(object.text)) {
+  const log = new Log(text), refused = object.kind === KIND.REFUSED, line = object.line ?? 0;
+  log.counts.lines = object.lines;
+  /** @type {Told} */
+  const told = { object, faulty: refused && line <= log.lineCount ? log.line(line) : "",
+    cycles: log.line(1).endsWith("2"), conflict: null, open: object.open.masks.map(maskOf), silenced: [], quiet: 0,
+    requests: { open: [], silenced: [] }, causes: [], neverAsked: false, counts: log.counts, rows: [], strip: [], ringed: [], named: [] };
+  if (!refused) explain(log, told);
+  return told;
+}
+
+/**
+ * Adds what shows why.
+ * @param {Log} log
+ * @param {Told} told
+ */
+function explain(log, told) {
+  const { object, open } = told, lines = linesOf(object, "conflict");
+  if (object.kind === KIND.IMPOSSIBLE) told.conflict = conflictOf(log, lines, linesOf(object, "silenced by")[0] ?? 0);
+  const { masks, tags } = silencedUnheard(log, open), quiet = new Set(masks), asks = object.open.masks.map((mask) => mask.ask);
+  const asked = (/** @type {boolean} */ silenced) => asks.filter((_, at) => quiet.has(open[at]) === silenced)
+    .slice(0, MOST_REQUESTS).flat();
+  const { causes, rows, neverAsked } = causesOf(log, open.filter((mask) => !quiet.has(mask)));
+  Object.assign(told, { silenced: tags, quiet: masks.length, causes, neverAsked,
+    requests: { open: asked(false), silenced: asked(true) } });
+  told.named = named(told);
+  told.ringed = causes.flatMap((cause) => cause.slots.map((number) => `${cause.round}:${number}`));
+  told.rows = drawn(log, told.named, rows, !isLarge(told.conflict));
+  if (told.rows.some((row) => row.kind === "gap")) told.strip = strip(log, new Set([...rows, ...told.named.map((line) => log.rowAt(line))]));
+}
+
+/**
+ * The lines that findings of a kind have.
+ * @param {LogObject} object
+ * @param {string} kind
+ */
+function linesOf(object, kind) {
+  return object.findings.filter((it) => it.kind === kind).map((it) => it.line ?? 0);
+}
+
+/**
+ * The lines that are marked: those that findings name, the first few and the last; those that a conflict is told by; and Stay
+ * Quiets to tags that weren't heard. Without a list the findings are all tags that are there, and none is marked.
+ * @param {Told} told
+ */
+function named({ object, conflict, silenced, counts }) {
+  const shown = [...linesOf(object, KIND.ABSENT), ...counts.listed ? linesOf(object, KIND.UNLISTED) : []];
+  const lines = [...shown, ...silenced.map((it) => it.line)];
+  const marked = new Set([...keyLines(conflict), ...lines.slice(0, MOST_NAMED), ...lines.slice(-1)]);
+  return [...marked].sort((one, other) => one - other);
+}
