@@ -5,7 +5,7 @@ import os
 
 import jsonschema
 
-from cases import COLLECTION, SHELVES, TOP, Command, here, within
+from cases import COLLECTION, SHELVES, TOP, Command, command, here, within
 from helpers.records import drawn_in
 
 
