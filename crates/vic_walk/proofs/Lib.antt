@@ -11,4 +11,5 @@ mod Lines
 mod PartUids
 mod OpenAnswers
 mod Ending
+mod GoingBack
 mod ClosedKeys
