@@ -5,6 +5,7 @@
 
 mod answers;
 mod closed;
+mod lacking;
 pub mod laws;
 mod marks;
 mod parts;
@@ -13,6 +14,7 @@ mod walk;
 
 pub use answers::{Answering, open_answers};
 pub use closed::closed_keys;
+pub use lacking::first_lack;
 pub use marks::Marks;
 pub use parts::{Parts, Span};
 pub use walk::{LogWalk, Walk, walk_log};
