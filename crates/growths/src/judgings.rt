@@ -49,15 +49,6 @@ impl OpenSet for Telling {
         self.set.has_each(alloc, keys)
     }
 
-    fn up_to_three_besides(
-        &self,
-        alloc: Global,
-        mask: &Mask,
-        keys: &[u64],
-    ) -> Result<ArrayVec<Uid, 3>, AllocError> {
-        self.set.up_to_three_besides(alloc, mask, keys)
-    }
-
     fn widest_besides(self, keys: &[u64]) -> Result<Option<Mask>, AllocError> {
         let Telling { set, block: _ } = self;
         set.widest_besides(keys)

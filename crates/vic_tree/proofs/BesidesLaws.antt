@@ -1,5 +1,5 @@
 -- Ranges of keys without some keys.
-use Rattle.vic_tree.proofs.Words.{◌≡◌, ℕ, ◌+◌, ◌-◌, ◌^◌, ◌<◌, ◌≤◌, ◌⊎◌, ◌↔◌, inl, inr, Bool, true, false, List, Option, Some, None, IfNone, IfSome, min, refl, sym, ap, subst, ◌∙◌, arith, pow_pos, cases_lt, has, BitMask, IsMask, lies_in, mirror, uid_of, mirror_of_uid, Gathers, AllOpen, IsAtMost, IsWidest, SameUids, has_key, without_keys, is_open_in, HoldsMask, IsFirstRun, IsFreeBetween, is_left, nat_tests, or_parts, is_uid, AllKeysPass, ComesFirstIn, IsFoundBelow, IsFreeInRanges, IsMaskIn, IsWidestBelow, is_left_out}
+use Rattle.vic_tree.proofs.Words.{◌≡◌, ℕ, ◌+◌, ◌-◌, ◌^◌, ◌<◌, ◌≤◌, ◌⊎◌, ◌↔◌, inl, inr, Bool, true, false, List, Option, Some, None, [], IfNone, IfSome, min, refl, sym, ap, subst, ◌∙◌, arith, pow_pos, cases_lt, has, BitMask, IsMask, lies_in, mirror, uid_of, mirror_of_uid, Gathers, AllOpen, IsAtMost, IsWidest, SameUids, without_keys, is_open_in, HoldsMask, IsFirstRun, IsFreeBetween, is_left, nat_tests, is_uid, AllKeysPass, ComesFirstIn, IsFoundBelow, IsFreeInRanges, IsMaskIn, IsWidestBelow}
 use Rattle.vic_tree.proofs.BlockLaws.{key_in_mask, mask_ends}
 use Rattle.vic_tree.proofs.GatheringLaws.{gathers_both, gathers_like}
 use Rattle.vic_tree.proofs.RangeLaws.{inside_is, is_inside}
@@ -8,20 +8,20 @@ use Rattle.vic_tree.proofs.RangeLaws.{inside_is, is_inside}
 pub in_run : (p : ℕ → Bool) (from x y k : ℕ) → IsFirstRun p from x y → p k ≡ true → k < y + 2 → (k < from) ⊎ ((x ≤ k) × (k ≤ y))
 in_run p from x y k run t lt = grind (arith, nat_tests, run.before k, run.ends)
 
--- a UID is left if it's free, and is in a range and not removed if it's left
-free_is_left : (rs : List (ℕ × ℕ)) (except keys : List ℕ) (first last u : ℕ) → IsFreeInRanges rs first last (is_left_out except keys) u → is_left rs keys (mirror u) ≡ true
-free_is_left rs except keys first last u w = rw (w.is_open, (or_parts (has except u) (has_key keys u) w.free).1) refl
+-- a UID is left if it's free
+free_is_left : (rs : List (ℕ × ℕ)) (except : List ℕ) (first last u : ℕ) → IsFreeInRanges rs first last (has except) u → is_left rs [] (mirror u) ≡ true
+free_is_left rs except first last u w = rw w.is_open refl
 
 -- the UIDs of a run are gathered
-pub run_gathered : (rs : List (ℕ × ℕ)) (except keys : List ℕ) (first last from x y to : ℕ) (old out new : List ℕ) → IsFirstRun (is_left rs keys) from x y → x ≤ y → to ≡ min y last → first ≤ from
-    → Gathers (λ u. IsFreeInRanges rs first last (is_left_out except keys) u × (mirror u < from)) old out
+pub run_gathered : (rs : List (ℕ × ℕ)) (except : List ℕ) (first last from x y to : ℕ) (old out new : List ℕ) → IsFirstRun (is_left rs []) from x y → x ≤ y → to ≡ min y last → first ≤ from
+    → Gathers (λ u. IsFreeInRanges rs first last (has except) u × (mirror u < from)) old out
     → Gathers (IsFreeBetween x to (has except)) out new
-    → Gathers (λ u. IsFreeInRanges rs first last (is_left_out except keys) u × (mirror u < y + 2)) old new
-run_gathered rs except keys first last from x y to old out new run forward is low g h =
+    → Gathers (λ u. IsFreeInRanges rs first last (has except) u × (mirror u < y + 2)) old new
+run_gathered rs except first last from x y to old out new run forward is low g h =
     gathers_both
-    (λ u. IsFreeInRanges rs first last (is_left_out except keys) u × (mirror u < from))
+    (λ u. IsFreeInRanges rs first last (has except) u × (mirror u < from))
     (IsFreeBetween x to (has except))
-    (λ u. IsFreeInRanges rs first last (is_left_out except keys) u × (mirror u < y + 2))
+    (λ u. IsFreeInRanges rs first last (has except) u × (mirror u < y + 2))
     old out new
     (λ u w. (w.0, let a = run.begins in omega (arith, w.1)))
     (λ u w.
@@ -30,23 +30,23 @@ run_gathered rs except keys first last from x y to old out new run forward is lo
       record { is_uid = w.is_uid; is_open = grind (arith, nat_tests, w.inside, pass); inside = grind (arith, nat_tests, w.inside); free = grind (arith, nat_tests, w.inside, w.free, pass) },
       grind (arith, nat_tests, w.inside),
     ))
-    (λ u w. elim (in_run (is_left rs keys) from x y (mirror u) run (free_is_left rs except keys first last u w.0) w.1) [
+    (λ u w. elim (in_run (is_left rs []) from x y (mirror u) run (free_is_left rs except first last u w.0) w.1) [
       | inl lt ↦ inl (w.0, lt)
       | inr at ↦ inr (record { is_uid = w.0.is_uid; inside = grind (arith, nat_tests, w.0.inside); free = grind (arith, nat_tests, w.0.free) })
     ])
     g h
 
 -- all are gathered
-pub all_gathered : (rs : List (ℕ × ℕ)) (except keys : List ℕ) (first last from : ℕ) (old new : List ℕ) → ((k : ℕ) → from ≤ k → k ≤ last → is_left rs keys k ≡ false)
-    → Gathers (λ u. IsFreeInRanges rs first last (is_left_out except keys) u × (mirror u < from)) old new
-    → Gathers (IsFreeInRanges rs first last (is_left_out except keys)) old new
-all_gathered rs except keys first last from old new none g =
+pub all_gathered : (rs : List (ℕ × ℕ)) (except : List ℕ) (first last from : ℕ) (old new : List ℕ) → ((k : ℕ) → from ≤ k → k ≤ last → is_left rs [] k ≡ false)
+    → Gathers (λ u. IsFreeInRanges rs first last (has except) u × (mirror u < from)) old new
+    → Gathers (IsFreeInRanges rs first last (has except)) old new
+all_gathered rs except first last from old new none g =
     gathers_like
-    (λ u. IsFreeInRanges rs first last (is_left_out except keys) u × (mirror u < from))
-    (IsFreeInRanges rs first last (is_left_out except keys))
+    (λ u. IsFreeInRanges rs first last (has except) u × (mirror u < from))
+    (IsFreeInRanges rs first last (has except))
     old new
     (λ u w. w.0)
-    (λ u w. let t = free_is_left rs except keys first last u w in (w, grind (arith, nat_tests, none (mirror u), w.inside)))
+    (λ u w. let t = free_is_left rs except first last u w in (w, grind (arith, nat_tests, none (mirror u), w.inside)))
     g
 
 -- ---- the widest mask

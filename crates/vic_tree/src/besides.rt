@@ -3,10 +3,11 @@
 ghost use Rattle.std.specs.Prelude.{◌≡◌, ℕ, false, IfOk, IfSome, IfNone};
 ghost use Rattle.std.specs.List.Sorted.{IsNonDecreasing, IsStrictlyIncreasing};
 ghost use Rattle.vic_frame.specs.LowBitsFirst.{IsKey};
+ghost use Rattle.vic_frame.specs.Uids.{has};
 ghost use Rattle.vic_tree.specs.Gathering.{Gathers};
 ghost use Rattle.vic_tree.specs.OpenSet.{AreKeys, IsWidest, SameUids, without_keys};
 ghost use Rattle.vic_tree.specs.Ranges.{AreRanges, in_ranges, is_open_in};
-ghost use Rattle.vic_tree.specs.inner.Ranges.{IsFreeInRanges, is_left, is_left_out};
+ghost use Rattle.vic_tree.specs.inner.Ranges.{IsFreeInRanges, is_left};
 
 use crate::blocks::widest_with;
 use crate::gather_keys::gather_keys;
@@ -38,25 +39,22 @@ pub(crate) fn ranges_left(
     Ok(runs)
 }
 
-/// Appends the UIDs whose keys are from `first` to `last`, in some ranges and not removed, and that
-/// aren't exceptions, until there are three. In each call `except` or `removed` is empty.
+/// Appends the UIDs whose keys are from `first` to `last` and in some ranges, and that aren't
+/// exceptions, until there are three.
 pub(crate) fn gather_left(
     out: &mut ArrayVec<Uid, 3>,
     except: &[Uid],
-    removed: &[u64],
     ranges: &[KeyRange],
     first: u64,
     last: u64,
 )
     requires rising { IsStrictlyIncreasing except.now }
-    requires keys { AreKeys removed.now }
-    requires order { IsNonDecreasing removed.now }
     requires ranges { AreRanges ranges.now }
     requires small { IsKey last }
-    ensures { Gathers (IsFreeInRanges ranges.now first last
-        (is_left_out except.now removed.now)) out.old.items out.new.items }
+    ensures { Gathers (IsFreeInRanges ranges.now first last (has except.now))
+        out.old.items out.new.items }
 {
-    let mut left = Runs::new(first, from_key(ranges, first), removed);
+    let mut left = Runs::new(first, from_key(ranges, first), &[]);
     while let Some(run) = left.next_run() {
         if last < run.first() || out.is_full() {
             return;

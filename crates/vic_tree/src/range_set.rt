@@ -77,14 +77,7 @@ impl OpenSet for RangeSet {
     fn up_to_three(&self, mask: &Mask, except: &[Uid]) -> ArrayVec<Uid, 3> {
         let mut found = ArrayVec::new();
         if let Some(block) = keys_of(mask) {
-            gather_left(
-                &mut found,
-                except,
-                &[],
-                &self.ranges,
-                block.first,
-                block.last(),
-            );
+            gather_left(&mut found, except, &self.ranges, block.first, block.last());
         }
         found
     }
@@ -101,26 +94,6 @@ impl OpenSet for RangeSet {
             each.push(is_in_first(ahead, *key))?;
         }
         Ok(each)
-    }
-
-    fn up_to_three_besides(
-        &self,
-        _alloc: Global,
-        mask: &Mask,
-        keys: &[u64],
-    ) -> Result<ArrayVec<Uid, 3>, AllocError> {
-        let mut found = ArrayVec::new();
-        if let Some(block) = keys_of(mask) {
-            gather_left(
-                &mut found,
-                &[],
-                keys,
-                &self.ranges,
-                block.first,
-                block.last(),
-            );
-        }
-        Ok(found)
     }
 
     fn widest_besides(self, keys: &[u64]) -> Result<Option<Mask>, AllocError> {

@@ -10,5 +10,6 @@ mod Steps
 mod Lines
 mod PartUids
 mod OpenAnswers
-mod Ending
+pub mod Ending
+pub mod GoingBack
 mod ClosedKeys

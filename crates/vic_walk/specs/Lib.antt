@@ -4,4 +4,5 @@ pub mod Cuts
 pub mod Walk
 pub mod Needs
 pub mod Answers
+pub mod Met
 pub mod inner

@@ -1,4 +1,4 @@
--- How many tags the slot lines of a log require without naming them.
+-- How many tags, at least, the slot lines of a log require without naming them.
 use Rattle.std.specs.Prelude.{ℕ, Option, Some, None, List, slice_get}
 use Rattle.vic_log.specs.declared.entry.Entry.{Entry}
 use Rattle.vic_log.specs.declared.entry.Entry.TheVariants.{Sent, Silent, Collision, Heard, Listed, Garbled, FieldCycle}

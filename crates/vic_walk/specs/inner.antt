@@ -6,3 +6,4 @@ pub mod Spans
 pub mod Ready
 pub mod PartUids
 pub mod RangesTo
+pub mod Reach

@@ -7,6 +7,7 @@ mod answers;
 mod closed;
 mod gathered;
 mod index;
+mod lacking;
 pub mod laws;
 mod marks;
 mod parts;
@@ -15,6 +16,7 @@ mod walk;
 
 pub use answers::{Answering, open_answers};
 pub use closed::closed_keys;
+pub use lacking::first_lack;
 pub use marks::Marks;
 pub use parts::{Parts, Span};
 pub use walk::{LogWalk, Walk, walk_log};

@@ -1,11 +1,11 @@
 -- The UIDs of a range that aren't exceptions, the masks whose keys lie in a range, and runs of keys
 -- that pass a test.
-use Rattle.std.specs.Prelude.{◌≡◌, ℕ, ◌+◌, ◌-◌, ◌*◌, ◌^◌, ◌<◌, ◌≤◌, ◌&&◌, Bool, true, false, not, ◌||◌, List, Option, Some, None}
+use Rattle.std.specs.Prelude.{◌≡◌, ℕ, ◌+◌, ◌-◌, ◌*◌, ◌^◌, ◌<◌, ◌≤◌, ◌&&◌, Bool, true, false, not, List, Option, Some, None}
 use Rattle.vic_frame.specs.declared.uid.TheConstants.{UID_BITS}
 use Rattle.vic_frame.specs.Uids.{IsUid, has}
 use Rattle.vic_frame.specs.Masks.{BitMask, IsMask}
 use Rattle.vic_frame.specs.LowBitsFirst.{mirror}
-use Rattle.vic_tree.specs.OpenSet.{IsAtMost, has_key}
+use Rattle.vic_tree.specs.OpenSet.{IsAtMost}
 use Rattle.vic_tree.specs.Ranges.{is_between, in_ranges}
 
 -- a UID of a range of keys that isn't an exception
@@ -21,10 +21,6 @@ pub record IsFreeInRanges (rs : List (ℕ × ℕ)) (first last : ℕ)
   pub is_open : in_ranges rs (mirror u) ≡ true
   pub inside : is_between first last (mirror u) ≡ true
   pub free : is_except u ≡ false
-
--- the UID is left out: it is an exception, or its key is in the list
-abbrev pub is_left_out : List ℕ → List ℕ → ℕ → Bool
-is_left_out except keys u = has except u || has_key keys u
 
 -- how many keys agree in their highest `len` bits
 abbrev pub block_size : ℕ → ℕ

@@ -1,11 +1,11 @@
-use Rattle.vic_tree.proofs.Words.{◌<◌, ◌≤◌, ◌+◌, ◌-◌, ◌^◌, mirror, Gathers, PassFrom, is_left, IsFreeInRanges, is_left_out}
+use Rattle.vic_tree.proofs.Words.{◌<◌, ◌≤◌, ◌+◌, ◌-◌, ◌^◌, mirror, Gathers, PassFrom, [], has, is_left, IsFreeInRanges}
 use Rattle.vic_tree.proofs.besides.gather_left.Given as goal
 
 abbrev pub invariant-loop-run : goal.invariant-loop-run
 invariant-loop-run l = record {
   low : l.first ≤ l.left.0;
-  pass : PassFrom (is_left l.ranges l.removed) l.left;
-  gathers : Gathers (λ u. IsFreeInRanges l.ranges l.first l.last (is_left_out l.except l.removed) u × (mirror u < l.left.0)) l.initial.out.items l.out.items;
+  pass : PassFrom (is_left l.ranges []) l.left;
+  gathers : Gathers (λ u. IsFreeInRanges l.ranges l.first l.last (has l.except) u × (mirror u < l.left.0)) l.initial.out.items l.out.items;
 }
 
 abbrev pub decreases-loop-run : goal.decreases-loop-run

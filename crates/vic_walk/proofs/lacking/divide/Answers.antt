@@ -1,0 +1,37 @@
+use Rattle.std.proofs.Common.{Global, Vec, rules}
+use Rattle.std.proofs.lemmas.List.Sorted.{IsNonDecreasingBy-from_sort_by_key, list_any-IsPermutation}
+use Rattle.vic_walk.specs.inner.Reach.{lasts_to}
+use Rattle.vic_walk.proofs.Words.{◌≡◌, ℕ, ◌∙◌, Bool, true, false, not, arith, length, length-set, nat_eq, slice_index, sym, ap, has, is_marked, List}
+use Rattle.vic_walk.proofs.GoingBack.{more_parts, no_part, push_part, put_part}
+use Rattle.vic_walk.proofs.lacking.divide.Goals as goal
+use Rattle.vic_walk.proofs.lacking.divide.Goals.{then-lasts, else-lasts+in_ok-push}
+
+pub loop-part-preserved : goal.loop-part-preserved
+loop-part-preserved c =
+    let l = c.loop-part in
+    let ends = c.args.ends.now in
+    let here = lasts_to c.args.upto (slice_index ends l.part) in
+    elim c.if-lasts.branch [
+      | then-lasts w ↦
+          let it : here ≡ true = sym c.lasts.ensures ∙ w.if-lasts.true in
+          record {
+            room = ap length (w.kept-is ∙ w.put.ensures) ∙ length-set l.kept l.part true ∙ l.invariant.room;
+            kept = λ p. more_parts (λ q. lasts_to c.args.upto (slice_index ends q)) l.part p _ _ (l.invariant.kept p) (ap (λ (m : List Bool). is_marked m p) (w.kept-is ∙ w.put.ensures) ∙ put_part l.kept l.part p here it (omega (arith, l.invariant.room, c.loop-part-test.true)));
+            ruled = λ p. more_parts (λ q. not (lasts_to c.args.upto (slice_index ends q))) l.part p _ _ (l.invariant.ruled p) (ap (λ (v : Vec ℕ Global). has v.items p) w.ruled-is ∙ no_part p l.part (has l.ruled.items p) (not here) (ap not it));
+          }
+      | else-lasts+in_ok-push w ↦
+          let it : here ≡ false = sym c.lasts.ensures ∙ w.if-lasts.false in
+          record {
+            room = ap length w.kept-is ∙ l.invariant.room;
+            kept = λ p. more_parts (λ q. lasts_to c.args.upto (slice_index ends q)) l.part p _ _ (l.invariant.kept p) (ap (λ (m : List Bool). is_marked m p) w.kept-is ∙ no_part p l.part (is_marked l.kept p) here it);
+            ruled = λ p. more_parts (λ q. not (lasts_to c.args.upto (slice_index ends q))) l.part p _ _ (l.invariant.ruled p) (ap (λ (v : Vec ℕ Global). has v.items p) w.ruled-is ∙ ap (λ (ps : List ℕ). has ps p) w.in_ok-push.ensures.items ∙ push_part l.ruled.items l.part p (not here) (ap not it));
+          }
+    ]
+
+pub returns-clause-ruled : goal.returns-clause-ruled
+returns-clause-ruled c =
+    let end : c.loop-part.part ≡ length c.args.ends.now = omega (arith, c.loop-part-test.false, c.loop-part.auto.part-end) in
+    record {
+      order = IsNonDecreasingBy-from_sort_by_key (λ (p : ℕ). slice_index c.args.ends.now p) _ c.sort_unstable_by_key.ensures.sorted (λ a r q k. search rules);
+      ruled = λ p. sym (list_any-IsPermutation (nat_eq p) _ _ c.sort_unstable_by_key.ensures.permutation) ∙ rw (← end) (c.loop-part.invariant.ruled p);
+    }

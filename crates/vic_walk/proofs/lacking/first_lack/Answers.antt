@@ -1,0 +1,58 @@
+use Rattle.vic_walk.proofs.Words.{◌≡◌, ◌∙◌, Some, Entry, ap, arith, length, length-map, slice_index, sym}
+use Rattle.vic_log.specs.declared.entry.LogLine.{LogLine}
+use Rattle.vic_log.specs.Order.{entries}
+use Rattle.vic_walk.specs.inner.Spans.{IsPlace}
+use Rattle.vic_walk.specs.inner.Reach.{AreEndsUpTo, IsBackTo}
+use Rattle.vic_walk.proofs.Ending.{open_to_end}
+use Rattle.vic_walk.proofs.GoingBack.{has_reach, lack_next, met_next}
+use Rattle.vic_walk.proofs.Lines.{entry_at}
+use Rattle.vic_walk.proofs.lacking.first_lack.Goals as goal
+
+pub loop-index-init : goal.loop-index-init
+loop-index-init c =
+    let es = entries c.args.lines.now in
+    let w = c.requires.walk in
+    let ends = c.args.walk.now.ends.items in
+    let r = c.in_ok-reach.ensures in
+    let known : AreEndsUpTo c.args.parts.now es c.args.upto ends = λ u p i is at le. open_to_end es w.position u (slice_index ends p) i (w.ends u p is at) (let far = w.far in omega (arith, le, far)) in
+    record {
+      ruled = (rw c.deref.ensures.value at r.reach).ruled;
+      ready = (rw c.deref.ensures.value at r.ready) c.args.parts.now es (sym w.room) known;
+      rounds = c.first-rounds.ensures es;
+      back = omega (arith, r.upto);
+      met = λ j below. absurd (omega (arith, below));
+      lack = λ less. absurd (omega (arith, less, r.upto));
+    }
+
+pub pass-requires-clause-reach : goal.pass-requires-clause-reach
+pass-requires-clause-reach c =
+    let l = c.loop-index.invariant in
+    rw c.deref-in-loop-index.ensures.value (has_reach c.args.parts.now (entries c.args.lines.now) c.args.walk.now.ends.items c.loop-index.index c.loop-index.reach (sym c.requires.walk.room) l.ruled l.ready)
+
+pub loop-index-preserved : goal.loop-index-preserved
+loop-index-preserved c =
+    let es = entries c.args.lines.now in
+    let l = c.loop-index in
+    let here = entry_at c.args.lines.now l.index c.index-lines-index.result c.loop-index-test.true c.index-lines-index.is ∙ ap (λ (e : Entry). Some e) (sym c.item-entry.ensures) in
+    let place : IsPlace c.args.parts.now es l.index c.item-entry.result l.rounds = record { here = here; valid = c.requires.valid; rounds_here = l.invariant.rounds; borders = c.requires.borders; cut = c.requires.cut } in
+    let ready = rw (← c.deref-in-loop-index.ensures.value) at l.invariant.ready in
+    let back : IsBackTo es l.index l.reach.upto c.pass.new.self.upto = c.in_ok-pass.ensures.back es place ready in
+    record {
+      ruled = rw c.deref-in-loop-index.ensures.value at c.in_ok-pass.ensures.ruled;
+      ready = rw c.deref-in-loop-index.ensures.value at (c.in_ok-pass.ensures.ready es place ready);
+      rounds = c.advance.ensures es l.index c.requires.order here l.invariant.rounds;
+      back = let le = back.back in omega (arith, le, l.invariant.back);
+      met = met_next es l.index l.reach.upto c.pass.new.self.upto back l.invariant.met;
+      lack = lack_next es l.index l.reach.upto c.pass.new.self.upto c.args.upto back l.invariant.lack;
+    }
+
+pub returns-then-reach-index-clause-met : goal.returns-then-reach-index-clause-met
+returns-then-reach-index-clause-met c j below = c.loop-index.invariant.met j (omega (arith, below, c.if-reach-index.true)) below
+
+pub returns-clause-met : goal.returns-clause-met
+returns-clause-met c j below =
+    let long = length-map c.args.lines.now (λ (x : LogLine). x.item) in
+    let w = c.requires.walk in
+    let far = w.far in
+    let within = w.within in
+    c.loop-index.invariant.met j (omega (arith, long, far, within, below, c.loop-index.invariant.back, c.loop-index-test.false, c.loop-index.auto.index-end)) below

@@ -1,0 +1,267 @@
+//! The first position at which an unread slot lacks tags.
+
+ghost use Rattle.std.specs.Prelude.{◌≡◌, ◌+◌, ◌<◌, ◌≤◌, ◌&&◌, ◌||◌, not, ℕ, Bool, true, false, List, IfOk, OnOk, drop, length, nat_lt, slice_index, take};
+ghost use Rattle.std.specs.List.Sorted.{IsNonDecreasingBy};
+ghost use Rattle.vic_frame.specs.Uids.{has};
+ghost use Rattle.vic_log.specs.declared.entry.Entry.{Entry as EntryValue};
+ghost use Rattle.vic_log.specs.Order.{AreValid, IsInOrder, entries};
+ghost use Rattle.vic_walk.specs.Borders.{AreBorders, part_count};
+ghost use Rattle.vic_walk.specs.Cuts.{AreCut};
+ghost use Rattle.vic_walk.specs.Marked.{is_marked};
+ghost use Rattle.vic_walk.specs.Met.{AreMetBefore, HasEndsPast};
+ghost use Rattle.vic_walk.specs.Needs.{needs, needs_at};
+ghost use Rattle.vic_walk.specs.inner.Reach.{AreEndsUpTo, AreRuled, HasReach, IsBackTo, IsReachAt, lasts_to};
+ghost use Rattle.vic_walk.specs.inner.Ready.{IsReadyAt};
+ghost use Rattle.vic_walk.specs.inner.Spans.{IsPlace, IsSpanAt};
+
+use crate::marks::Marks;
+use crate::parts::{Parts, Span};
+use crate::three::up_to_three;
+use crate::walk::{Walk, span_of};
+use std::alloc::{AllocError, Global};
+use vic_log::{Entry, PackedLine, RoundCursor};
+
+/// How far a log is possible, as far as its unread slots are looked at.
+#[derive(Drop)]
+struct Reach {
+    /// Each of these slots is met by the UIDs that are open before this position.
+    upto: usize,
+    /// Which of the parts that are open there are Ready at the entry looked at, and which Quiet.
+    kept: Walk,
+    /// The same of all parts.
+    all: Walk,
+    /// The parts that aren't open there, in the order of their ends.
+    ruled: Vec<usize>,
+}
+
+impl Reach {
+    /// Before the first entry, for parts with these ends.
+    fn start(alloc: Global, ends: &[u32], upto: usize) -> Result<Reach, AllocError>
+        ensures reach { IfOk result (HasReach ends.now) }
+        ensures upto { IfOk result (λ r. r.upto ≡ upto) }
+        ensures ready { IfOk result (λ r. (bs : List ℕ) (es : List EntryValue)
+            → part_count bs ≡ length ends.now → AreEndsUpTo bs es upto ends.now
+            → IsReachAt bs es ends.now 0 r) }
+    {
+        let (kept, ruled) = divide(alloc, ends, upto)?;
+        Ok(Reach {
+            upto,
+            kept: all_ready(alloc, kept)?,
+            all: all_ready(alloc, Marks::all(alloc, ends.len())?)?,
+            ruled,
+        })
+    }
+
+    /// Goes past an entry. If too few of the open UIDs meet it, goes back first.
+    fn pass(
+        &mut self,
+        parts: &Parts,
+        ends: &[u32],
+        rounds: &RoundCursor,
+        at: usize,
+        entry: &Entry,
+    ) -> Result<(), AllocError>
+        requires borders { AreBorders parts.now }
+        requires count { part_count parts.now ≡ length ends.now }
+        requires reach { HasReach ends.now self.old }
+        ensures ruled { OnOk result (AreRuled ends.now self.new.upto self.new.ruled.items) }
+        ensures back { OnOk result ((es : List EntryValue)
+            → IsPlace parts.now es at entry.now rounds.now
+            → IsReachAt parts.now es ends.now at self.old
+            → IsBackTo es at self.old.upto self.new.upto) }
+        ensures ready { OnOk result ((es : List EntryValue)
+            → IsPlace parts.now es at entry.now rounds.now
+            → IsReachAt parts.now es ends.now at self.old
+            → IsReachAt parts.now es ends.now (at + 1) self.new) }
+    {
+        match *entry {
+            Entry::Sent(request) => {
+                self.kept.pass_request(parts, &request)?;
+                self.all.pass_request(parts, &request)?;
+                Ok(())
+            }
+            Entry::FieldCycle => {
+                self.kept.wake();
+                self.all.wake();
+                Ok(())
+            }
+            Entry::Collision => {
+                self.meet(parts, ends, span_of(parts, rounds), at, 2)?;
+                Ok(())
+            }
+            Entry::Garbled => {
+                self.meet(parts, ends, span_of(parts, rounds), at, 1)?;
+                Ok(())
+            }
+            Entry::Silent | Entry::Heard(_) | Entry::Listed(_) => Ok(()),
+        }
+    }
+
+    /// Goes back until as many open UIDs answer in a slot as it needs, or else to its own position.
+    fn meet(
+        &mut self,
+        parts: &Parts,
+        ends: &[u32],
+        span: Span,
+        at: usize,
+        need: usize,
+    ) -> Result<(), AllocError>
+        requires borders { AreBorders parts.now }
+        requires within { span.to ≤ part_count parts.now }
+        requires count { part_count parts.now ≡ length ends.now }
+        requires reach { HasReach ends.now self.old }
+        ensures reach { OnOk result (HasReach ends.now self.new) }
+        ensures back { OnOk result ((es : List EntryValue) → IsSpanAt parts.now es at span
+            → needs_at es at ≡ need → IsReachAt parts.now es ends.now at self.old
+            → IsBackTo es at self.old.upto self.new.upto) }
+        ensures ready { OnOk result ((es : List EntryValue) (i : ℕ)
+            → IsReachAt parts.now es ends.now i self.old
+            → IsReachAt parts.now es ends.now i self.new) }
+    {
+        while at < self.upto {
+            if need <= up_to_three(parts, &self.kept.lasting, span).len() {
+                return Ok(());
+            }
+            self.step_back(ends)?;
+        }
+        Ok(())
+    }
+
+    /// Goes back by one position: the parts that it rules out are open before it.
+    fn step_back(&mut self, ends: &[u32]) -> Result<(), AllocError>
+        requires some { 0 < self.old.upto }
+        requires reach { HasReach ends.now self.old }
+        ensures reach { OnOk result (HasReach ends.now self.new) }
+        ensures upto { OnOk result (self.new.upto + 1 ≡ self.old.upto) }
+        ensures ready { OnOk result ((bs : List ℕ) (es : List EntryValue) (i : ℕ)
+            → part_count bs ≡ length ends.now → IsReachAt bs es ends.now i self.old
+            → IsReachAt bs es ends.now i self.new) }
+    {
+        let left = count_below(&self.ruled, ends, self.upto);
+        self.upto -= 1;
+        add_parts(&mut self.kept, &self.all.lasting, &self.ruled[left..])?;
+        self.ruled.truncate(left);
+        Ok(())
+    }
+}
+
+/// The first position at which an unread slot lacks tags, at most `upto`: before it each unread slot
+/// is met by the UIDs that are open there, and before the next position this isn't so. The walk has
+/// passed all entries before `upto`.
+pub fn first_lack(
+    alloc: Global,
+    lines: &[PackedLine],
+    parts: &Parts,
+    walk: &Walk,
+    upto: usize,
+) -> Result<usize, AllocError>
+    requires order { IsInOrder (entries lines.now) }
+    requires valid { AreValid (entries lines.now) }
+    requires borders { AreBorders parts.now }
+    requires cut { AreCut parts.now (entries lines.now) }
+    requires walk { HasEndsPast parts.now (entries lines.now) upto walk.now }
+    ensures upto { IfOk result (λ m. m ≤ upto) }
+    ensures met { IfOk result (λ m. AreMetBefore (entries lines.now) m) }
+    ensures lack { IfOk result (λ m. m < upto → AreMetBefore (entries lines.now) (m + 1) → ⊥) }
+{
+    let mut reach = Reach::start(alloc, &walk.ends, upto)?;
+    let mut rounds = RoundCursor::first();
+    for index in 0..lines.len() {
+        if reach.upto <= index {
+            return Ok(reach.upto);
+        }
+        let entry = lines[index].item();
+        reach.pass(parts, &walk.ends, &rounds, index, &entry)?;
+        rounds.advance(&entry);
+    }
+    Ok(reach.upto)
+}
+
+/// A walk before the first entry over some parts: all of them are Ready.
+fn all_ready(alloc: Global, parts: Marks) -> Result<Walk, AllocError>
+    ensures lasting { IfOk result (λ w. w.lasting ≡ parts) }
+    ensures quiet { IfOk result (λ w. (p : ℕ) → has w.quiet.items p ≡ false) }
+{
+    Ok(Walk {
+        lasting: parts,
+        quiet: Vec::new(alloc),
+        ends: Vec::new(alloc),
+        heard: Marks::none(alloc, 0)?,
+    })
+}
+
+/// By the ends of all parts, those that are open before a position, and the others in the order of
+/// their ends.
+fn divide(alloc: Global, ends: &[u32], upto: usize) -> Result<(Marks, Vec<usize>), AllocError>
+    ensures room { IfOk result (λ r. length r.0 ≡ length ends.now) }
+    ensures kept { IfOk result (λ r. (p : ℕ) → is_marked r.0 p
+        ≡ (nat_lt p (length ends.now) && lasts_to upto (slice_index ends.now p))) }
+    ensures ruled { IfOk result (λ r. AreRuled ends.now upto r.1.items) }
+{
+    let mut kept = Marks::none(alloc, ends.len())?;
+    let mut ruled = Vec::new(alloc);
+    for part in 0..ends.len() {
+        if lasts(ends[part], upto) {
+            kept.put(part);
+        } else {
+            ruled.push(part)?;
+        }
+    }
+    ruled.sort_unstable_by_key(|part| end_of(ends, *part));
+    Ok((kept, ruled))
+}
+
+/// Whether a part with this end is open before a position.
+fn lasts(end: u32, position: usize) -> bool
+    ensures { result ≡ lasts_to position end }
+{
+    end == 0 || position < end as usize
+}
+
+/// The end of a part.
+fn end_of(ends: &[u32], part: usize) -> u32
+    ensures { result ≡ slice_index ends.now part }
+{
+    match ends.get(part) {
+        Some(end) => *end,
+        None => 0,
+    }
+}
+
+/// How many of some parts, in the order of their ends, end before a position.
+fn count_below(parts: &[usize], ends: &[u32], position: usize) -> usize
+    requires order { IsNonDecreasingBy (λ p. slice_index ends.now p) parts.now }
+    ensures within { result ≤ length parts.now }
+    ensures below { (p : ℕ) → has (take result parts.now) p ≡ true
+        → slice_index ends.now p < position }
+    ensures rest { (p : ℕ) → has (drop result parts.now) p ≡ true
+        → position ≤ slice_index ends.now p }
+{
+    let mut count = parts.len();
+    while count > 0 {
+        if (end_of(ends, parts[count - 1]) as usize) < position {
+            return count;
+        }
+        count -= 1;
+    }
+    0
+}
+
+/// Adds parts to a walk: marks them if they are Ready, and lists them as Quiet if they aren't.
+fn add_parts(walk: &mut Walk, ready: &Marks, parts: &[usize]) -> Result<(), AllocError>
+    requires { (p : ℕ) → has parts.now p ≡ true → p < length walk.old.lasting }
+    ensures lasting { OnOk result ((p : ℕ) → is_marked walk.new.lasting p
+        ≡ (is_marked walk.old.lasting p || (has parts.now p && is_marked ready.now p))) }
+    ensures quiet { OnOk result ((p : ℕ) → has walk.new.quiet.items p
+        ≡ (has walk.old.quiet.items p || (has parts.now p && not (is_marked ready.now p)))) }
+    ensures room { OnOk result (length walk.new.lasting ≡ length walk.old.lasting) }
+{
+    for part in parts {
+        if ready.has(*part) {
+            walk.lasting.put(*part);
+        } else {
+            walk.quiet.push(*part)?;
+        }
+    }
+    Ok(())
+}
