@@ -4,8 +4,7 @@ A few lines of C (tests/c/refuse.c) come between a built program and the C libra
 allocation with one number. A run in which none is refused shows how many there are; each is then
 refused in a run of its own: those of the program's commands on some logs, and those of
 crates/growths, which makes each call that takes memory and that no command makes. By the number of
-sets that are made it is seen that no log is judged more than four times: the search for the first
-impossible line begins at the line itself, wherever it stands."""
+sets that are made it is seen that no log is judged more than once."""
 import random
 import re
 import resource
@@ -43,9 +42,6 @@ SIZES, STEP, ANSWERED = 10, 256 * 1024, (0, 4)
 # How many silent rounds of two lines stand around a contradiction, each of another tag, and how
 # many of their lines behind a late one.
 ROUNDS, LAST_LINES = 3000, 200
-# How often a log is judged at most. A search from nothing, by halving, would judge a dozen
-# beginnings of 6,000 lines.
-MOST_JUDGINGS = 4
 # How many random impossible logs are judged, in how many parts. How many lines, or the like, the
 # shapes have that were made to hurt.
 IMPOSSIBLE, PARTS = 2000, 5
@@ -174,18 +170,18 @@ def judged(growths, refuse, text):
     """How often a log is judged, and whether it is impossible, from which line on."""
     times, _, answer = counted(growths, refuse, given=text.encode())
     # where the replies aren't borne out no set is made
-    fewest, most = (0, MOST_JUDGINGS) if answer.startswith("impossible") else (1, 1)
-    assert fewest <= times <= most, f"{answer} judged {times} times:\n{text[:2000]}"
+    fewest = 0 if answer.startswith("impossible") else 1
+    assert fewest <= times <= 1, f"{answer} judged {times} times:\n{text[:2000]}"
     return answer
 
 
 @pytest.mark.parametrize("name", HOSTILE)
-def test_a_log_made_to_hurt_is_judged_a_few_times(growths, refuse, name):
+def test_a_log_made_to_hurt_is_judged_once(growths, refuse, name):
     judged(growths, refuse, hostile(name))
 
 
 @pytest.mark.parametrize("part", range(PARTS))
-def test_random_logs_are_judged_a_few_times(growths, refuse, part):
+def test_random_logs_are_judged_once(growths, refuse, part):
     rng, left = random.Random(f"7 {part}"), IMPOSSIBLE // PARTS
     while left:
         text = random_logs.text_of(*random_logs.contradicted(rng)).decode()

@@ -1,7 +1,5 @@
 //! At which lines of a log UIDs are ruled out.
 
-ghost use Rattle.std.specs.Prelude.{◌≤◌, IfOk};
-
 use crate::marks::Marks;
 use crate::parts::Parts;
 use crate::steps::{Found, Span, Step};
@@ -16,13 +14,10 @@ const NEVER: u32 = u32::MAX;
 pub(crate) struct Fates {
     /// For each part, the number of the line that rules it out.
     ends: Vec<u32>,
-    /// The parts that are ruled out, in the order of these lines.
-    ruled_out: Vec<u32>,
     /// The parts that are Ready.
     ready: Marks,
-    /// Those of them that no line before `end` rules out.
+    /// Those of them that no line rules out.
     lasting: Marks,
-    end: u32,
     /// The parts that are Quiet.
     quiet: Vec<u32>,
 }
@@ -32,10 +27,8 @@ impl Fates {
     pub(crate) fn new(alloc: Global, count: u32) -> Result<Fates, AllocError> {
         Ok(Fates {
             ends: vec![in alloc; NEVER; count as usize]?,
-            ruled_out: Vec::new(alloc),
             ready: Marks::all(alloc, count)?,
             lasting: Marks::all(alloc, count)?,
-            end: NEVER,
             quiet: Vec::new(alloc),
         })
     }
@@ -51,7 +44,7 @@ impl Fates {
         for part in &self.quiet {
             self.ready.put(*part);
             if let Some(end) = self.ends.get(*part as usize) {
-                if self.end <= *end {
+                if *end == NEVER {
                     self.lasting.put(*part);
                 }
             }
@@ -60,18 +53,16 @@ impl Fates {
     }
 
     /// Rules out, by a line, the parts of a span that are neither Quiet nor ruled out before.
-    fn rule_out(&mut self, span: Span, line: u32) -> Result<(), AllocError> {
+    fn rule_out(&mut self, span: Span, line: u32) {
         for _ in span.from..span.to {
             let Some(part) = self.lasting.first(span.from, span.to) else {
-                return Ok(());
+                return;
             };
             if let Some(end) = self.ends.get_mut(part as usize) {
                 *end = line;
             }
             self.lasting.take(part);
-            self.ruled_out.push(part)?;
         }
-        Ok(())
     }
 
     /// Walks over all steps, and notes what each slot rules out.
@@ -80,10 +71,10 @@ impl Fates {
             match *step {
                 Step::Quiet(part) => self.silence(part)?,
                 Step::Wake => self.wake(),
-                Step::Slot(line, span, Found::Nobody) => self.rule_out(span, line)?,
+                Step::Slot(line, span, Found::Nobody) => self.rule_out(span, line),
                 Step::Slot(line, span, Found::One(part)) => {
-                    self.rule_out(span.before(part), line)?;
-                    self.rule_out(span.after(part), line)?;
+                    self.rule_out(span.before(part), line);
+                    self.rule_out(span.after(part), line);
                 }
                 Step::Slot(_, _, Found::Some | Found::Two) => {}
             }
@@ -136,57 +127,6 @@ impl Fates {
                 None => true,
             },
         }
-    }
-
-    /// Makes one more part last: the last one that was ruled out, unless that was before a line.
-    /// Returns whether it did.
-    fn go_back(&mut self, line: u32) -> bool {
-        let Some(part) = self.ruled_out.last().copied() else {
-            return false;
-        };
-        let end = self.end(part);
-        if end < line {
-            return false;
-        }
-        self.ruled_out.pop();
-        self.end = end;
-        if self.ready.has(part) {
-            self.lasting.put(part);
-        }
-        true
-    }
-
-    /// Goes back until a slot has enough parts for what was found in it, or to its own line.
-    fn go_back_to(&mut self, line: u32, span: Span, found: Found, parts: &Parts) {
-        for _ in 0..self.ruled_out.len() + 1 {
-            if !self.lacks(span, found, parts) {
-                return;
-            }
-            if !self.go_back(line) {
-                self.end = line;
-                return;
-            }
-        }
-    }
-
-    /// The number of the first line at which some slot has too few parts left, `u32::MAX` if none
-    /// does. Each slot is looked at once, with the parts that last up to the line found before: if
-    /// these are too few, that line is earlier, and more parts last.
-    pub(crate) fn first_lack(&mut self, steps: &[Step], parts: &Parts) -> Result<u32, AllocError> {
-        self.wake();
-        for step in steps {
-            match *step {
-                Step::Quiet(part) => self.silence(part)?,
-                Step::Wake => self.wake(),
-                Step::Slot(line, span, found) => {
-                    if self.end <= line {
-                        return Ok(self.end);
-                    }
-                    self.go_back_to(line, span, found, parts);
-                }
-            }
-        }
-        Ok(self.end)
     }
 
     /// The index of the first step whose slot has too few parts, if one does. The parts that are

@@ -1,5 +1,4 @@
-//! Guesses about a log: where it became impossible, which lines rule UIDs out, and which lines
-//! contradict each other.
+//! Guesses about a log: which lines rule UIDs out, and which lines contradict each other.
 //!
 //! Each guess walks over the lines a few times, whatever they are, and is right as far as tests
 //! show. Nothing is promised about it, except that it takes memory from the allocator and reports a
@@ -11,7 +10,6 @@ mod absent;
 mod conflict;
 mod course;
 mod fates;
-mod impossible;
 mod marks;
 mod parts;
 mod steps;
@@ -19,4 +17,3 @@ mod waiting;
 
 pub use absent::guess_ruling_lines;
 pub use conflict::guess_conflict;
-pub use impossible::guess_impossible_line;

@@ -1,5 +1,5 @@
 -- What surveys tell together is what their logs tell.
-use Rattle.vic_reconcile.proofs.Words.{◌≡◌, ℕ, ◌+◌, List, [], ◌∷◌, take, drop, Bool, true, false, refl, sym, subst, ◌∙◌, inl, inr, ⊎_elim, ◌↔◌, MatchOption, All, Any, Contains, AllZip, list_any, IsStrictlyIncreasing, and_from, and_parts, both_ways, or_cases, or_left, or_right, take-append-drop, All-contains, All-head, Any-from_list_any, list_any-from_Any, IsUid, has, BitMask, lies_in, SameUids, without_keys, is_open_in, LogLine, AreDifferences, IsFailing, IsListOf, SameMembers, IsFirstMask, NoSuch, AreFacts, AreListed, all_findings, doubtful_list, list_as, none_of, IsCertainUid, IsPossibleUid, IsAbsent, IsDoubtful, IsUnlisted, IsUnsettled, IsWhole, AreAll, IsOpenMask, held, Entry, Differences, Contradiction, IsContradiction, IsPossible, IsUid-in, lies_in-uid_in, uid_in, IsPossible-front, AreFindingsBy, AreNoneOf, AreOpenIn, AreTogether, IsAmong, IsSurvey, IsToldBy, IsUnsettledBy, MayBe, ◌⊎◌, slice_get-get_or}
+use Rattle.vic_reconcile.proofs.Words.{◌≡◌, ℕ, List, [], ◌∷◌, Bool, true, false, refl, sym, subst, ◌∙◌, inl, inr, ⊎_elim, ◌↔◌, MatchOption, All, Any, Contains, AllZip, list_any, IsStrictlyIncreasing, and_from, and_parts, both_ways, or_cases, or_left, or_right, All-contains, All-head, Any-from_list_any, list_any-from_Any, IsUid, has, BitMask, lies_in, SameUids, without_keys, is_open_in, LogLine, AreDifferences, IsFailing, IsListOf, SameMembers, IsFirstMask, NoSuch, AreFacts, AreListed, all_findings, doubtful_list, list_as, none_of, IsCertainUid, IsPossibleUid, IsAbsent, IsDoubtful, IsUnlisted, IsUnsettled, IsWhole, AreAll, IsOpenMask, held, Differences, IsUid-in, lies_in-uid_in, uid_in, AreFindingsBy, AreNoneOf, AreOpenIn, AreTogether, IsAmong, IsSurvey, IsToldBy, IsUnsettledBy, MayBe, ◌⊎◌, slice_get-get_or}
 use Rattle.vic_reconcile.specs.declared.surveys.PlainFindings.{PlainFindings}
 use Rattle.vic_reconcile.specs.declared.surveys.Survey.{Survey}
 use Rattle.vic_reconcile.proofs.Families.{IsCertainIn, IsCertainUid-iff, IsPossibleLog, family_of, any_back, any_zip, beside, certain_is_possible}
@@ -7,10 +7,6 @@ use Rattle.vic_reconcile.proofs.Reconciling.{nothing_is_whole}
 use Rattle.vic_reconcile.proofs.Telling.{IsOpenIn, possible_iff}
 
 -- ---- the survey of a log
-
-pub impossible_log : (es : List Entry) (c : Contradiction) → IsContradiction es c → IsPossible es → ⊥
-impossible_log es c h p =
-    h.impossible.impossible (IsPossible-front (take (c.at + 1) es) (drop (c.at + 1) es) (subst IsPossible (sym (take-append-drop (c.at + 1) es)) p))
 
 -- a set without UIDs has no open mask
 no_masks : (set : ℕ → Bool) (ms : List BitMask) → SameUids set (λ _. false) → AreAll (IsOpenMask set) ms → ms ≡ []

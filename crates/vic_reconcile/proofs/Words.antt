@@ -23,7 +23,6 @@ pub use Rattle.vic_log.proofs.Places.{CouldHaveGiven-slots, slice_get-append, sl
 pub use Rattle.vic_log.proofs.Sets.{IsUid-member, has_at, has_cases, has_here, has_there}
 pub use Rattle.vic_log.specs.Order.{entries, listed}
 pub use Rattle.vic_log.specs.Slots.{slots_of}
-pub use Rattle.vic_log.specs.declared.entry.Entry.{Entry}
 pub use Rattle.vic_log.specs.declared.entry.LogLine.{LogLine}
 pub use Rattle.vic_tree.proofs.BoolLaws.{or_false}
 pub use Rattle.vic_tree.proofs.OpenMaskLaws.{held}
@@ -36,14 +35,13 @@ pub use Rattle.vic_verdict.proofs.Differing.{AreFacts, AreListed, all_findings, 
 pub use Rattle.vic_verdict.proofs.Failing.{head_least, list_as, member_at, none_of, place_of}
 pub use Rattle.vic_verdict.proofs.Masks.{IsUid-in, lies_in-uid_in, mask_of, mask_of-alone, mask_of-value, uid_in}
 pub use Rattle.vic_verdict.proofs.Populations.{MustHave-cases, MustHave-iff, population_without}
-pub use Rattle.vic_verdict.proofs.Possibility.{IsCertainUid-slots, IsPossible-front, IsPossible-slots}
-pub use Rattle.vic_verdict.proofs.Verdicts.{first_lines}
+pub use Rattle.vic_verdict.proofs.Possibility.{IsCertainUid-slots, IsPossible-slots}
+pub use Rattle.vic_verdict.proofs.Verdicts.{first_lines, possible_to}
 pub use Rattle.vic_verdict.specs.Differences.{AreDifferences, IsLeftOpen}
 pub use Rattle.vic_verdict.specs.Keys.{AreKeysOf}
-pub use Rattle.vic_verdict.specs.Possible.{IsContradiction, IsPossible}
+pub use Rattle.vic_verdict.specs.Possible.{IsPossible}
 pub use Rattle.vic_verdict.specs.Rising.{IsFailing, IsListOf, SameMembers}
 pub use Rattle.vic_verdict.specs.Verdict.{IsFirstMask, NoSuch}
-pub use Rattle.vic_verdict.specs.declared.facts.Contradiction.{Contradiction}
 pub use Rattle.vic_verdict.specs.declared.findings.Differences.{Differences}
 pub use Rattle.vic_report.proofs.AllFindings.{all_from_has, open_set}
 pub use Rattle.vic_report.specs.Findings.{ShowsCertain, uids_of}

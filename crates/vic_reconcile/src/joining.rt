@@ -23,9 +23,7 @@ use vic_frame::Uid;
 use vic_log::{Entry, Log, PackedLine};
 use vic_report::{ShownUid, lines_of_certain};
 use vic_tree::RangeSet;
-use vic_verdict::{
-    Facts, count_listed, facts_of, first_impossible_line, keys_in_order, listed_uids,
-};
+use vic_verdict::{Facts, count_listed, facts_of, keys_in_order, listed_uids};
 
 impl Reconciliation {
     /// Begins with the list of what is expected: the UIDs that a log lists which has no other
@@ -107,10 +105,7 @@ impl Reconciliation {
                 self.join(&facts, lines)?;
                 Ok(None)
             }
-            Err(contradiction) => {
-                let line = first_impossible_line::<RangeSet>(self.alloc, lines, contradiction)?;
-                Ok(Some(line))
-            }
+            Err(line) => Ok(Some(line)),
         }
     }
 

@@ -18,10 +18,7 @@ use vic_frame::{Mask, Uid};
 use vic_log::{Log, PackedLine};
 use vic_tree::RangeSet;
 use vic_tree::rising::put_in_order;
-use vic_verdict::{
-    Facts, Verdict, compare, facts_of, first_finding, first_impossible_line, keys_in_order,
-    missing_from,
-};
+use vic_verdict::{Facts, Verdict, compare, facts_of, first_finding, keys_in_order, missing_from};
 
 /// What is left of a log without its lines.
 #[derive(Drop)]
@@ -58,14 +55,11 @@ fn survey_lines(alloc: Global, lines: &[PackedLine]) -> Result<Survey, AllocErro
 {
     match facts_of::<RangeSet>(alloc, lines)? {
         Ok(facts) => survey_facts(alloc, facts, lines),
-        Err(contradiction) => {
-            let line = first_impossible_line::<RangeSet>(alloc, lines, contradiction)?;
-            Ok(Survey {
-                verdict: Verdict::Impossible { line },
-                certain: Vec::new(alloc),
-                left: RangeSet::of_masks(alloc, &[])?,
-            })
-        }
+        Err(line) => Ok(Survey {
+            verdict: Verdict::Impossible { line },
+            certain: Vec::new(alloc),
+            left: RangeSet::of_masks(alloc, &[])?,
+        }),
     }
 }
 

@@ -3,11 +3,9 @@
 ghost use Rattle.std.specs.Prelude.{◌≡◌, ℕ, ◌≤◌, IfOk, length, true};
 ghost use Rattle.std.specs.List.Sorted.{IsStrictlyIncreasing};
 ghost use Rattle.vic_frame.specs.Uids.{has};
-ghost use Rattle.vic_log.specs.Order.{entries};
 ghost use Rattle.vic_report.specs.Conflicts.{IsConflict, IsConflictAt, IsSlotLine};
 ghost use Rattle.vic_report.specs.inner.SlotLines.{AreSlotLinesTo};
 ghost use Rattle.vic_verdict.specs.LogLines.{AreLogLines};
-ghost use Rattle.vic_verdict.specs.Possible.{IsContradiction};
 ghost use Rattle.vic_verdict.specs.Verdict.{IsVerdict};
 ghost use Rattle.vic_verdict.specs.declared.judging.Verdict.TheVariants.{Impossible};
 
@@ -17,7 +15,7 @@ use std::alloc::{AllocError, Global};
 use vic_guess::guess_conflict;
 use vic_log::{MAX_LINES, PackedLine};
 use vic_tree::RangeSet;
-use vic_verdict::{Contradiction, first_impossible_line, open_and_met};
+use vic_verdict::open_and_met;
 
 /// The first line up to which no population could have produced a log, and slot lines up to it that
 /// no population fits.
@@ -35,19 +33,17 @@ pub struct Conflict {
     pub silenced_by: Option<u32>,
 }
 
-/// The conflict of an impossible log; `contradiction` is a position up to which it is impossible,
-/// perhaps not the first.
+/// The conflict of an impossible log, `line` being the number of the first impossible line.
 pub(crate) fn find_conflict(
     alloc: Global,
     lines: &[PackedLine],
-    contradiction: Contradiction,
+    line: u32,
 ) -> Result<Conflict, AllocError>
     requires lines { AreLogLines lines.now }
     requires limit { length lines.now ≤ MAX_LINES }
-    requires impossible { IsContradiction (entries lines.now) contradiction }
+    requires impossible { IsVerdict lines.now (Impossible line) }
     ensures { IfOk result (IsConflict lines.now) }
 {
-    let line = first_impossible_line::<RangeSet>(alloc, lines, contradiction)?;
     let silenced_by = silencer_of_line(lines, line);
     let numbers = match silenced_by {
         // no population fits a reply of a Quiet tag: that line alone is the conflict

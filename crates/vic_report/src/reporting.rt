@@ -56,11 +56,7 @@ fn report_lines(alloc: Global, lines: &[PackedLine]) -> Result<LogReport, AllocE
 {
     match facts_of::<RangeSet>(alloc, lines)? {
         Ok(facts) => report_facts(alloc, facts, lines),
-        Err(contradiction) => Ok(LogReport::Impossible(find_conflict(
-            alloc,
-            lines,
-            contradiction,
-        )?)),
+        Err(line) => Ok(LogReport::Impossible(find_conflict(alloc, lines, line)?)),
     }
 }
 

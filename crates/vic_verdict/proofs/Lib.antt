@@ -7,8 +7,7 @@ pub mod Masks
 pub mod Verdicts
 pub mod TwoVersions
 pub mod Entries
-pub mod Lacking
-pub mod Halving
+pub mod FirstLines
 pub mod Failing
 pub mod Listing
 pub mod Differing

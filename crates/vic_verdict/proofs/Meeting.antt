@@ -1,9 +1,10 @@
 -- What is met makes a log possible, and UIDs certain.
-use Rattle.vic_verdict.proofs.Words.{◌≡◌, ℕ, ◌+◌, ◌<◌, ◌≤◌, ◌==◌, ◌&&◌, ◌||◌, ◌++◌, List, [], ◌∷◌, length, take, get_or, Bool, true, Some, sym, ap, ◌∙◌, arith, nat_tests, inl, inr, ◌↔◌, slice_get, Any, list_any, and_from, slice_get_within, list_any-append, list_any-from_Any, list_any_more, take_all, Any-from_list_any, has, Reply, Entry, Collision, Heard, Garbled, reading_of, slots_of, is_open, IsForcedBy, Answering, Met, IsPossible, answering, needs, needs_of, HasHeard, IsFound, AreFound, IsMet, IsMetFor, IsHeard, AreBorneOut, AreDifferent, IsWithin}
-use Rattle.vic_verdict.proofs.Entries.{EntryAsks, EntryForces, IsForcedBy-places, enough_needed, enough_forced, forces_cases}
+use Rattle.vic_verdict.proofs.Words.{◌≡◌, ℕ, ◌+◌, ◌<◌, ◌≤◌, ◌==◌, ◌&&◌, ◌||◌, ◌++◌, List, [], ◌∷◌, length, take, get_or, Bool, true, Some, sym, ap, ◌∙◌, arith, nat_tests, inl, inr, ◌↔◌, slice_get, Any, list_any, slice_get_within, list_any-append, list_any-from_Any, list_any_more, take_all, Any-from_list_any, has, Reply, Entry, Heard, reading_of, slots_of, is_open, IsForcedBy, Answering, Met, IsPossible, answering, needs, needs_of, HasHeard, IsFound, AreFound, IsMet, IsMetFor, IsHeard, AreBorneOut, AreDifferent, IsWithin}
+use Rattle.vic_verdict.proofs.Entries.{EntryForces, IsForcedBy-places, enough_forced, forces_cases}
 use Rattle.vic_verdict.proofs.Gathering.{exact_forces}
 use Rattle.vic_verdict.specs.Rising.{Adds}
-use Rattle.vic_verdict.proofs.Walking.{heard_at, hears_own}
+use Rattle.vic_walk.specs.Met.{AreMetBefore}
+use Rattle.vic_verdict.proofs.Walking.{supplied_met}
 use Rattle.vic_verdict.proofs.Decide.{supplied_all}
 
 -- ---- who was heard
@@ -31,18 +32,12 @@ met_found es fs i e a k some =
 was_heard : (es : List Entry) (n : ℕ) (us : List ℕ) (u : ℕ) → length es ≡ n → HasHeard es n us → (has us u ≡ true) ↔ IsHeard es u
 was_heard es n us u long h = let heard = h u in grind (arith, slice_get_within)
 
--- where the replies are borne out, and what the other slots need was found, the log is possible
-pub met_all : (es : List Entry) (n : ℕ) (m : Met) → length es ≡ n → AreBorneOut es (length es) → HasHeard es n m.heard.items → AreFound es m.found.items → IsPossible es × IsMet es m
-met_all es n m long borne heard found = (supplied_all es (λ i e below k. go i e below k), record { heard = λ u. was_heard es n m.heard.items u long heard; found = found })
-  where
-    needed : (i : ℕ) (e : Entry) → slice_get es i ≡ Some e → 0 < needs e → EntryAsks (reading_of e) (answering (is_open (slots_of es)) es i)
-    needed i e k some = let w = met_found es m.found.items i e found k some in enough_needed e _ w.1.uids.items some w.4.0 w.4.2 w.4.3
-
-    go : (i : ℕ) (e : Entry) → i < length es → slice_get es i ≡ Some e → EntryAsks (reading_of e) (answering (is_open (slots_of es)) es i)
-    go i (Heard r) below k = and_from _ _ (borne.openness r.uid (heard_at es (length es) i r below k)) (borne.answer i r.uid below (hears_own (slice_get es i) r k))
-    go i Collision below k = needed i Collision k (omega arith)
-    go i Garbled below k = needed i Garbled k (omega arith)
-    go i e below k = tt
+-- where the replies are borne out, and the unread slots are met, the log is possible
+pub met_all : (es : List Entry) (n : ℕ) (m : Met) → length es ≡ n → AreBorneOut es (length es) → HasHeard es n m.heard.items → AreFound es m.found.items → AreMetBefore es (length es) → IsPossible es × IsMet es m
+met_all es n m long borne heard found met = (
+  supplied_all es (λ i e below k. supplied_met es (length es) i e borne met below k),
+  record { heard = λ u. was_heard es n m.heard.items u long heard; found = found },
+)
 
 -- ---- what makes a UID certain
 

@@ -1,8 +1,8 @@
 -- Each log has exactly one verdict.
-use Rattle.vic_verdict.proofs.Words.{◌≡◌, ℕ, suc, ◌<◌, ◌≤◌, ◌+◌, ◌^◌, ◌*◌, ◌%◌, ◌/◌, IsAtMost, take, zero, Some, slice_get, sum_by-cons, nat_tests, pow-le-pow_right, List, [], ◌∷◌, length, true, false, refl, sym, ap, subst, arith, inl, inr, ⊎_elim, ◌⊎◌, ◌↔◌, nat_le, filter, le_refl, sum_by, BitMask, Entry, LogLine, Impossible, Complete, lies_in, has, is_uid, IsUid, IsPossible, IsPossibleUid, IsCertainUid, entries, IsRisingFrom, listed, IsAbsent, IsUnlisted, IsUnsettled, IsDoubtful, IsLeast, IsFirstMask, NoSuch, IsVerdict, is_uid_from, IsUid-from, IsUid-member, entries_to, IsWhole, IsReached, sum_by_more_le, Version, IsLog, AreLogLines, Absent, Unlisted, Unsettled, Doubtful}
+use Rattle.vic_verdict.proofs.Words.{◌≡◌, ℕ, suc, ◌<◌, ◌≤◌, ◌+◌, ◌^◌, ◌*◌, ◌%◌, ◌/◌, IsAtMost, take, zero, Some, slice_get, sum_by-cons, nat_tests, pow-le-pow_right, List, [], ◌∷◌, length, true, false, refl, sym, ap, subst, arith, inl, inr, ⊎_elim, ◌⊎◌, ◌↔◌, nat_le, filter, le_refl, sum_by, BitMask, Entry, LogLine, Impossible, Complete, lies_in, has, is_uid, IsUid, IsFirstImpossible, IsPossible, IsPossibleUid, IsCertainUid, entries, IsRisingFrom, listed, IsAbsent, IsUnlisted, IsUnsettled, IsDoubtful, IsLeast, IsFirstMask, NoSuch, IsVerdict, is_uid_from, IsUid-from, IsUid-member, entries_to, IsWhole, IsReached, sum_by_more_le, Version, IsLog, AreLogLines, Absent, Unlisted, Unsettled, Doubtful}
 use Rattle.vic_verdict.proofs.Failing.{place_of}
 use Rattle.vic_verdict.specs.declared.judging.Verdict.{Verdict}
-use Rattle.vic_verdict.proofs.Halving.{possible_first, possible_shorter}
+use Rattle.vic_verdict.proofs.FirstLines.{first_entries, possible_first, possible_shorter}
 use Rattle.vic_verdict.proofs.Listing.{number_above}
 use Rattle.vic_verdict.proofs.Search.{Either, test_either, false_either, not_either, and_either, least_by, least_of, least_or_none}
 use Rattle.vic_verdict.proofs.Populations.{uid_end, uid_below}
@@ -39,16 +39,20 @@ all_to n [] h = refl
 all_to n (l ∷ lines) h = grind (arith, nat_tests, sum_by-cons (λ (x : LogLine). x.number) l lines, all_to n lines)
 
 -- a possible log has no impossible line
-possible_to : (lines : List LogLine) → IsRisingFrom 0 lines → IsPossible (entries lines) → (n : ℕ) → IsPossible (entries_to n lines)
+pub possible_to : (lines : List LogLine) → IsRisingFrom 0 lines → IsPossible (entries lines) → (n : ℕ) → IsPossible (entries_to n lines)
 possible_to lines r p n = subst IsPossible (sym (first_to n 0 lines r)) (possible_first (count_to n lines) lines p)
 
 -- where the first lines are possible and the line after some of them makes these impossible, its number is the verdict's
-pub first_impossible : (lines : List LogLine) (k low : ℕ) (l : LogLine) → IsRisingFrom 0 lines → slice_get lines k ≡ Some l → k ≤ low → IsPossible (entries (take low lines)) → (IsPossible (entries (take (k + 1) lines)) → ⊥) → IsVerdict lines (Impossible l.number)
+first_impossible : (lines : List LogLine) (k low : ℕ) (l : LogLine) → IsRisingFrom 0 lines → slice_get lines k ≡ Some l → k ≤ low → IsPossible (entries (take low lines)) → (IsPossible (entries (take (k + 1) lines)) → ⊥) → IsVerdict lines (Impossible l.number)
 first_impossible lines k low l r g le p n =
     let within = λ (m : ℕ). is_within m 0 lines k l r g in
     least_by (λ m. IsPossible (entries_to m lines) → ⊥) l.number
     (λ q. n (possible_shorter (k + 1) (count_to l.number lines) lines (let w = (within l.number).1 (omega arith) in omega arith) (subst IsPossible (first_to l.number 0 lines r) q)))
     (λ m h q. q (subst IsPossible (sym (first_to m 0 lines r)) (possible_shorter (count_to m lines) low lines (grind (arith, within m)) p)))
+
+-- so that of the first position up to which they are impossible is
+pub first_line : (lines : List LogLine) (i : ℕ) (l : LogLine) → IsRisingFrom 0 lines → slice_get lines i ≡ Some l → IsFirstImpossible (entries lines) i → IsVerdict lines (Impossible l.number)
+first_line lines i l r g first = first_impossible lines i i l r g (omega arith) (rw first_entries first.before) (λ possible. first.impossible.impossible (rw first_entries at possible))
 
 -- numbers that rise above 1 rise above 0
 pub rising_lower : (lines : List LogLine) → IsRisingFrom 1 lines → IsRisingFrom 0 lines

@@ -1,10 +1,34 @@
--- What a walk over a log tells: where the replies aren't borne out, and what meets the unread slots.
-use Rattle.vic_verdict.proofs.Words.{◌≡◌, ℕ, zero, suc, ◌+◌, ◌<◌, ◌≤◌, List, [], ◌∷◌, length, take, drop, true, Option, Some, None, refl, sym, ap, ◌∙◌, subst, arith, inl, inr, slice_get, slice_get_past, sum_by, sum_by-cons, All, Any, cases_eq, cases_lt, and_parts, or_cases, or_left, or_right, eq-eqb, eqb-true, false≢true, Reply, Entry, Heard, Collision, Garbled, answers_at, ManyReplies, SomeReply, slots_before, is_open, Answering, Lacks, HasEnough, IsUnmetAt, IsPossible, IsContradictedAt, AreFound, AreAnswering, IsAnsweringAt, is_unread, AreBorneOut, was_heard, hears, needs, needs_at, needs_of, all_needs}
+-- What a walk over a log tells: how far the log is possible, and what meets its unread slots.
+use Rattle.vic_verdict.proofs.Words.{◌≡◌, ◌≢◌, ℕ, zero, suc, ◌+◌, ◌<◌, ◌≤◌, ◌∙◌, List, [], ◌∷◌, length, take, drop, Bool, true, false, Option, Some, None, refl, sym, ap, subst, arith, inl, inr, ⊎_elim, common_steps, gets, length-take-le, slice_get, slice_get_past, sum_by, sum_by-cons, All, Any, cases_eq, cases_lt, and_from, and_parts, or_cases, or_left, or_right, eq-eqb, eqb-true, false_from_ne_true, false≢true, has, has_cases, AreDifferent, IsWithin, Reply, Entry, Heard, Collision, Garbled, AgreeBefore, answers_agree, answers_at, reading_of, slots_before, slots_of, is_open, with_entry, SuppliesAll, Answering, HasEnough, LacksSome, answering, IsPossible, IsFirstImpossible, AreFound, AreAnswering, IsAnsweringAt, is_unread, AreBorneOut, was_heard, hears, needs, needs_at, needs_of, all_needs}
 use Rattle.std.specs.List.{AllPairs}
+use Rattle.vic_walk.specs.Met.{AreMetBefore, HasEndsPast, IsMetAt, answers_open}
 use Rattle.vic_walk.specs.Walk.{IsEndOfWalk, IsWalkAt}
 use Rattle.vic_walk.specs.declared.walk.Walk.{Walk}
-use Rattle.vic_verdict.proofs.Entries.{asks_one_iff, asks_two_iff, needs_two_or_one}
-use Rattle.vic_verdict.proofs.Lacking.{supplied_front}
+use Rattle.vic_walk.proofs.Ending.{open_earlier}
+use Rattle.vic_walk.proofs.GoingBack.{met_only_by}
+use Rattle.vic_verdict.proofs.Decide.{IsPossible-iff}
+use Rattle.vic_verdict.proofs.Entries.{EntryAsks, SuppliesBefore, SuppliesAll-places, enough_needed}
+
+-- ---- the first entries
+
+pub taken : (n : ℕ) (es : List Entry) (j : ℕ) → j < n → slice_get (take n es) j ≡ slice_get es j
+taken n es j h = grind (arith, common_steps, gets)
+
+-- the same entries have the same slots
+slots_agree : (n : ℕ) (es fs : List Entry) → AgreeBefore n es fs → slots_before es n ≡ slots_before fs n
+slots_agree zero es fs a = refl
+slots_agree (suc n) es fs a =
+    let less : AgreeBefore n es fs = λ i h. a i (omega arith) in
+    λ i. with_entry (λ u. answers_agree n es fs less u i) (a n (omega arith) i) (slots_agree n es fs less i)
+
+-- a population could have produced the first n entries if and only if their open UIDs supply their slots
+front_iff : (es : List Entry) (n : ℕ) → n ≤ length es → (IsPossible (take n es) → SuppliesBefore (is_open (slots_before es n)) es n) × (SuppliesBefore (is_open (slots_before es n)) es n → IsPossible (take n es))
+front_iff es n le = (
+  (λ possible. (SuppliesAll-places (is_open (slots_before es n)) es n).0 (subst (λ slots. SuppliesAll (is_open slots) slots) same ((IsPossible-iff (take n es)).0 possible))),
+  (λ supplied. (IsPossible-iff (take n es)).1 (subst (λ slots. SuppliesAll (is_open slots) slots) (sym same) ((SuppliesAll-places (is_open (slots_before es n)) es n).1 supplied))),
+) where
+  same : slots_of (take n es) ≡ slots_before es n
+  same = ap (slots_before (take n es)) (length-take-le n es le) ∙ slots_agree n (take n es) es (taken n es)
 
 -- ---- who was heard
 
@@ -20,17 +44,25 @@ heard_place es (suc n) u h = elim (or_cases _ _ h) [
   | inr before ↦ let w = heard_place es n u before in (w.0, w.1, omega (arith, w.2), w.3, w.4)
 ]
 
-pub hears_own : (o : Option Entry) (r : Reply) → o ≡ Some (Heard r) → hears o r.uid ≡ true
+hears_own : (o : Option Entry) (r : Reply) → o ≡ Some (Heard r) → hears o r.uid ≡ true
 hears_own o r k = rw k (eq-eqb r.uid r.uid refl)
 
-pub heard_at : (es : List Entry) (n j : ℕ) (r : Reply) → j < n → slice_get es j ≡ Some (Heard r) → was_heard es n r.uid ≡ true
+heard_at : (es : List Entry) (n j : ℕ) (r : Reply) → j < n → slice_get es j ≡ Some (Heard r) → was_heard es n r.uid ≡ true
 heard_at es zero j r lt k = absurd (omega (arith, lt))
 heard_at es (suc n) j r lt k = elim (cases_eq j n) [
   | inl here ↦ or_left _ _ (hears_own (slice_get es n) r (rw here at k))
   | inr ne ↦ or_right _ _ (heard_at es n j r (omega (arith, lt, ne)) k)
 ]
 
--- ---- where the replies aren't borne out
+-- ---- where the replies are borne out
+
+borne_earlier : (es : List Entry) (m n : ℕ) → m ≤ n → AreBorneOut es n → AreBorneOut es m
+borne_earlier es m n le h = record {
+  answer = λ j u below heard. h.answer j u (omega (arith, below, le)) heard;
+  openness = λ u heard.
+      let w = heard_place es m u heard in
+      open_earlier es u m n le (h.openness u (subst (λ v. was_heard es n v ≡ true) w.4 (heard_at es n w.0 w.1 (omega (arith, w.2, le)) w.3)));
+}
 
 -- in possible entries they are
 borne_out : (es : List Entry) (n : ℕ) → n ≤ length es → IsPossible (take n es) → AreBorneOut es n
@@ -39,15 +71,75 @@ borne_out es n le possible = record {
   openness = λ u h. let w = heard_place es n u h in subst (λ v. is_open (slots_before es n) v ≡ true) w.4 (both w.0 w.1 w.2 w.3).0;
 } where
   both : (j : ℕ) (r : Reply) → j < n → slice_get es j ≡ Some (Heard r) → (is_open (slots_before es n) r.uid ≡ true) × (answers_at es j r.uid ≡ true)
-  both j r below k = and_parts (is_open (slots_before es n) r.uid) (answers_at es j r.uid) (supplied_front es n le possible j (Heard r) below k)
-
-pub broken_contradicts : (es : List Entry) (i : ℕ) → i < length es → (AreBorneOut es (suc i) → ⊥) → IsContradictedAt es i
-broken_contradicts es i below broken = record { within = below; impossible = λ possible. let next : i + 1 ≡ suc i = omega arith in broken (subst (AreBorneOut es) next (borne_out es (i + 1) (omega (arith, below)) possible)) }
+  both j r below k = and_parts (is_open (slots_before es n) r.uid) (answers_at es j r.uid) ((front_iff es n le).0 possible j (Heard r) below k)
 
 -- at the end of a log that isn't broken they are
 pub walked : (bs : List ℕ) (es : List Entry) (broken : Option ℕ) (w : Walk) → IsEndOfWalk bs es broken w → ((i : ℕ) → broken ≡ Some i → ⊥) → IsWalkAt bs es (length es) w × AreBorneOut es (length es)
 walked bs es None w end none = end
 walked bs es (Some i) w end none = absurd (none i refl)
+
+-- the ends that a walk knows, which are those of a walk with the same ends
+pub ends_past : (bs : List ℕ) (es : List Entry) (n i : ℕ) (w v : Walk) → n ≤ i → i ≤ length es → v.ends.items ≡ w.ends.items → IsWalkAt bs es i w → HasEndsPast bs es n v
+ends_past bs es n i w v far within same h = record {
+  position = i;
+  far = far;
+  within = within;
+  room = rw same h.room.ends;
+  ends = λ u p is at. rw same (h.known u p is at).end;
+}
+
+-- ---- which slots are met
+
+-- different UIDs, as many as an entry needs, where it has what it asks for
+asked_uids : (e : Entry) (t : ℕ → Bool) → EntryAsks (reading_of e) t → (us : List ℕ) × AreDifferent us × (needs e ≤ length us) × IsWithin (has us) t
+asked_uids Collision t a = (
+  a.0 ∷ a.1 ∷ [],
+  (false_from_ne_true _ (λ h. ⊎_elim a.2 (λ no. false≢true no) (has_cases a.0 a.1 [] h)), (refl, tt)),
+  omega arith,
+  (λ u h. ⊎_elim (λ e. subst (λ v. t v ≡ true) (sym e) a.3) (λ rest. ⊎_elim (λ e. subst (λ v. t v ≡ true) (sym e) a.4) (λ no. absurd (false≢true no)) (has_cases u a.1 [] rest)) (has_cases u a.0 (a.1 ∷ []) h)),
+)
+asked_uids Garbled t a = (a.0 ∷ [], (refl, tt), omega arith, (λ u h. ⊎_elim (λ e. subst (λ v. t v ≡ true) (sym e) a.1) (λ no. absurd (false≢true no)) (has_cases u a.0 [] h)))
+asked_uids e t a = ([], tt, omega arith, (λ u h. absurd (false≢true h)))
+
+met_place : (es : List Entry) (n j : ℕ) (o : Option Entry) → slice_get es j ≡ o → ((e : Entry) → o ≡ Some e → EntryAsks (reading_of e) (answers_open es n j)) → IsMetAt es n j
+met_place es n j None k asks = record { uids = []; different = tt; answer = λ u h. absurd (false≢true h); enough = rw k (omega arith) }
+met_place es n j (Some e) k asks = let w = asked_uids e (answers_open es n j) (asks e refl) in record { uids = w.0; different = w.1; answer = w.3; enough = rw k w.2 }
+
+met_front : (es : List Entry) (n : ℕ) → n ≤ length es → IsPossible (take n es) → AreMetBefore es n
+met_front es n le possible j below = met_place es n j (slice_get es j) refl (λ e k. (front_iff es n le).0 possible j e below k)
+
+-- ---- what makes entries possible
+
+-- the replies are borne out, and the unread slots are met
+pub supplied_met : (es : List Entry) (n i : ℕ) (e : Entry) → AreBorneOut es n → AreMetBefore es n → i < n → slice_get es i ≡ Some e → EntryAsks (reading_of e) (answering (is_open (slots_before es n)) es i)
+supplied_met es n i (Heard r) borne met below k = and_from _ _ (borne.openness r.uid (heard_at es n i r below k)) (borne.answer i r.uid below (hears_own (slice_get es i) r k))
+supplied_met es n i Collision borne met below k = let m = met i below in enough_needed Collision _ m.uids (omega arith) m.different (rw k at m.enough) m.answer
+supplied_met es n i Garbled borne met below k = let m = met i below in enough_needed Garbled _ m.uids (omega arith) m.different (rw k at m.enough) m.answer
+supplied_met es n i e borne met below k = tt
+
+possible_front : (es : List Entry) (n : ℕ) → n ≤ length es → AreBorneOut es n → AreMetBefore es n → IsPossible (take n es)
+possible_front es n le borne met = (front_iff es n le).1 (λ i e below k. supplied_met es n i e borne met below k)
+
+-- before position m they are, and before the next one they aren't
+first_at : (es : List Entry) (m : ℕ) → m < length es → AreBorneOut es m → AreMetBefore es m → (AreBorneOut es (m + 1) → AreMetBefore es (m + 1) → ⊥) → IsFirstImpossible es m
+first_at es m within borne met lack = record {
+  impossible = record { within = within; impossible = λ possible. lack (borne_out es (m + 1) (omega (arith, within)) possible) (met_front es (m + 1) (omega (arith, within)) possible) };
+  before = possible_front es m (omega (arith, within)) borne met;
+}
+
+pub first_broken : (es : List Entry) (b m : ℕ) → b < length es → AreBorneOut es b → (AreBorneOut es (suc b) → ⊥) → m ≤ b → AreMetBefore es m → (m < b → AreMetBefore es (m + 1) → ⊥) → IsFirstImpossible es m
+first_broken es b m within borne broken le met lack = first_at es m (omega (arith, within, le)) (borne_earlier es m b le borne) met (λ next more. elim (cases_lt m b) [
+  | inl before ↦ lack before more
+  | inr past ↦ let same : m + 1 ≡ suc b = omega (arith, le, past) in broken (subst (AreBorneOut es) same next)
+])
+
+pub first_unmet : (es : List Entry) (n m : ℕ) → length es ≡ n → AreBorneOut es (length es) → (AreMetBefore es (length es) → ⊥) → m ≤ n → AreMetBefore es m → (m < n → AreMetBefore es (m + 1) → ⊥) → IsFirstImpossible es m
+first_unmet es n m long borne unmet le met lack =
+    let short : m < length es = elim (cases_lt m (length es)) [
+      | inl before ↦ before
+      | inr past ↦ let same : m ≡ length es = omega (arith, le, past, long) in absurd (unmet (subst (AreMetBefore es) same met))
+    ] in
+    first_at es m short (borne_earlier es m (length es) (omega (arith, le, long)) borne) met (λ next more. lack (omega (arith, short, long)) more)
 
 -- ---- what meets the unread slots
 
@@ -99,12 +191,21 @@ enough_found es found h enough = record {
   few = few_from es 0 found h.rising (λ k d below. let w = h.each k d below in (omega arith, sym w.2.need ∙ ap (needs_at es) (sym w.2.place)));
 }
 
-pub unmet_lacks : (es : List Entry) (found : List Answering) (at : ℕ) → AreAnswering es (length es) found → Any (IsUnmetAt at) found → Lacks es at
-unmet_lacks es found at h some =
+-- what was found meets them
+pub found_met : (es : List Entry) (found : List Answering) → AreAnswering es (length es) found → All HasEnough found → AreMetBefore es (length es)
+found_met es found h enough j below = elim (cases_eq (needs_at es j) 0) [
+  | inl none ↦ record { uids = []; different = tt; answer = λ u no. absurd (false≢true no); enough = omega (arith, none) }
+  | inr some ↦
+      let w = h.all j below (needs_unread (slice_get es j) (omega (arith, some))) in
+      let has_enough : HasEnough w.1 = subst HasEnough w.3 (enough w.0 w.1 w.2) in
+      record { uids = w.1.uids.items; different = w.4.uids.different; answer = w.4.uids.members; enough = omega (arith, w.4.need, has_enough) }
+]
+
+-- where one lacks some they aren't met
+pub lacks_unmet : (es : List Entry) (found : List Answering) → AreAnswering es (length es) found → Any LacksSome found → AreMetBefore es (length es) → ⊥
+lacks_unmet es found h some met =
     let a : Answering = some.1 in
     let w = subst (λ (b : Answering). (i : ℕ) × (i < length es) × IsAnsweringAt es i b) some.3 (h.each some.0 a some.2) in
-    let here : w.0 ≡ at = sym w.2.place ∙ some.4.0 in
-    subst (Lacks es) here (elim (needs_two_or_one (slice_get es w.0) a.need w.2.need (rw w.2.need at (unread_needs (slice_get es w.0) w.2.unread))) [
-      | inl two ↦ (Collision, ManyReplies, two.0, refl, λ asks. let n = (asks_two_iff _ a.uids.items w.2.uids).0 asks in omega (arith, n, two.1, some.4.1))
-      | inr one ↦ (Garbled, SomeReply, one.0, refl, λ asks. let n = (asks_one_iff _ a.uids.items w.2.uids).0 asks in omega (arith, n, one.1, some.4.1))
-    ])
+    let few : length a.uids.items < a.need = some.4 in
+    let all = met_only_by es (length es) w.0 a.uids.items w.2.uids (met w.0 w.1) in
+    omega (arith, all, w.2.need, few)

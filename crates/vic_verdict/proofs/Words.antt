@@ -28,7 +28,6 @@ pub use Rattle.vic_frame.specs.Uids.{AreDifferent, IsUid, has, is_uid}
 pub use Rattle.vic_frame.specs.declared.uid.TheConstants.{UID_BITS}
 pub use Rattle.vic_log.proofs.FirstVersion.{given-first}
 pub use Rattle.vic_log.proofs.Meeting.{MeetsAll}
-pub use Rattle.vic_log.proofs.Order.{IsInOrder-front, still_there}
 pub use Rattle.vic_log.proofs.Places.{AgreeBefore, CouldHaveGiven-front, CouldHaveGiven-slots, answers_agree}
 pub use Rattle.vic_log.proofs.Push.{entries_next, listed-append}
 pub use Rattle.vic_log.proofs.Quiet.{quiet-silenced}
@@ -41,7 +40,7 @@ pub use Rattle.vic_log.specs.Populations.{CouldHaveGiven, Fits, IsPopulation, Lo
 pub use Rattle.vic_log.specs.Quiet.{is_quiet}
 pub use Rattle.vic_log.specs.Slots.{Asks, Forces, IsForcedBy, ManyReplies, NoReply, OneReply, Reading, Slot, SomeReply, SuppliesAll, is_open, may_be, reading_of, slots_before, slots_of, with_entry}
 pub use Rattle.vic_log.specs.declared.entry.Entry.{Entry}
-pub use Rattle.vic_log.specs.declared.entry.Entry.TheVariants.{Collision, Garbled, Heard, Listed, Sent}
+pub use Rattle.vic_log.specs.declared.entry.Entry.TheVariants.{Collision, Garbled, Heard, Listed}
 pub use Rattle.vic_log.specs.declared.entry.LogLine.{LogLine}
 pub use Rattle.vic_log.specs.declared.entry.Version.{Version}
 pub use Rattle.vic_tree.proofs.BoolLaws.{and_thrice, or_false, same_tests}
@@ -53,7 +52,7 @@ pub use Rattle.vic_verdict.specs.Facts.{IsTold}
 pub use Rattle.vic_verdict.specs.Keys.{AreKeysOf}
 pub use Rattle.vic_verdict.specs.LogLines.{AreLogLines}
 pub use Rattle.vic_verdict.specs.Places.{answering}
-pub use Rattle.vic_verdict.specs.Possible.{IsCertainUid, IsContradictedAt, IsContradiction, IsPossible, IsPossibleUid}
+pub use Rattle.vic_verdict.specs.Possible.{IsCertainUid, IsFirstImpossible, IsPossible, IsPossibleUid}
 pub use Rattle.vic_verdict.specs.Rising.{IsFailing, IsListOf, SameMembers}
 pub use Rattle.vic_verdict.specs.Verdict.{IsAbsent, IsDoubtful, IsFirstMask, IsHeard, IsLeast, IsReached, IsUnlisted, IsUnsettled, IsVerdict, IsWhole, NoSuch, entries_to}
 pub use Rattle.vic_walk.specs.declared.answers.Answering.{Answering}
@@ -61,7 +60,7 @@ pub use Rattle.vic_verdict.specs.declared.facts.Met.{Met}
 pub use Rattle.vic_verdict.specs.declared.judging.Verdict.TheVariants.{Absent, Complete, Doubtful, Impossible, Unlisted, Unsettled}
 pub use Rattle.vic_verdict.specs.inner.Chosen.{all_chosen, chosen, chosen_population, is_other}
 pub use Rattle.vic_verdict.specs.inner.Merging.{AreBelow}
-pub use Rattle.vic_verdict.specs.inner.Ruling.{HasEnough, IsUnmetAt, Lacks, NoneRulesOutAfter, rules_out}
+pub use Rattle.vic_verdict.specs.inner.Enough.{HasEnough, LacksSome}
 pub use Rattle.vic_walk.specs.Answers.{AreAnswering, IsAnsweringAt, is_unread}
 pub use Rattle.vic_walk.specs.Cuts.{hears}
 pub use Rattle.vic_walk.specs.Needs.{needs, needs_at, needs_of}

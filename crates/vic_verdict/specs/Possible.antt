@@ -3,8 +3,6 @@
 use Rattle.std.specs.Prelude.{◌≡◌, ℕ, ◌+◌, ◌<◌, true, List, length, take}
 use Rattle.vic_frame.specs.Uids.{has}
 use Rattle.vic_log.specs.declared.entry.Entry.{Entry}
-use Rattle.vic_verdict.specs.declared.facts.Contradiction.{Contradiction}
-use Rattle.vic_verdict.specs.declared.facts.Before.TheVariants.{ArePossible}
 use Rattle.vic_log.specs.Populations.{IsPopulation, CouldHaveGiven}
 
 -- some population could have produced the entries
@@ -24,7 +22,7 @@ pub record IsContradictedAt (es : List Entry) (i : ℕ) : Type 0 where
   pub within : i < length es
   pub impossible : IsPossible (take (i + 1) es) → ⊥
 
--- a contradiction is one of the entries, and what is known about the entries before it holds
-pub record IsContradiction (es : List Entry) (c : Contradiction) : Type 0 where
-  pub impossible : IsContradictedAt es c.at
-  pub before : c.before ≡ ArePossible → IsPossible (take c.at es)
+-- some population could have produced the entries before position i, and none those up to it
+pub record IsFirstImpossible (es : List Entry) (i : ℕ) : Type 0 where
+  pub impossible : IsContradictedAt es i
+  pub before : IsPossible (take i es)

@@ -1,4 +1,4 @@
 -- Definitions that private contracts alone cite.
 pub mod Merging
 pub mod Chosen
-pub mod Ruling
+pub mod Enough

@@ -10,7 +10,7 @@ ghost use Rattle.vic_verdict.specs.inner.Chosen.{is_other, chosen, chosen_popula
 ghost use Rattle.vic_verdict.specs.Rising.{SameMembers};
 
 use crate::facts::{Facts, Met, facts_of};
-use crate::judging::{Verdict, first_finding, first_impossible_line};
+use crate::judging::{Verdict, first_finding};
 use std::alloc::{AllocError, Global};
 use vic_frame::Uid;
 use vic_log::{Log, PackedLine};
@@ -51,13 +51,10 @@ fn explain_lines<S: OpenSet>(alloc: Global, lines: &[PackedLine]) -> Result<Expl
 {
     match facts_of::<S>(alloc, lines)? {
         Ok(facts) => explain_facts(alloc, facts, lines),
-        Err(contradiction) => {
-            let line = first_impossible_line::<S>(alloc, lines, contradiction)?;
-            Ok(Explanation {
-                verdict: Verdict::Impossible { line },
-                population: None,
-            })
-        }
+        Err(line) => Ok(Explanation {
+            verdict: Verdict::Impossible { line },
+            population: None,
+        }),
     }
 }
 

@@ -1,21 +1,17 @@
-//! What a log proves about its list of tags: the first finding; of an impossible log, the first
-//! line up to which no population could have produced it.
+//! What a log proves about its list of tags: the first finding.
 
-ghost use Rattle.std.specs.Prelude.{◌≡◌, ℕ, IfOk, length, slice_get, ◌<◌, ◌≤◌, List, take};
+ghost use Rattle.std.specs.Prelude.{◌≡◌, ℕ, IfOk, length, slice_get};
 ghost use Rattle.vic_log.specs.Order.{entries, listed};
-ghost use Rattle.vic_log.specs.declared.entry.LogLine.{LogLine as LogLineValue};
 ghost use Rattle.vic_verdict.specs.LogLines.{AreLogLines};
 ghost use Rattle.vic_verdict.specs.Facts.{IsTold};
 ghost use Rattle.vic_verdict.specs.Verdict.{IsVerdict, IsWhole, IsReached};
 ghost use Rattle.vic_verdict.specs.TwoVersions.{IsWholeSecond};
-ghost use Rattle.vic_verdict.specs.Possible.{IsContradiction, IsPossible};
-ghost use Rattle.vic_verdict.specs.declared.judging.Verdict.TheVariants.{Complete, Impossible};
+ghost use Rattle.vic_verdict.specs.declared.judging.Verdict.TheVariants.{Complete};
 
-use crate::facts::{Before, Contradiction, Facts, facts_of, keys_in_order, open_and_met};
+use crate::facts::{Facts, facts_of, keys_in_order};
 use crate::findings::{absent_from, count_listed, listed_uids, missing_from};
 use std::alloc::{AllocError, Global};
 use vic_frame::{Mask, Uid};
-use vic_guess::guess_impossible_line;
 use vic_log::{Log, PackedLine};
 use vic_tree::{OpenSet, RangeSet};
 
@@ -85,10 +81,7 @@ fn judge_lines<S: OpenSet>(alloc: Global, lines: &[PackedLine]) -> Result<Verdic
                 certain,
             },
         ) => first_finding(alloc, open, &certain, lines),
-        Err(contradiction) => {
-            let line = first_impossible_line::<S>(alloc, lines, contradiction)?;
-            Ok(Verdict::Impossible { line })
-        }
+        Err(line) => Ok(Verdict::Impossible { line }),
     }
 }
 
@@ -133,82 +126,4 @@ fn first_of(uids: &[Uid]) -> Option<Uid>
     ensures { result ≡ slice_get uids.now 0 }
 {
     uids.first().copied()
-}
-
-/// The number of the first line up to which no population could have produced the log, found by
-/// bisection: what is impossible stays so when lines follow. Bisection begins at a guess, and so
-/// again at each earlier contradiction: before it if it seems to be the first, otherwise where a
-/// pass over the lines before it suggests; a guess that is too early is moved on in steps that
-/// double. As long as that pass is right, the lines are judged at most three times here, usually
-/// once or not at all.
-pub fn first_impossible_line<S: OpenSet>(
-    alloc: Global,
-    lines: &[PackedLine],
-    contradiction: Contradiction,
-) -> Result<u32, AllocError>
-    requires lines { AreLogLines lines.now }
-    requires impossible { IsContradiction (entries lines.now) contradiction }
-    ensures { IfOk result (λ n. IsVerdict lines.now (Impossible n)) }
-{
-    // the first `low` lines are possible, those up to the one at position `last` aren't
-    let mut low = possible_before(contradiction);
-    let mut last = contradiction.at;
-    let mut guess = next_guess(contradiction);
-    let mut step: usize = 1;
-    while low < last {
-        let guessed = match guess {
-            Some(count) => count,
-            None => guess_impossible_line(alloc, &lines[..last])?,
-        };
-        let count = probe(low, last, guessed);
-        match open_and_met::<S>(alloc, &lines[..count])? {
-            Ok(_) => {
-                low = count;
-                // further on by 1, which shows whether the guess was right; then by 2, 4, ..
-                guess = Some(guessed.saturating_add(step));
-                step = step.saturating_mul(2);
-            }
-            Err(earlier) => {
-                low = low.max(possible_before(earlier));
-                last = earlier.at;
-                guess = next_guess(earlier);
-            }
-        }
-    }
-    Ok(lines[last].number())
-}
-
-/// How many lines to judge next, more than `low` and at most `last`: as many as guessed if that is
-/// between them, otherwise half-way.
-fn probe(low: usize, last: usize, guess: usize) -> usize
-    requires { low < last }
-    ensures above { low < result }
-    ensures within { result ≤ last }
-{
-    if low < guess && guess <= last {
-        guess
-    } else {
-        last - (last - low) / 2
-    }
-}
-
-/// How many of the first lines of a log some population could have produced, as far as a
-/// contradiction shows.
-fn possible_before(contradiction: Contradiction) -> usize
-    ensures possible { (lines : List LogLineValue) → IsContradiction (entries lines) contradiction
-        → IsPossible (entries (take result lines)) }
-    ensures upto { result ≤ contradiction.at }
-{
-    match contradiction.before {
-        Before::ArePossible => contradiction.at,
-        Before::SeemPossible | Before::AreUnknown => 0,
-    }
-}
-
-/// A guess at how many lines to judge next: those before a contradiction, if they seem possible.
-fn next_guess(contradiction: Contradiction) -> Option<usize> {
-    match contradiction.before {
-        Before::ArePossible | Before::SeemPossible => Some(contradiction.at),
-        Before::AreUnknown => None,
-    }
 }

@@ -6,9 +6,9 @@ use Rattle.vic_report.proofs.conflict.find_conflict.Goals as goal
 pub returns : goal.returns
 returns c =
     let lines = c.args.lines.now in
-    let line = c.in_ok-line.line in
+    let line = c.args.line in
     record {
-      line = c.in_ok-line.ensures;
+      line = c.requires.impossible;
       lines_unfit = elim c.match-silenced_by.branch [
         | in-Some+in_ok-numbers-in-Some w ↦
             subst (IsConflictAt lines line) (sym (ap (λ v. v.items) w.numbers-is ∙ w.in_ok-numbers-in-Some.ensures.items))

@@ -1,8 +1,25 @@
-use Rattle.vic_verdict.proofs.Words.{◌≡◌, ◌∙◌, Some, length, length-map, LogLine, entries}
+use Rattle.vic_verdict.proofs.Words.{◌≡◌, ◌∙◌, Some, arith, refl, suc, length, length-map, LogLine, entries}
 use Rattle.vic_walk.specs.Walk.{IsEndOfWalk}
 use Rattle.vic_verdict.proofs.Meeting.{met_all}
-use Rattle.vic_verdict.proofs.Walking.{broken_contradicts, enough_found, unmet_lacks, walked}
+use Rattle.vic_verdict.proofs.Walking.{ends_past, enough_found, first_broken, first_unmet, found_met, lacks_unmet, walked}
 use Rattle.vic_verdict.proofs.facts.open_and_met.Goals as goal
+
+pub first_lack-requires-clause-walk : goal.first_lack-requires-clause-walk
+first_lack-requires-clause-walk g c =
+    let es = entries c.args.lines.now in
+    let told = c.in_ok-parts.broken-is in
+    let here = c.in-Some.is in
+    let is : c.in_ok-parts.field-0.broken ≡ Some c.in-Some.at = cc in
+    let end : IsEndOfWalk c.in_ok-parts.field-0.parts es (Some c.in-Some.at) c.in_ok-parts.field-0.walk = rw is at c.in_ok-parts.ensures.walk in
+    ends_past c.in_ok-parts.field-0.parts es c.in-Some.at (suc c.in-Some.at) c.in_ok-parts.field-0.walk c.in_ok-parts.field-0.walk (omega arith) (omega (arith, end.0)) refl end.1
+
+pub first_lack-requires-then-not-are_met-clause-walk : goal.first_lack-requires-then-not-are_met-clause-walk
+first_lack-requires-then-not-are_met-clause-walk g c =
+    let es = entries c.args.lines.now in
+    let told = c.in_ok-parts.broken-is in
+    let end = walked c.in_ok-parts.field-0.parts es c.in_ok-parts.field-0.broken c.in_ok-parts.field-0.walk c.in_ok-parts.ensures.walk (λ i is. c.in_default.not-Some i (cc)) in
+    let long = length-map c.args.lines.now (λ (l : LogLine). l.item) in
+    ends_past c.in_ok-parts.field-0.parts es (length c.args.lines.now) (length es) c.in_ok-parts.field-0.walk _ (omega (arith, long)) (omega arith) c.in_ok-found.ensures.ends end.0
 
 pub returns-in-Some : goal.returns-in-Some
 returns-in-Some g c =
@@ -11,17 +28,24 @@ returns-in-Some g c =
     let here = c.in-Some.is in
     let is : c.in_ok-parts.field-0.broken ≡ Some c.in-Some.at = cc in
     let end : IsEndOfWalk c.in_ok-parts.field-0.parts es (Some c.in-Some.at) c.in_ok-parts.field-0.walk = rw is at c.in_ok-parts.ensures.walk in
-    record { impossible = broken_contradicts es c.in-Some.at end.0 end.3; before = λ e. absurd (cc) }
+    let lack = c.in_ok-first_lack.ensures in
+    first_broken es c.in-Some.at c.in_ok-first_lack.field-0 end.0 end.2 end.3 lack.upto lack.met lack.lack
 
-pub unmet_slot-requires : goal.unmet_slot-requires
-unmet_slot-requires g c =
-    unmet_lacks (entries c.args.lines.now) c.in_ok-found.found.items c.in-Some-first_unmet.unmet c.in_ok-found.ensures.found (rw c.deref.ensures.value at c.in-Some-first_unmet.ensures.unmet)
+pub returns-then-not-are_met : goal.returns-then-not-are_met
+returns-then-not-are_met g c =
+    let es = entries c.args.lines.now in
+    let told = c.in_ok-parts.broken-is in
+    let end = walked c.in_ok-parts.field-0.parts es c.in_ok-parts.field-0.broken c.in_ok-parts.field-0.walk c.in_ok-parts.ensures.walk (λ i is. c.in_default.not-Some i (cc)) in
+    let lack = c.in_ok-first_lack-2.ensures in
+    let unmet = lacks_unmet es c.in_ok-found.found.items c.in_ok-found.ensures.found (rw c.deref.ensures.value at (c.are_met.ensures.unmet c.if-not-are_met.true)) in
+    first_unmet es (length c.args.lines.now) c.in_ok-first_lack-2.field-0 (length-map c.args.lines.now (λ (l : LogLine). l.item)) end.1 unmet lack.upto lack.met lack.lack
 
 pub returns : goal.returns
 returns g c =
     let es = entries c.args.lines.now in
     let told = c.in_ok-parts.broken-is in
     let end = walked c.in_ok-parts.field-0.parts es c.in_ok-parts.field-0.broken c.in_ok-parts.field-0.walk c.in_ok-parts.ensures.walk (λ i is. c.in_default.not-Some i (cc)) in
-    let found = enough_found es c.in_ok-found.found.items c.in_ok-found.ensures.found (rw c.deref.ensures.value at c.in_default-first_unmet.ensures.met) in
-    let met = met_all es (length c.args.lines.now) (record { heard = c.in_ok-heard.heard; found = c.in_ok-found.found }) (length-map c.args.lines.now (λ (l : LogLine). l.item)) end.1 c.in_ok-heard.ensures found in
+    let enough = rw c.deref.ensures.value at (c.are_met.ensures.met c.if-not-are_met.false) in
+    let found = enough_found es c.in_ok-found.found.items c.in_ok-found.ensures.found enough in
+    let met = met_all es (length c.args.lines.now) (record { heard = c.in_ok-heard.heard; found = c.in_ok-found.found }) (length-map c.args.lines.now (λ (l : LogLine). l.item)) end.1 c.in_ok-heard.ensures found (found_met es c.in_ok-found.found.items c.in_ok-found.ensures.found enough) in
     (met.0, (λ u i. c.in_ok-set.ensures u i ∙ c.in_ok-closed.ensures.outside es (length es) end.0 u i), met.1)
