@@ -25,6 +25,9 @@ FOR_DEVELOPERS = "WORKING ARCHITECTURE PROOFS HEADLINE DEFINITIONS DECISIONS".sp
 CALLS = re.findall(r"\b(vicinity_\w+);", (TOP / "release/exports.map").read_text())
 LINK = re.compile(r"\]\(([^#): ]+)[#)]")
 TARGETS = ["amd64", "arm64"]
+#: What is kept of building.
+BUILT = ("out/release/*", "crates/vicinity/out/vicinity", "crates/vicinity/out/rlib/*.sum",
+         "crates/vicinity_c/out/*/libvicinity_c.a")
 #: What the packages and their tests need of a machine.
 NEEDED = ("coreutils", "dash", "diffutils", "dpkg", "findutils", "gcc", "grep", "libc-bin",
           "libc6-dev", "pkg-config", "python3", "sed")
@@ -108,7 +111,10 @@ def test_made_elsewhere_they_are_the_same(packages, tmp_path):
         clone = Path(folder) / "clone"
         clone.mkdir()
         copy(clone)
-        shutil.copytree(TOP / "out/release", clone / "out/release", copy_function=shutil.copy2)
+        for file in (file for pattern in BUILT for file in TOP.glob(pattern)):
+            made = clone / file.relative_to(TOP)
+            made.parent.mkdir(parents=True, exist_ok=True)
+            shutil.copy2(file, made)
         for name in "python", "examples", "docs":
             say("chmod", "-R", "go-rwx", clone / name)
         say("touch", "-d", "2000-01-01", clone / "CHANGELOG.md", *clone.glob("debian/*.*"))
