@@ -3,7 +3,6 @@ there, and how it is taken away again."""
 import os
 import re
 import shutil
-import subprocess
 import sys
 
 import pytest
@@ -23,14 +22,22 @@ COMMANDS = sorted(set(re.findall(r"^\.Cm ([a-z]+)$", (TOP / "docs/vicinity.1").r
 
 
 def install(*words):
-    return Program(TOP / "install").run(*words)
+    return Program(TOP / "install").run("--prefix", "/usr", *words).status
+
+
+def tool(*words, **environment):
+    """What a tool writes, which finds nothing wrong."""
+    needs(words[0])
+    said = Program(*words, **environment).run()
+    assert said.status == 0, said.err.decode()
+    return said.out.decode()
 
 
 @pytest.fixture(scope="session")
 def root(release, tmp_path_factory):
     """A root in which it is installed under /usr, for all tests that change nothing there."""
     made = tmp_path_factory.mktemp("install") / "root"
-    assert release and install("--prefix", "/usr", "--destdir", made).status == 0
+    assert release and install("--destdir", made) == 0
     return made
 
 
@@ -59,43 +66,30 @@ def test_every_user_can_read_all(root):
 
 def test_installed_again_it_is_the_same(root):
     before = tree(root)
-    assert install("--prefix", "/usr", "--destdir", root).status == 0
+    assert install("--destdir", root) == 0
     assert tree(root) == before
 
 
 def test_soname_and_exported_calls(root):
-    needs("readelf")
-    library = root / f"usr/lib/libvicinity.so.{MAJOR}"
-
-    def read(*words):
-        return subprocess.run(["readelf", "-W", *words, library], capture_output=True, text=True,
-                              check=True).stdout
-    assert re.findall(r"SONAME.*\[(.*)\]", read("-d")) == [f"libvicinity.so.{MAJOR}"]
-    assert sorted(re.findall(r" (vicinity_[a-z_]+)@@VICINITY_[\w.]+(?: .*)?$", read("--dyn-syms"),
-                             re.M)) == sorted(CALLS)
+    said = tool("readelf", "-dW", "--dyn-syms", root / f"usr/lib/libvicinity.so.{MAJOR}")
+    assert re.findall(r"SONAME.*\[(.*)\]", said) == [f"libvicinity.so.{MAJOR}"]
+    exported = re.findall(r" (vicinity_[a-z_]+)@@VICINITY_[\w.]+(?: .*)?$", said, re.M)
+    assert sorted(exported) == sorted(CALLS)
 
 
 def test_the_library_says_which_processors_it_needs(root):
     """The loader refuses it on others."""
-    needs("readelf")
-    library = root / f"usr/lib/libvicinity.so.{MAJOR}"
-    said = subprocess.run(["readelf", "-nW", library], capture_output=True, text=True, check=True)
-    assert re.findall(r"x86 ISA needed: (.*)", said.stdout) == ["x86-64-v2"]
+    said = tool("readelf", "-nW", root / f"usr/lib/libvicinity.so.{MAJOR}")
+    assert re.findall(r"x86 ISA needed: (.*)", said) == ["x86-64-v2"]
 
 
 @pytest.fixture
 def pkg_config(root):
     """What pkg-config says of the installed library."""
-    needs("cc", "pkg-config")
-    env = {**os.environ, "PKG_CONFIG_LIBDIR": f"{root}/usr/lib/pkgconfig",
-           "PKG_CONFIG_SYSROOT_DIR": str(root),
-           "PKG_CONFIG_ALLOW_SYSTEM_CFLAGS": "1", "PKG_CONFIG_ALLOW_SYSTEM_LIBS": "1"}
-
-    def ask(*words):
-        done = subprocess.run(["pkg-config", *words, "vicinity"], env=env, capture_output=True,
-                              text=True, check=True)
-        return done.stdout.split()
-    return ask
+    return lambda *words: tool(
+        "pkg-config", *words, "vicinity", PKG_CONFIG_LIBDIR=f"{root}/usr/lib/pkgconfig",
+        PKG_CONFIG_SYSROOT_DIR=str(root), PKG_CONFIG_ALLOW_SYSTEM_CFLAGS="1",
+        PKG_CONFIG_ALLOW_SYSTEM_LIBS="1").split()
 
 
 def test_pkg_config_knows_the_version(pkg_config):
@@ -104,10 +98,9 @@ def test_pkg_config_knows_the_version(pkg_config):
 
 @pytest.mark.parametrize("source", EXAMPLES, ids=lambda source: source.stem)
 def test_an_example_with_the_shared_object_and_with_the_archive(root, pkg_config, tmp_path, source):
-    subprocess.run(["cc", *STRICT, source, "-o", tmp_path / "shared",
-                    *pkg_config("--cflags", "--libs")], check=True)
-    subprocess.run(["cc", *STRICT, source, "-o", tmp_path / "static", *pkg_config("--cflags"),
-                    root / "usr/lib/libvicinity.a"], check=True)
+    tool("cc", *STRICT, source, "-o", tmp_path / "shared", *pkg_config("--cflags", "--libs"))
+    tool("cc", *STRICT, source, "-o", tmp_path / "static", *pkg_config("--cflags"),
+         root / "usr/lib/libvicinity.a")
     if source.stem == "check":
         assert Program(tmp_path / "static").run(LOG) == COMPLETE
         assert Program(tmp_path / "shared", LD_LIBRARY_PATH=f"{root}/usr/lib").run(LOG) == COMPLETE
@@ -120,11 +113,8 @@ def test_a_program_finds_the_library_after_ldconfig(root, pkg_config, tmp_path):
         pytest.skip("only root may chroot")
     cell = tmp_path / "cell"
     shutil.copytree(root, cell, symlinks=True)
-    source = TOP / "examples/c/check.c"
-    subprocess.run(["cc", source, "-o", cell / "check", *pkg_config("--cflags", "--libs")],
-                   check=True)
-    said = subprocess.run(["ldd", "/bin/true"], capture_output=True, text=True, check=True).stdout
-    for file in re.findall(r"(?<!\S)/[^ ]+", said):
+    tool("cc", "examples/c/check.c", "-o", cell / "check", *pkg_config("--cflags", "--libs"))
+    for file in re.findall(r"(?<!\S)/[^ ]+", tool("ldd", "/bin/true")):
         (cell / file[1:]).parent.mkdir(parents=True, exist_ok=True)
         shutil.copy(file, cell / file[1:])
     (cell / "opt").mkdir()
@@ -134,7 +124,7 @@ def test_a_program_finds_the_library_after_ldconfig(root, pkg_config, tmp_path):
     shutil.copy(LOG, cell / "log")
     chroot = Program("chroot", cell, "/check")
     assert chroot.run("/log").status == 127
-    subprocess.run(["ldconfig", "-r", cell], check=True)
+    tool("ldconfig", "-r", cell)
     assert chroot.run("/log") == COMPLETE
 
 
@@ -145,8 +135,7 @@ def test_a_man_page_of_each_call(root, call):
 
 def test_man_pages_have_no_faults(pages):
     needs("mandoc")
-    said = subprocess.run(["mandoc", "-T", "lint", *pages], capture_output=True, text=True,
-                          check=False).stdout
+    said = Program("mandoc", "-T", "lint", *pages).run().out.decode()
     assert not [line for line in said.splitlines() if "referenced manual not found" not in line]
     assert len(pages) > len(CALLS)
 
@@ -163,11 +152,9 @@ def test_the_version_stands_on_each_man_page(pages):
 
 
 def test_man_finds_the_pages(root, pages):
-    needs("man")
     for page in pages:
         name, _, section = page.name.rpartition(".")
-        subprocess.run(["man", "-M", root / "usr/share/man", "-P", "cat", section, name],
-                       check=True, capture_output=True)
+        tool("man", "-M", root / "usr/share/man", "-P", "cat", section, name)
 
 
 def test_the_newest_entry_of_the_changes():
@@ -189,24 +176,18 @@ complete_it() { local script=$1; shift; local CURRENT=$(($# + 1)); local words=(
 source $script }; complete_it "$0" "$@" """
 
 
-def completed(*words):
-    needs(words[0])
-    return subprocess.run(words, capture_output=True, text=True, check=True).stdout.split()
-
-
 def test_completion_for_bash(root):
     script = root / "usr/share/bash-completion/completions/vicinity"
-    assert sorted(completed("bash", "-c", BASH, script, "")) == COMMANDS
-    assert completed("bash", "-c", BASH, script, "check",
-                     str(LOG).removesuffix(".log")) == [str(LOG)]
+    assert sorted(tool("bash", "-c", BASH, script, "").split()) == COMMANDS
+    begun = str(LOG).removesuffix(".log")
+    assert tool("bash", "-c", BASH, script, "check", begun).split() == [str(LOG)]
 
 
 def test_completion_for_zsh(root):
     script = root / "usr/share/zsh/site-functions/_vicinity"
-    subprocess.run(["zsh", "-n", script], check=True)
-    assert sorted(completed("zsh", "-fc", ZSH, script, "")) == COMMANDS
-    assert completed("zsh", "-fc", ZSH, script, "check", "") == ["file"]
-    assert completed("zsh", "-fc", ZSH, script, "frame", "") == []
+    tool("zsh", "-n", script)
+    for words, offered in (([""], COMMANDS), (["check", ""], ["file"]), (["frame", ""], [])):
+        assert sorted(tool("zsh", "-fc", ZSH, script, *words).split()) == offered
 
 
 # What fails, and removal.
@@ -217,7 +198,7 @@ def test_a_file_of_another_stays(release, tmp_path, name):
     (tmp_path / name).parent.mkdir(parents=True)
     (tmp_path / name).write_text("of another\n")
     before = tree(tmp_path)
-    assert release and install("--prefix", "/usr", "--destdir", tmp_path).status == 1
+    assert release and install("--destdir", tmp_path) == 1
     assert tree(tmp_path) == before
 
 
@@ -225,39 +206,34 @@ def test_removed_beside_other_files(release, tmp_path):
     (tmp_path / "usr/share").mkdir(parents=True)
     (tmp_path / "usr/share/notes").write_text("mine\n")
     before = tree(tmp_path)
-    assert release and install("--prefix", "/usr", "--destdir", tmp_path).status == 0
-    assert install("--remove", "--prefix", "/usr", "--destdir", tmp_path).status == 0
+    assert release and install("--destdir", tmp_path) == 0
+    assert install("--remove", "--destdir", tmp_path) == 0
     assert tree(tmp_path) == before
 
 
 def test_nothing_is_left(release, tmp_path):
-    assert release and install("--prefix", "/usr", "--destdir", tmp_path).status == 0
-    assert install("--remove", "--prefix", "/usr", "--destdir", tmp_path).status == 0
+    assert release and install("--destdir", tmp_path) == 0
+    assert install("--remove", "--destdir", tmp_path) == 0
     assert not [*tmp_path.iterdir()]
-    assert install("--remove", "--prefix", "/usr", "--destdir", tmp_path).status == 1
+    assert install("--remove", "--destdir", tmp_path) == 1
 
 
 def test_a_prefix_of_ones_own(release, tmp_path):
-    needs("cc", "pkg-config")
     own = tmp_path / "own"
-    assert release and install("--prefix", own).status == 0
-    flags = subprocess.run(["pkg-config", "--cflags", "--libs", "vicinity"], capture_output=True,
-                           text=True, check=True,
-                           env={**os.environ,
-                                "PKG_CONFIG_PATH": f"{own}/lib/pkgconfig"}).stdout.split()
-    subprocess.run(["cc", TOP / "examples/c/check.c", "-o", tmp_path / "check",
-                    f"-Wl,-rpath,{own}/lib", *flags], check=True)
+    assert release and install("--prefix", own) == 0
+    flags = tool("pkg-config", "--cflags", "--libs", "vicinity",
+                 PKG_CONFIG_PATH=f"{own}/lib/pkgconfig").split()
+    tool("cc", "examples/c/check.c", "-o", tmp_path / "check", f"-Wl,-rpath,{own}/lib", *flags)
     assert Program(tmp_path / "check").run(LOG) == COMPLETE
-    assert install("--remove", "--prefix", own).status == 0
+    assert install("--remove", "--prefix", own) == 0
     assert not own.exists()
 
 
 def test_installed_for_arm(arm, arm_release, tmp_path):
-    assert arm_release and install("--target", "arm64", "--prefix", "/usr", "--destdir",
-                                   tmp_path).status == 0
+    words = "--target", "arm64", "--destdir", tmp_path
+    assert arm_release and install(*words) == 0
     assert Program(*arm.words[:-1], tmp_path / "usr/bin/vicinity").run("check", LOG) == COMPLETE
-    assert install("--target", "arm64", "--remove", "--prefix", "/usr", "--destdir",
-                   tmp_path).status == 0
+    assert install("--remove", *words) == 0
     assert not [*tmp_path.iterdir()]
 
 
@@ -277,10 +253,8 @@ def test_pip_installs_the_package(root, tmp_path):
     shutil.copytree(TOP / "python", tmp_path / "source",
                     ignore=shutil.ignore_patterns("__pycache__"))
     before = tree(tmp_path / "source")
-    subprocess.run([sys.executable, "-m", "pip", "install", "-q", "--no-index", "--target",
-                    tmp_path / "site",
-                    tmp_path / "source"], check=True,
-                   env={**os.environ, "PIP_ROOT_USER_ACTION": "ignore"})
+    tool(sys.executable, "-m", "pip", "install", "-q", "--no-index", "--target",
+         tmp_path / "site", tmp_path / "source", PIP_ROOT_USER_ACTION="ignore")
     assert tree(tmp_path / "source") == before
     assert (tmp_path / "site/vicinity/py.typed").exists()
     python = Program(sys.executable, LIBVICINITY=f"{root}/usr/lib/libvicinity.so",

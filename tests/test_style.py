@@ -1,11 +1,10 @@
 """The style of scripts and of Python, by Debian's tools: shellcheck, flake8 and mypy, as setup.cfg
 has it."""
 import os
-import subprocess
 
 import pytest
 
-from helpers.program import TOP, needs
+from helpers.program import TOP, Program, needs
 
 SKIPPED = ("out", "dist", ".git", "crates", "data")
 
@@ -26,36 +25,20 @@ PYTHON = [name for name, first in files()
           if name.endswith(".py") or first.startswith(b"#!/usr/bin/env python3")]
 
 
-@pytest.mark.parametrize("name", SHELL)
-def test_shellcheck(name):
-    needs("shellcheck")
-    said = subprocess.run(["shellcheck", "-x", name], cwd=TOP, capture_output=True, text=True,
-                          check=False)
-    assert not said.stdout and not said.returncode
+MYPY = "mypy", "--cache-dir", "/dev/null"
+CHECKS = [("shellcheck", "-x", *SHELL), ("flake8", *PYTHON),
+          (*MYPY, "--strict", "python/vicinity"),
+          (*MYPY, "--strict", "examples/python/check.py", "examples/python/reader_loop.py"),
+          (*MYPY, "tests", "tools/biglog.py", "tools/measure.py")]
 
 
-def test_flake8():
-    needs("flake8")
-    assert len(PYTHON) > 50
-    said = subprocess.run(["flake8", *PYTHON], cwd=TOP, capture_output=True, text=True, check=False)
-    assert not said.stdout and not said.returncode
-
-
-def test_types_of_the_python_package():
-    needs("mypy")
-    said = subprocess.run(["mypy", "--strict", "--cache-dir", "/dev/null", "python/vicinity"],
-                          cwd=TOP, capture_output=True,
-                          text=True, check=False)
-    assert not said.returncode, said.stdout
-
-
-def test_types_of_the_tests_and_tools():
-    needs("mypy")
-    said = subprocess.run(["mypy", "--cache-dir", "/dev/null", "tests", "tools/biglog.py",
-                           "tools/measure.py"], cwd=TOP,
-                          capture_output=True, text=True, check=False)
-    assert not said.returncode, said.stdout
+@pytest.mark.parametrize("words", CHECKS, ids=lambda words: f"{words[0]}-{words[-1]}")
+def test_a_tool_finds_nothing(words):
+    needs(words[0])
+    said = Program(*words).run()
+    assert not said.status, said.out.decode()
 
 
 def test_each_kind_of_script_is_found():
     assert "test" in SHELL and "tests/setup" in SHELL and "tests/mutants" in PYTHON
+    assert len(PYTHON) > 50

@@ -16,31 +16,34 @@ missing. Frames, masks of slots and lines come from the library."""
 import argparse
 import random
 import sys
+from typing import NoReturn
 
 import vicinity
 
 ALL = vicinity.Mask(0, 0)
 LINK = 2
 MOST_ROUNDS = 20_000
+# A slot: its letter, and the frame of a reply.
+Slot = tuple[str, bytes]
 
 
-def lies_in(uid, mask):
+def lies_in(uid: int, mask: vicinity.Mask) -> bool:
     return uid % (1 << mask.length) == mask.value
 
 
 class Field:
     """A simulated field of tags, in place of a reader's chip."""
 
-    def __init__(self, uids, capture, rng):
+    def __init__(self, uids: set[int], capture: float, rng: random.Random) -> None:
         self.uids, self.capture, self.rng = uids, capture, rng
         self.cycle()
 
-    def cycle(self):
+    def cycle(self) -> None:
         """Switches the field off and on: all tags are Ready."""
         self.ready = set(self.uids)
 
-    def transceive(self, frame):
-        """Sends a request. Returns each slot's letter, and the frame of a reply."""
+    def transceive(self, frame: bytes) -> list[Slot]:
+        """Sends a request, and returns each slot."""
         request = vicinity.read_request(frame)
         if request.slots == 0:
             self.ready.discard(request.uid)
@@ -49,7 +52,7 @@ class Field:
         masks = [vicinity.slot_mask(request.slots, request.mask, k) for k in range(request.slots)]
         return [self.slot([uid for uid in asked if lies_in(uid, mask)]) for mask in masks]
 
-    def slot(self, answering):
+    def slot(self, answering: list[int]) -> Slot:
         """What a chip reports of the slot in which these tags answer."""
         if not answering:
             return "S", b""
@@ -61,18 +64,19 @@ class Field:
 class Search:
     """One session: the lines of its log, and the UIDs that were heard."""
 
-    def __init__(self, field):
-        self.field, self.heard, self.rounds, self.calls = field, set(), 0, 0
+    def __init__(self, field: Field) -> None:
+        self.field, self.rounds, self.calls = field, 0, 0
+        self.heard: set[int] = set()
         self.lines = [vicinity.HEADER_LINE]
 
-    def send(self, frame):
+    def send(self, frame: bytes) -> list[Slot]:
         """Sends a request, and notes it and what each slot held."""
         slots = self.field.transceive(frame)
         self.lines.append(vicinity.write_line("T", frame))
         self.lines += [vicinity.write_line(letter, reply) for letter, reply in slots]
         return slots
 
-    def ask(self, slots, mask):
+    def ask(self, slots: int, mask: vicinity.Mask) -> list[str]:
         """One round. Silences each tag that was heard, and returns the letter of each slot."""
         self.rounds += 1
         held = self.send(vicinity.write_inventory(LINK, slots, mask))
@@ -83,7 +87,7 @@ class Search:
                 self.heard.add(uid)
         return [letter for letter, _ in held]
 
-    def ask_on(self, mask):
+    def ask_on(self, mask: vicinity.Mask) -> None:
         """Asks the tags of a mask in sixteen slots, and those of each slot with a collision."""
         to_ask = [mask]
         while to_ask and self.rounds < MOST_ROUNDS:
@@ -92,11 +96,11 @@ class Search:
                 if letter == "C":
                     to_ask.append(vicinity.slot_mask(16, mask, slot))
 
-    def check(self):
+    def check(self) -> vicinity.Answer:
         self.calls += 1
         return vicinity.check_listed(b"".join(self.lines), self.heard)
 
-    def run(self):
+    def run(self) -> vicinity.Answer:
         """Searches, and returns the checker's answer."""
         self.ask_on(ALL)
         while self.ask(1, ALL) != ["S"] and self.rounds < MOST_ROUNDS:
@@ -111,17 +115,17 @@ class Search:
 
 
 class Words(argparse.ArgumentParser):
-    def error(self, message):
+    def error(self, message: str) -> NoReturn:
         self.exit(4, f"{self.format_usage()}{message}\n")
 
 
-def count(word):
+def count(word: str) -> int:
     if not word.isdecimal():
         raise argparse.ArgumentTypeError(f"{word!r} is not a number")
     return int(word)
 
 
-def main():
+def main() -> int:
     words = Words(description="A search over a simulated field, one tag of which is Quiet.")
     words.add_argument("tags", type=count, nargs="?", default=40)
     words.add_argument("--capture", type=float, default=0.0, metavar="P")
