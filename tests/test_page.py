@@ -62,6 +62,11 @@ SAID = (
     ("I1 QA I1 S UA", "Begin a new log, of version 2", "What is left to ask"),
     ("V2 I1 QA I1 S UA", "write F, and ask for the tags that were silenced", "Begin a new log"),
     ("I1 C", "in sixteen slots, or in one", "one request for each"),
+    ("I1 S QA UA", "its reply may have been lost in line 3", "stronger replies"),
+    ("I1 S MB S UA", "one that stronger replies hid would go unnoticed", "no earlier round"),
+    ("I16 S12", "This round was cut short after 12 of 16 slots.", "None of this round's"),
+    ("MB S", "one that no earlier round asked would go unnoticed", "stronger replies"),
+    ("MB S I1 S", "check the antenna", "Notes"),
     ("I1 UA", "no slot was logged", "ended before"),
     ("I16 " * 30, "And slots of more rounds, before these.", "round of line 2,"),
     ("UA UA", "Count again, to a new log.", "UIDs listed"),
@@ -493,7 +498,8 @@ def test_a_collection_that_is_complete(page):
 @pytest.mark.parametrize(("table", "words"), [
     (b"uid\nE004\n", "row 2: E004 isn't a UID"), (b"title,uid\na,\nb,\n\n", "Nothing is expected"),
     (b"uid,x\nE0040100000000A1,\nE0040100000000A1,\n", "E0040100000000A1 is also in row 2"),
-    (b"uid,uid\n", "two columns are named uid"), (b"uid,x\n,,3\n", "it has 3 cells")])
+    (b"uid,uid\n", "two columns are named uid"),
+    (b'uid,x\n"E0', "row 2: a quote isn't closed"), (b"uid,x\n,,3\n", "it has 3 cells")])
 def test_a_catalogue_that_cannot_be_used(page, table, words):
     page.drop(catalogue=table, log=log_of("I1 S"))
     page.until("h1", words)

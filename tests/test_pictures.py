@@ -326,11 +326,64 @@ def sessions(vicinity):
 @pytest.mark.parametrize("name", ["whole", "half", "lost", "unlisted", "woke", "empty", "conflict"])
 def test_page_of_a_longer_session(opened, sessions, name):
     page = opened(name, sessions[name])
+    assert ("the reader silenced some of them" in page.said()) == (name == "lost")
     bars = page.run("return document.querySelectorAll('.strip i').length")
     # that shows all rounds where not all are drawn
     assert bool(bars) == (name != "empty")
     if name == "conflict":
         page.until("summary", "The 737 lines that can't all be true, of 47 rounds")
+
+
+COLLECTION = TOP / "examples/collection"
+SHELVES = sorted(COLLECTION.glob("shelf-*.log"))
+
+
+@pytest.fixture
+def reconciled(run, browser, tmp_path):
+    """Opens the page of logs against the catalogue of the example."""
+    one = Screen(browser)
+
+    def open_page(*logs):
+        words = "reconcile", "--page", "--expected", COLLECTION / "catalogue.csv"
+        (tmp_path / "page.html").write_bytes(run(*words, *logs).stdout)
+        one.open(tmp_path / "page.html")
+        one.until("header h1", "")
+        one.is_readable()
+        return one
+    yield open_page
+    one.end()
+
+
+def test_page_of_a_collection(reconciled):
+    page = reconciled(*SHELVES)
+    assert page.texts("h1") == ["1 item missing and 1 not known yet; count 1 log again."]
+    assert page.texts(".lights dd") == ["2 of 3 logs", "differs"]
+    groups = ["Look for (1)", "Count again (1 log)", "Not known yet (1)", "Here, and in place (10)",
+              "Read to the end (2 logs)", "What this takes for granted (9)"]
+    assert page.texts("details > summary h2") == groups
+    assert "Walden" in page.texts("details")[0]
+    assert page.texts(".logs summary")[0] == (
+        "shelf-c.log 3 tags proved; left to ask: UIDs ending in E and UIDs ending in F")
+
+
+def test_a_log_of_a_collection_is_drawn_when_it_is_opened(reconciled):
+    page = reconciled(*SHELVES)
+    assert page.texts(".rounds") == []
+    page.driver.find_element("css selector", ".logs summary").click()
+    page.until(".logs h3", "Not finished: 87 % of all UIDs settled.")
+    page.driver.find_element("css selector", '.logs td[data-line="5"]').click()
+    chosen = page.run("const it = document.querySelector('.logs textarea');"
+                      "return it.value.slice(it.selectionStart, it.selectionEnd)")
+    assert chosen == SHELVES[2].read_text().splitlines()[4]
+
+
+def test_a_broken_log_comes_first(reconciled):
+    page = reconciled(*SHELVES, TOP / "examples/contradiction.log", "nowhere.log", "README.md")
+    assert page.texts("h1") == ["2 items not known yet; count 4 logs again."]
+    assert page.texts("details > summary h2")[0] == "Count again (4 logs)"
+    assert [it.split()[0] for it in page.texts(".log")[:4]] == [
+        "contradiction.log", "nowhere.log", "README.md", "shelf-c.log"]
+    assert page.texts(".banner.yes") == []
 
 
 def test_the_page_of_a_log_without_a_script(run):

@@ -31,6 +31,8 @@ const COMPARE = "Compare these tags with what should be here.";
 const MISSING = ["If the list is what was expected here: look for the listed tags that can't be here. If an item is in plain sight, " +
   "its tag is broken or covered: move it, and count again.",
   "If the list is what the reader found: a tag left, or the list is that of another session. Count again."];
+const LOST = "Before you look for tags that can't be here: the reader silenced some of them, so it knew them, and their replies may have " +
+  "been lost. Switch its field off and on, and count again.";
 const STRANGERS = ["If the list is what was expected here: the items that aren't on it belong elsewhere, or the list lacks them.",
   "If the list is what the reader found: its software left out tags that were here. Count again."];
 const STAYS = "If the answer stays so, send the log and this page (printed as PDF) to whoever maintains the reader.";
@@ -89,13 +91,13 @@ function possible(told) {
  * What to do at the shelf.
  * @param {Told} told
  */
-function steps({ object: { kind, found, open }, counts, quiet }) {
+function steps({ object: { kind, found, open }, counts, quiet, notes }) {
   if (kind === KIND.COMPLETE) return [counts.listed ? "Nothing to do." : EMPTY];
   if (!open.count && !counts.listed) return [COMPARE];
   const steps = [];
   if (kind === KIND.DOUBTFUL) steps.push(CYCLE, LOOK);
   else if (open.count) steps.push(quiet === open.count ? CYCLE : AGAIN);
-  if (found.absent) steps.push(...MISSING);
+  if (found.absent) steps.push(...notes.lost.length ? [LOST] : [], ...MISSING);
   if (found.unlisted && counts.listed) steps.push(...STRANGERS);
   return [...steps, STAYS];
 }

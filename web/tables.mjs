@@ -33,9 +33,9 @@ function decoded(bytes) {
  */
 export function readTable(name, bytes) {
   const whole = decoded(bytes), says = whole.match(SAYS_SEPARATOR), text = says ? whole.slice(says[0].length) : whole;
-  const first = text.split("\n", 1)[0], many = (/** @type {string} */ it) => cellsIn(first, it)[0]?.length ?? 0;
+  const first = text.split("\n", 1)[0], many = (/** @type {string} */ it) => first.replace(/"[^"]*"/g, "").split(it).length;
   const separator = says ? says[1] : SEPARATORS.reduce((best, it) => many(it) > many(best) ? it : best);
-  const [heads = [], ...rows] = cellsIn(text, separator), names = heads.map((head) => head.trim());
+  const [heads = [], ...rows] = cellsIn(name, text, separator), names = heads.map((head) => head.trim());
   const twice = names.find((head, at) => head && names.indexOf(head) < at);
   if (twice) throw new Wrong(`${name}, row 1: two columns are named ${twice}`);
   return { name, heads: names, rows: rows.map((cells, at) => ({ row: at + 2, cells: fitting(name, names.length, at + 2, cells) }))
@@ -44,16 +44,18 @@ export function readTable(name, bytes) {
 
 /**
  * The rows of a text, as cells.
+ * @param {string} name
  * @param {string} text
  * @param {string} separator
  */
-function cellsIn(text, separator) {
+function cellsIn(name, text, separator) {
   /** @type {string[][]} */
   const rows = [];
   let at = 0, cells = /** @type {string[]} */ ([]);
   while (at < text.length) {
     QUOTED.lastIndex = at;
     const quoted = QUOTED.exec(text);
+    if (text[at] === '"' && !quoted) throw new Wrong(`${name}, row ${rows.length + 1}: a quote isn't closed`);
     if (quoted) at += quoted[0].length;
     let end = at;
     while (end < text.length && text[end] !== separator && text[end] !== "\n" && text[end] !== "\r") end++;

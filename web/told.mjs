@@ -9,6 +9,7 @@ import { conflictOf, isLarge, keyLines } from "./conflict.mjs";
 import { drawn } from "./drawn.mjs";
 import { KIND } from "./kinds.mjs";
 import { Log } from "./log.mjs";
+import { notesOf } from "./notes.mjs";
 import { strip } from "./strip.mjs";
 
 /** @typedef {import("./frames.mjs").Mask} Mask */
@@ -54,6 +55,7 @@ import { strip } from "./strip.mjs";
  * @property {{open: string[], silenced: string[]}} requests what is left to ask, as lines; at once, and after a field cycle
  * @property {Cause[]} causes slots in which the other open UIDs would answer, by their rounds
  * @property {boolean} neverAsked whether some open mask has no such slot
+ * @property {import("./notes.mjs").Notes} notes
  * @property {Log["counts"]} counts
  * @property {(Row | Gap)[]} rows those drawn
  * @property {import("./strip.mjs").Bar[]} strip the whole session, if not all rows are drawn
@@ -83,7 +85,7 @@ export function tell(object, text = new TextEncoder().encode(object.text)) {
   /** @type {Told} */
   const told = { object, faulty: refused && line <= log.lineCount ? log.line(line) : "",
     cycles: log.line(1).endsWith("2"), conflict: null, open: object.open.masks.map(maskOf), silenced: [], quiet: 0,
-    requests: { open: [], silenced: [] }, causes: [], neverAsked: false, counts: log.counts, rows: [], strip: [], ringed: [], named: [] };
+    requests: { open: [], silenced: [] }, causes: [], neverAsked: false, notes: { lost: [], cut: [], last: null }, counts: log.counts, rows: [], strip: [], ringed: [], named: [] };
   if (!refused) explain(log, told);
   return told;
 }
@@ -103,6 +105,7 @@ function explain(log, told) {
   Object.assign(told, { silenced: tags, quiet: masks.length, causes, neverAsked,
     requests: { open: asked(false), silenced: asked(true) } });
   told.named = named(told);
+  told.notes = notesOf(log, object);
   told.ringed = causes.flatMap((cause) => cause.slots.map((number) => `${cause.round}:${number}`));
   told.rows = drawn(log, told.named, rows, !isLarge(told.conflict));
   if (told.rows.some((row) => row.kind === "gap")) told.strip = strip(log, new Set([...rows, ...told.named.map((line) => log.rowAt(line))]));

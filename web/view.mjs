@@ -3,6 +3,7 @@ import { isLarge } from "./conflict.mjs";
 import { el, folded, toLine } from "./elements.mjs";
 import { maintainer } from "./maintainer.mjs";
 import { KIND } from "./kinds.mjs";
+import { noted } from "./notes.mjs";
 import { rounds } from "./rounds.mjs";
 import { GRANTED, say } from "./say.mjs";
 import { count, ending, lines, printable, TRIAL } from "./words.mjs";
@@ -23,7 +24,7 @@ export function view(told, heading = "h1") {
   // what is only tried is never green
   const trial = TRIAL.test(told.object.file) ? { look: /** @type {const} */ ("read"), sign: "?", headline: `A trial: ${said.headline}` } : {};
   return [banner({ ...said, ...trial }, what, heading), shelf(said), ...findings(told),
-    ...tags(told), ...conflict(told), ...rounds(told), ...maintainer(told, said), ...granted(told.object.status), record(told)];
+    ...tags(told), ...conflict(told), ...rounds(told), ...maintainer(told, said), ...notes(told), ...granted(told.object.status), record(told)];
 }
 
 /** @param {Told} told */
@@ -91,6 +92,12 @@ function tags({ object: { certain, found } }) {
   const items = certain.uids.map((uid) => el("li", {}, el("code", {}, uid)));
   return [folded(certain.count === 1 ? "The tag that is here" : `The ${count(certain.count, "tag")} that are here`, false,
     el("ul", { class: "uids" }, items), ...rest(certain.count - items.length))];
+}
+
+/** @param {Told} told */
+function notes(told) {
+  const all = noted(told.notes).map(([line, words]) => el("li", {}, toLine(line), `: ${words}`));
+  return all.length ? [folded(`Notes, which are no part of the answer (${all.length})`, told.object.status > 0, el("ul", {}, all))] : [];
 }
 
 /**
