@@ -56,7 +56,7 @@ def surveyed(client, names):
         silent.update(found[2])
 
     batches = [names[start:start + BATCH] for start in range(0, len(names), BATCH)]
-    going = dict(zip(client.map(told_together, batches, pure=False), batches))
+    going = {client.submit(told_together, batch, pure=False): batch for batch in batches}
     for future in as_completed(list(going)):
         try:
             join(future.result())
