@@ -20,3 +20,5 @@ mod tree;
 mod values;
 #[cfg(test)]
 mod verdict;
+#[cfg(test)]
+mod walk;
