@@ -12,13 +12,13 @@ use Rattle.vic_walk.specs.declared.lacking.Reach.{Reach}
 use Rattle.vic_walk.specs.declared.parts.Span.{Span}
 use Rattle.vic_walk.specs.declared.walk.Walk.{Walk}
 use Rattle.vic_walk.specs.inner.PartUids.{AreUidsOf}
-use Rattle.vic_walk.specs.inner.Reach.{AreEndsUpTo, AreRuled, HasReach, IsBackTo, IsReachAt, lasts_to}
+use Rattle.vic_walk.specs.inner.Reach.{AreRuled, HasReach, IsBackTo, IsReachAt, lasts_to}
 use Rattle.vic_walk.specs.inner.Spans.{IsSpanAt}
-use Rattle.vic_walk.proofs.Ending.{open_earlier, open_to_end}
+use Rattle.vic_walk.proofs.Ending.{open_earlier}
 use Rattle.vic_walk.proofs.OpenAnswers.{open_by_parts}
 use Rattle.vic_walk.proofs.Ruling.{marked_at, marked_else}
 use Rattle.vic_walk.proofs.Steps.{DoesNothing, ready_still}
-use Rattle.vic_walk.proofs.Words.{◌-◌, get_or, length-set, list_any_more, inl, inr, cases_eq, cases_lt, ◌++◌, slice_set, ◌≡◌, ◌==◌, ℕ, ◌+◌, ◌<◌, ◌≤◌, ◌∷◌, ◌∙◌, ◌&&◌, ◌||◌, not, Bool, true, false, Option, Some, None, List, [], length, refl, sym, ap, and_parts, and_from, or_cases, or_left, or_right, false≢true, arith, eqb-true, nat_tests, nat_lt, nat_eq, slice_index, slice_get, Entry, Collision, Garbled, IsPartOf, IsReadyAt, IsUid, IsUid-from, IsWalkAt, has, is_marked, is_open, is_quiet, mirror, part_count, slots_before}
+use Rattle.vic_walk.proofs.Words.{◌-◌, get_or, length-set, list_any_more, inl, inr, cases_eq, cases_lt, ◌++◌, slice_set, ◌≡◌, ◌==◌, ℕ, ◌+◌, ◌<◌, ◌≤◌, ◌∷◌, ◌∙◌, ◌&&◌, ◌||◌, not, Bool, true, false, Option, Some, None, List, [], length, refl, sym, ap, and_parts, and_from, or_cases, false≢true, arith, eqb-true, nat_tests, nat_lt, nat_eq, slice_index, slice_get, Entry, Collision, Garbled, IsPartOf, IsReadyAt, IsUid, IsUid-from, has, is_marked, is_open, is_quiet, mirror, part_count, slots_before}
 
 -- ---- which slots are met
 

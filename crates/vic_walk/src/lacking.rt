@@ -9,9 +9,8 @@ ghost use Rattle.vic_walk.specs.Borders.{AreBorders, part_count};
 ghost use Rattle.vic_walk.specs.Cuts.{AreCut};
 ghost use Rattle.vic_walk.specs.Marked.{is_marked};
 ghost use Rattle.vic_walk.specs.Met.{AreMetBefore, HasEndsPast};
-ghost use Rattle.vic_walk.specs.Needs.{needs, needs_at};
+ghost use Rattle.vic_walk.specs.Needs.{needs_at};
 ghost use Rattle.vic_walk.specs.inner.Reach.{AreEndsUpTo, AreRuled, HasReach, IsBackTo, IsReachAt, lasts_to};
-ghost use Rattle.vic_walk.specs.inner.Ready.{IsReadyAt};
 ghost use Rattle.vic_walk.specs.inner.Spans.{IsPlace, IsSpanAt};
 
 use crate::marks::Marks;
@@ -21,16 +20,16 @@ use crate::walk::{Walk, span_of};
 use std::alloc::{AllocError, Global};
 use vic_log::{Entry, PackedLine, RoundCursor};
 
-/// How far a log is possible, as far as its unread slots are looked at.
+/// How far a log is possible, by the entries that were passed.
 #[derive(Drop)]
 struct Reach {
-    /// Each of these slots is met by the UIDs that are open before this position.
+    /// The unread slots passed before this position are met by the UIDs that are open before it.
     upto: usize,
-    /// Which of the parts that are open there are Ready at the entry looked at, and which Quiet.
+    /// Which of the parts that are open before `upto` are Ready now, and which Quiet.
     kept: Walk,
-    /// The same of all parts.
+    /// Which of all parts are, whether open or not.
     all: Walk,
-    /// The parts that aren't open there, in the order of their ends.
+    /// The parts that aren't open before `upto`, in the order of their ends.
     ruled: Vec<usize>,
 }
 
@@ -52,7 +51,7 @@ impl Reach {
         })
     }
 
-    /// Goes past an entry. If too few of the open UIDs meet it, goes back first.
+    /// Goes past an entry. If it is an unread slot that isn't met, `upto` goes back first.
     fn pass(
         &mut self,
         parts: &Parts,
@@ -97,7 +96,7 @@ impl Reach {
         }
     }
 
-    /// Goes back until as many open UIDs answer in a slot as it needs, or else to its own position.
+    /// Goes back until as many UIDs as a slot needs answer there, or else to its own position.
     fn meet(
         &mut self,
         parts: &Parts,
@@ -127,7 +126,7 @@ impl Reach {
         Ok(())
     }
 
-    /// Goes back by one position: the parts that it rules out are open before it.
+    /// Goes back by one position: the parts that its entry rules out are open again.
     fn step_back(&mut self, ends: &[u32]) -> Result<(), AllocError>
         requires some { 0 < self.old.upto }
         requires reach { HasReach ends.now self.old }
@@ -145,9 +144,9 @@ impl Reach {
     }
 }
 
-/// The first position at which an unread slot lacks tags, at most `upto`: before it each unread slot
-/// is met by the UIDs that are open there, and before the next position this isn't so. The walk has
-/// passed all entries before `upto`.
+/// The first position at which an unread slot lacks tags, or `upto` if none does before it. The
+/// unread slots before that position are met by the UIDs that are open before it; of the position
+/// after it this isn't so. The walk has passed all entries before `upto`.
 pub fn first_lack(
     alloc: Global,
     lines: &[PackedLine],

@@ -1,4 +1,4 @@
-use Rattle.vic_walk.proofs.Words.{◌≡◌, ◌∙◌, Some, Entry, ap, arith, length, length-map, slice_index, sym}
+use Rattle.vic_walk.proofs.Words.{◌∙◌, Some, Entry, ap, arith, length-map, slice_index, sym}
 use Rattle.vic_log.specs.declared.entry.LogLine.{LogLine}
 use Rattle.vic_log.specs.Order.{entries}
 use Rattle.vic_walk.specs.inner.Spans.{IsPlace}

@@ -1,4 +1,4 @@
-use Rattle.vic_walk.proofs.Words.{◌≡◌, arith}
+use Rattle.vic_walk.proofs.Words.{arith}
 use Rattle.vic_walk.specs.Met.{answers_open}
 use Rattle.vic_walk.proofs.GoingBack.{met_by, met_only_by, uids_at}
 use Rattle.vic_walk.proofs.lacking.Reach.meet.Goals as goal

@@ -1,4 +1,4 @@
-use Rattle.vic_walk.proofs.Words.{◌≡◌, Collision, Garbled, ap, refl}
+use Rattle.vic_walk.proofs.Words.{Collision, Garbled, ap, refl}
 use Rattle.vic_walk.specs.Needs.{needs_of}
 use Rattle.vic_walk.proofs.GoingBack.{reach_still}
 use Rattle.vic_walk.proofs.Steps.{nothing_collision, nothing_garbled}

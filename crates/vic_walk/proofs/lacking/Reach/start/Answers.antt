@@ -1,4 +1,4 @@
-use Rattle.vic_walk.proofs.Words.{◌≡◌, ℕ, ◌∙◌, ◌<◌, arith, nat_tests, false≢true, get_or-replicate, true, false, length, length-replicate, sym}
+use Rattle.vic_walk.proofs.Words.{◌∙◌, ◌<◌, arith, nat_tests, false≢true, get_or-replicate, true, false, length, length-replicate, sym}
 use Rattle.vic_walk.proofs.GoingBack.{ready_first}
 use Rattle.vic_walk.proofs.lacking.Reach.start.Goals as goal
 
