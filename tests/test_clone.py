@@ -291,7 +291,7 @@ def small(tmp_path):
     needs("rt")
     for crate in "vic_one", "vicinity":
         (tmp_path / f"crates/{crate}/src").mkdir(parents=True)
-    copy(tmp_path, "Makefile", "release")
+    copy(tmp_path, "Makefile", "release", "targets")
     (tmp_path / "crates.txt").write_text("vic_one:\nvicinity: vic_one\n")
     (tmp_path / "crates/vicinity/src/main.rt").write_text(
         "#![tactic(auto)]\n\nuse std::process::ExitCode;\n\nfn main() -> ExitCode {\n    "
