@@ -29,6 +29,7 @@ while [ $# -gt 0 ]; do
     esac
     shift
 done
+[ -z "$CHANGED" ] || echo "// changed" >>"$CHANGED"
 case $out in
 *.rlib) mkdir -p "$out" ;;
 *) printf '#!/bin/sh\\necho built here\\n' >"$out" && chmod +x "$out" ;;
@@ -72,10 +73,10 @@ class Clone:
             *words, cwd=self.top, env={"PATH": path}, timeout=20, stdin=subprocess.DEVNULL,
             preexec_fn=lambda: resource.setrlimit(resource.RLIMIT_CPU, (2, 2)))
 
-    def build(self, *words):
+    def build(self, *words, **more):
         """What make writes, by the kit that proves all at once."""
         path = f"{self.kit}/bin{os.pathsep}{os.environ['PATH']}"
-        return Program("make", PATH=path).run(*words, cwd=self.top)
+        return Program("make", PATH=path, **more).run(*words, cwd=self.top)
 
     def proved_now(self):
         """The crates that building proves."""
@@ -211,6 +212,12 @@ def test_what_is_kept_in_another_clone(built, tmp_path):
     made = "crates/vicinity/out"
     subprocess.run(["cp", "-a", built.top / made, other.top / made], check=True)
     assert other.proved_now() == []
+
+
+def test_a_crate_that_is_changed_while_it_is_proved(clone):
+    said = clone.build(CHANGED=str(clone.top / "crates/vic_frame/src/uid.rt"))
+    assert said.status == 2 and b"vic_frame was changed" in said.err
+    assert not [*clone.top.glob("crates/vicinity/out/rlib/*.sum")]
 
 
 def test_two_builds_at_once(clone):
