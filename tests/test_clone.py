@@ -220,6 +220,14 @@ def test_a_crate_that_is_changed_while_it_is_proved(clone):
     assert not [*clone.top.glob("crates/vicinity/out/rlib/*.sum")]
 
 
+def test_a_crate_stands_behind_those_that_it_uses(clone):
+    """In crates.txt: the sum of each has those of the crates that it uses."""
+    lines = (clone.top / "crates.txt").read_text().splitlines(keepends=True)
+    (clone.top / "crates.txt").write_text("".join(reversed(lines)))
+    said = clone.build()
+    assert said.status == 2 and b"below vic_tests, which uses it" in said.err
+
+
 def test_two_builds_at_once(clone):
     """Prove each crate once."""
     with concurrent.futures.ThreadPoolExecutor() as at_once:
