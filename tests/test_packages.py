@@ -77,7 +77,7 @@ def test_names_and_fields(packages, target):
         assert deb.name == f"{name}_{VERSION}-1_{machine}.deb"
         assert say("dpkg-deb", "-f", deb, "Multi-Arch").strip() == KINDS[name]
         # as release/packaged unpacks it
-        assert b"\ndata.tar.gz " in deb.read_bytes()
+        assert b"data.tar.gz  " in deb.read_bytes()
 
 
 def test_symbols(packages):
