@@ -13,7 +13,7 @@ import pytest
 
 from helpers.program import TOP, Program, needs
 from helpers.rows import OfProgram, all_rows
-from helpers.trees import copy_built
+from helpers.trees import copy
 
 LOG = TOP / "examples/whole-shelf.log"
 COMPLETE = (b"complete 4\n", b"", 0)
@@ -25,6 +25,9 @@ FOR_DEVELOPERS = "WORKING ARCHITECTURE PROOFS HEADLINE DEFINITIONS DECISIONS".sp
 CALLS = re.findall(r"\b(vicinity_\w+);", (TOP / "release/exports.map").read_text())
 LINK = re.compile(r"\]\(([^#): ]+)[#)]")
 TARGETS = ["amd64", "arm64"]
+#: What is kept of building.
+BUILT = ("out/release crates/vicinity/out/vicinity crates/vicinity/out/rlib/*.sum"
+         " crates/vicinity_c/out/*/libvicinity_c.a")
 #: What the packages and their tests need of a machine.
 NEEDED = ("coreutils", "dash", "diffutils", "dpkg", "findutils", "gcc", "grep", "libc-bin",
           "libc6-dev", "pkg-config", "python3", "sed")
@@ -35,11 +38,6 @@ DEPENDS = ("apt-cache", "depends", "--recurse", "--installed", "--no-recommends"
 def say(*words, **how):
     """What a command writes."""
     return subprocess.run(words, check=True, stdout=subprocess.PIPE, text=True, **how).stdout
-
-
-def bytes_of(folder):
-    """What packages have, by their names."""
-    return {deb.name: deb.read_bytes() for deb in folder.glob("*.deb")}
 
 
 @pytest.fixture(scope="session")
@@ -74,7 +72,7 @@ def test_names_and_fields(packages, target):
         assert deb.name == f"{name}_{VERSION}-1_{machine}.deb"
         assert say("dpkg-deb", "-f", deb, "Multi-Arch").strip() == KINDS[name]
         # as release/packaged unpacks it
-        assert b"\ndata.tar.gz " in deb.read_bytes()
+        assert b"data.tar.gz  " in deb.read_bytes()
 
 
 def test_symbols(packages):
@@ -101,20 +99,22 @@ def test_the_changes_of_the_packages():
     assert days == sorted(set(days), reverse=True)
 
 
-def test_made_elsewhere_they_are_the_same(packages, tmp_path):
+def test_made_elsewhere_they_are_the_same(packages):
     """In another folder, on another file system where there is one, and for a user with other
     habits."""
-    first = packages("amd64")
-    place = "/dev/shm" if os.access("/dev/shm", os.W_OK) else tmp_path
-    with TemporaryDirectory(dir=place) as folder:
+    made = [*packages("amd64").glob("*.deb")]
+    with TemporaryDirectory(dir="/dev/shm" if os.access("/dev/shm", os.W_OK) else None) as folder:
         clone = Path(folder) / "clone"
-        copy_built(clone)
+        clone.mkdir()
+        copy(clone)
+        subprocess.run(f"tar -c {BUILT} | tar -xC {clone}", shell=True, cwd=TOP, check=True)
         for name in "python", "examples", "docs":
             say("chmod", "-R", "go-rwx", clone / name)
         say("touch", "-d", "2000-01-01", clone / "CHANGELOG.md", *clone.glob("debian/*.*"))
         subprocess.run(["dpkg-buildpackage", "-b", "-us", "-uc"], cwd=clone, umask=0o077,
                        env={**os.environ, "TZ": "Asia/Tokyo", "LC_ALL": "C.UTF-8"}, check=True)
-        assert bytes_of(Path(folder)) == bytes_of(first)
+        assert not [deb for deb in made
+                    if deb.read_bytes() != (Path(folder) / deb.name).read_bytes()]
 
 
 def test_sums(packages):
@@ -143,8 +143,6 @@ def test_pages_for_users_and_for_nobody_else(packages):
 
 def test_the_packages_for_arm(arm, packages, tmp_path):
     usr, emulator = packages("arm64") / "unpacked/usr", arm.words[:-1]
-    for name in ("share/man/man1/vicinity.1.gz", "share/bash-completion/completions/vicinity"):
-        assert (usr / name).exists()
     assert Program(*emulator, usr / "bin/vicinity").run("check", LOG) == COMPLETE
     library = usr / "lib/aarch64-linux-gnu"
     subprocess.run(["aarch64-linux-gnu-gcc", f"-I{usr}/include", TOP / "examples/c/check.c",

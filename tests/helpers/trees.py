@@ -17,18 +17,6 @@ def copy(folder, *names):
                 shutil.copy2(TOP / name, folder / name)
 
 
-def copy_built(folder):
-    """Copies a clone with what is built for a release, but for what is kept of proofs, of which
-    `make` asks nothing but its time."""
-    def ignored(of, names):
-        if of.endswith(".rlib"):
-            return names
-        if of == str(TOP / "out"):
-            return [name for name in names if not name.startswith("release")]
-        return [name for name in names if name in (".git", "__pycache__", "proved")]
-    shutil.copytree(TOP, folder, ignore=ignored, symlinks=True)
-
-
 def tree(folder):
     """Each file, with its sum, and each link, with what it leads to; folders too."""
     return sorted((str(file.relative_to(folder)),
