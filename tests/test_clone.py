@@ -70,7 +70,7 @@ class Clone:
         words = words or ("check", LOG)
         path = os.pathsep.join([*map(str, before), str(self.tools)])
         return Program(self.top / "vicinity").run(
-            *words, cwd=self.top, env={"PATH": path}, timeout=20, stdin=subprocess.DEVNULL,
+            *words, cwd=self.top, env={"PATH": path}, timeout=600, stdin=subprocess.DEVNULL,
             preexec_fn=lambda: resource.setrlimit(resource.RLIMIT_CPU, (2, 2)))
 
     def build(self, *words, **more):
@@ -164,7 +164,7 @@ def test_the_packaged_program_for_arm(clone, odd):
 @pytest.mark.parametrize(("word", "status"), [("--help", 0), ("it", 2)])
 def test_words_after_test(clone, word, status):
     """It says how, and starts nothing."""
-    said = Program(clone.top / "test").run(word, cwd=clone.top, timeout=5)
+    said = Program(clone.top / "test").run(word, cwd=clone.top, timeout=600)
     assert said.err.startswith(b"usage: ./test") and said.status == status
 
 
@@ -345,6 +345,6 @@ def test_what_docs_let_a_reader_break(clone):
     commands = re.search(r"^cd crates.*?(?=^git checkout|^```$)", page, re.M | re.S)[0]
     refusal = re.search(r"^rt check .*# \.\. (.*)$", commands, re.M)[1]
     said = subprocess.run(["bash", "-ec", commands], cwd=clone.top, stdout=subprocess.PIPE,
-                          stderr=subprocess.STDOUT, timeout=200,
+                          stderr=subprocess.STDOUT, timeout=3000,
                           text=True, check=False)
     assert refusal in said.stdout

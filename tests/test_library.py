@@ -48,7 +48,8 @@ def test_both_compilers_make_the_same_of_every_text(library, library_rattle):
         for name, element in LISTING:
             told, needed, room = one.into(element, MANY, name, text)
             yield name, told if name == "simulate" else bytes(told), needed, bytes(room)
-        yield bytes(one.told(AnswerStruct, "check_listed", text, listed))
+        for name, given in ("check", []), ("check_listed", [listed]):
+            yield bytes(one.told(AnswerStruct, name, text, *given))
 
     assert library.path.read_bytes() != library_rattle.path.read_bytes()
     for text in texts():
