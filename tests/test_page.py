@@ -328,6 +328,17 @@ def test_a_file_is_chosen_again(page, tmp_path):
         assert page.texts("#logs button") == []
 
 
+def test_nothing_is_left_of_the_answer_before(page):
+    """Also of a file with the same name, until it is judged."""
+    page.drop(log=log_of("I1 RA UA"))
+    page.until("h1", "The one listed tag is here")
+    page.run("Worker.prototype.postMessage = () => {}")
+    page.drop(log=log_of("I1 S UA"))
+    page.wait(lambda: page.driver.title == "log ..")
+    assert (page.said(), page.texts("h1")) == ("", [])
+    assert page.run("return document.getElementById('said').textContent") == ""
+
+
 def test_an_edit_stays_with_its_log(page):
     """Also if another log is shown before it is judged."""
     page.drop(one=log_of("I1 RA UA"), two=log_of("I1 S UA"))

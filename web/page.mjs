@@ -60,6 +60,8 @@ stop.addEventListener("click", () => work.stop());
 function take(taken) {
   entries = taken;
   current = 0;
+  // also of a file with the same name nothing is known yet
+  shown.dataset.name = "";
   entries.filter((entry) => !entry.error).forEach(ask);
   edit();
   show();
@@ -115,7 +117,10 @@ function show() {
   // until a text is judged, what is shown is that of another one
   const old = entry !== undefined && !entry.told && !entry.collection && !entry.error;
   shown.setAttribute("aria-busy", String(old));
-  if (old && shown.dataset.name !== entry.name) shown.replaceChildren();
+  if (old && shown.dataset.name !== entry.name) {
+    shown.replaceChildren();
+    headed(`${entry.name} ..`);
+  }
   shown.dataset.name = entry?.name ?? "";
 }
 

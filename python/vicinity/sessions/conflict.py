@@ -7,7 +7,7 @@ from .._answers import Mask
 from ..frames import write_inventory, write_line
 from .findings import Told
 from .session import Reading, Session, Slot
-from .words import UID_BITS, lines, short, uid
+from .words import lines, short, uid
 
 NOISE = "Noise was logged as a collision. If something did answer but couldn't be read, write D, in a log of version 2."
 NOISE_UNREAD = "Noise was logged as D. If you don't know whether a tag answered, end the round there."
@@ -17,12 +17,10 @@ SECOND_READER = ("A second reader was active: it keeps tags powered and Quiet wh
 
 
 class Contradiction(NamedTuple):
-    """A sentence, the causes that fit, most likely first, and a test that tells them apart, if there is one."""
+    """A sentence, and the causes that fit, most likely first."""
 
     sentence: str
     causes: Sequence[str]
-    test: str = ""
-    asks: Sequence[str] = ()
 
 
 def contradiction(session: Session, told: Told) -> Contradiction:
@@ -47,8 +45,7 @@ def _woke(told: Told, slot: Slot) -> Contradiction:
         ("The tag lost power for a moment, at the edge of the field or behind another tag, and woke up.",
          f"The tag didn't receive the Stay Quiet of line {told.silenced}.",
          "The field was switched off and on in between. Then the log needs a line F there, and the header 'vicinity-log 2'.",
-         "A second reader woke it up, with Reset to Ready or Select. Switch that reader off."),
-        "Move the tag further into the field, or slow the reader down. A tag that woke up once will do it again.")
+         "A second reader woke it up, with Reset to Ready or Select. Switch that reader off."))
 
 
 def _alone(session: Session, slot: Slot) -> Contradiction:
@@ -73,10 +70,7 @@ def _lost(session: Session, heard: Slot, silent: Slot) -> Contradiction:
               else f"The tag left the field after line {heard.line}."]
     causes.insert(0 if cycled and not is_before else 2, SECOND_READER)
     return Contradiction(
-        f"tag {name} answered in line {heard.line}, but not in line {silent.line}, where it was also asked.", causes,
-        f"Ask only for {name}, a few times. If it answers sometimes, replies are being lost. If it always answers, it came "
-        "into the field later, or was kept Quiet. If it never answers, it has left.",
-        [ask(session.link, 1, Mask(UID_BITS, heard.uid & (1 << UID_BITS) - 1))])
+        f"tag {name} answered in line {heard.line}, but not in line {silent.line}, where it was also asked.", causes)
 
 
 def _hidden(first: Slot, last: Slot) -> Contradiction:
@@ -85,8 +79,7 @@ def _hidden(first: Slot, last: Slot) -> Contradiction:
     return Contradiction(
         f"tags {one} (line {first.line}) and {other} (line {last.line}) were each read alone, but both should have answered.",
         ("A strong reply hid a weaker one: the stronger of the two was read over the other.",
-         f"A tag came into the field between lines {first.line} and {last.line}, or left it.", SECOND_READER),
-        "Move the two apart or lower the gain, and ask in sixteen slots, so that fewer tags answer at once.")
+         f"A tag came into the field between lines {first.line} and {last.line}, or left it.", SECOND_READER))
 
 
 def _unmet(session: Session, told: Told, unread: Slot, others: Sequence[Slot]) -> Contradiction:
@@ -96,15 +89,14 @@ def _unmet(session: Session, told: Told, unread: Slot, others: Sequence[Slot]) -
             f"leave{'s' * (len(rest) == 1)} {'at most one' if is_collision else 'none'}.")
     noise = NOISE if is_collision else NOISE_UNREAD
     if unread.line > rest[-1]:
-        causes = [noise, f"A tag came into the field before line {unread.line}.", *[WOKE] * bool(session.counts.quiets)]
+        causes = [noise, f"A tag came into the field before line {unread.line}.", *[WOKE] * session.has_quiets]
     else:
         lost = "A later reply of a tag of that slot was lost, so the later slot was logged as silent."
         causes = [_unheard(session, unread, others) or lost, noise, f"A tag left the field after line {unread.line}."]
     if len(others) == 1 and others[0].uid is not None and is_collision:
         causes.insert(1, f"A strong reply in line {others[0].line} hid a weaker one.")
     causes.append(SECOND_READER)
-    return Contradiction(said, causes, f"Ask for the tags of line {unread.line} again, in sixteen slots.",
-                         [ask(session.link, 16 if unread.mask.length <= UID_BITS else 1, unread.mask)])
+    return Contradiction(said, causes)
 
 
 def _unheard(session: Session, unread: Slot, others: Sequence[Slot]) -> Optional[str]:

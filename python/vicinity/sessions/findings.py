@@ -80,11 +80,6 @@ class Told:
     def refused_line(self) -> Optional[int]:
         return self.answer.line if self.answer.kind is Kind.REFUSED else None
 
-    @property
-    def conflict_size(self) -> int:
-        """How many lines contradict each other, including the one that silenced a tag."""
-        return len(self.conflict) + bool(self.silenced)
-
     def lines(self, most: int) -> set[int]:
         """The lines of the log that the report names, the first `most` of each kind."""
         named = {self.answer.line, self.silenced, *self.conflict[:most], *self.absent.lines[:most],

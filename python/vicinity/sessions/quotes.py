@@ -3,7 +3,7 @@ one sentence."""
 from __future__ import annotations
 
 from itertools import groupby
-from typing import Callable, Iterable, Iterator, NamedTuple, Sequence
+from typing import Iterable, Iterator, NamedTuple, Sequence
 
 from .session import FieldCycle, Reading, Round, Session, Slot, StayQuiet
 from .words import READ, ending, listing, short, span, uid
@@ -22,9 +22,8 @@ class Quote(NamedTuple):
         return span(self.first, self.last)
 
 
-def quotes(session: Session, numbers: Iterable[int], name: Callable[[int], str] = uid) -> Iterator[Quote]:
-    """The named lines among these, in their order. Consecutive slots of a round are described as one. A UID that was heard
-    alone is written by `name`."""
+def quotes(session: Session, numbers: Iterable[int]) -> Iterator[Quote]:
+    """The named lines among these, in their order. Consecutive slots of a round are described as one."""
     known = [number for number in numbers if number in session.texts]
 
     def run(pair: tuple[int, int]) -> tuple[int, int]:
@@ -36,7 +35,7 @@ def quotes(session: Session, numbers: Iterable[int], name: Callable[[int], str] 
         found = [number for _, number in group]
         row = session.rows[place]
         if isinstance(row, Round):
-            yield from _of_round(session, row, [session.slots[number] for number in found], name)
+            yield from _of_round(session, row, [session.slots[number] for number in found])
         else:
             text = session.texts[found[0]].decode()
             yield Quote(found[0], found[-1], text, _of_row(row))
@@ -46,12 +45,12 @@ def _of_row(row: "StayQuiet | FieldCycle") -> str:
     return f"Stay Quiet to {uid(row.uid)}" if isinstance(row, StayQuiet) else "the field was switched off and on"
 
 
-def _of_round(session: Session, row: Round, slots: Sequence[Slot], name: Callable[[int], str]) -> Iterator[Quote]:
+def _of_round(session: Session, row: Round, slots: Sequence[Slot]) -> Iterator[Quote]:
     """Consecutive silent slots and replies in one sentence, any other slot in a sentence of its own."""
     for is_plain, group in groupby(slots, lambda slot: slot.reading in (Reading.SILENT, Reading.HEARD)):
         found = list(group)
         for part in [found] if is_plain else [[slot] for slot in found]:
-            yield Quote(part[0].line, part[-1].line, _texts(session, part), _meaning(row, part, name))
+            yield Quote(part[0].line, part[-1].line, _texts(session, part), _meaning(row, part))
 
 
 def _texts(session: Session, slots: Sequence[Slot]) -> str:
@@ -60,10 +59,10 @@ def _texts(session: Session, slots: Sequence[Slot]) -> str:
     return ", ".join(text + (f" ×{times}" if times > 1 else "") for text, times in runs)
 
 
-def _meaning(row: Round, slots: Sequence[Slot], name: Callable[[int], str]) -> str:
+def _meaning(row: Round, slots: Sequence[Slot]) -> str:
     heard = [slot.uid for slot in slots if slot.uid is not None]
     if len(slots) == 1:
-        said = f"{name(heard[0])} answered alone" if heard else READ[slots[0].reading]
+        said = f"{uid(heard[0])} answered alone" if heard else READ[slots[0].reading]
         return f"{said}; asked: {ending(slots[0].mask)}"
     who = f"only {listing([short(number, heard) for number in heard])}" if heard else "none"
     where = "" if len(slots) == row.places else f" in slots {slots[0].place:X} to {slots[-1].place:X}"

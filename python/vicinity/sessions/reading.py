@@ -15,8 +15,8 @@ from .session import FieldCycle, Round, Row, Session, StayQuiet
 
 #: How many rows are kept at the beginning, at the end, and on each side of one that has a named line.
 ENDS, AROUND = 20, 1
-#: How many of the lines of a list, and of what the notes are about, are kept.
-MOST_LISTED = MOST_NOTED = 2000
+#: How many of the lines that notes are about are kept.
+MOST_NOTED = 2000
 #: How much of a refused line is kept.
 MOST_QUOTED = 160
 
@@ -74,18 +74,16 @@ class _Pass:
         self._start(FieldCycle(number))
         self.session.asked_until = number
         self.session.cycle_lines.append(number)
-        self.session.counts.cycles += 1
 
     def _sent(self, number: int, frame: bytes) -> None:
         self.session.asked_until = number
         if frame[2:4] == b"01":
             row = Round(number, frame)
             self._start(row)
-            self.session.counts.rounds += 1
             self.session.first_round = self.session.first_round or row
             self.session.last_round = row
             return
-        self.session.counts.quiets += 1
+        self.session.has_quiets = True
         digits = frame[4:20]
         uid = int(digits, 16)
         self.silenced.append(uid)
@@ -100,16 +98,13 @@ class _Pass:
         assert isinstance(self.row, Round)
         self.row.outcomes.append((number, line.rstrip()))
         self.row.end = self.session.asked_until = number
-        self.session.counts.readings[letter.decode()] += 1
         if letter == b"R":
             self.heard.add(int(line[6:22], 16))
 
     def _listed(self, number: int, line: bytes) -> None:
         session = self.session
-        session.counts.listed += 1
+        session.listed += 1
         session.list_lines = (session.list_lines[0] or number, number)
-        if len(session.listed) < MOST_LISTED:
-            session.listed.append((number, int(line[2:18], 16)))
 
     def _named(self, number: int, text: bytes) -> None:
         """Keeps a line as text."""
@@ -146,7 +141,6 @@ class _Pass:
         session = self.session
         session.rows.update(self.last)
         session.rows = dict(sorted(session.rows.items()))
-        session.counts.heard = len(self.heard)
         unheard: set[int] = set()
         for line, uid in zip(self.silenced_lines, self.silenced):
             if uid not in self.heard and uid not in unheard:

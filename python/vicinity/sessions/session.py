@@ -2,7 +2,7 @@
 from __future__ import annotations
 
 from array import array
-from dataclasses import dataclass, field
+from dataclasses import dataclass
 from enum import Enum
 from functools import cached_property
 from typing import Iterator, NamedTuple, Optional, Union
@@ -102,37 +102,21 @@ class FieldCycle:
 Row = Union[Round, StayQuiet, FieldCycle]
 
 
-@dataclass
-class Counts:
-    """How many of each thing a log has."""
-
-    rounds: int = 0
-    quiets: int = 0
-    cycles: int = 0
-    listed: int = 0
-    heard: int = 0
-    readings: dict[str, int] = field(default_factory=lambda: dict.fromkeys("SRCD", 0))
-
-    @property
-    def slots(self) -> int:
-        return sum(self.readings.values())
-
-
 class Session:
-    """What is kept of a session: rows by their index among all, the texts of named lines, the list, and counts."""
+    """What is kept of a session: rows by their index among all, and the texts of named lines."""
 
     def __init__(self) -> None:
-        self.counts = Counts()
         self.rows: dict[int, Row] = {}
         self.row_count = 0
         #: The texts of named lines, and where their rows are.
         self.texts: dict[int, bytes] = {}
         self.places: dict[int, int] = {}
-        #: The first lines that list UIDs; the numbers of the first and the last line of the list.
-        self.listed: list[tuple[int, int]] = []
+        #: How many UIDs are listed; the numbers of the first and the last line of the list.
+        self.listed = 0
         self.list_lines = (0, 0)
         #: The last line that isn't part of the list.
         self.asked_until = 1
+        self.has_quiets = False
         self.cycle_lines: array[int] = array("I")
         #: Stay Quiets to UIDs that are never heard, and rounds that end before their last slot: the first of them, and
         #: how many there are.

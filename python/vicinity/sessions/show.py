@@ -71,8 +71,8 @@ def _picture(session: Session, told: Told, look: Look) -> Iterator[str]:
             yield from _narrow(row, labels, named, look)
         else:
             yield _row(row, labels, masks, named, look).rstrip()
-    if session.counts.listed:
-        yield f"{span(*session.list_lines):>{labels}}  {session.counts.listed:,} listed"
+    if session.listed:
+        yield f"{span(*session.list_lines):>{labels}}  {session.listed:,} listed"
 
 
 def _row(row: Drawn, labels: int, masks: int, named: set[int], look: Look) -> str:
