@@ -46,7 +46,12 @@ class Surveys(Command):
 
     def test_answers_that_cannot_be_compared(self):
         good = self.write("good", here("json", self.write("listed", log(LIST_A)), self.names[1])[0].encode())
-        for content in (b"", b"[]", b"{}", b'{"schema": 2}', b'{"schema": 1, "items": [{"uid": "x"}]}'):
+        item = {"uid": "E0040100000000A1", "state": "there", "columns": {}, "certain_in": [], "may_be_in": []}
+        told = {"schema": 1, "items": [item], "logs": [], "set_aside": []}
+        changed = [{**told, "schema": 2}, {**told, "logs": [{"file": 1}]}, {**told, "items": [{"uid": "x"}]},
+                   *({**told, "items": [{**item, **of}]} for of in (
+                       {"uid": "x"}, {"state": "lost"}, {"columns": 1}, {"certain_in": [1]}, {"certain_in": "a"}))]
+        for content in (b"", b"[]", b"{}", *(json.dumps(it).encode() for it in changed)):
             for names in ([good, self.write("bad", content)], [self.write("bad", content), good]):
                 said, errors, status = within("compare", *names)
                 self.assertEqual((said, status), (b"", 3))
@@ -57,7 +62,7 @@ class Surveys(Command):
 
     def test_what_has_moved(self):
         def answer(name, folder, logs, all_logs=("a", "b")):
-            item = {"uid": "A", "state": "there", "columns": {}, "certain_in": [f"{folder}/{log}" for log in logs],
+            item = {"uid": "E0040100000000A1", "state": "there", "columns": {}, "certain_in": [f"{folder}/{log}" for log in logs],
                     "may_be_in": []}
             told = {"schema": 1, "items": [item], "set_aside": [],
                     "logs": [{"file": f"{folder}/{log}"} for log in all_logs]}
@@ -72,7 +77,7 @@ class Surveys(Command):
         self.assertEqual(within(*words), (b"no longer counted monday/b\n", b"", 1))
         both = ("x/a", "y/a")  # which only their folders tell apart
         words = ["compare", answer("old", "monday", ["x/a"], both), answer("new", "monday", ["y/a"], both)]
-        self.assertEqual(within(*words), (b"moved A from monday/x/a to monday/y/a\n", b"", 1))
+        self.assertEqual(within(*words), (b"moved E0040100000000A1 from monday/x/a to monday/y/a\n", b"", 1))
 
     def test_changes(self):
         def answer(name, *items):
@@ -92,7 +97,7 @@ class Surveys(Command):
                 ("", "not provable", "newly expected"), ("unexpected", "there", "newly expected"),
                 ("there", "", "no longer expected"), ("missing", "", "no longer expected"),
                 *[(it, it, "") for it in ("there", "missing", "not provable", "unexpected")]):
-            words = ["compare", "--json", answer("old", ("A", old)), answer("new", ("A", new))]
+            words = ["compare", "--json", answer("old", ("E0040100000000A1", old)), answer("new", ("E0040100000000A1", new))]
             told = json.loads(within(*words)[0])
             self.assertEqual([it["change"] for it in told["changes"]], [what] * bool(what), (old, new))
             self.assertEqual(told["status"], int(bool(what)))

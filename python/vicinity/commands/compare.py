@@ -10,6 +10,7 @@ from .._fields import SCHEMA
 from .._process import complain, read, shown, write
 from ..collections.collection import State
 from ..collections.tables import Wrong
+from ..frames import parse_uid, uid_text
 
 REFUSED = 3
 FOUND = (State.THERE.value, State.MISPLACED.value)
@@ -66,12 +67,19 @@ def _answer(name: str) -> Answer:
         said = json.loads(read(name))
         if said["schema"] != SCHEMA:
             raise ValueError
-        items = {str(it["uid"]): it for it in said["items"] if it["uid"] is not None}
+        items = {uid_text(parse_uid(it["uid"])): it for it in said["items"] if it["uid"] is not None}
         for item in items.values():
-            State(item["state"]), [*item["certain_in"], *item["may_be_in"]], item["columns"].values()
-        return Answer(items, [str(it["file"]) for it in said["logs"]], [str(it["file"]) for it in said["set_aside"]])
+            State(item["state"]), item["columns"].values(), _names(item["certain_in"])
+        return Answer(items, *(_names([it["file"] for it in said[key]]) for key in ("logs", "set_aside")))
     except (ValueError, KeyError, TypeError, AttributeError):
         raise Wrong(f"{shown(name)} isn't an answer as `reconcile --json` writes it") from None
+
+
+def _names(said: Any) -> list[str]:
+    """Names of logs. Raises ValueError if they aren't."""
+    if not isinstance(said, list) or not all(isinstance(name, str) for name in said):
+        raise ValueError
+    return said
 
 
 class _Namer:
