@@ -19,7 +19,8 @@ const ADDED = ["state", "certain in", "may be in"], UNEXPECTED = "unexpected";
  * @param {Given[]} files
  */
 export function sorted(files) {
-  const isLog = (/** @type {Given} */ file) => startOf(file).startsWith(HEADER), tables = files.filter((file) => !isLog(file) && looksLikeTable(file));
+  const isLog = (/** @type {Given} */ file) => startOf(file).startsWith(HEADER);
+  const tables = files.filter((file) => !isLog(file) && looksLikeTable(file));
   const lists = files.filter((file) => isLog(file) && isList(file));
   const places = tables.find((file) => { const { heads } = headsOf(file); return heads.includes(PLACE) && heads.includes(LOG); });
   const expected = [...tables.filter((file) => file !== places), ...tables.length ? [] : lists];
@@ -116,7 +117,8 @@ export function placesOf(file, names) {
  * @param {Map<string, number[]>} places
  */
 export function placeColumn({ heads, uidAt, entries }, places) {
-  const named = (/** @type {number} */ at) => at === uidAt ? 0 : entries.filter(({ cells }) => places.get(cells[at].trim().toLowerCase())?.length).length;
+  const isPlace = (/** @type {string} */ cell) => places.get(cell.trim().toLowerCase())?.length;
+  const named = (/** @type {number} */ at) => at === uidAt ? 0 : entries.filter(({ cells }) => isPlace(cells[at])).length;
   const best = heads.reduce((one, _, at) => named(at) > named(one) ? at : one, 0);
   return 2 * named(best) > entries.length ? best : -1;
 }

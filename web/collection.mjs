@@ -57,8 +57,8 @@ export function collectionView(object) {
   const of = (/** @type {State} */ state) => object.items.filter((item) => item.state === state);
   const again = countAgain(object, of("not provable")), first = object.set_aside.length > 0;
   const said = object.name ? [printable(object.name)] : [];
-  return [banner({ look: isWhole(object) ? "yes" : "no", sign: isWhole(object) ? "✓" : "!", headline: headlineOf(object), lights: lights(object) },
-    [...said, ` · ${count(object.logs.length, "log")}`]),
+  const look = isWhole(object) ? "yes" : "no", sign = isWhole(object) ? "✓" : "!";
+  return [banner({ look, sign, headline: headlineOf(object), lights: lights(object) }, [...said, ` · ${count(object.logs.length, "log")}`]),
     ...first ? again : [],
     ...items("Look for", LOOK_FOR, of("missing"), {}, true),
     ...items("Move", MOVE, of("misplaced"), { "is in": (item) => namesOf(item.certain_in), "belongs to": (item) => item.belongs ?? "" }, true),
@@ -90,7 +90,8 @@ export function headlineOf(object) {
   const which = counts["no tag"] ? " that have a tag" : "", again = object.logs.filter(isOpen).length;
   if (isWhole(object)) {
     if (tags === 0) return "Nothing is expected, and nothing is here.";
-    return tags === 1 ? "The one expected item is here, and no other." : `All ${count(tags, "expected item")}${which} are here, and no others.`;
+    if (tags === 1) return "The one expected item is here, and no other.";
+    return `All ${count(tags, "expected item")}${which} are here, and no others.`;
   }
   const parts = /** @type {[number, string][]} */ ([[counts.missing, "missing"], [counts.misplaced, "in the wrong place"],
     [counts.unexpected, "unknown"], [counts["not provable"], "not known yet"]]);
@@ -109,7 +110,8 @@ function lights(object) {
   const { counts, logs } = object, done = logs.filter((log) => !isOpen(log)).length;
   const differs = counts.missing || counts.misplaced || counts.unexpected;
   const value = isWhole(object) ? "matches" : differs ? "differs" : "not known yet";
-  return [{ name: "Read to the end", value: `${done.toLocaleString("en")} of ${count(logs.length, "log")}`, look: done === logs.length ? "yes" : "no" },
+  const read = `${done.toLocaleString("en")} of ${count(logs.length, "log")}`;
+  return [{ name: "Read to the end", value: read, look: done === logs.length ? "yes" : "no" },
     { name: "Catalogue", value, look: value === "matches" ? "yes" : differs ? "no" : "plain" }];
 }
 
@@ -137,8 +139,9 @@ function items(title, words, list, where, open) {
   const columns = [...new Set(list.slice(0, MOST_ROWS).flatMap((item) => Object.keys(item.columns)))]
     .filter((column) => list.some((item) => item.columns[column]));
   const heads = [...columns, ...Object.keys(where), "UID"];
-  const rows = list.slice(0, MOST_ROWS).map((item) => el("tr", {}, cellsOf(heads, [...columns.map((column) => printable(item.columns[column] ?? "")),
-    ...Object.values(where).map((cell) => cell(item)), el("code", {}, item.uid ?? "none")])));
+  const said = (/** @type {Item} */ item) => columns.map((column) => printable(item.columns[column] ?? ""));
+  const rows = list.slice(0, MOST_ROWS).map((item) => el("tr", {}, cellsOf(heads,
+    [...said(item), ...Object.values(where).map((cell) => cell(item)), el("code", {}, item.uid ?? "none")])));
   const more = list.length > MOST_ROWS ? [el("p", {}, `and ${(list.length - MOST_ROWS).toLocaleString("en")} more`)] : [];
   return [folded(`${title} (${list.length.toLocaleString("en")})`, open && list.length <= FEW_ROWS, ...words ? [el("p", {}, words)] : [],
     table(title, heads, rows), ...more)];
@@ -225,7 +228,8 @@ function saidOf({ list, certain, open, more_open, object }) {
   // its own masks are wider than what no other log has proved
   const masks = object?.open.masks ?? open, all = object?.open.count ?? open.length, more = all - MOST_MASKS;
   const others = more_open && !object ? ["others"] : more > 1 ? [`${more.toLocaleString("en")} others`] : [];
-  return `${proved}; left to ask: ${listing([...masks.slice(0, others.length ? MOST_MASKS : MOST_MASKS + 1).map((mask) => ending(maskOf(mask))), ...others])}`;
+  const first = masks.slice(0, others.length ? MOST_MASKS : MOST_MASKS + 1).map((mask) => ending(maskOf(mask)));
+  return `${proved}; left to ask: ${listing([...first, ...others])}`;
 }
 
 /** @param {CollectionObject} object */
@@ -236,6 +240,6 @@ function grantedOfAll(object) {
 
 /** @param {CollectionObject} object */
 function recordOfAll(object) {
-  return el("footer", { class: "record" }, el("p", {}, `${count(object.items.length, "item")} · ${count(object.logs.length, "log")} · vicinity ${object.version}`),
-    signed());
+  const said = [count(object.items.length, "item"), count(object.logs.length, "log"), `vicinity ${object.version}`];
+  return el("footer", { class: "record" }, el("p", {}, said.join(" · ")), signed());
 }

@@ -55,7 +55,8 @@ function partsOf(log, lines) {
   }
   const parts = [...byRow].slice(0, MOST_PARTS).flatMap(([at, its]) => {
     const row = log.row(at);
-    return row.kind === "round" ? [{ asked: row.asked, round: row.line, lines: its, silent: its.every((line) => log.letter(line) === "S") }] : [];
+    const silent = its.every((line) => log.letter(line) === "S");
+    return row.kind === "round" ? [{ asked: row.asked, round: row.line, lines: its, silent }] : [];
   });
   return { rounds: byRow.size, parts };
 }

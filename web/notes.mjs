@@ -16,7 +16,8 @@ const MOST_NOTES = 5;
  * @returns {Notes}
  */
 export function notesOf(log, object) {
-  const absent = new Map(object.findings.flatMap(({ kind, uid, line }) => kind === KIND.ABSENT && uid && line ? [[BigInt(`0x${uid}`), { uid, line }]] : []));
+  const absent = new Map(object.findings.filter((it) => it.kind === KIND.ABSENT)
+    .map(({ uid = "", line = 0 }) => [BigInt(`0x${uid}`), { uid, line }]));
   const lost = [], cut = [];
   let last = -1, hasAskedAll = false;
   for (let at = 0; at < log.rowCount; at++) {
@@ -42,8 +43,9 @@ export function notesOf(log, object) {
 export function noted({ lost, cut, last }) {
   const kinds = /** @type {[number, string][][]} */ ([
     lost.map(({ line, uid, at }) => [line, `${uid} was silenced here and never heard: its reply may have been lost in line ${at}.`]),
-    cut.map(({ line, slots, of }) => [line, slots ? `This round was cut short after ${slots} of ${count(of, "slot")}.` : "None of this round's slots is logged."]),
+    cut.map(({ line, slots, of }) => [line, slots ? `This round was cut short after ${slots} of ${count(of, "slot")}.`
+      : "None of this round's slots is logged."]),
     last ? [[last.line, `The last round didn't ask all tags: one that ${last.missed} would go unnoticed.`]] : []]);
-  return kinds.flatMap((kind) => [...kind.slice(0, MOST_NOTES),
-    ...kind.length > MOST_NOTES ? [/** @type {[number, string]} */ ([kind[MOST_NOTES][0], `${count(kind.length - MOST_NOTES, "more note")} like these.`])] : []]);
+  return kinds.flatMap((kind) => kind.length <= MOST_NOTES ? kind
+    : [...kind.slice(0, MOST_NOTES), [kind[MOST_NOTES][0], `${count(kind.length - MOST_NOTES, "more note")} like these.`]]);
 }

@@ -52,7 +52,8 @@ export class Pane {
    */
   select(line) {
     if (!this.field.value || this.#firstLine > 1 || this.field.placeholder === LARGE) this.#excerpt(line);
-    const above = line - this.#firstLine, before = this.field.value.split(NEW_LINE).slice(0, above).join(NEW_LINE).length + (above > 0 ? 1 : 0);
+    const above = line - this.#firstLine, lines = this.field.value.split(NEW_LINE).slice(0, above);
+    const before = lines.join(NEW_LINE).length + (above > 0 ? 1 : 0);
     const end = this.field.value.indexOf(NEW_LINE, before);
     this.field.focus();
     this.field.setSelectionRange(before, end < 0 ? this.field.value.length : end);

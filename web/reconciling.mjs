@@ -11,6 +11,7 @@ import { UID_BITS, hex } from "./words.mjs";
 /** @typedef {import("./collection.mjs").State} State */
 /** @typedef {{object: import("./told.mjs").LogObject, certain: bigint[], open: Mask[], aside: boolean}} Surveyed */
 
+const COUNT_IT = "count it again", CORRECT_IT = "correct it, or count it again";
 const ALL = { fault: 0, len: 0, value: 0n };
 /** How many of the open masks of a log are told. */
 const MOST_OPEN = 16;
@@ -61,7 +62,8 @@ export async function reconciled(library, given) {
   const catalogue = readCatalogue(given.expected), files = given.logs.map((log) => log.name);
   const uids = catalogue.entries.flatMap(({ uid }) => uid ?? []), logs = [];
   for (const log of given.logs) logs.push(await surveyed(library, log));
-  const { answer, list } = library.reconcile(uids, logs.flatMap((log) => log.certain), logs.flatMap((log) => log.open.map((mask) => ({ fault: 0, ...mask }))));
+  const { answer, list } = library.reconcile(uids, logs.flatMap((log) => log.certain),
+    logs.flatMap((log) => log.open.map((mask) => ({ fault: 0, ...mask }))));
   const items = itemsOf(catalogue, placesOf(given.places, files), logs, list, files), aside = logs.filter((log) => log.aside);
   const misplaced = items.filter((item) => item.state === "misplaced"), unsettled = list.find((it) => it.kind === FOUND.UNSETTLED);
   const said = fields(library, answer), worst = Math.max(...aside.map((log) => log.object.status));
@@ -70,7 +72,7 @@ export async function reconciled(library, given) {
   return { schema: 1, ...first, version: logs[0].object.version, name: catalogue.name,
     counts: Object.fromEntries(ALL_STATES.map((state) => [state, items.filter((item) => item.state === state).length])),
     unsettled: unsettled ? maskFields(unsettled.maskLen, unsettled.maskValue) : null,
-    set_aside: aside.map((log) => ({ ...asideOf(log), do: log.object.kind === KIND.IMPOSSIBLE ? "count it again" : "correct it, or count it again" })),
+    set_aside: aside.map((log) => ({ ...asideOf(log), do: log.object.kind === KIND.IMPOSSIBLE ? COUNT_IT : CORRECT_IT })),
     items, logs: leftOf(logs) };
 }
 
@@ -93,7 +95,8 @@ const asideOf = ({ object }) => ({ file: object.file, ...answerOf(object) });
  * @param {import("./told.mjs").LogObject} object
  */
 function answerOf({ status, kind, count, line, fault, uid, mask_len, mask_value }) {
-  return /** @type {any} */ (Object.fromEntries(Object.entries({ status, kind, count, line, fault, uid, mask_len, mask_value }).filter(([, it]) => it !== undefined)));
+  const said = Object.entries({ status, kind, count, line, fault, uid, mask_len, mask_value });
+  return /** @type {any} */ (Object.fromEntries(said.filter(([, it]) => it !== undefined)));
 }
 
 /**
@@ -130,7 +133,8 @@ function itemsOf(catalogue, places, logs, list, files) {
  * @param {bigint[]} uids
  */
 function whereOf(logs, uids) {
-  const certain = /** @type {Map<bigint, number[]>} */ (new Map()), open = /** @type {Map<bigint, number[]>} */ (new Map()), among = new Under(uids);
+  const certain = /** @type {Map<bigint, number[]>} */ (new Map()), open = /** @type {Map<bigint, number[]>} */ (new Map());
+  const among = new Under(uids);
   for (const uid of uids) {
     certain.set(uid, []);
     open.set(uid, []);
@@ -150,8 +154,8 @@ function leftOf(logs) {
   const certain = new Under(logs.flatMap((log) => log.certain));
   return logs.map((log) => {
     const masks = log.aside ? [ALL] : without(log.open, certain);
-    return { file: log.object.file, certain: log.certain.length, open: masks.slice(0, MOST_OPEN).map(({ len, value }) => maskFields(len, value)),
-      more_open: masks.length > MOST_OPEN, list: answerOf(log.object), object: log.object };
+    const open = masks.slice(0, MOST_OPEN).map(({ len, value }) => maskFields(len, value));
+    return { file: log.object.file, certain: log.certain.length, open, more_open: masks.length > MOST_OPEN, list: answerOf(log.object), object: log.object };
   });
 }
 

@@ -26,7 +26,8 @@ export function rounds(told) {
   const body = told.rows.map((row) => rowOf(row, ringed, named));
   const table = el("table", { class: "rounds" }, el("caption", {}, "The rounds of the session"), el("thead", {}, head), el("tbody", {}, body));
   const bars = told.strip.map(({ look, line }) => el("i", { class: look, "data-line": String(line) }));
-  const strip = bars.length ? [el("p", { class: "strip", role: "img", "aria-label": `The whole session of ${count(told.counts.rounds, "round")}` }, bars)] : [];
+  const label = `The whole session of ${count(told.counts.rounds, "round")}`;
+  const strip = bars.length ? [el("p", { class: "strip", role: "img", "aria-label": label }, bars)] : [];
   return [el("section", {}, el("h2", {}, "The rounds"), ...strip, legend(told),
     el("div", { class: "wide", tabindex: "0", role: "group", "aria-label": "The rounds, scrolled sideways" }, table))];
 }

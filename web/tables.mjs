@@ -81,7 +81,9 @@ function cellsIn(name, text, separator) {
  * @param {string[]} cells
  */
 function fitting(name, columns, row, cells) {
-  if (cells.slice(columns).some((cell) => cell.trim())) throw new Wrong(`${name}, row ${row}: it has ${cells.length} cells, and row 1 has ${columns}`);
+  if (cells.slice(columns).some((cell) => cell.trim())) {
+    throw new Wrong(`${name}, row ${row}: it has ${cells.length} cells, and row 1 has ${columns}`);
+  }
   return [...cells, ...Array(Math.max(0, columns - cells.length)).fill("")].slice(0, columns);
 }
 

@@ -85,7 +85,8 @@ export function tell(object, text = new TextEncoder().encode(object.text)) {
   /** @type {Told} */
   const told = { object, faulty: refused && line <= log.lineCount ? log.line(line) : "",
     cycles: log.line(1).endsWith("2"), conflict: null, open: object.open.masks.map(maskOf), silenced: [], quiet: 0,
-    requests: { open: [], silenced: [] }, causes: [], neverAsked: false, notes: { lost: [], cut: [], last: null }, counts: log.counts, rows: [], strip: [], ringed: [], named: [] };
+    requests: { open: [], silenced: [] }, causes: [], neverAsked: false, notes: { lost: [], cut: [], last: null },
+    counts: log.counts, rows: [], strip: [], ringed: [], named: [] };
   if (!refused) explain(log, told);
   return told;
 }

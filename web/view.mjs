@@ -61,7 +61,8 @@ function findings({ object: { findings, found }, counts }) {
     [KIND.DOUBTFUL, "listed tag that isn't proved", "listed tags that aren't proved", ""]]);
   return kinds.filter(([kind]) => found[kind]).map(([kind, one, many, by]) => {
     const list = findings.filter((it) => it.kind === kind), all = found[kind];
-    const items = list.map(({ uid = "", line }) => el("li", {}, el("code", {}, uid), ...line ? [" ", el("span", { class: "by" }, by), toLine(line)] : []));
+    const shown = (/** @type {number} */ line) => [" ", el("span", { class: "by" }, by), toLine(line)];
+    const items = list.map(({ uid = "", line }) => el("li", {}, el("code", {}, uid), ...line ? shown(line) : []));
     return folded(count(all, one, many), all <= FEW, el("ul", { class: "uids" }, items), ...rest(all - list.length));
   });
 }

@@ -21,9 +21,12 @@ function differs(digits) {
   if (request.fault) return false;
   if (linkOf(digits) !== request.link || isStayQuiet(digits) !== (request.slots === 0)) return true;
   if (request.slots === 0) return uidIn(digits) !== request.uid;
-  const read = inventoryOf(digits), masks = Array.from({ length: request.slots }, (_, slot) => slot);
-  return read.slots !== request.slots || read.mask.len !== request.maskLen || read.mask.value !== request.maskValue ||
-    masks.some((slot) => { const { len, value } = library.slotMask(request, slot), mine = slotMask(read, slot); return mine.len !== len || mine.value !== value; });
+  const read = inventoryOf(digits);
+  if (read.slots !== request.slots || read.mask.len !== request.maskLen || read.mask.value !== request.maskValue) return true;
+  return [...Array(request.slots).keys()].some((slot) => {
+    const one = library.slotMask(request, slot), other = slotMask(read, slot);
+    return one.len !== other.len || one.value !== other.value;
+  });
 }
 
 const lines = readFileSync(0, "utf8").trim().split("\n"), wrong = lines.filter(differs);
