@@ -46,8 +46,9 @@ def told_together(names):
 
 
 def surveyed(client, names):
-    """The same of all logs. Those of a batch whose worker ended, again and again, are read one by
-    one, so that only a log that does this by itself is blamed."""
+    """The same of all logs. Those of a batch whose worker ended are read one by one, so that only
+    a log that ends its worker by itself is blamed. Dask needn't try such a batch again, and each
+    worker that it starts anew takes seconds."""
     certain, masks, silent, suspects = array("Q"), set(), {}, []
 
     def join(found):
@@ -76,8 +77,8 @@ def client_of(scheduler):
         return Client(scheduler)
     here, some_port = "127.0.0.1", "127.0.0.1:0"
     return Client(LocalCluster(n_workers=int(scheduler), threads_per_worker=1, host=here,
-                               dashboard_address=some_port,
-                               worker_dashboard_address=some_port))
+                               dashboard_address=some_port, worker_dashboard_address=some_port,
+                               scheduler_kwargs={"allowed_failures": 0}))  # see `surveyed`
 
 
 def main(scheduler, expected, names):
