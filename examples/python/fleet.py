@@ -57,7 +57,6 @@ def surveyed(client, names):
         silent.update(found[2])
 
     batches = [names[start:start + BATCH] for start in range(0, len(names), BATCH)]
-    # not by client.map: Dask may wait for ever once a worker of such a group has ended
     going = {client.submit(told_together, batch, pure=False): batch for batch in batches}
     for future in as_completed(list(going)):
         try:
