@@ -152,6 +152,7 @@ def test_changed_logs(ask, pair, part):
         ask([command], text)
 
 
+@pytest.mark.parametrize("pair", ["commands"], indirect=True)
 def test_beginnings_of_a_log(ask):
     for end in range(len(SEEDS[0]) + 1):
         for command in "explain", "report":

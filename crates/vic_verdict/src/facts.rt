@@ -47,8 +47,8 @@ pub struct Met {
     pub found: Vec<Answering>,
 }
 
-/// What the lines of a log tell, if some population could have produced them; else the number of the
-/// first line up to which none could.
+/// What the lines of a log tell, if some population could have produced them; else the number of
+/// the first line up to which none could.
 pub fn facts_of<S: OpenSet>(
     alloc: Global,
     lines: &[PackedLine],
