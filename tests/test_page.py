@@ -87,6 +87,11 @@ TYPE = """
 const field = document.getElementById("text");
 field.value = arguments[0];
 field.dispatchEvent(new Event("input", { bubbles: true }));
+return document.getElementById("told").getAttribute("aria-busy");
+"""
+RINGED = """
+return [...document.querySelectorAll(".rounds td.named")]
+  .map((it) => ({ ...it.dataset, title: it.title, text: it.textContent }));
 """
 # Presses the button that stops as soon as it is there.
 STOP = """
@@ -115,7 +120,8 @@ def page(browser, file):
 
 
 def type_in(page, text):
-    page.run(TYPE, text)
+    """Types a text; whether the answer to the one before is then still shown, but pale."""
+    return page.run(TYPE, text) == "true"
 
 
 def test_one_small_file_that_fetches_nothing(file):
@@ -183,8 +189,8 @@ def test_rings_are_explained_on_paper(page):
 def test_the_cause_is_ringed(page):
     page.drop(log=UNFINISHED)
     page.until(".lights", "no")
-    ringed = page.driver.find_elements("css selector", ".rounds td.named")
-    assert ringed and all("not reached" in it.get_attribute("title") for it in ringed)
+    ringed = page.run(RINGED)
+    assert ringed and all("not reached" in it["title"] for it in ringed)
 
 
 @pytest.mark.parametrize(("text", "words"), FOREIGN)
@@ -236,8 +242,7 @@ def test_a_large_conflict_is_told_by_its_collision(page, program, make):
     page.drop(log=log)
     page.until("h1", f"in line {collision} two or more tags answered, but {others:,} other lines "
                "leave at most one.")
-    ringed = page.driver.find_elements("css selector", ".rounds td.named")
-    assert str(collision) in [it.get_attribute("data-line") for it in ringed]
+    assert str(collision) in [it["line"] for it in page.run(RINGED)]
 
 
 def test_the_cause_is_found_far_above(page):
@@ -284,9 +289,8 @@ def test_the_page_reads_frames_as_the_library_does(vicinity, wasm_module):
 def test_who_was_silenced_before_is_ringed(page):
     page.drop(log=log_of("I1 QA I1 S UA"))
     page.until(".why", "Line 3 silenced")
-    ringed = page.driver.find_elements("css selector", ".rounds td.named")
-    assert [it.get_attribute("data-line") for it in ringed] == ["3"]
-    assert "the answer rests on it" in ringed[0].get_attribute("textContent")
+    one, = page.run(RINGED)
+    assert one["line"] == "3" and "the answer rests on it" in one["text"]
 
 
 def test_without_a_list_no_tag_is_ringed(page):
@@ -344,7 +348,7 @@ def test_an_edit_stays_with_its_log(page):
     page.drop(one=log_of("I1 RA UA"), two=log_of("I1 S UA"))
     page.until("#logs", "1 listed tag can't be here")
     type_in(page, log_of("I1 RA").decode())
-    page.driver.find_elements("css selector", "#logs button")[1].click()
+    page.press("#logs button", 1)
     page.until("#logs", "one (edited)")
     page.until("#logs", "no list to compare with")
     assert "two ! Search finished. 1 listed tag can't be here." in page.texts("#logs")[0]
@@ -357,7 +361,7 @@ def test_the_lines_of_a_large_log_are_shown(page):
     page.drop(log=text_of(["vicinity-log 1", *comments, "T 260100F60A",
                            "R 0000A1000000000104E06745", "T 260100F60A", "S"]))
     page.until("h1", "The log contradicts itself")
-    page.driver.find_element("css selector", 'td[data-line="10003"]').click()
+    page.press('td[data-line="10003"]')
     assert page.run(CHOSEN) == "R 0000A1000000000104E06745"
 
 
@@ -373,8 +377,7 @@ def test_a_log_is_edited(page):
     """Meanwhile the answer to the text before is pale; then the name says that it is changed."""
     page.drop(log=log_of("I1 RA UA"))
     page.until("h1", "The one listed tag is here")
-    type_in(page, log_of("I1 RA").decode())
-    assert page.driver.find_element("id", "told").get_attribute("aria-busy") == "true"
+    assert type_in(page, log_of("I1 RA").decode())
     page.until("h1", "no list to compare with")
     assert page.driver.find_element("id", "told").get_attribute("aria-busy") == "false"
     page.until(".banner", "log (edited)")
@@ -394,10 +397,10 @@ def test_a_long_judging_is_stopped(page, tmp_path):
 def test_text_and_rounds_are_linked(page):
     page.drop(log=log_of("I16 S RA RB S13 UA UB"))
     page.until("h1", "All 2")
-    page.driver.find_element("css selector", 'td[data-line="4"]').click()
+    page.press('td[data-line="4"]')
     assert page.run(CHOSEN).startswith("R 0000A1")
-    marked = page.driver.find_elements("css selector", "td.here")
-    assert [it.get_attribute("data-line") for it in marked] == ["4"]
+    marked = "return [...document.querySelectorAll('td.here')].map((it) => it.dataset.line)"
+    assert page.run(marked) == ["4"]
 
 
 def test_several_logs(page):
@@ -405,7 +408,7 @@ def test_several_logs(page):
     page.until("#logs", "The one listed tag is here")
     page.until("#logs", "1 listed tag can't be here")
     page.until("#logs", "isn't a log")
-    page.driver.find_elements("css selector", "#logs button")[1].click()
+    page.press("#logs button", 1)
     page.until("h1", "1 listed tag can't be here")
 
 
@@ -449,15 +452,15 @@ def test_a_slot_is_tried_otherwise(page, tmp_path):
     """The trial has a name of its own, and it can be taken back."""
     page.drop(log=log_of("I16 S RA RB S13 UA UB"))
     page.until("h1", "All 2")
-    page.driver.find_element("css selector", 'td[data-line="5"]').click()
+    page.press('td[data-line="5"]')
     assert page.texts("#trial button") == ["S nobody", "C two or more"]
-    page.driver.find_element("css selector", "#trial button").click()
+    page.press("#trial button")
     page.until("h1", "A trial: Search finished. 1 listed tag can't be here")
     page.until(".banner", "log (trial: line 5 is S)")
-    page.driver.find_element("css selector", 'td[data-line="3"]').click()
-    page.driver.find_element("css selector", "#trial button").click()
+    page.press('td[data-line="3"]')
+    page.press("#trial button")
     page.until(".banner", "log (trial: line 5 is S, line 3 is C)")
-    page.driver.find_elements("css selector", "#trial button")[-1].click()
+    page.press("#trial button", -1)
     page.until("h1", "All 2")
     assert "trial" not in page.said()
     assert page.driver.find_element("id", "text").get_property("value") == log_of(

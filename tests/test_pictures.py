@@ -369,9 +369,9 @@ def test_page_of_a_collection(reconciled):
 def test_a_log_of_a_collection_is_drawn_when_it_is_opened(reconciled):
     page = reconciled(*SHELVES)
     assert page.texts(".rounds") == []
-    page.driver.find_element("css selector", ".logs summary").click()
+    page.press(".logs summary")
     page.until(".logs h3", "Not finished: 87 % of all UIDs settled.")
-    page.driver.find_element("css selector", '.logs td[data-line="5"]').click()
+    page.press('.logs td[data-line="5"]')
     chosen = page.run("const it = document.querySelector('.logs textarea');"
                       "return it.value.slice(it.selectionStart, it.selectionEnd)")
     assert chosen == SHELVES[2].read_text().splitlines()[4]

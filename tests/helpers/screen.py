@@ -47,6 +47,12 @@ return [...document.querySelectorAll("button, summary, label.choose")]
   .filter((it) => it.checkVisibility())
   .map((it) => [it.textContent, it.getBoundingClientRect().height]);
 """
+# Presses one of some elements, if there is such a one.
+PRESS = """
+const it = [...document.querySelectorAll(arguments[0])].at(arguments[1]);
+it?.click();
+return Boolean(it);
+"""
 WIDE = "return document.documentElement.scrollWidth"
 
 
@@ -84,6 +90,10 @@ class Screen:
 
     def texts(self, selector):
         return self.run(TEXTS, selector)
+
+    def press(self, selector, number=0):
+        """Presses an element once it is there, in one step: the page may draw it anew meanwhile."""
+        self.wait(lambda: self.run(PRESS, selector, number), lambda: f"{selector} isn't there")
 
     def said(self):
         return "\n".join(self.texts("#told"))
