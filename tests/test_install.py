@@ -8,7 +8,7 @@ import sys
 import pytest
 
 from helpers.program import TOP, Program, needs
-from helpers.trees import tree
+from helpers.trees import copy, tree
 
 VERSION = (TOP / "VERSION").read_text().strip().removesuffix("~dev")
 MAJOR = VERSION.partition(".")[0]
@@ -250,12 +250,12 @@ def test_the_python_example(root, log):
 def test_pip_installs_the_package(root, tmp_path):
     """Without a network, and leaves nothing behind."""
     needs("/usr/share/doc/python3-pip")
-    shutil.copytree(TOP / "python", tmp_path / "source",
-                    ignore=shutil.ignore_patterns("__pycache__"))
-    before = tree(tmp_path / "source")
+    clone = tmp_path / "clone"
+    copy(clone, "python", "web")
+    before = tree(clone)
     tool(sys.executable, "-m", "pip", "install", "-q", "--no-index", "--target",
-         tmp_path / "site", tmp_path / "source", PIP_ROOT_USER_ACTION="ignore")
-    assert tree(tmp_path / "source") == before
+         tmp_path / "site", clone / "python", PIP_ROOT_USER_ACTION="ignore")
+    assert tree(clone) == before
     assert (tmp_path / "site/vicinity/py.typed").exists()
     python = Program(sys.executable, LIBVICINITY=f"{root}/usr/lib/libvicinity.so",
                      PYTHONPATH=str(tmp_path / "site"))
