@@ -65,7 +65,7 @@ borne_earlier es m n le h = record {
 }
 
 -- in possible entries they are
-borne_out : (es : List Entry) (n : ℕ) → n ≤ length es → IsPossible (take n es) → AreBorneOut es n
+pub borne_out : (es : List Entry) (n : ℕ) → n ≤ length es → IsPossible (take n es) → AreBorneOut es n
 borne_out es n le possible = record {
   answer = λ j u below h. let w = hears_reply (slice_get es j) u h in subst (λ v. answers_at es j v ≡ true) w.2 (both j w.0 below w.1).1;
   openness = λ u h. let w = heard_place es n u h in subst (λ v. is_open (slots_before es n) v ≡ true) w.4 (both w.0 w.1 w.2 w.3).0;
