@@ -70,7 +70,7 @@ borne_earlier es m n le h = record {
 }
 
 -- in possible entries they are
-borne_out : (es : List Entry) (n : ℕ) → n ≤ length es → IsPossible (take n es) → AreBorneOut es n
+pub borne_out : (es : List Entry) (n : ℕ) → n ≤ length es → IsPossible (take n es) → AreBorneOut es n
 borne_out es n le possible = record {
   answer = λ j u below h. (both j u below h).1;
   openness = λ u h. let w = heard_place es n u h in (both w.0 u w.1 w.2).0;
