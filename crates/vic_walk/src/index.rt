@@ -10,9 +10,6 @@ use vic_frame::UID_BITS;
 /// How many cells an index has at most, as a power of two: they take 4 MiB.
 const MOST_BITS: u32 = 20;
 
-/// How many borders after the first one in a cell are looked at without a search.
-const FEW: usize = 7;
-
 /// How many borders at either end have no say in how wide the cells are. Of nested masks around
 /// many UIDs some are far from all others.
 const FAR: usize = 128;
@@ -71,17 +68,16 @@ impl Index {
     }
 }
 
-/// The number of the last border up to a key, if it is this one or one of the next few. There is no
-/// branch that depends on the key: a wrong guess by the processor takes longer than all of it.
+/// The number of the last border up to a key, if it is this one or one of the next three. There is
+/// no branch that depends on the key: a wrong guess by the processor takes longer than all of it.
 pub(crate) fn up_to(borders: &[u64], from: usize, key: u64) -> usize {
-    let Some(next) = borders.get(from.saturating_add(1)..from.saturating_add(1 + FEW)) else {
-        return from;
-    };
-    let mut number = from;
-    for border in next {
-        number = number.saturating_add(usize::from(*border <= key));
+    match borders.get(from.saturating_add(1)..from.saturating_add(4)) {
+        Some([first, second, third]) => from
+            .saturating_add(usize::from(*first <= key))
+            .saturating_add(usize::from(*second <= key))
+            .saturating_add(usize::from(*third <= key)),
+        _ => from,
     }
-    number
 }
 
 /// Where the first cell begins, and how wide `2^bits` cells are, as a power of two, that cover most
