@@ -87,15 +87,15 @@ ruled_back : (e l m : ℕ) (p : ℕ) (x y : Bool) → (x || y) ≡ (nat_lt p l &
 ruled_back e l m p x y is f g = grind (arith, nat_tests)
 
 -- those in front aren't open before the position before
-pub ruled_before : (ends ps : List ℕ) (k m : ℕ) → AreApart ends ps k (m + 1) → AreRuled ends (m + 1) ps → AreRuled ends m (take k ps)
+pub ruled_before : (ends ps : List ℕ) (k m : ℕ) → AreApart ends ps k (m + 1) → AreRuled ends (m + 1) true ps → AreRuled ends m true (take k ps)
 ruled_before ends ps k m apart h = record {
-  order = IsNonDecreasingBy-take (λ p. slice_index ends p) k ps h.order;
+  order = λ it. IsNonDecreasingBy-take (λ p. slice_index ends p) k ps (h.order it);
   ruled = λ p. ruled_front (slice_index ends p) (length ends) m p _ _ (sym (split ps k p) ∙ h.ruled p) (apart.below p) (apart.rest p);
 }
 
 -- those behind end there
-pub back_at : (ends ps : List ℕ) (k m p : ℕ) → AreApart ends ps k (m + 1) → AreRuled ends (m + 1) ps → has (drop k ps) p ≡ (nat_lt p (length ends) && slice_index ends p == m + 1)
-back_at ends ps k m p apart h = ruled_back (slice_index ends p) (length ends) m p _ _ (sym (split ps k p) ∙ h.ruled p) (apart.below p) (apart.rest p)
+pub back_at : (ends ps : List ℕ) (k m p : ℕ) (ordered : Bool) → AreApart ends ps k (m + 1) → AreRuled ends (m + 1) ordered ps → has (drop k ps) p ≡ (nat_lt p (length ends) && slice_index ends p == m + 1)
+back_at ends ps k m p ordered apart h = ruled_back (slice_index ends p) (length ends) m p _ _ (sym (split ps k p) ∙ h.ruled p) (apart.below p) (apart.rest p)
 
 back_marks : (o b q : Bool) → ((o && not q) || (b && not q)) ≡ ((o || b) && not q)
 back_marks true true true = refl
@@ -152,7 +152,7 @@ slice_rest ps k = take_all (length ps - k) (drop k ps) (omega (arith, length-dro
 
 pub listed_back : (ends : List ℕ) (k m : ℕ) (old : Reach) (new : Walk) → AreApart ends old.ruled.items k (m + 1) → old.upto ≡ m + 1 → AreAdded old.kept new old.all.lasting (drop k old.ruled.items) → HasReach ends old → (p : ℕ) → has new.quiet.items p ≡ true → p < length ends
 listed_back ends k m old new apart upto added h p it =
-    let back = back_at ends old.ruled.items k m p apart (rw upto at h.ruled) in
+    let back = back_at ends old.ruled.items k m p _ apart (rw upto at h.ruled) in
     elim (or_cases _ _ (sym (added.quiet p) ∙ it)) [
       | inl before ↦ h.kept_listed p before
       | inr now ↦
@@ -164,7 +164,7 @@ pub reach_back : (bs : List ℕ) (es : List Entry) (ends : List ℕ) (i k m : �
 reach_back bs es ends i k m old new count apart from to same added over h =
     let was_open : (u p : ℕ) → IsUid u → IsPartOf bs (mirror u) p → is_open (slots_before es (m + 1)) u ≡ lasts_to (m + 1) (slice_index ends p) = λ u p is at. h.known u p (m + 1) is at (omega (arith, from)) in
     let now_open : (u p : ℕ) → IsUid u → IsPartOf bs (mirror u) p → is_open (slots_before es m) u ≡ (is_open (slots_before es (m + 1)) u || slice_index ends p == m + 1) = λ u p is at. h.known u p m is at (omega (arith, from)) ∙ rw (was_open u p is at) (lasts_before m (slice_index ends p)) in
-    let back : (p : ℕ) → p < part_count bs → has (drop k old.ruled.items) p ≡ (slice_index ends p == m + 1) = λ p lt. back_at ends old.ruled.items k m p apart (rw from at over.ruled) ∙ grind (arith, nat_tests) in
+    let back : (p : ℕ) → p < part_count bs → has (drop k old.ruled.items) p ≡ (slice_index ends p == m + 1) = λ p lt. back_at ends old.ruled.items k m p _ apart (rw from at over.ruled) ∙ grind (arith, nat_tests) in
     let ready : (u p : ℕ) → IsUid u → IsPartOf bs (mirror u) p → is_marked old.all.lasting p ≡ not (is_quiet es i u) = h.all.lasting in
     let before : IsReadyAt bs es (is_open (slots_before es (m + 1))) i old.kept = rw from at h.kept in
     record {
@@ -216,7 +216,7 @@ back_none es i n none = record {
   lack = λ less. absurd (omega (arith, less));
 }
 
-pub has_reach : (bs : List ℕ) (es : List Entry) (ends : List ℕ) (i : ℕ) (r : Reach) → part_count bs ≡ length ends → AreRuled ends r.upto r.ruled.items → IsReachAt bs es ends i r → HasReach ends r
+pub has_reach : (bs : List ℕ) (es : List Entry) (ends : List ℕ) (i : ℕ) (r : Reach) → part_count bs ≡ length ends → AreRuled ends r.upto r.ordered r.ruled.items → IsReachAt bs es ends i r → HasReach ends r
 has_reach bs es ends i r count ruled h = record {
   kept = h.kept.room ∙ count;
   all = h.all.room ∙ count;

@@ -68,6 +68,18 @@ impl Index {
     }
 }
 
+/// The number of the last border up to a key, if it is this one or one of the next three. There is
+/// no branch that depends on the key: a wrong guess by the processor takes longer than all of it.
+pub(crate) fn up_to(borders: &[u64], from: usize, key: u64) -> usize {
+    match borders.get(from.saturating_add(1)..from.saturating_add(4)) {
+        Some([first, second, third]) => from
+            .saturating_add(usize::from(*first <= key))
+            .saturating_add(usize::from(*second <= key))
+            .saturating_add(usize::from(*third <= key)),
+        _ => from,
+    }
+}
+
 /// Where the first cell begins, and how wide `2^bits` cells are, as a power of two, that cover most
 /// of some borders in rising order.
 fn base_and_shift(borders: &[u64], bits: u32) -> (u64, u32)

@@ -29,8 +29,10 @@ struct Reach {
     kept: Walk,
     /// Which of all parts are, whether open or not.
     all: Walk,
-    /// The parts that aren't open before `upto`, in the order of their ends.
+    /// The parts that aren't open before `upto`.
     ruled: Vec<usize>,
+    /// Whether these are in the order of their ends.
+    ordered: bool,
 }
 
 impl Reach {
@@ -48,6 +50,7 @@ impl Reach {
             kept: all_ready(alloc, kept)?,
             all: all_ready(alloc, Marks::all(alloc, ends.len())?)?,
             ruled,
+            ordered: false,
         })
     }
 
@@ -63,7 +66,7 @@ impl Reach {
         requires borders { AreBorders parts.now }
         requires count { part_count parts.now ≡ length ends.now }
         requires reach { HasReach ends.now self.old }
-        ensures ruled { OnOk result (AreRuled ends.now self.new.upto self.new.ruled.items) }
+        ensures ruled { OnOk result (AreRuled ends.now self.new.upto self.new.ordered self.new.ruled.items) }
         ensures back { OnOk result ((es : List EntryValue)
             → IsPlace parts.now es at entry.now rounds.now
             → IsReachAt parts.now es ends.now at self.old
@@ -140,6 +143,36 @@ impl Reach {
             → part_count bs ≡ length ends.now → IsReachAt bs es ends.now i self.old
             → IsReachAt bs es ends.now i self.new) }
     {
+        self.put_in_order(ends);
+        self.open_last(ends)
+    }
+
+    /// Puts the parts that aren't open in the order of their ends. Most logs don't need it.
+    fn put_in_order(&mut self, ends: &[u32])
+        requires reach { HasReach ends.now self.old }
+        ensures reach { HasReach ends.now self.new }
+        ensures ordered { self.new.ordered ≡ true }
+        ensures upto { self.new.upto ≡ self.old.upto }
+        ensures kept { self.new.kept ≡ self.old.kept }
+        ensures all { self.new.all ≡ self.old.all }
+    {
+        if !self.ordered {
+            self.ruled.sort_unstable_by_key(|part| end_of(ends, *part));
+            self.ordered = true;
+        }
+    }
+
+    /// Opens the parts that end last, and goes back by one position.
+    fn open_last(&mut self, ends: &[u32]) -> Result<(), AllocError>
+        requires some { 0 < self.old.upto }
+        requires ordered { self.old.ordered ≡ true }
+        requires reach { HasReach ends.now self.old }
+        ensures reach { OnOk result (HasReach ends.now self.new) }
+        ensures upto { OnOk result (self.new.upto + 1 ≡ self.old.upto) }
+        ensures ready { OnOk result ((bs : List ℕ) (es : List EntryValue) (i : ℕ)
+            → part_count bs ≡ length ends.now → IsReachAt bs es ends.now i self.old
+            → IsReachAt bs es ends.now i self.new) }
+    {
         let left = count_below(&self.ruled, ends, self.upto);
         self.upto -= 1;
         add_parts(&mut self.kept, &self.all.lasting, &self.ruled[left..])?;
@@ -193,13 +226,12 @@ fn all_ready(alloc: Global, parts: Marks) -> Result<Walk, AllocError>
     })
 }
 
-/// By the ends of all parts, those that are open before a position, and the others in the order of
-/// their ends.
+/// By the ends of all parts, those that are open before a position, and the others.
 fn divide(alloc: Global, ends: &[u32], upto: usize) -> Result<(Marks, Vec<usize>), AllocError>
     ensures room { IfOk result (λ r. length r.0 ≡ length ends.now) }
     ensures kept { IfOk result (λ r. (p : ℕ) → is_marked r.0 p
         ≡ (nat_lt p (length ends.now) && lasts_to upto (slice_index ends.now p))) }
-    ensures ruled { IfOk result (λ r. AreRuled ends.now upto r.1.items) }
+    ensures ruled { IfOk result (λ r. AreRuled ends.now upto false r.1.items) }
 {
     let mut kept = Marks::none(alloc, ends.len())?;
     let mut ruled = Vec::new(alloc);
@@ -210,7 +242,6 @@ fn divide(alloc: Global, ends: &[u32], upto: usize) -> Result<(Marks, Vec<usize>
             ruled.push(part)?;
         }
     }
-    ruled.sort_unstable_by_key(|part| end_of(ends, *part));
     Ok((kept, ruled))
 }
 

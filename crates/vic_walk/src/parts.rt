@@ -16,15 +16,12 @@ ghost use Rattle.vic_walk.specs.inner.Gathered.{HasAll, HasBlock, HasCuts, HasMa
 ghost use Rattle.vic_walk.specs.inner.Searching.{IsBetween};
 
 use crate::gathered::Gathered;
-use crate::index::Index;
+use crate::index::{Index, up_to};
 use std::alloc::{AllocError, Global};
 use std::marker::Model;
 use vic_frame::low_bits_first::{KeyBlock, key};
 use vic_frame::{Request, Uid};
 use vic_log::{Entry, PackedLine, RoundCursor};
-
-/// How many parts are looked at before the index is asked, where a key is expected near.
-const FEW: usize = 3;
 
 /// The keys, divided into parts. A part has the keys from one border on and below the next.
 #[derive(Drop)]
@@ -99,7 +96,10 @@ impl Parts {
         ensures { IsPartOf self.now key result }
     {
         let (from, to) = self.index.hint(key);
-        if self.is_between(key, from, to) {
+        let near = up_to(&self.borders, from, key);
+        if self.is_between(key, near, near.saturating_add(1)) {
+            near
+        } else if self.is_between(key, from, to) {
             self.search(key, from, to)
         } else {
             self.search(key, 0, self.count())
@@ -111,12 +111,12 @@ impl Parts {
         requires { IsKey key }
         ensures { IsPartOf self.now key result }
     {
-        for near in part..part.saturating_add(FEW) {
-            if self.is_between(key, near, near + 1) {
-                return near;
-            }
+        let near = up_to(&self.borders, part, key);
+        if self.is_between(key, near, near.saturating_add(1)) {
+            near
+        } else {
+            self.at(key)
         }
-        self.at(key)
     }
 
     /// Whether a key lies between two borders.

@@ -20,9 +20,9 @@ AreEndsUpTo bs es n ends =
     (u p i : ℕ) → IsUid u → IsPartOf bs (mirror u) p → i ≤ n
     → is_open (slots_before es i) u ≡ lasts_to i (slice_index ends p)
 
--- the parts that aren't open before position n, in the order of their ends
-pub record AreRuled (ends : List ℕ) (n : ℕ) (ps : List ℕ) : Type 0 where
-  pub order : IsNonDecreasingBy (λ p. slice_index ends p) ps
+-- the parts that aren't open before position n; in the order of their ends, if they were put so
+pub record AreRuled (ends : List ℕ) (n : ℕ) (ordered : Bool) (ps : List ℕ) : Type 0 where
+  pub order : ordered ≡ true → IsNonDecreasingBy (λ p. slice_index ends p) ps
   pub ruled : (p : ℕ) → has ps p
       ≡ (nat_lt p (length ends) && not (lasts_to n (slice_index ends p)))
 
@@ -32,7 +32,7 @@ pub record HasReach (ends : List ℕ) (r : Reach) : Type 0 where
   pub all : length r.all.lasting ≡ length ends
   pub kept_listed : (p : ℕ) → has r.kept.quiet.items p ≡ true → p < length ends
   pub all_listed : (p : ℕ) → has r.all.quiet.items p ≡ true → p < length ends
-  pub ruled : AreRuled ends r.upto r.ruled.items
+  pub ruled : AreRuled ends r.upto r.ordered r.ruled.items
 
 -- before position i it is known of all parts which are Ready, and of those open before `upto`
 pub record IsReachAt (bs : List ℕ) (es : List Entry) (ends : List ℕ) (i : ℕ) (r : Reach)

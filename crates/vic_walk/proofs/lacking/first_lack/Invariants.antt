@@ -7,7 +7,7 @@ use Rattle.vic_walk.proofs.lacking.first_lack.Given as goal
 
 abbrev pub invariant-loop-index : goal.invariant-loop-index
 invariant-loop-index l = record {
-  ruled : AreRuled l.walk.ends.items l.reach.upto l.reach.ruled.items;
+  ruled : AreRuled l.walk.ends.items l.reach.upto l.reach.ordered l.reach.ruled.items;
   ready : IsReachAt l.parts (entries l.lines) l.walk.ends.items l.index l.reach;
   rounds : IsCursorAt (entries l.lines) l.index l.rounds;
   back : l.reach.upto ≤ l.upto;
