@@ -24,10 +24,15 @@ pub enum Entry {
     Heard(Response),
     /// `U`: the reader claims this UID.
     Listed(Uid),
-    /// `D`, only in version 2: one or more tags answered in the next slot, and none was read.
+    /// `D`, from version 2 on: one or more tags answered in the next slot, and none was read.
     Garbled,
-    /// `F`, only in version 2: the field was switched off and on.
+    /// `F`, from version 2 on: the field was switched off and on.
     FieldCycle,
+    /// `H`, only in version 3: this reply was read in the next slot; whether other tags answered
+    /// under it isn't known.
+    Captured(Response),
+    /// `N`, only in version 3: the next slot passed, and nothing is known of it.
+    Unknown,
 }
 
 impl Entry {
@@ -36,7 +41,12 @@ impl Entry {
         ensures { result ≡ is_slot self.now }
     {
         match *self {
-            Entry::Silent | Entry::Collision | Entry::Heard(_) | Entry::Garbled => true,
+            Entry::Silent
+            | Entry::Collision
+            | Entry::Heard(_)
+            | Entry::Garbled
+            | Entry::Captured(_)
+            | Entry::Unknown => true,
             Entry::Sent(_) | Entry::Listed(_) | Entry::FieldCycle => false,
         }
     }
@@ -45,10 +55,12 @@ impl Entry {
 /// Which lines a log may have.
 #[derive(Clone, Copy, Debug, PartialEq, Eq)]
 pub enum Version {
-    /// Neither `D` nor `F`.
+    /// Neither `D`, `F`, `H` nor `N`.
     V1,
-    /// All entries.
+    /// Neither `H` nor `N`.
     V2,
+    /// All entries.
+    V3,
 }
 
 /// An entry with the number of its line. In a log the numbers rise, from 2 to 1,000,000.
