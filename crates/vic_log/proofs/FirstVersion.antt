@@ -24,13 +24,13 @@ fits-first e h us = grind (arith, nat_tests)
 answers-first : (es : List Entry) → AreOfFirstVersion es → (i u : ℕ) → answers_at es i u ≡ answers_first_at es i u
 answers-first es h i u = grind (arith, nat_tests, opener-first, quiet-first)
 
-answering-first : (es : List Entry) → AreOfFirstVersion es → (i : ℕ) (p : List ℕ) → filter (answers_at es i) p ≡ filter (answers_first_at es i) p
-answering-first es h i p = filter_agree (answers_at es i) (answers_first_at es i) (answers-first es h i) p
+answerers-first : (es : List Entry) → AreOfFirstVersion es → (i : ℕ) (p : List ℕ) → filter (answers_at es i) p ≡ filter (answers_first_at es i) p
+answerers-first es h i p = filter_agree (answers_at es i) (answers_first_at es i) (answers-first es h i) p
 
 pub given-first : (es : List Entry) → AreOfFirstVersion es → (p : List ℕ) → CouldHaveGiven p es ↔ CouldHaveGivenFirst p es
 given-first es h p = (
-  (λ g i e k. (fits-first e (h i e k) _).0 (subst (Fits e) (answering-first es h i p) (g i e k))),
-  (λ g i e k. subst (Fits e) (sym (answering-first es h i p)) ((fits-first e (h i e k) _).1 (g i e k))),
+  (λ g i e k. (fits-first e (h i e k) _).0 (subst (Fits e) (answerers-first es h i p) (g i e k))),
+  (λ g i e k. subst (Fits e) (sym (answerers-first es h i p)) ((fits-first e (h i e k) _).1 (g i e k))),
 )
 
 slot-first : (e : Entry) → IsOfFirstVersion e → is_slot e ≡ is_first_slot e

@@ -1,5 +1,5 @@
 -- What weaker entries keep: rounds, Quiet tags, listed UIDs, and the populations that could have produced them.
-use Rattle.vic_log.proofs.Words.{◌≡◌, ℕ, zero, suc, ◌+◌, ◌<◌, ◌⊎◌, inl, inr, List, [], ◌∷◌, length, Bool, true, false, Option, Some, None, refl, sym, ap, ◌∙◌, subst, ◌↔◌, ⊎_elim, arith, nat_tests, eqb-true, eq-eqb, cases_lt, filter_agree, slice_get, slice_get_within, slice_get_past, slice_get-get_or, get_or, Entry, Sent, Silent, Collision, Heard, Listed, Garbled, FieldCycle, Captured, Unknown, is_slot, ends_round, opener, wakes, is_quiet, answering, answers_at, Fits, CouldHaveGiven, listed, has, outcome_of, Nobody, Lone, Several, ◌==◌, false≢true}
+use Rattle.vic_log.proofs.Words.{◌≡◌, ℕ, zero, suc, ◌+◌, ◌<◌, ◌⊎◌, inl, inr, List, [], ◌∷◌, length, Bool, true, false, Option, Some, None, refl, sym, ap, ◌∙◌, subst, ◌↔◌, ⊎_elim, arith, nat_tests, eqb-true, eq-eqb, cases_lt, filter_agree, slice_get, slice_get_within, slice_get_past, slice_get-get_or, get_or, Entry, Sent, Silent, Collision, Heard, Listed, Garbled, FieldCycle, Captured, Unknown, is_slot, ends_round, opener, wakes, is_quiet, answerers_at, answers_at, Fits, CouldHaveGiven, listed, has, outcome_of, Nobody, Lone, Several, ◌==◌, false≢true}
 use Rattle.vic_log.specs.Quiet.{silences}
 use Rattle.vic_log.specs.Rounds.{mask_at, mask_of_slot}
 use Rattle.vic_log.specs.Weaker.{AreWeaker, IsWeaker, FitsLess, is_weaker}
@@ -117,8 +117,8 @@ weaker_mask ds es w i = grind (arith, nat_tests, weaker_opener ds es w i, same_m
 pub weaker_answers : (ds es : List Entry) → AreWeaker ds es → (i u : ℕ) → answers_at ds i u ≡ answers_at es i u
 weaker_answers ds es w i u = rw (weaker_mask ds es w i, weaker_quiet ds es w i u) refl
 
-weaker_answering : (ds es : List Entry) → AreWeaker ds es → (i : ℕ) (p : List ℕ) → answering ds i p ≡ answering es i p
-weaker_answering ds es w i p = filter_agree (answers_at ds i) (answers_at es i) (weaker_answers ds es w i) p
+weaker_answerers : (ds es : List Entry) → AreWeaker ds es → (i : ℕ) (p : List ℕ) → answerers_at ds i p ≡ answerers_at es i p
+weaker_answerers ds es w i p = filter_agree (answers_at ds i) (answers_at es i) (weaker_answers ds es w i) p
 
 weaker-tail : (d e : Entry) (ds es : List Entry) → AreWeaker (d ∷ ds) (e ∷ es) → AreWeaker ds es
 weaker-tail d e ds es w = record { as_many = let m = w.as_many in omega arith; each = λ i f g k l. w.each (suc i) f g k l }
@@ -152,4 +152,4 @@ weaker_given ds es w p g i d k =
     let many = w.as_many in
     let below = slice_get_within ds i d k in
     let l = slice_get-get_or es i Silent (omega arith) in
-    subst (Fits d) (sym (weaker_answering ds es w i p)) (weaker_fits d _ _ (w.each i d _ k l) (g i _ l))
+    subst (Fits d) (sym (weaker_answerers ds es w i p)) (weaker_fits d _ _ (w.each i d _ k l) (g i _ l))

@@ -31,8 +31,8 @@ outcome_of (u ∷ []) = Lone u
 outcome_of (u ∷ v ∷ us) = Several
 
 -- the UIDs of a population that answer in the slot at position i
-abbrev pub answering : List Entry → ℕ → List ℕ → List ℕ
-answering es i p = filter (answers_at es i) p
+abbrev pub answerers_at : List Entry → ℕ → List ℕ → List ℕ
+answerers_at es i p = filter (answers_at es i) p
 
 -- an entry fits the UIDs that answer in its slot; an entry that isn't a slot line fits any
 abbrev pub Fits : Entry → List ℕ → Type 0
@@ -49,4 +49,4 @@ Fits FieldCycle us = ⊤
 -- every slot line fits those who answer in its slot
 abbrev pub CouldHaveGiven : List ℕ → List Entry → Type 0
 CouldHaveGiven p es =
-    (i : ℕ) (e : Entry) → slice_get es i ≡ Some e → Fits e (answering es i p)
+    (i : ℕ) (e : Entry) → slice_get es i ≡ Some e → Fits e (answerers_at es i p)

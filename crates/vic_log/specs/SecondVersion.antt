@@ -2,7 +2,7 @@
 use Rattle.std.specs.Prelude.{◌≡◌, ◌≢◌, ℕ, Some, List, ⊤, slice_get}
 use Rattle.vic_log.specs.declared.entry.Entry.{Entry}
 use Rattle.vic_log.specs.declared.entry.Entry.TheVariants.{Silent, Collision, Heard, Garbled, Captured, Unknown}
-use Rattle.vic_log.specs.Populations.{Outcome, Nobody, Lone, Several, outcome_of, answering}
+use Rattle.vic_log.specs.Populations.{Outcome, Nobody, Lone, Several, outcome_of, answerers_at}
 
 abbrev pub IsOfSecondVersion : Entry → Type 0
 IsOfSecondVersion (Captured r) = ⊥
@@ -23,4 +23,4 @@ FitsSecond e o = ⊤
 -- every slot line fits the outcome of its slot
 abbrev pub CouldHaveGivenOutcomes : List ℕ → List Entry → Type 0
 CouldHaveGivenOutcomes p es =
-    (i : ℕ) (e : Entry) → slice_get es i ≡ Some e → FitsSecond e (outcome_of (answering es i p))
+    (i : ℕ) (e : Entry) → slice_get es i ≡ Some e → FitsSecond e (outcome_of (answerers_at es i p))

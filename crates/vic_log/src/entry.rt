@@ -1,7 +1,8 @@
 //! The entries of a log.
 
-ghost use Rattle.std.specs.Prelude.{◌≡◌, false, true};
+ghost use Rattle.std.specs.Prelude.{◌≡◌, ◌==◌, ℕ, false, true, IfSome, IfNone, Some};
 ghost use Rattle.vic_log.specs.Rounds.{is_slot};
+ghost use Rattle.vic_log.specs.Slots.{hears};
 
 use vic_frame::{Request, Response, Uid};
 
@@ -36,6 +37,23 @@ pub enum Entry {
 }
 
 impl Entry {
+    /// The UID of the reply that was read in its slot, if one was.
+    pub fn heard(&self) -> Option<Uid>
+        ensures some { IfSome result (λ uid. (u : ℕ) → hears (Some self.now) u ≡ (uid == u)) }
+        ensures none { IfNone result ((u : ℕ) → hears (Some self.now) u ≡ false) }
+    {
+        match *self {
+            Entry::Heard(response) | Entry::Captured(response) => Some(response.uid()),
+            Entry::Sent(_)
+            | Entry::Silent
+            | Entry::Collision
+            | Entry::Listed(_)
+            | Entry::Garbled
+            | Entry::FieldCycle
+            | Entry::Unknown => None,
+        }
+    }
+
     /// Whether it is a slot line.
     pub fn is_slot(&self) -> bool
         ensures { result ≡ is_slot self.now }

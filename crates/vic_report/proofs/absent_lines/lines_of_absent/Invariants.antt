@@ -1,5 +1,5 @@
 use Rattle.vic_report.proofs.Words.{◌≡◌, take, All, uids_of, IsRuledOut}
-use Rattle.vic_report.proofs.ruled_out.search_lines.Given as goal
+use Rattle.vic_report.proofs.absent_lines.lines_of_absent.Given as goal
 
 abbrev pub invariant-loop-uid : goal.invariant-loop-uid
 invariant-loop-uid l = record {

@@ -1,10 +1,11 @@
 -- The main theorem in the words of each version of the log. In version 2, tags are Ready at the
 -- start and after each field cycle, a lone reply is heard or garbled, and two or more are a
--- collision or garbled.
+-- collision or garbled. In version 3, any reply may be captured, alone or over others, and any
+-- outcome may be logged as unknown.
 use Rattle.std.specs.Prelude.{◌≡◌, ◌≢◌, ◌↔◌, ◌⊎◌, ℕ, ◌<◌, true, Some, List, ⊤, slice_get}
 use Rattle.vic_frame.specs.Uids.{has}
 use Rattle.vic_log.specs.declared.entry.Entry.{Entry}
-use Rattle.vic_log.specs.declared.entry.Entry.TheVariants.{Sent, Silent, Collision, Heard, Listed, Garbled, FieldCycle}
+use Rattle.vic_log.specs.declared.entry.Entry.TheVariants.{Sent, Silent, Collision, Heard, Listed, Garbled, FieldCycle, Captured, Unknown}
 use Rattle.vic_log.specs.FirstVersion.{CouldHaveGivenFirst}
 use Rattle.vic_log.specs.Order.{listed}
 use Rattle.vic_log.specs.Populations.{IsPopulation}
@@ -51,6 +52,8 @@ IsTrueOf p es i Garbled = ((u : ℕ) × AnswersAlone p es i u) ⊎ SeveralAnswer
 IsTrueOf p es i (Sent q) = ⊤
 IsTrueOf p es i (Listed u) = ⊤
 IsTrueOf p es i FieldCycle = ⊤
+IsTrueOf p es i (Captured r) = ⊤  -- not a line of version 2
+IsTrueOf p es i Unknown = ⊤  -- not a line of version 2
 
 -- every slot line is true of the population
 abbrev pub CouldHaveGivenSecond : List ℕ → List Entry → Type 0
@@ -60,3 +63,17 @@ CouldHaveGivenSecond p es =
 -- the main theorem for version 2
 abbrev pub IsWholeSecond : List Entry → Type 0
 IsWholeSecond = HasExactlyListed CouldHaveGivenSecond
+
+-- the same with the lines of version 3: the tag whose reply was captured answers, alone or not; an
+-- unknown slot says nothing
+abbrev pub IsTrueOfThird : List ℕ → List Entry → ℕ → Entry → Type 0
+IsTrueOfThird p es i (Captured r) = Answers p es i r.uid
+IsTrueOfThird p es i e = IsTrueOf p es i e
+
+abbrev pub CouldHaveGivenThird : List ℕ → List Entry → Type 0
+CouldHaveGivenThird p es =
+    (i : ℕ) (e : Entry) → slice_get es i ≡ Some e → IsTrueOfThird p es i e
+
+-- the main theorem for version 3
+abbrev pub IsWholeThird : List Entry → Type 0
+IsWholeThird = HasExactlyListed CouldHaveGivenThird
