@@ -17,7 +17,7 @@ pub use Rattle.vic_frame.specs.Masks.{BitMask}
 pub use Rattle.vic_frame.specs.Replies.{Reply}
 pub use Rattle.vic_frame.specs.Uids.{IsUid, has}
 pub use Rattle.vic_frame.specs.declared.request.Request.TheVariants.{Inventory}
-pub use Rattle.vic_log.proofs.Places.{CouldHaveGiven-front, CouldHaveGiven-push, agree_upto, outcome_agrees, quiet_agrees, slice_get-append, slice_get_last}
+pub use Rattle.vic_log.proofs.Places.{CouldHaveGiven-front, CouldHaveGiven-push, agree_upto, answerers_agree, quiet_agrees, slice_get-append, slice_get_last}
 pub use Rattle.vic_log.proofs.Push.{IsInOrder-push, entries-push, last_from-push, listed-append, rising-push, rising_long, slots_left-push, valid-push}
 pub use Rattle.vic_log.proofs.Quiet.{silenced-quiet}
 pub use Rattle.vic_log.proofs.Sets.{has_cases, has_here, has_there}
@@ -25,12 +25,12 @@ pub use Rattle.vic_log.proofs.Supply.{is_uid_from}
 pub use Rattle.vic_log.specs.Log.{IsValidEntry}
 pub use Rattle.vic_log.specs.OpenRounds.{IsCursorAt}
 pub use Rattle.vic_log.specs.Order.{AreValid, IsRisingFrom, entries, listed, refusal}
-pub use Rattle.vic_log.specs.Populations.{CouldHaveGiven, Fits, Lone, Outcome, answers_at, outcome_at, outcome_of}
+pub use Rattle.vic_log.specs.Populations.{CouldHaveGiven, Fits, Lone, answerers_at, answers_at, outcome_of}
 pub use Rattle.vic_log.specs.Quiet.{is_quiet, silences, wakes}
 pub use Rattle.vic_log.specs.Rounds.{ends_round, is_slot, mask_at, mask_of_slot, mask_since, opener, slots_left}
-pub use Rattle.vic_log.specs.Slots.{Forces, ManyReplies, SomeReply, is_open, reading_of, slots_before, slots_of}
+pub use Rattle.vic_log.specs.Slots.{Forces, ManyReplies, SomeReply, is_open, reading_of, slots_before, slots_of, hears, tells}
 pub use Rattle.vic_log.specs.declared.entry.Entry.{Entry}
-pub use Rattle.vic_log.specs.declared.entry.Entry.TheVariants.{Collision, FieldCycle, Garbled, Heard, Listed, Sent, Silent}
+pub use Rattle.vic_log.specs.declared.entry.Entry.TheVariants.{Captured, Collision, FieldCycle, Garbled, Heard, Listed, Sent, Silent, Unknown}
 pub use Rattle.vic_log.specs.declared.entry.LogLine.{LogLine}
 pub use Rattle.vic_tree.proofs.GatheringLaws.{found_among, has_dedup}
 pub use Rattle.vic_tree.specs.OpenSet.{SameUids, has_key, without_keys}
@@ -52,7 +52,8 @@ pub use Rattle.vic_verdict.specs.Verdict.{IsAbsent, IsFirstMask, IsUnlisted, IsV
 pub use Rattle.vic_walk.specs.declared.answers.Answering.{Answering}
 pub use Rattle.vic_verdict.specs.declared.judging.Verdict.TheVariants.{Complete, Impossible}
 pub use Rattle.vic_report.specs.Conflicts.{FitsLines, IsConflictAt, IsNoQuietReply, IsSilencedBefore, IsSilencedBy, IsSlotLine}
-pub use Rattle.vic_report.specs.Findings.{IsRuledOut, IsToldOf, MayAnswer, RulesOut, ShowsCertain, TellsOf, lacks_reply_of, uids_of}
+pub use Rattle.vic_report.specs.Findings.{IsRuledOut, IsToldOf, MayAnswer, RulesOut, ShowsCertain, TellsOf, uids_of}
+pub use Rattle.vic_log.specs.Overlooked.{lacks_reply_of}
 pub use Rattle.vic_report.specs.Reports.{AreFindings, AreOpenMasks, IsReport, IsUnsettledWith, verdict_by, unsettled_with, verdict_of}
 pub use Rattle.vic_report.specs.declared.shown.ShownUid.{ShownUid}
 pub use Rattle.vic_report.specs.inner.KeptLogs.{IsKeptLog, KeepsLine, SameQuiet}

@@ -7,10 +7,9 @@
 ghost use Rattle.std.specs.Prelude.{◌≡◌, ℕ, IfNone, IfOk, IfSome, OnOk, Some, List, length, slice_get, true, false};
 ghost use Rattle.std.specs.List.{All};
 ghost use Rattle.vic_frame.specs.Uids.{has};
-ghost use Rattle.vic_frame.specs.Replies.{Reply as ReplyValue};
-ghost use Rattle.vic_log.specs.declared.entry.Entry.TheVariants.{Heard as HeardValue};
 ghost use Rattle.vic_log.specs.declared.entry.LogLine.{LogLine as LogLineValue};
 ghost use Rattle.vic_log.specs.Order.{entries};
+ghost use Rattle.vic_log.specs.Slots.{hears};
 ghost use Rattle.vic_verdict.specs.Verdict.{IsHeard};
 ghost use Rattle.vic_verdict.specs.Needs.{IsExactFor, IsFound, IsMet, IsMetFor};
 ghost use Rattle.vic_report.specs.Findings.{IsToldOf, ShowsCertain, uids_of};
@@ -19,7 +18,7 @@ ghost use Rattle.vic_verdict.specs.Possible.{IsPossible};
 use crate::shown::ShownUid;
 use std::alloc::{AllocError, Global};
 use vic_frame::Uid;
-use vic_log::{Entry, PackedLine};
+use vic_log::PackedLine;
 use vic_verdict::Met;
 use vic_walk::Answering;
 
@@ -73,9 +72,9 @@ fn push_reply(shown: &mut Vec<ShownUid>, line: &PackedLine) -> Result<(), AllocE
         → slice_get lines i ≡ Some line.now
         → All (IsToldOf lines) shown.old.items → All (IsToldOf lines) shown.new.items) }
 {
-    if let Entry::Heard(response) = line.item() {
+    if let Some(uid) = line.item().heard() {
         shown.push(ShownUid {
-            uid: response.uid(),
+            uid,
             line: line.number(),
         })?;
     }
@@ -233,19 +232,10 @@ fn reply_line_of(lines: &[PackedLine], uid: Uid) -> Option<u32>
 /// Whether a line is a reply of a UID.
 fn is_reply_of(line: &PackedLine, uid: Uid) -> bool
     ensures yes { result ≡ true
-        → (r : ReplyValue) × (line.now.item ≡ HeardValue r) × (r.uid ≡ uid) }
-    ensures no { result ≡ false
-        → (r : ReplyValue) → line.now.item ≡ HeardValue r → r.uid ≡ uid → ⊥ }
+        → hears (Some line.now.item) uid ≡ true }
+    ensures no { result ≡ false → hears (Some line.now.item) uid ≡ false }
 {
-    match line.item() {
-        Entry::Heard(response) => response.uid() == uid,
-        Entry::Sent(_)
-        | Entry::Silent
-        | Entry::Collision
-        | Entry::Garbled
-        | Entry::FieldCycle
-        | Entry::Listed(_) => false,
-    }
+    line.item().heard() == Some(uid)
 }
 
 /// The line of a slot in which a UID answers, and no more open UIDs than have to be there.
