@@ -1,5 +1,5 @@
 -- Slot lines that no population fits together: all up to the first impossible line; or one reply of a UID that is Quiet there.
-use Rattle.vic_report.proofs.Words.{◌≡◌, ℕ, zero, suc, ◌<◌, ◌≤◌, ◌+◌, ◌-◌, List, [], ◌∷◌, ◌++◌, length, get_or, take, drop, Bool, true, false, cond, Some, refl, sym, ap, ◌∙◌, subst, arith, ⊎_elim, slice_get, nat_le, leb, None, Option, Result, Ok, Err, MatchOption, MatchResult, is_err, option_map, filter, cases_Bool, leb-true, leb-false, map-append, take-append-drop, All-get_or, filter_passes, slice_get-map, slice_get_within, get_or_from_slice_get, Reply, has, Entry, Sent, Heard, Captured, Unknown, hears, tells, eqb-true, Listed, FieldCycle, LogLine, entries, IsRisingFrom, answerers_at, Fits, CouldHaveGiven, is_quiet, is_slot, FitsLines, IsConflictAt, IsNoQuietReply, IsSilencedBefore, IsSilencedBy, IsSlotLine, IsPossible, IsContradictedAt, entries_to, IsVerdict, place_of, member_at, IsStrictlyIncreasing, agree_upto, answerers_agree, CouldHaveGiven-front, slice_get-append, Impossible, IsPossible-front, rising_order, cases_eq, true_from_ne_false, get_or_default, slice_get_read, cases_lt, inl, inr, IsNonDecreasingBy, IsPartitionPoint, All, AllPairs, AllPairs-filter, Equal, Greater, HoldsAt, Less, Lone, and_from, and_parts, answers_at, cond_both, false≢true, get_or-map, has_cases, has_here, has_there, le-leb, length-map, map, nat_cmp, nat_tests, not-true, ordering_index, outcome_of, ranked, silenced-quiet, silences, AreSlotLinesTo, ◌&&◌}
+use Rattle.vic_report.proofs.Words.{◌≡◌, ℕ, zero, suc, ◌<◌, ◌≤◌, ◌+◌, ◌-◌, List, [], ◌∷◌, ◌++◌, length, get_or, take, drop, Bool, true, false, cond, Some, refl, sym, ap, ◌∙◌, subst, arith, ⊎_elim, slice_get, nat_le, leb, None, Option, MatchOption, option_map, filter, cases_Bool, leb-true, leb-false, map-append, take-append-drop, All-get_or, filter_passes, slice_get-map, slice_get_within, get_or_from_slice_get, has, Entry, Sent, Heard, Captured, Unknown, hears, tells, eqb-true, Listed, FieldCycle, LogLine, entries, IsRisingFrom, answerers_at, Fits, CouldHaveGiven, is_quiet, is_slot, FitsLines, IsConflictAt, IsNoQuietReply, IsSilencedBefore, IsSilencedBy, IsSlotLine, IsPossible, entries_to, IsVerdict, place_of, member_at, IsStrictlyIncreasing, agree_upto, answerers_agree, CouldHaveGiven-front, slice_get-append, Impossible, rising_order, cases_eq, true_from_ne_false, get_or_default, slice_get_read, cases_lt, inl, inr, IsNonDecreasingBy, IsPartitionPoint, All, AllPairs, AllPairs-filter, Equal, Greater, HoldsAt, Less, Lone, and_from, and_parts, answers_at, cond_both, false≢true, get_or-map, has_cases, has_here, has_there, le-leb, length-map, map, nat_cmp, nat_tests, not-true, ordering_index, outcome_of, ranked, silenced-quiet, silences, AreSlotLinesTo, ◌&&◌}
 use Rattle.vic_log.proofs.Order.{IsInOrder-front}
 use Rattle.vic_log.specs.Order.{IsInOrder}
 use Rattle.vic_verdict.specs.LogLines.{AreLogLines}
@@ -221,24 +221,16 @@ upto_last numbers n rising last m h =
     let here = p.2 in
     omega arith
 
-contradicted : (es : List Entry) (i : ℕ) → IsContradictedAt es i → IsPossible es → ⊥
-contradicted es i c p = c.impossible (IsPossible-front (take (i + 1) es) (drop (i + 1) es) (subst IsPossible (sym (take-append-drop (i + 1) es)) p))
-
 -- what the kept lines tell
-pub kept_conflict : (lines : List LogLine) (n : ℕ) (numbers : List ℕ) (kept : List LogLine) (i : ℕ) → IsStrictlyIncreasing numbers → 0 < length numbers → get_or numbers (length numbers - 1) 0 ≡ n → ((m : ℕ) → has numbers m ≡ true → IsSlotLine lines m)
-    → ((p : List ℕ) → FitsLines lines numbers p → CouldHaveGiven p (entries kept)) → IsContradictedAt (entries kept) i → IsConflictAt lines n numbers
-kept_conflict lines n numbers kept i rising some last slots given at = record {
+pub kept_conflict : (lines : List LogLine) (n : ℕ) (numbers : List ℕ) (kept : List LogLine) → IsStrictlyIncreasing numbers → 0 < length numbers → get_or numbers (length numbers - 1) 0 ≡ n → ((m : ℕ) → has numbers m ≡ true → IsSlotLine lines m)
+    → ((p : List ℕ) → FitsLines lines numbers p → CouldHaveGiven p (entries kept)) → (IsPossible (entries kept) → ⊥) → IsConflictAt lines n numbers
+kept_conflict lines n numbers kept rising some last slots given impossible = record {
   rising = rising;
   ends = member_at numbers (length numbers - 1) n 0 (omega arith) last;
   upto = upto_last numbers n rising last;
   slots = slots;
-  unfit = λ p population fits. contradicted (entries kept) i at (p, population, given p fits);
+  unfit = λ p population fits. impossible (p, population, given p fits);
 }
-
--- what an error brings with it
-pub err_of : {T E : Type 0} (P : T → Type 0) (Q : E → Type 0) (r : Result T E) → is_err r ≡ true → MatchResult r P Q → (e : E) × Q e
-err_of P Q (Ok x) err m = cc
-err_of P Q (Err e) err m = (e, m)
 
 -- ---- the line with a number
 

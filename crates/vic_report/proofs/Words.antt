@@ -1,13 +1,13 @@
 -- The words of proofs, from one place: what files name from outside of the crate, and the definitions that several of them name.
-pub use Rattle.std.proofs.Common.{All, Bool, Equal, Err, Greater, Less, List, MatchOption, MatchResult, None, Ok, OnOk, Option, Result, Some, [], add-one, ap, arith, cond, drop, false, filter, get_or, if◌then◌else◌, inl, inr, is_err, leb, length, length-append, ltb-true, map, nat_cmp, nat_eq, nat_le, not, option_map, refl, rules, slice_get, subst, suc, sym, take, true, zero, ℕ, ⊎_elim, ◌&&◌, ◌*◌, ◌++◌, ◌+◌, ◌-◌, ◌<◌, ◌==◌, ◌||◌, ◌↔◌, ◌∙◌, ◌∷◌, ◌≡◌, ◌≤◌}
-pub use Rattle.std.proofs.lemmas.Bool.{and_from, and_parts, cases_Bool, cases_eq, cases_lt, cond_both, eq-eqb, eqb-true, false≢true, le-leb, leb-false, leb-true, ne_eqb, not-true, not_from_false, true_from_ne_false}
+pub use Rattle.std.proofs.Common.{All, Bool, Equal, Err, Greater, Less, List, MatchOption, MatchResult, None, Ok, OnOk, Option, Result, Some, [], add-one, ap, arith, cond, drop, false, filter, get_or, if◌then◌else◌, inl, inr, is_err, leb, length, length-append, ltb-true, map, nat_cmp, nat_eq, nat_le, not, option_map, refl, rules, slice_get, subst, suc, sym, take, true, zero, ℕ, ⊎_elim, ◌&&◌, ◌*◌, ◌++◌, ◌+◌, ◌-◌, ◌<◌, ◌||◌, ◌↔◌, ◌∙◌, ◌∷◌, ◌≡◌, ◌≤◌}
+pub use Rattle.std.proofs.lemmas.Bool.{and_from, and_parts, cases_Bool, cases_eq, cases_lt, cond_both, eq-eqb, eqb-true, false≢true, le-leb, leb-false, leb-true, not-true, not_from_false, true_from_ne_false}
 pub use Rattle.std.proofs.lemmas.Bool.Decides.{nat_tests}
 pub use Rattle.std.proofs.lemmas.Cmp.{ranked}
 pub use Rattle.std.proofs.lemmas.List.{get_or-map, get_or_default, length-map, map-append, map_push, take-append-drop, take_all, take_more}
-pub use Rattle.std.proofs.lemmas.List.Elements.{All-get_or, All-more, All-push, filter_agree, filter_passes}
+pub use Rattle.std.proofs.lemmas.List.Elements.{All-get_or, All-push, filter_agree, filter_passes}
 pub use Rattle.std.proofs.lemmas.List.Filters.{dedup_is}
 pub use Rattle.std.proofs.lemmas.List.Kept.{AllPairs-filter}
-pub use Rattle.std.proofs.lemmas.List.Sorted.{All-permutation, IsPermutation-sym, answers_always, list_any-IsPermutation}
+pub use Rattle.std.proofs.lemmas.List.Sorted.{answers_always, list_any-IsPermutation}
 pub use Rattle.std.proofs.lemmas.Map.Keys.{IsStrictlyIncreasing-dedup}
 pub use Rattle.std.proofs.lemmas.Option.{get_or_from_slice_get, slice_get-map, slice_get_read, slice_get_within}
 pub use Rattle.std.specs.List.{AllPairs, HoldsAt, list_any}
@@ -21,7 +21,6 @@ pub use Rattle.vic_log.proofs.Places.{CouldHaveGiven-front, CouldHaveGiven-push,
 pub use Rattle.vic_log.proofs.Push.{IsInOrder-push, entries-push, last_from-push, listed-append, rising-push, rising_long, slots_left-push, valid-push}
 pub use Rattle.vic_log.proofs.Quiet.{silenced-quiet}
 pub use Rattle.vic_log.proofs.Sets.{has_cases, has_here, has_there}
-pub use Rattle.vic_log.proofs.Supply.{is_uid_from}
 pub use Rattle.vic_log.specs.Log.{IsValidEntry}
 pub use Rattle.vic_log.specs.OpenRounds.{IsCursorAt}
 pub use Rattle.vic_log.specs.Order.{AreValid, IsRisingFrom, entries, listed, refusal}

@@ -14,8 +14,7 @@ use crate::silencer::silencer_of_line;
 use std::alloc::{AllocError, Global};
 use vic_guess::guess_conflict;
 use vic_log::{MAX_LINES, PackedLine};
-use vic_tree::RangeSet;
-use vic_verdict::open_and_met;
+use vic_verdict::is_possible;
 
 /// The first line up to which no population could have produced a log, and slot lines up to it that
 /// no population fits.
@@ -107,7 +106,7 @@ fn is_conflict_at(
         return Ok(false);
     }
     let kept = kept_lines(alloc, lines, numbers)?;
-    Ok(open_and_met::<RangeSet>(alloc, &kept)?.is_err())
+    Ok(!is_possible(alloc, &kept)?)
 }
 
 /// Whether each of some numbers is that of a slot line.
