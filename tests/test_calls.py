@@ -141,8 +141,9 @@ def test_the_mask_of_a_slot(calls, numbers, told):
 @pytest.mark.parametrize(("letter", "data", "told"), [
     ("T", bytes.fromhex("260100F60A"), lined("T 260100F60A\n")),
     ("R", bytes(63), lined("R " + "00" * 63 + "\n")),
-    ("R", bytes(64), (TOO_LONG, 0, b"")), ("U", b"", lined("U E0040100000000A1\n")),
-    *((letter, bytes(64), lined(letter + "\n")) for letter in "SCDF"),
+    ("R", bytes(64), (TOO_LONG, 0, b"")), ("H", bytes(63), lined("H " + "00" * 63 + "\n")),
+    ("H", bytes(64), (TOO_LONG, 0, b"")), ("U", b"", lined("U E0040100000000A1\n")),
+    *((letter, bytes(64), lined(letter + "\n")) for letter in "SCDNF"),
     *((letter, b"", (LETTER, 0, b"")) for letter in "tX#\0")])
 def test_a_line_is_written(calls, letter, data, told):
     assert calls.write_line(ord(letter), data, UID_A if letter == "U" else 0) == told
@@ -191,6 +192,7 @@ SURVEYED = [
     ("MA RA MB S UB", 1, [UID_A], BESIDES_BOTH),
     ("M55 C QZ QY I1 S", 1, [UID_Z, UID_Y], []),
     ("V2 QZ QY QA I1 S F I1 C M55 C", 1, [UID_Z, UID_Y], [ALONE]),
+    ("V3 I1 HA QA I1 S", 1, [UID_A], []), ("V3 I16 N S15", 1, [], [(4, 0)]),
     ("M55 S", 1, [], [(length, 1 << length - 1) for length in range(1, 56)]),
     ("I1 S I1 RA", 2, [], []), ("UA UA", 3, [], [])]
 

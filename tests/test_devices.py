@@ -12,8 +12,8 @@ from helpers.program import TOP
 READ_FAULT, WRITE_FAULT = b"vicinity: read failed\n", b"vicinity: write failed\n"
 # Commands over a log, which stands on standard input, and over words.
 LOGS = (("check", "I1 RA UA"), ("explain", "I1 RA"), ("report", "I1 S UA"),
-        ("report", "I1 RA QA I1 RA"),
-        ("simulate", "I1 QA I1 UA UB"), ("simulate", "I16 UA UB"))
+        ("report", "I1 RA QA I1 RA"), ("report", "V3 I1 S I1 HA"),
+        ("simulate", "V3 I1 QA I1 UA UB"), ("simulate", "I16 UA UB"))
 WORDS = ("frame 260100F60A", "frame 26", "spell request inventory link 2 slots 1 mask 0 -",
          "spell request inventory")
 # What is expected, and logs.

@@ -12,7 +12,7 @@ import subprocess
 
 import pytest
 
-from biglog import BITS, SHAPES, ask, low, new_tags
+from biglog import BITS, SHAPES, ask, low, new_tags, version_of
 from helpers import random_logs
 from helpers.lines import biglog, log_lines, rows, text_of
 from helpers.program import TOP, Said, program_of
@@ -25,7 +25,7 @@ JUDGED = ("I16 S RA RB S13 UA UB", "I1 C MA RA QA I1 RB UA UB",
           "I16 S C S14 N1 S10 RA RB1 S4 UA UB1", "I1 RA", "I1 S UA",
           "QA I1 S", "QA I1 S UA", "M55 C QZ QY I1 S", "MB RA", "I1 RA QA I1 RA", "I1 S I1 RA",
           "I1 RA I1 S",
-          "I16 S C S14 N1 S10 RA S S4 UA")
+          "I16 S C S14 N1 S10 RA S S4 UA", "V2 QZ I1 S F I1 D", "V3 I16 N HA S14 QA I1 HB UA UB")
 ASKED = ("I16 UA UB", "I1 QA I1 UA UB")
 # Commands over words and over a log.
 OVER_WORDS = ("spell request inventory link 2 slots 1 mask 0 -", "frame 260100F60A")
@@ -49,7 +49,7 @@ HOSTILE = ("quiet-polls", "quiet-answers", "nest-singles-late", "nest-scattered-
            "nest-unmet-late", "eight-replies",
            "eight-replies-late", "replies-listed", "all-heard-hidden", "all-silent", "sixteen-late",
            "listed-scattered",
-           "session-late", "one-slot")
+           "session-late", "one-slot", "captured", "captured-turns")
 HOSTILE_SIZE = 500
 # The calls of crates/growths, in their order: what it writes when nothing is refused.
 CALLS = [line.rpartition(" ")[0]
@@ -161,9 +161,8 @@ def test_each_allocation_over_words_is_refused(program, refuse, words):
 
 
 def hostile(name):
-    version = 2 if SHAPES[name].__doc__.startswith("Version 2") else 1
     lines = SHAPES[name](random.Random(1), HOSTILE_SIZE)
-    return "".join(f"{line}\n" for line in [f"vicinity-log {version}", *lines])
+    return "".join(f"{line}\n" for line in [f"vicinity-log {version_of(name)}", *lines])
 
 
 def judged(growths, refuse, text):

@@ -37,7 +37,7 @@ def log_of(lines, kept):
 @pytest.mark.parametrize("part", range(PARTS))
 def test_no_line_of_a_conflict_can_be_left_out(asked, pytestconfig, part):
     def is_impossible(kept):
-        return asked("check", 2, log_of(lines, kept))[0].startswith("impossible")
+        return asked("check", 3, log_of(lines, kept))[0].startswith("impossible")
 
     rng, left = random.Random(f"56 {part}"), (pytestconfig.getoption("--logs") or NUMBER) // PARTS
     while left:

@@ -13,17 +13,19 @@ from vicinity._native import AnswerStruct
 from helpers import oracle, reports
 from helpers.library import STATUSES, U64, answer_to
 from helpers.oracle import Case
-from helpers.random_logs import random_log, text_of
+from helpers.random_logs import Reply, random_log, text_of, weaker
 
-NUMBER, SEED = 15000, 15693
-# In how many parts the logs are judged.
-PARTS = 15
+NUMBER, SEED = 20000, 15693
+# In how many parts the logs are judged; the last of four has logs of version 3.
+PARTS = 20
 # How many logs a wrong judge is given to be found, and how many of a thousand must have each
 # verdict.
 PLANTED = 8000
 LEAST_SHARE = 20
 KINDS = ("complete", "absent", "unlisted", "unsettled", "doubtful", "impossible")
 ROOM = 64
+# How many logs are weakened line by line, and how many weaker ones have to be complete.
+STRONGER, LEAST_WEAKER = 300, 500
 
 
 @pytest.fixture
@@ -65,8 +67,9 @@ def test_random_logs(answer, report, logs, part):
     number, seed = logs
     rng, seen = random.Random(f"{seed} {part}"), collections.Counter()
     for _ in range(number):
-        version, uids, lines = random_log(rng)
-        case = Case(version, uids, lines)
+        version = 3 if part % 4 == 3 else rng.randint(1, 2)
+        case = Case(version, *random_log(rng, version))
+        lines = case.lines
         seen[case.answer.text.split()[0]] += 1
         wrong = (case.wrong_answer(*answer(version, lines))
                  or case.wrong_report(report(version, lines)))
@@ -78,7 +81,8 @@ def test_random_logs(answer, report, logs, part):
 def found(is_found):
     """Whether something wrong is found in as many logs as it is given."""
     rng = random.Random(SEED)
-    return any(is_found(Case(*random_log(rng))) for _ in range(PLANTED))
+    versions = (rng.randint(1, 3) for _ in range(PLANTED))
+    return any(is_found(Case(version, *random_log(rng, version))) for version in versions)
 
 
 @pytest.mark.parametrize("rule", oracle.WRONG)
@@ -91,3 +95,35 @@ def test_a_wrong_judge_is_found(rule):
 @pytest.mark.parametrize("rule", reports.WRONG)
 def test_a_wrong_report_is_found(rule):
     assert found(lambda case: case.wrong_report(reports.WRONG[rule].of(case.report).given()))
+
+
+@pytest.fixture
+def verdict(answer):
+    """The first word of the answer to a log of version 3."""
+    return lambda lines: answer(3, lines)[0].split()[0]
+
+
+def test_a_later_version_says_the_same(answer, logs):
+    rng = random.Random(logs[1])
+    for _ in range(STRONGER):
+        version = rng.randint(1, 2)
+        _, lines = random_log(rng, version)
+        assert answer(version, lines) == answer(version + 1, lines) == answer(3, lines)
+
+
+@pytest.mark.slow
+def test_a_weaker_line_tells_no_more(verdict, logs):
+    """Where a log with a weaker line, or with each reply captured, is complete, so is the stronger
+    one, if it is possible. Where it is impossible, the stronger one is."""
+    rng, seen = random.Random(f"{logs[1]} weaker"), collections.Counter()
+    for _ in range(STRONGER):
+        _, lines = random_log(rng, rng.randint(2, 3))
+        told = verdict(lines)
+        logged = [lines[:at] + [line] + lines[at + 1:] for at in range(len(lines))
+                  for line in weaker(lines[at])]
+        logged.append([line._replace(captured=True) if isinstance(line, Reply) else line
+                       for line in lines])
+        for weak in map(verdict, logged):
+            seen[weak, told] += 1
+            assert weak not in ("complete", "impossible") or told in (weak, "impossible"), lines
+    assert seen["complete", "complete"] > LEAST_WEAKER and seen["impossible", "impossible"]

@@ -207,7 +207,8 @@ def test_random_pictures(vicinity):
 
     rng, kinds = random.Random(1), set()
     for _ in range(RANDOM_LOGS):
-        version, _, lines = random_logs.random_log(rng)
+        version = rng.randint(1, 3)
+        _, lines = random_logs.random_log(rng, version)
         text = random_logs.text_of(version, lines)
         found = findings.tell(text)
         kept = reading.read_session(text, found, found.lines(20))

@@ -49,6 +49,8 @@ def test_a_changed_bit_is_found_by_the_crc(asked, line, start, end):
 
 @pytest.mark.parametrize(("logged", "given", "fit"), [
     ("T 1/S/T 2/C/D/U 1", "T 1/S/S/T 2/C/C/S/U 1", True), ("T 1/S/S", "T 1/S/T 2/S", False),
-    ("T 1/D", "T 1/S", False)])
+    ("T 1/D", "T 1/S", False), ("T 1/N", "T 1/S", True), ("T 1/N", "T 1", False),
+    ("T 1/H 0000A1", "T 1/C", True), ("T 1/H 0000A1", "T 1/R 0001A1", True),
+    ("T 1/H 0000A1", "T 1/R 0000B2", False), ("T 1/H 0000A1", "T 1/S", False)])
 def test_what_replay_goes_by(logged, given, fit):
     assert all_fit(logged.split("/"), given.split("/")) == fit

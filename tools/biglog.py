@@ -20,6 +20,12 @@ def shape(function):
     return function
 
 
+def version_of(name):
+    """The version of a shape's logs, with which its text begins, unless it is 1."""
+    first, version, *_ = SHAPES[name].__doc__.split(None, 2)
+    return int(version[0]) if first == "Version" else 1
+
+
 def crc_step(byte):
     for _ in range(8):
         byte = byte >> 1 ^ (0x8408 if byte & 1 else 0)
@@ -120,6 +126,25 @@ def session_late(random_, size):
     yield ask(EVERYONE)
     yield reply(tags[0])
     yield from map(claim, sorted(tags))
+
+
+@shape
+def captured(random_, size):
+    """Version 3. As session, behind an unknown round, with each reply captured: complete SIZE."""
+    yield ask(EVERYONE, 16)
+    yield from ["N"] * 16
+    for line in session(random_, size):
+        yield "H" + line[1:] if line[0] == "R" else line
+
+
+@shape
+def captured_turns(random_, size):
+    """Version 3. SIZE Stay Quiet, then SIZE times an open round in which another tag is captured,
+    and an unknown one: unlisted."""
+    tags = new_tags(random_, 2 * size)
+    yield from map(silence, tags[:size])
+    for uid in tags[size:]:
+        yield from (ask(EVERYONE), "H" + reply(uid)[1:], ask(low(uid, 16)), "N")
 
 
 @shape
@@ -510,8 +535,7 @@ def main():
         listing = ["    %-16s %s\n" % (name, function.__doc__) for name, function in SHAPES.items()]
         sys.exit(__doc__ + "\n" + "".join(listing))
     lines = SHAPES[words[0]](random.Random(int((words + [1])[2])), int(words[1]))
-    version = 2 if SHAPES[words[0]].__doc__.startswith("Version 2") else 1
-    sys.stdout.write("vicinity-log %d\n" % version)
+    sys.stdout.write("vicinity-log %d\n" % version_of(words[0]))
     sys.stdout.writelines(line + "\n" for line in lines)
     if "--refused" in sys.argv:
         sys.stdout.write("X\n")

@@ -18,7 +18,7 @@ MOST_OPEN = 16
 
 def log_over(rng, uids):
     """A version, and the lines of a log whose first lines leave these UIDs."""
-    version = rng.randint(1, 2)
+    version = rng.randint(1, 3)
     first = opening(rng, version, uids)
     cycled = first[-1:] == [FIELD_CYCLE]
     silenced = [line.uid for line in first if isinstance(line, StayQuiet) and not cycled]

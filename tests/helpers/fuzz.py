@@ -3,8 +3,12 @@
 LINES = [
     b"T 260100F60A", b"T 060100CD09", b"T 2202A1000000000104E0662A", b"R 0000A1000000000104E06745",
     b"R 0000B2000000000104E0CF94", b"U E0040100000000A1", b"U E0040100000000B2", b"S", b"C", b"D",
-    b"F", b"# x", b"", b"T 26013700000000000000641B", b"T 06013C0000000000000000069E"]
-OUTCOMES = [b"S", b"C", b"D", b"R 0000A1000000000104E06745", b"R 0000B2000000000104E0CF94"]
+    b"H 0000A1000000000104E06745", b"N", b"F", b"# x", b"", b"T 26013700000000000000641B",
+    b"T 06013C0000000000000000069E"]
+REPLIES = [b"R 0000A1000000000104E06745", b"R 0000B2000000000104E0CF94"]
+OUTCOMES = {2: [b"S", b"C", b"D", *REPLIES],
+            3: [b"S", b"C", b"D", b"N", *REPLIES, b"H 0000A1000000000104E06745",
+                b"H 0000B2000000000104E0CF94"]}
 LISTED = [b"U E0040100000000A1", b"U E0040100000000B2"]
 
 
@@ -27,9 +31,10 @@ def change(rng, lines):
 
 def session(rng):
     """A log of rounds of one slot, Stay Quiets and field cycles, which lists some of two UIDs."""
-    lines = [b"vicinity-log 2"]
+    version = rng.randint(2, 3)
+    lines = [b"vicinity-log %d" % version]
     for _ in range(rng.randint(1, 5)):
-        lines += rng.choice(([b"T 260100F60A", rng.choice(OUTCOMES)],
+        lines += rng.choice(([b"T 260100F60A", rng.choice(OUTCOMES[version])],
                              [b"T 2202A1000000000104E0662A"], [b"F"]))
     return lines + [uid for uid in LISTED if rng.randrange(2)]
 
@@ -40,7 +45,7 @@ def changed(rng, seeds):
     if kind == 0:
         return b"\n".join(session(rng))
     if kind == 1:
-        lines = [b"vicinity-log %d" % rng.randint(1, 2)]
+        lines = [b"vicinity-log %d" % rng.randint(1, 3)]
         lines += [rng.choice(LINES) for _ in range(rng.randrange(9))]
     else:
         lines = rng.choice(seeds).split(b"\n")

@@ -4,7 +4,7 @@ import subprocess
 
 from helpers.program import TOP
 
-SHORT = re.compile(r"([SCDF#])(\d*)")
+SHORT = re.compile(r"([SCDNF#])(\d*)")
 PART = re.compile(r'"([^"]*)"(?: \* (\d+))?')
 
 
@@ -42,11 +42,10 @@ def spelled(parts):
 
 
 def log_lines(given):
-    """The lines of a log by its names, of which the first may be `V2`."""
+    """The lines of a log by its names, of which the first may be its version, as `V2`."""
     names = given.split()
-    version = 2 if names[:1] == ["V2"] else 1
-    return [f"vicinity-log {version}"] + [line for name in names[version - 1:]
-                                          for line in lines_of(name)]
+    version = names.pop(0)[1:] if given.startswith("V") else 1
+    return [f"vicinity-log {version}"] + [line for name in names for line in lines_of(name)]
 
 
 def log_of(given):

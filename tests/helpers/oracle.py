@@ -10,9 +10,9 @@ logs leave any UID, and one population of all that silence and replies leave is 
 import collections
 
 from helpers import reports
-from helpers.random_logs import (COLLISION, FIELD_CYCLE, GARBLED, LEFT, SILENT, UID_BITS, Ask,
-                                 Listed, Reply,
-                                 StayQuiet, hex_of, lies_in, number_of, slot_mask)
+from helpers.random_logs import (COLLISION, FIELD_CYCLE, GARBLED, LEFT, SILENT, UID_BITS, UNKNOWN,
+                                 Ask, Listed, Reply,
+                                 StayQuiet, hex_of, is_slot, lies_in, number_of, slot_mask)
 
 ALL = 2**LEFT - 1
 
@@ -41,22 +41,20 @@ class Air:
             self.quiet |= self.those(lambda uid: uid == line.uid)
         elif line == FIELD_CYCLE:
             self.ask, self.quiet = None, 0
-        elif line in (SILENT, COLLISION, GARBLED) or isinstance(line, Reply):
+        elif is_slot(line):
             mask = slot_mask(self.ask, self.slot)
             self.slot += 1
             return self.those(lambda uid: lies_in(uid, *mask)) & ~self.quiet
         return None
 
     def fits(self, line, answering):
-        """Whether a line is a slot line, and these answer in its slot."""
+        """Whether a slot line can be what is written of a slot in which these answer."""
         number = bin(answering).count("1")
-        if line == SILENT:
-            return number == 0
-        if line == COLLISION:
-            return number >= 2
-        if line == GARBLED:
-            return number >= 1
-        return number == 1 and self.uids[answering.bit_length() - 1] == line.uid
+        if isinstance(line, Reply):
+            read = answering & self.those(lambda uid: uid == line.uid)
+            return read != 0 and (line.captured or number == 1)
+        return line == UNKNOWN or (number == 0 if line == SILENT else
+                                   number >= {GARBLED: 1, COLLISION: 2}[line])
 
 
 # The answer (docs/VERDICTS.md).
@@ -174,13 +172,26 @@ def silence_asks_the_quiet(self, line):
     return would
 
 
+def unknown_ends_the_round(self, line):
+    would = Air.next(self, line)
+    if isinstance(line, Ask):
+        self.is_over = False
+    lost = self.is_over and is_slot(line)
+    self.is_over |= line == UNKNOWN
+    return None if lost else would
+
+
+def captured_is(kind):
+    """Takes a captured reply as another line."""
+    return wrong_air(fits=lambda self, line, them: Air.fits(
+        self, kind(line.uid) if isinstance(line, Reply) and line.captured else line, them))
+
+
 class LastLine(Judge):
     def judge(self, lines):
         text, populations = super().judge(lines)
         if text.startswith("impossible"):
-            slots = [number
-                     for number, line in enumerate(lines, 2) if line in (SILENT, COLLISION) or
-                     isinstance(line, Reply)]
+            slots = [number for number, line in enumerate(lines, 2) if is_slot(line)]
             text = f"impossible at line {slots[-1]}"
         return Answer(text, populations)
 
@@ -245,10 +256,18 @@ WRONG = {
                                       them: line == GARBLED or Air.fits(self, line, them)),
     "garbled is a collision": wrong_air(fits=lambda self, line, them: Air.fits(
         self, COLLISION if line == GARBLED else line, them)),
-    "a reply hides others": wrong_air(fits=lambda self, line, them: any(
-        them >> place & 1 and uid == line.uid
-        for place, uid in enumerate(self.uids)) if isinstance(line, Reply)
-        else Air.fits(self, line, them)),
+    "a reply hides others": wrong_air(fits=lambda self, line, them: Air.fits(
+        self, line._replace(captured=True) if isinstance(line, Reply) else line, them)),
+    "a captured reply is the only one": captured_is(Reply),
+    "a captured reply is garbled": captured_is(lambda uid: GARBLED),
+    "a captured reply says nothing": captured_is(lambda uid: UNKNOWN),
+    "a Quiet tag is captured": wrong_air(fits=lambda self, line, them: Air.fits(
+        self, line, them | self.quiet if isinstance(line, Reply) and line.captured else them)),
+    "unknown is silent": wrong_air(fits=lambda self, line, them: Air.fits(
+        self, SILENT if line == UNKNOWN else line, them)),
+    "unknown is garbled": wrong_air(fits=lambda self, line, them: Air.fits(
+        self, GARBLED if line == UNKNOWN else line, them)),
+    "unknown ends the round": wrong_air(next=unknown_ends_the_round, is_over=False),
     "the last line is named": LastLine,
     "the first in listing order": ListingOrder,
     "doubtful before unsettled": DoubtfulFirst,

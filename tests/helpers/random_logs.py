@@ -1,4 +1,4 @@
-"""Random logs of both versions, as text and as lines, written from docs/LOG_FORMAT.md and FRAMES.md
+"""Random logs of each version, as text and as lines, written from docs/LOG_FORMAT.md and FRAMES.md
 alone.
 
 Most have first lines that leave eight UIDs that may be in the field, by silent slots and Stay
@@ -17,16 +17,23 @@ LEFT = 8
 NEAR_BITS = 48
 # What share of the logs has no such first lines.
 OPEN_SHARE = 0.15
+# What share of the logs of version 3 has lines that tell less than they could.
+WEAKENED_SHARE = 0.3
 
 
 # What a line says, and how it is spelled (docs/LOG_FORMAT.md, docs/FRAMES.md).
 
 Ask = collections.namedtuple("Ask", "sixteen length value")
 StayQuiet = collections.namedtuple("StayQuiet", "uid")
-Reply = collections.namedtuple("Reply", "uid")
+# A reply; where it isn't known to be the only one in its slot, it is captured.
+Reply = collections.namedtuple("Reply", "uid captured", defaults=(False,))
 Listed = collections.namedtuple("Listed", "uid")
-SILENT, COLLISION, GARBLED, FIELD_CYCLE = "S", "C", "D", "F"
+SILENT, COLLISION, GARBLED, UNKNOWN, FIELD_CYCLE = "S", "C", "D", "N", "F"
 PASSED_OVER = ("", "# a remark")
+
+
+def is_slot(line):
+    return line in (SILENT, COLLISION, GARBLED, UNKNOWN) or isinstance(line, Reply)
 
 
 def spelled(line):
@@ -37,7 +44,7 @@ def spelled(line):
     if isinstance(line, StayQuiet):
         return "T " + digits_of(b"\x22\x02" + line.uid.to_bytes(8, "little"))
     if isinstance(line, Reply):
-        return "R " + digits_of(b"\x00\x07" + line.uid.to_bytes(8, "little"))
+        return "RH"[line.captured] + " " + digits_of(b"\x00\x07" + line.uid.to_bytes(8, "little"))
     if isinstance(line, Listed):
         return "U %016X" % line.uid
     return line
@@ -101,7 +108,7 @@ def opening(rng, version, uids):
     for length, value in masks:
         sixteen = length <= 52 and rng.random() < 0.03
         lines += [Ask(sixteen, length, value)] + [SILENT] * (16 if sixteen else 1)
-    return lines + [FIELD_CYCLE] * (version == 2 and bool(silenced) and rng.random() < 0.8)
+    return lines + [FIELD_CYCLE] * (version > 1 and bool(silenced) and rng.random() < 0.8)
 
 
 def request(rng, uids):
@@ -119,9 +126,35 @@ def outcome(rng, version, uids, answering, noise):
     """What a slot is logged as, mostly truly."""
     if rng.random() < noise:
         answering = rng.sample(uids, rng.randint(0, 2))
-    if answering and version == 2 and rng.random() < 0.15:
+    if version == 3 and rng.random() < 0.05:
+        return UNKNOWN
+    if answering and version == 3 and rng.random() < 0.4:
+        return Reply(rng.choice(sorted(answering)), True)
+    if answering and version > 1 and rng.random() < 0.15:
         return GARBLED
     return SILENT if not answering else Reply(answering[0]) if len(answering) == 1 else COLLISION
+
+
+def weaker(line):
+    """What can stand in a slot line's place and tells less."""
+    if isinstance(line, Reply):
+        yield from [] if line.captured else [line._replace(captured=True)]
+    if isinstance(line, Reply) or line == COLLISION:
+        yield GARBLED
+    if is_slot(line) and line != UNKNOWN:
+        yield UNKNOWN
+
+
+def weakened(rng, lines):
+    """Lines of which some tell less: some of any kind, or each reply, which may have hidden
+    others."""
+    share = rng.choice((0, 0.1, 0.3))
+    for line in lines:
+        if isinstance(line, Reply) and not share:
+            line = line._replace(captured=True)
+        elif rng.random() < share:
+            line = rng.choice([*weaker(line)] or [line])
+        yield line
 
 
 def rounds(rng, version, uids, silenced):
@@ -135,7 +168,7 @@ def rounds(rng, version, uids, silenced):
             uid = rng.choice(sorted(there) if there and rng.random() < 0.8 else uids)
             quiet.update([uid] * (rng.random() >= deaf))
             yield StayQuiet(uid)
-        elif turn < 0.45 and version == 2:
+        elif turn < 0.45 and version > 1:
             quiet.clear()
             yield FIELD_CYCLE
         else:
@@ -168,23 +201,26 @@ def one_more(rng):
     return [Listed(TOP_BYTE | rng.getrandbits(UID_BITS))] if rng.random() < 0.05 else []
 
 
-def random_log(rng):
-    """A version, the UIDs that its first lines leave, none if there are no first lines, and all its
-    lines."""
-    version, uids = rng.randint(1, 2), eight_uids(rng)
+def random_log(rng, version):
+    """The UIDs that the first lines leave, none if there are no first lines, and all lines."""
+    uids = eight_uids(rng)
+    # in other lines, as far as they can be weaker
+    is_weakened = version == 3 and rng.random() < WEAKENED_SHARE
     if rng.random() < OPEN_SHARE:
-        return version, [], list(rounds(rng, version, uids, ()))
+        lines = list(rounds(rng, version - is_weakened, uids, ()))
+        return [], list(weakened(rng, lines)) if is_weakened else lines
     first = opening(rng, version, uids)
     cycled = first[-1:] == [FIELD_CYCLE]
     silenced = [line.uid for line in first if isinstance(line, StayQuiet) and not cycled]
-    lines = list(rounds(rng, version, uids, silenced))
-    return version, uids, first + (ended(lines) if rng.random() < 0.4 else lines) + one_more(rng)
+    lines = list(rounds(rng, version - is_weakened, uids, silenced))
+    lines = ended(lines) if rng.random() < 0.4 else lines
+    return uids, first + (list(weakened(rng, lines)) if is_weakened else lines) + one_more(rng)
 
 
 def contradicted(rng):
     """A version, and the lines of a few sessions one after the other, each over other tags, though
     nothing says so, behind first lines or none."""
-    version, uids = rng.randint(1, 2), eight_uids(rng)
+    version, uids = rng.randint(1, 3), eight_uids(rng)
     lines = opening(rng, version, uids) if rng.randrange(2) else []
     for _ in range(rng.randint(2, 8)):
         lines += [line for line in rounds(rng, version, uids, ()) if not isinstance(line, Listed)]

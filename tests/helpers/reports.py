@@ -7,11 +7,13 @@ this one fails, each does.
 """
 import collections
 
-from helpers.random_logs import (COLLISION, FIELD_CYCLE, GARBLED, SILENT, TOP_BYTE, UID_BITS, Ask,
-                                 Listed, Reply, StayQuiet,
-                                 hex_of, lies_in, slot_mask)
+from helpers.random_logs import (COLLISION, FIELD_CYCLE, GARBLED, SILENT, TOP_BYTE, UID_BITS,
+                                 UNKNOWN, Ask, Listed, Reply, StayQuiet,
+                                 hex_of, is_slot, lies_in, slot_mask)
 
 MOST_OPEN = 16
+# How many UIDs have to be left in a slot in which tags answered and none was read.
+LEAST = {GARBLED: 1, COLLISION: 2}
 Slot = collections.namedtuple("Slot", "number mask quiet line")
 
 
@@ -26,7 +28,7 @@ def slots_of(lines):
             quiet |= {line.uid}
         elif line == FIELD_CYCLE:
             quiet = frozenset()
-        elif line in (SILENT, COLLISION, GARBLED) or isinstance(line, Reply):
+        elif is_slot(line):
             slots.append(Slot(number, slot_mask(ask, place), quiet, line))
             place += 1
     return slots
@@ -36,8 +38,14 @@ def answers(slot, uid):
     return lies_in(uid, *slot.mask) and uid not in slot.quiet
 
 
+def is_reply(line, uid):
+    return isinstance(line, Reply) and line.uid == uid
+
+
 def lacks_reply(slot, uid):
-    return slot.line == SILENT or isinstance(slot.line, Reply) and slot.line.uid != uid
+    if isinstance(slot.line, Reply):
+        return slot.line.uid != uid and not slot.line.captured
+    return slot.line == SILENT
 
 
 def rules_out(slot, uid):
@@ -109,14 +117,16 @@ class Parts:
         """Those that a slot rules out."""
         if slot.line == SILENT:
             return self.answering[slot]
-        return self.answering[slot] & ~self.of(slot.line.uid) if isinstance(slot.line, Reply) else 0
+        if isinstance(slot.line, Reply) and not slot.line.captured:
+            return self.answering[slot] & ~self.of(slot.line.uid)
+        return 0
 
     def is_met(self, slot, left):
         """Whether a slot is true if these are left."""
         there = self.answering[slot] & left
         if isinstance(slot.line, Reply):
-            return there == self.of(slot.line.uid)
-        return bin(there).count("1") >= {SILENT: 0, GARBLED: 1, COLLISION: 2}[slot.line]
+            return there & self.of(slot.line.uid) != 0
+        return bin(there).count("1") >= LEAST.get(slot.line, 0)
 
     def left_by(self, slots):
         left = self.all
@@ -144,8 +154,9 @@ class Parts:
         needed = 0
         for slot in slots:
             there = self.answering[slot] & left
-            least = 2 if slot.line == COLLISION else 1
-            if slot.line != SILENT and bin(there).count("1") == least:
+            if isinstance(slot.line, Reply):
+                needed |= self.of(slot.line.uid)
+            elif bin(there).count("1") == LEAST.get(slot.line):
                 needed |= there
         return [as_uid(mask)
                 for place, mask in enumerate(self.masks) if needed >> place & 1
@@ -249,7 +260,7 @@ class Report:
 
     def lines_for(self, uid):
         """The first reply of a UID, else the slots that need it."""
-        heard = [slot.number for slot in self.slots if slot.line == Reply(uid)]
+        heard = [slot.number for slot in self.slots if is_reply(slot.line, uid)]
         return heard[:1] or [slot.number for slot in self.slots
                              if answers(slot, uid) and self.needs(slot)]
 
@@ -259,8 +270,7 @@ class Report:
                  or as_uid(mask) not in slot.quiet]
         there = [mask for mask in there if lies_in(mask[1], *slot.mask) or slot.mask[0] > UID_BITS
                  and lies_in(as_uid(mask), *slot.mask)]
-        return slot.line in (COLLISION,
-                             GARBLED) and len(there) == (2 if slot.line == COLLISION else 1)
+        return len(there) == LEAST.get(slot.line)
 
     # What contradicts itself in an impossible log.
 
@@ -347,6 +357,28 @@ class QuietIsRuledOut(Report):
                 if lacks_reply(slot, uid) and lies_in(uid, *slot.mask)]
 
 
+class CapturedRulesOut(Report):
+    """Shows an absent UID by a captured reply of another."""
+    def lines_against(self, uid):
+        return [slot.number for slot in self.slots if answers(slot, uid)
+                and (slot.line == SILENT or isinstance(slot.line, Reply) and slot.line.uid != uid)]
+
+
+class CapturedIsNotHeard(Report):
+    """Passes over captured replies where it looks for the first one of an unlisted UID."""
+    def lines_for(self, uid):
+        heard = [slot.number for slot in self.slots if slot.line == Reply(uid)]
+        return heard[:1] or super().lines_for(uid)
+
+
+class UnknownInConflict(Report):
+    """Has the slots before of which nothing is known in a conflict."""
+    def conflict(self):
+        unknown = [slot.number for slot in self.slots
+                   if slot.line == UNKNOWN and slot.number < self.number]
+        return sorted(unknown + super().conflict())
+
+
 class LastLineAgainst(Report):
     def lines_against(self, uid):
         return super().lines_against(uid)[::-1]
@@ -355,7 +387,7 @@ class LastLineAgainst(Report):
 class AnyCollision(Report):
     """Shows an unlisted UID by a collision in which more than two may have answered."""
     def needs(self, slot):
-        return slot.line in (COLLISION, GARBLED)
+        return slot.line in LEAST
 
 
 class CertainIsOpen(Report):
@@ -382,7 +414,7 @@ class TwoReplies(Report):
     """Takes two replies of a UID for a conflict, where the second one is of a Quiet tag."""
     def conflict(self):
         uid = self.last().line.uid if self.silencers() else None
-        heard = [slot.number for slot in self.slots if slot.line == Reply(uid)
+        heard = [slot.number for slot in self.slots if is_reply(slot.line, uid)
                  and slot.number < self.number]
         return heard[-1:] + [self.number] if heard else super().conflict()
 
@@ -412,6 +444,9 @@ WRONG = {
     "the first finding of each kind alone": FirstOfEachKind,
     "an absent UID is doubtful as well": AbsentIsDoubtful,
     "absent by a slot in which it was Quiet": QuietIsRuledOut,
+    "absent by a captured reply": CapturedRulesOut,
+    "a captured reply shows no unlisted UID": CapturedIsNotHeard,
+    "unknown slots in a conflict": UnknownInConflict,
     "absent by the last line": LastLineAgainst,
     "unlisted by a collision of three": AnyCollision,
     "a certain UID in an open mask": CertainIsOpen,

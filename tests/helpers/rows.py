@@ -56,10 +56,13 @@ def asked_of(log):
 
 def fits(logged, given):
     """Whether a line that was logged fits what tags answered in that slot: the replies of one UID
-    do, whatever their DSFID, and a garbled slot fits where tags answered."""
+    do, whatever their DSFID, a captured reply also where others collide, a garbled slot where tags
+    answered, and anything where nothing is known."""
     if logged == "D":
         return given == "C" or given.startswith("R")
-    return logged == given or logged[0] == given[0] == "R" and logged[6:22] == given[6:22]
+    is_same = given[0] == "R" and logged[6:22] == given[6:22]
+    return logged == given or {"R": is_same, "H": is_same or given == "C",
+                               "N": given != " "}.get(logged[0], False)
 
 
 def all_fit(logged, given):
@@ -175,7 +178,7 @@ class OfLibrary:
         if status == 3:
             _, _, _, number, name = line.lower().split()
             line_of_log = log.split(b"\n")[int(number[:-1]) - 1:][:1]
-            of_frame = line_of_log and line_of_log[0][:2] in (b"T ", b"R ")
+            of_frame = line_of_log and line_of_log[0][:2] in (b"T ", b"R ", b"H ")
             fault = self.faults.get((bool(of_frame), name)) or self.faults[False, name]
         wanted = answer_to(line, fault)
         assert wanted.status == status

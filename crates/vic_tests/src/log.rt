@@ -8,9 +8,9 @@ use std::process::Abort;
 use std::test::Fail;
 use vic_log::{Log, LogReader, WriteFault, read_log, write_log};
 
-/// A round of sixteen slots in which two tags answer.
+/// Each kind of line.
 const SESSION: &[u8] =
-    b"vicinity-log 1\nT 060100CD09\nS\nR 0000A1000000000104E06745\nR 0000B2000000000104E0CF94\nS\nS\nS\nS\nS\nS\nS\nS\nS\nS\nS\nS\nS\nU E0040100000000A1\nU E0040100000000B2\n";
+    b"vicinity-log 3\nT 060100CD09\nS\nR 0000A1000000000104E06745\nH 0000B2000000000104E0CF94\nC\nD\nN\nS\nS\nS\nS\nS\nS\nS\nS\nS\nS\nF\nU E0040100000000A1\nU E0040100000000B2\n";
 
 /// Reads the text in pieces as the log that it is.
 fn is_read(rt: &impl Abort, alloc: Global, piece: usize, whole: &Log) -> Result<(), Fail>
