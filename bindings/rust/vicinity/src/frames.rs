@@ -40,14 +40,18 @@ pub struct Reply {
 pub enum Entry<'a> {
     /// `T`: this frame was sent.
     Sent(&'a [u8]),
-    /// `R`: this reply was heard.
+    /// `R`: this reply was heard, and no other tag answered.
     Heard(&'a [u8]),
+    /// `H`: this reply was heard; whether others answered too isn't known.
+    Captured(&'a [u8]),
     /// `S`: the slot was silent.
     Silent,
     /// `C`: several tags answered.
     Collision,
     /// `D`: a tag answered at least, and its reply couldn't be read.
     Garbled,
+    /// `N`: nothing is known of the slot.
+    Unknown,
     /// `F`: the field was switched off and on.
     FieldCycle,
     /// `U`: the reader lists this UID.
@@ -158,9 +162,11 @@ pub fn write_line(entry: Entry<'_>) -> Result<String, Refusal> {
     let (letter, bytes, uid): (u8, &[u8], u64) = match entry {
         Entry::Sent(bytes) => (b'T', bytes, 0),
         Entry::Heard(bytes) => (b'R', bytes, 0),
+        Entry::Captured(bytes) => (b'H', bytes, 0),
         Entry::Silent => (b'S', &[], 0),
         Entry::Collision => (b'C', &[], 0),
         Entry::Garbled => (b'D', &[], 0),
+        Entry::Unknown => (b'N', &[], 0),
         Entry::FieldCycle => (b'F', &[], 0),
         Entry::Listed(uid) => (b'U', &[], uid.number()),
     };
