@@ -15,9 +15,6 @@ pytestmark = pytest.mark.usefixtures("vicinity")
 # As many as docs/READERS.md speaks of.
 FIELDS = 1000
 TAGS = 30
-# Of a field in which nothing goes wrong, and of one in which much does, docs/READERS.md says how
-# many rounds a search takes.
-MOST_ROUNDS = {Chances(): 14, Chances(capture=0.3, noise=0.1): 24}
 
 
 def searches(chances, fields=FIELDS):
@@ -28,15 +25,17 @@ def searches(chances, fields=FIELDS):
         yield Search(Field(uids, rng, chances))
 
 
-@pytest.mark.parametrize("chances", [
-    Chances(), Chances(capture=0.3, noise=0.1), Chances(capture=1.0), Chances(noise=0.5)])
-def test_it_finds_all_tags_under_capture_and_noise(chances):
-    """What it writes is true, so each answer is complete, and no tag is missing."""
-    rounds = 0
-    for search in searches(chances):
+@pytest.mark.parametrize(("chances", "fields", "rounds"), [
+    (Chances(), FIELDS, 13), (Chances(capture=0.3, noise=0.1), FIELDS, 16),
+    (Chances(capture=1.0), 100, 20), (Chances(noise=0.5), 100, 50)])
+def test_it_finds_all_tags_under_capture_and_noise(chances, fields, rounds):
+    """What it writes is true, so each answer is complete, and no tag is missing. It takes so many
+    rounds on average."""
+    taken = 0
+    for search in searches(chances, fields):
         assert search.run().is_complete and search.heard == search.field.uids
-        rounds += search.rounds
-    assert rounds < FIELDS * MOST_ROUNDS.get(chances, reader_loop.MOST_ROUNDS)
+        taken += search.rounds
+    assert taken < fields * rounds
 
 
 def test_a_tag_that_is_missing_was_overlooked():

@@ -4,6 +4,7 @@ from __future__ import annotations
 import argparse
 import os
 import sys
+from contextlib import suppress
 from importlib import import_module
 from typing import Mapping
 
@@ -117,10 +118,10 @@ def _jobs(word: str) -> int:
 
 
 def _chance(word: str) -> float:
-    chance = float(word)
-    if not 0 <= chance <= 1:
-        raise argparse.ArgumentTypeError("a probability, from 0 to 1")
-    return chance
+    with suppress(ValueError):
+        if 0 <= float(word) <= 1:
+            return float(word)
+    raise argparse.ArgumentTypeError("a probability, from 0 to 1")
 
 
 def main() -> int:

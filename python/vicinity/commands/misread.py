@@ -5,6 +5,7 @@ from __future__ import annotations
 import argparse
 import random
 from collections import defaultdict
+from io import BytesIO
 from typing import Iterator, Mapping, NamedTuple, Sequence
 
 from .._calls import check, listed, simulate
@@ -41,8 +42,7 @@ class Reader(NamedTuple):
 def misread(asked: argparse.Namespace) -> int:
     """Writes what a reader would have written, and returns 0; of a text that is refused the refusal, and 3."""
     text = read(asked.names[0])
-    answer = check(text)
-    lines = text.splitlines(keepends=True) if answer.status < REFUSED else []
+    answer, lines = check(text), list(BytesIO(text))
     requests = b"".join(line for line in lines if line[0] not in OUTCOMES and line[:1] != b"U")
     made = simulate(requests)
     if answer.status == REFUSED or made.status:
