@@ -191,11 +191,12 @@ class Reconcile(Command):
         masks = [{"mask_len": 4, "mask_value": "0E"}, {"mask_len": 4, "mask_value": "0F"}]
         self.assertEqual(logs, [
             {"file": SHELVES[0], "certain": 4, "open": [], "more_open": False,
-             "list": {"status": 0, "kind": "complete", "count": 4}},
+             "list": {"status": 0, "kind": "complete", "count": 4}, "captured": {"holds": True}},
             {"file": SHELVES[1], "certain": 3, "open": [], "more_open": False,
-             "list": {"status": 0, "kind": "complete", "count": 3}},
+             "list": {"status": 0, "kind": "complete", "count": 3}, "captured": {"holds": True}},
             {"file": SHELVES[2], "certain": 3, "open": masks, "more_open": False,
-             "list": {"status": 1, "kind": "unsettled", "mask_len": 4, "mask_value": "0E"}}])
+             "list": {"status": 1, "kind": "unsettled", "mask_len": 4, "mask_value": "0E"},
+             "captured": {"holds": False, "mask_len": 5, "mask_value": "01"}}])
 
     def test_page(self):
         """It draws what is written as JSON, and the logs; the text is that of the lines."""

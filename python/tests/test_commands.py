@@ -54,7 +54,7 @@ class Answers(Command):
             {"status": 3, "kind": "refused", "line": 2, "fault": "Crc"},
             {"status": 4, "kind": "no answer", "error": "cannot read /nowhere.log: No such file or directory"},
         ]
-        self.assertEqual([{key: it[key] for key in it if key not in ("file", "schema")} for it in found], wanted)
+        self.assertEqual([{key: it[key] for key in it if key not in ("file", "schema", "captured")} for it in found], wanted)
         self.assertEqual({it["schema"] for it in found}, {1})
         self.assertEqual(status, 4)
 

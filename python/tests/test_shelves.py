@@ -155,7 +155,10 @@ class Collection(Command):
     def test_json(self):
         for state, status in self.states():
             said, errors, ended = self.ask("json")
-            self.assertEqual((json.loads(said), errors, ended), (self.wanted_object(state), "", status))
+            told = json.loads(said)
+            holds = [it.pop("captured")["holds"] for it in told["logs"]]  # no log asks again
+            self.assertEqual(holds, [state == "broken" and log == f"{BROKEN}.log" for log in self.logs])
+            self.assertEqual((told, errors, ended), (self.wanted_object(state), "", status))
 
     def test_page(self):
         said, _, status = self.ask("page")

@@ -158,6 +158,21 @@ pub fn slot_mask(slots: u8, mask: Mask, slot: u8) -> Result<Mask, Refusal> {
 }
 
 /// A line of a log, LF included.
+///
+/// ```
+/// use vicinity::{check, write_line, write_response, Entry, Uid, HEADER_LINE};
+///
+/// let reply = write_response(0, 0, Uid::new(0xE0040100000000A1).unwrap())?;
+/// let asked = format!("{HEADER_LINE}T 260100F60A\n");
+/// for (entry, wanted) in [
+///     (Entry::Captured(&reply), "unlisted E0040100000000A1"),
+///     (Entry::Unknown, "unsettled 0 -"),
+/// ] {
+///     let text = asked.clone() + &write_line(entry)?;
+///     assert_eq!(check(text.as_bytes()).unwrap().to_string(), wanted);
+/// }
+/// # Ok::<(), vicinity::Refusal>(())
+/// ```
 pub fn write_line(entry: Entry<'_>) -> Result<String, Refusal> {
     let (letter, bytes, uid): (u8, &[u8], u64) = match entry {
         Entry::Sent(bytes) => (b'T', bytes, 0),
