@@ -8,10 +8,10 @@ import sys
 
 import vicinity
 from cases import (ALL, ANSWERS, COLLECTION, HEARD_A, HEARD_B, LIST_A, LIST_B, SHELVES, SILENCE_A, SIXTEEN,
-                   Command, log, within)
+                   Command, frame, log, within)
 
 CAPTURED_A, CAPTURED_B = (line.replace(b"R", b"H") for line in (HEARD_A, HEARD_B))
-SILENCE_B = b"T " + vicinity.write_stay_quiet(2, 0xE0040100000000B2).hex().upper().encode() + b"\n"
+SILENCE_B = b"T %s\n" % frame(bytes.fromhex("2202B2000000000104E0"))
 HIDDEN = {"holds": False, "status": 1, "kind": "unsettled", "mask_len": 1, "mask_value": "00"}
 #: By their places in ANSWERS, what also holds: all but the one in which a reply alone rules out all others.
 CAPTURED = [{"holds": True}, HIDDEN, *[{"holds": True}] * 5, None, None]
@@ -127,8 +127,10 @@ class Collections(Command):
         self.assertEqual((said, told.startswith(power), told.endswith(f"\n{also} yes.\n")), ("complete 1\n", True, True))
         said, told = self.on_a_terminal(listed, one, other)
         self.assertEqual(said, "complete 1\n")
-        self.assertIn(f"\n{other}: {also} no. Silence each tag that was heard", told)
-        self.assertNotIn(one, told)
+        self.assertTrue(told.endswith(f"\n{also} no. Silence each tag that was heard, and ask all in one slot, until none "
+                                      f"answers, in {other}.\n"), told)
+        logs = [self.write(f"{number}.log", log(ALL + HEARD_A)) for number in range(22)]
+        self.assertIn(f", in {', '.join(logs[:20])} and 2 other logs.\n", self.on_a_terminal(listed, *logs)[1])
         catalogue = os.path.join(COLLECTION, "catalogue.csv")
         self.assertNotIn(power, self.on_a_terminal(catalogue, *SHELVES)[1])
         self.assertEqual(within("reconcile", "--expected", listed, one), (b"complete 1\n", b"", 0))

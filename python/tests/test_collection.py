@@ -421,7 +421,7 @@ class Surroundings(Command):
                 "try: sys.stdout.buffer.write(os.read(ours, 9999))\nexcept OSError: pass")
         for number, wanted in ((51, b"\r0 of 51 logs"), (50, b"")):
             for more in ([], ["--jobs", "2"]):
-                said = subprocess.run([sys.executable, "-c", code, "reconcile", "--expected", self.listed, *more,
+                said = subprocess.run([sys.executable, "-c", code, "reconcile", "--csv", "--expected", self.listed, *more,
                                        *[self.names[1]] * number], capture_output=True).stdout
                 self.assertEqual((said[:len(wanted)], said[-4:]), (wanted, b"\r\33[K" if wanted else b""))
         self.assertEqual(command("reconcile", "--expected", self.listed, *[self.names[1]] * 60), (b"complete 1\n", b"", 0))

@@ -169,6 +169,9 @@ class Collection(Command):
         self.assertEqual([log["object"]["answer"] for log in broken], ["impossible at line 190"])
         for part in told.pop("version"), told.pop("name"), *(log.pop("object") for log in told["logs"]):
             self.assertTrue(part)
+        for log in told["logs"]:
+            self.assertIn("captured", log)
+            del log["captured"]
         self.assertEqual(told, self.wanted_object("broken"))
 
     def test_strict_ends_as_the_program_does(self):

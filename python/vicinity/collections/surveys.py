@@ -84,7 +84,7 @@ class Log(NamedTuple):
 def _captured(found: Survey, reread: Survey) -> dict[str, Any]:
     """Whether two surveys of a log say the same; if not, the first mask that only the second leaves open, or, of an impossible
     log, the second answer."""
-    if found.answer.kind is Kind.IMPOSSIBLE:
+    if max(found.answer.status, reread.answer.status) > 1:
         captured: dict[str, Any] = captured_fields(found.answer, reread.answer)["captured"]
         return captured
     known = set(found.open_masks)
@@ -213,10 +213,16 @@ def _recorded(said: dict[str, Any]) -> Log:
     if said["status"] == NO_ANSWER:
         return Log(name, None, [], [ALL], str(said["error"]))
     answer = answer_of(said)
+    captured = _captured_of(said["captured"]) if "captured" in said else {}
     if answer.status > 1:
-        return Log(name, answer, [], [ALL])
+        return Log(name, answer, [], [ALL], captured=captured)
     pairs = sorted((parse_uid(it["uid"]), number_of(it["line"])) for it in said["certain"])
-    captured = said["captured"]
-    captured = {"holds": True} if captured["holds"] is True else {"holds": False, **mask_fields(mask_of(captured))}
     return Log(name, answer, [uid for uid, _ in pairs], [mask_of(it) for it in said["open"]], "", [line for _, line in pairs],
                captured)
+
+
+def _captured_of(said: Mapping[str, Any]) -> dict[str, Any]:
+    """What a record says of captures. Raises ValueError, KeyError or TypeError if it is wrong."""
+    if said["holds"] is True:
+        return {"holds": True}
+    return {"holds": False, **(fields(answer_of(said)) if "kind" in said else mask_fields(mask_of(said)))}

@@ -16,11 +16,14 @@ from ..pages.document import document, version
 from ..pages.log import object_of
 from ..sessions.findings import tell_people
 from ..sessions.sentence import ALSO, ASK_AGAIN, HEARD
+from ..sessions.words import count, listing
 
 #: How much text of logs stands in a page.
 MOST_TEXT = 4_000_000
 #: Between the names of logs in a cell, and what stands for it inside of a name.
 BETWEEN, WITHIN = ";", "\\x3b"
+#: How many logs a sentence names.
+MOST_NAMES = 20
 
 
 def set_aside(log: Log) -> str:
@@ -61,9 +64,11 @@ def notes(found: Collection) -> Iterator[str]:
     """What a person has to know beside the lines: what a complete answer is said of, and which logs don't hold under capture."""
     if not found.findings and not found.aside:
         yield HEARD
-    hidden = [log for log in found.logs if log.captured.get("holds") is False]
-    yield from (f"{shown(log.name)}: {ALSO} no. {ASK_AGAIN}." for log in hidden)
-    if all(log.captured.get("holds") for log in found.logs):
+    names = [shown(log.name) for log in found.logs if log.captured.get("holds") is False]
+    if names:
+        more = [count(len(names) - MOST_NAMES, "other log")] * (len(names) > MOST_NAMES)
+        yield f"{ALSO} no. {ASK_AGAIN}, in {listing(names[:MOST_NAMES] + more)}."
+    elif all(log.captured for log in found.logs):
         yield f"{ALSO} yes."
 
 
