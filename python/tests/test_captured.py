@@ -55,7 +55,8 @@ class Said(Command):
             found = [json.loads(line) for line in said.splitlines()]
             self.assertEqual([it.get("captured") for it in found], CAPTURED)
             self.assertEqual(status, 3)
-        for lines, wanted in ((OVER, {"holds": False, "status": 0, "kind": "complete", "count": 2}), (ALONE, {"holds": True})):
+        for lines, wanted in ((OVER, {"holds": False, "status": 0, "kind": "complete", "count": 2}), (ALONE, {"holds": True}),
+                              (SILENCE_B + ALL + HEARD_A + LIST_A, HIDDEN)):
             name = self.write("one.log", log(lines))
             self.assertEqual(json.loads(within("--json", name)[0])["captured"], wanted)
 
@@ -76,6 +77,7 @@ class Said(Command):
                 (ALONE, f"{also} yes."), (ALL + HEARD_A, f"{also} yes."),
                 (ALL + HEARD_A + LIST_A, f"{also} no, 'unsettled 1 00'. {ask} (T 260100F60A)."),
                 (other + HEARD_A + LIST_A, f"{also} no, 'unsettled 1 00'. {ask} ({other.decode().strip()})."),
+                (SILENCE_B + ALL + HEARD_A + LIST_A, f"{also} no, 'unsettled 1 00'. {ask} (T 260100F60A)."),
                 (OVER, f"{also} no, 'complete 2'. If replies may hide others, write H in place of R, in a log of version 3.")):
             name = self.write("one.log", log(lines))
             *_, said, answer = within("show", name)[0].decode().strip("\n").split("\n\n")
@@ -96,9 +98,9 @@ class Collections(Command):
         listed = self.write("expected.log", log(LIST_A))
         said = json.loads(within("reconcile", "--json", "--expected", listed, *logs)[0])
         self.assertEqual([it.get("captured") for it in said["logs"]], wanted)
-        records = self.write("records", within("survey", *logs[:2], logs[4])[0])
+        records = self.write("records", within("survey", *logs[:3], logs[4])[0])
         again = json.loads(within("reconcile", "--json", "--expected", listed, "--surveys", records)[0])
-        self.assertEqual([it["captured"] for it in again["logs"]], [wanted[0], wanted[1], wanted[4]])
+        self.assertEqual([it["captured"] for it in again["logs"]], [*wanted[:3], wanted[4]])
 
     def test_records_that_say_it_wrongly(self):
         record = json.loads(within("survey", self.write("a.log", log(ALL + HEARD_A)))[0])
