@@ -130,6 +130,8 @@ class Session:
         self.first_round: Optional[Round] = None
         #: Whether some round asked all tags, to its end.
         self.has_asked_all = False
+        #: Whether some reply was read alone.
+        self.has_alone = False
         #: The refused line, and whether the text ends in it.
         self.refused: bytes = b""
         self.is_cut = False
