@@ -2,12 +2,13 @@
 import { el, folded } from "./elements.mjs";
 import { KIND } from "./kinds.mjs";
 import { Pane } from "./pane.mjs";
-import { GRANTED } from "./say.mjs";
+import { GRANTED, HOLDS } from "./say.mjs";
 import { maskOf, tell } from "./told.mjs";
 import { banner, signed, view } from "./view.mjs";
 import { count, ending, listing, printable } from "./words.mjs";
 
 /** @typedef {import("./told.mjs").LogObject} LogObject */
+/** @typedef {import("./view.mjs").Names} Names */
 /** @typedef {"there" | "misplaced" | "missing" | "not provable" | "unexpected" | "no tag"} State */
 /** @typedef {{uid: string | null, state: State, columns: Record<string, string>, certain_in: string[], may_be_in: string[],
  *   belongs?: string}} Item */
@@ -30,6 +31,8 @@ import { count, ending, listing, printable } from "./words.mjs";
 
 /** How many rows of a table are drawn, how many are seen unfolded, and how many logs and masks are named. */
 const MOST_ROWS = 2000, FEW_ROWS = 40, MOST_NAMES = 3, MOST_MASKS = 3;
+/** How many cells of the catalogue are the name of an item. */
+const MOST_CELLS = 2;
 const CANNOT_BE_READ = 4;
 /** How much text of logs stands in a page that is saved. */
 const MOST_TEXT = 4_000_000;
@@ -55,10 +58,11 @@ const isOpen = (log) => log.open.length > 0;
  */
 export function collectionView(object) {
   const of = (/** @type {State} */ state) => object.items.filter((item) => item.state === state);
-  const again = countAgain(object, of("not provable")), first = object.set_aside.length > 0;
+  const names = namesIn(object), again = countAgain(object, of("not provable"), names), first = object.set_aside.length > 0;
   const said = object.name ? [printable(object.name)] : [];
   const look = isWhole(object) ? "yes" : "no", sign = isWhole(object) ? "✓" : "!";
   return [banner({ look, sign, headline: headlineOf(object), lights: lights(object) }, [...said, ` · ${count(object.logs.length, "log")}`]),
+    ...isWhole(object) ? [el("section", { class: "holds" }, el("p", {}, HOLDS))] : [],
     ...first ? again : [],
     ...items("Look for", LOOK_FOR, of("missing"), {}, true),
     ...items("Move", MOVE, of("misplaced"), { "is in": (item) => namesOf(item.certain_in), "belongs to": (item) => item.belongs ?? "" }, true),
@@ -66,7 +70,17 @@ export function collectionView(object) {
     ...items("Unknown", NOT_EXPECTED, of("unexpected"), { "is in": (item) => namesOf(item.certain_in) }, true),
     ...items("Without a tag", NO_TAG, of("no tag"), {}, false),
     ...items("Here, and in place", "", of("there"), { "is in": (item) => namesOf(item.certain_in) }, false),
-    ...logs("Read to the end", "", object.logs.filter((log) => !isOpen(log)), false), ...grantedOfAll(object), recordOfAll(object)];
+    ...logs("Read to the end", "", object.logs.filter((log) => !isOpen(log)), false, names), ...grantedOfAll(object), recordOfAll(object)];
+}
+
+/**
+ * What the catalogue says of each UID, in as many of its cells as name it.
+ * @param {CollectionObject} object
+ * @returns {Names}
+ */
+function namesIn({ items: all }) {
+  const said = (/** @type {Item} */ { columns }) => Object.values(columns).filter((cell) => cell.trim()).slice(0, MOST_CELLS).join(" · ");
+  return new Map(all.flatMap((item) => item.uid ? [[item.uid, said(item)]] : []));
 }
 
 /**
@@ -119,10 +133,11 @@ function lights(object) {
  * The logs to be counted again, those first that say nothing, and the items that may be in their fields.
  * @param {CollectionObject} object
  * @param {Item[]} unknown
+ * @param {Names} names
  */
-function countAgain(object, unknown) {
+function countAgain(object, unknown, names) {
   const open = object.logs.filter(isOpen), aside = open.filter(isAside);
-  return [...logs("Count again", COUNT_EACH, [...aside, ...open.filter((log) => !isAside(log))], true),
+  return [...logs("Count again", COUNT_EACH, [...aside, ...open.filter((log) => !isAside(log))], true, names),
     ...items("Not known yet", UNKNOWN_YET, unknown, { "may be in": (item) => namesOf(item.may_be_in) }, false)];
 }
 
@@ -184,22 +199,26 @@ const nameOf = (file) => printable(file.split("/").pop() || file);
  * @param {string} words
  * @param {OneLog[]} list
  * @param {boolean} open
+ * @param {Names} names
  */
-function logs(title, words, list, open) {
+function logs(title, words, list, open, names) {
   if (!list.length) return [];
   const more = list.length > MOST_ROWS ? [el("p", {}, `and ${(list.length - MOST_ROWS).toLocaleString("en")} more`)] : [];
   return [folded(`${title} (${count(list.length, "log")})`, open, ...words ? [el("p", {}, words)] : [],
-    el("ul", { class: "logs" }, list.slice(0, MOST_ROWS).map((log) => el("li", {}, oneLog(log)))), ...more)];
+    el("ul", { class: "logs" }, list.slice(0, MOST_ROWS).map((log) => el("li", {}, oneLog(log, names)))), ...more)];
 }
 
-/** @param {OneLog} log */
-function oneLog(log) {
+/**
+ * @param {OneLog} log
+ * @param {Names} names
+ */
+function oneLog(log, names) {
   const words = [el("b", { title: printable(log.file) }, nameOf(log.file)), ` ${saidOf(log)}`];
   const { object } = log;
   if (!object) return el("p", { class: "log" }, words);
   const it = /** @type {HTMLDetailsElement} */ (el("details", { class: "log aside" }, el("summary", {}, words)));
   it.addEventListener("toggle", () => {
-    if (it.open && it.childElementCount === 1) it.append(drawnLog(object));
+    if (it.open && it.childElementCount === 1) it.append(drawnLog(object, names));
   });
   return it;
 }
@@ -207,9 +226,10 @@ function oneLog(log) {
 /**
  * A log and its text.
  * @param {LogObject} object
+ * @param {Names} names
  */
-function drawnLog(object) {
-  const label = `The text of ${printable(object.file)}`, shown = el("div", {}, view(tell(object), "h3"));
+function drawnLog(object, names) {
+  const label = `The text of ${printable(object.file)}`, shown = el("div", {}, view(tell(object), "h3", names));
   const field = /** @type {HTMLTextAreaElement} */ (el("textarea", { class: "text", readonly: "", "aria-label": label }));
   new Pane(field, shown).put(object.text);
   return el("div", { class: "both" }, shown, el("div", { class: "beside" }, field));

@@ -3,15 +3,20 @@
  * the layout.
  */
 
+import { hex } from "./words.mjs";
+
 /** @typedef {{len: number, value: bigint}} Mask the UIDs whose low bits, so many, are the value */
 /** @typedef {{slots: number, mask: Mask}} Inventory */
 
-/** The Nb_slots_flag in the flags, the bits that say the link, and the command of a Stay Quiet request. */
-const ONE_SLOT = 0x20, LINK = 3, STAY_QUIET = "02";
+/** The Nb_slots_flag in the flags, which is the Address_flag without inventory; the bits that say the link; the command of a
+ *  Stay Quiet request. */
+const ONE_SLOT = 0x20, ADDRESSED = 0x20, LINK = 3, STAY_QUIET = "02";
 export const SLOTS = 16;
 const SLOT_BITS = 4;
 /** Where the digits of a request's mask and of a UID begin. */
 const VALUE = 6, UID_AT = 4, UID_DIGITS = 16;
+/** ISO/IEC 13239, 16-bit FCS. */
+const CRC_START = 0xFFFF, CRC_POLYNOMIAL = 0x8408;
 
 /**
  * The number that bytes have, which are sent low byte first.
@@ -32,6 +37,27 @@ export const linkOf = (frame) => parseInt(frame.slice(0, 2), 16) & LINK;
  * @param {string} frame
  */
 export const uidIn = (frame) => numberOf(frame.slice(UID_AT, UID_AT + UID_DIGITS));
+
+/**
+ * The frame that silences a tag.
+ * @param {bigint} uid
+ * @param {number} link
+ */
+export function stayQuietOf(uid, link) {
+  const turned = (hex(uid).match(/../g) ?? []).reverse().join("");
+  const frame = hex(BigInt(ADDRESSED | link), 2) + STAY_QUIET + turned, crc = hex(BigInt(crcOf(frame)), 4);
+  return frame + crc.slice(2) + crc.slice(0, 2);
+}
+
+/** @param {string} digits of bytes */
+function crcOf(digits) {
+  let crc = CRC_START;
+  for (const pair of digits.match(/../g) ?? []) {
+    crc ^= parseInt(pair, 16);
+    for (let bit = 0; bit < 8; bit++) crc = crc & 1 ? crc >> 1 ^ CRC_POLYNOMIAL : crc >> 1;
+  }
+  return crc ^ CRC_START;
+}
 
 /**
  * @param {string} frame

@@ -1,4 +1,5 @@
 /** The object of a log, of what the library says of it: the same as python/vicinity/pages/log.py makes. */
+import { capturedOf } from "./captured.mjs";
 import { linkOf } from "./frames.mjs";
 import { FOUND, KIND } from "./kinds.mjs";
 import { LF } from "./log.mjs";
@@ -28,15 +29,17 @@ export async function judge(library, text, name) {
   const { answer, list, counts, conflict } = library.report(text, MOST_TOLD), possible = answer.status < 2;
   const certain = possible ? library.certain(text).list : [], open = possible ? library.openMasks(text, MOST_TOLD) : NO_MASKS;
   const kept = untilRefused(text, answer), decoded = DECODED.decode(kept), link = linkIn(decoded);
+  const ask = (/** @type {number} */ slots, len = 0, value = 0n) => `T ${hexOf(library.writeInventory(slots, len, value, link))}`;
   const masks = open.list.map(({ len, value }) => ({ ...maskFields(len, value),
-    ask: (len ? [1] : [16, 1]).map((slots) => `T ${hexOf(library.writeInventory(slots, len, value, link))}`) }));
+    ask: (len ? [1] : [16, 1]).map((slots) => ask(slots, len, value)) }));
   return { schema: SCHEMA, version: versionOf(library.version), file: name, ...fields(library, answer), answer: answer.text.trim(),
     lines: linesIn(text), ended: text[text.length - 1] === LF, sha256: await sumOf(text),
     findings: [...findingsOf(list.filter((it) => it.kind !== FOUND.CONFLICT)), ...conflict.map((line) => ({ kind: "conflict", line }))],
     found: { absent: counts[FOUND.ABSENT], unlisted: counts[FOUND.UNLISTED], doubtful: counts[FOUND.DOUBTFUL] },
     certain: { count: certain.length, uids: certain.slice(0, MOST_LISTED).map((uid) => hex(uid)) },
     open: { count: open.count, share: open.lengths.reduce((sum, many, length) => sum + many * 2 ** -length, 0), masks },
-    unnoticed: unnoticed(library, text, answer), text: decoded };
+    unnoticed: unnoticed(library, text, answer), captured: answer.fault ? null : capturedOf(library, text, answer.text.trim(), ask(1)),
+    text: decoded };
 }
 
 /**

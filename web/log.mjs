@@ -2,7 +2,7 @@
 import { inventoryOf, isStayQuiet, slotMask, uidIn } from "./frames.mjs";
 
 /** @typedef {import("./frames.mjs").Mask} Mask */
-/** @typedef {"silent" | "heard" | "collision" | "garbled" | "unreached"} Reading what a slot held */
+/** @typedef {"silent" | "heard" | "captured" | "collision" | "garbled" | "unknown" | "unreached"} Reading what a slot held */
 /** @typedef {{line: number, number: number, mask: Mask, reading: Reading, uid: bigint | null, silenced: number}} Slot */
 /** @typedef {{kind: "round", line: number, end: number, asked: Mask, slots: Slot[]}} Round */
 /** @typedef {{kind: "quiet", line: number, end: number, uid: bigint}} Quiet */
@@ -11,10 +11,10 @@ import { inventoryOf, isStayQuiet, slotMask, uidIn } from "./frames.mjs";
 
 export const LF = 10;
 const CR = 13;
-/** The letters of lines that tell of slots, and of those that weren't read. */
-const OUTCOMES = new Set("SRCD"), UNREAD = new Set("CD");
 /** @type {Record<string, Reading>} */
-const READINGS = { S: "silent", R: "heard", C: "collision", D: "garbled" };
+const READINGS = { S: "silent", R: "heard", H: "captured", C: "collision", D: "garbled", N: "unknown" };
+/** The letters of lines that tell of slots, of those that name a tag, and of slots in which others may have answered. */
+const OUTCOMES = new Set(Object.keys(READINGS)), REPLIES = new Set("RH"), UNREAD = new Set("HCDN");
 /** A byte order mark stays, since it is why a text is refused. */
 const LINES = new TextDecoder("utf-8", { ignoreBOM: true });
 
@@ -49,7 +49,7 @@ export class Log {
         else counts.rounds++;
       } else if (OUTCOMES.has(letter)) {
         counts.slots++;
-        if (letter === "R") counts.heard++;
+        if (REPLIES.has(letter)) counts.heard++;
       } else if (letter === "U") counts.listed++;
     }
     return rows;
@@ -74,6 +74,21 @@ export class Log {
    * @param {number} line
    */
   frame(line) { return this.line(line).slice(2).trimEnd(); }
+
+  /**
+   * What a line says that a slot held.
+   * @param {number} line
+   */
+  reading(line) { return READINGS[this.letter(line)]; }
+
+  /**
+   * Whether a line is a reply, alone or not.
+   * @param {number} line
+   */
+  isReply(line) { return REPLIES.has(this.letter(line)); }
+
+  /** The version that the header names. */
+  get version() { return Number(this.line(1).slice(-1)); }
 
   /** @param {number} line */
   #silences(line) { return isStayQuiet(this.frame(line)); }
@@ -129,7 +144,7 @@ export class Log {
   }
 
   /**
-   * Whether a row is a round in which a slot wasn't reached or wasn't read.
+   * Whether a row is a round in which a slot wasn't reached, wasn't read, or may have had others than the one that was read.
    * @param {number} index
    */
   hasUnread(index) {
@@ -157,8 +172,8 @@ export class Log {
    */
   #slots(asked, outcomes) {
     return Array.from({ length: asked.slots }, (_, number) => {
-      const line = outcomes[number] ?? 0, reading = line ? READINGS[this.letter(line)] : "unreached";
-      const uid = reading === "heard" ? uidIn(this.frame(line)) : null;
+      const line = outcomes[number] ?? 0, reading = line ? this.reading(line) : "unreached";
+      const uid = line && this.isReply(line) ? uidIn(this.frame(line)) : null;
       return /** @type {Slot} */ ({ line, number, mask: slotMask(asked, number), reading, uid, silenced: 0 });
     });
   }

@@ -9,7 +9,7 @@ const COPY = "The file may have been cut off, by a full disk or because it was c
 const NO_LIST = "Open the log, not a list: a list of UIDs isn't enough.";
 const ANOTHER = "Choose another file, or count again.";
 /** How a text begins that somebody meant as a log: with a header, or with a line of it. */
-const OF_A_LOG = /^(vicinity-log|[TRU] [0-9A-F]|[SCDF]$|#)/i;
+const OF_A_LOG = /^(vicinity-log|[TRHU] [0-9A-F]|[SCDNF]$|#)/i;
 /** What an editor adds to it, or a coding makes of it. */
 const CODING = /[\0\uFEFF\uFFFD]/g;
 

@@ -41,6 +41,13 @@ const NOT_HEARD = "If a tag that can't be here answers when no other tag is near
   "it should have been heard.";
 const NOT_CLAIMED = "If the list is what the reader found: its software has to write a U line for each UID that it heard.";
 
+/** What a complete answer speaks of. */
+export const HOLDS = "True of every tag that had power from first to last, heard each request, and was heard when it answered.";
+/** Whether an answer about tags would also be that of a log whose replies may have hidden others. */
+const ALSO = "Would also hold if a strong reply hid a weaker one: ";
+const TO_KNOW = "To know, silence each tag that was heard, and ask all once more: if none answers, it holds.";
+const NO_CONFLICT = "If a strong reply may have hidden a weaker one, the log doesn't contradict itself.";
+
 /** How many rounds are named as causes. */
 const MOST_CAUSES = 24;
 
@@ -166,6 +173,21 @@ function whyOpen({ causes, silenced, neverAsked, counts }) {
 }
 
 /**
+ * What a slot held that wasn't read.
+ * @type {Record<string, string>}
+ */
+const HELD = { collision: "two or more tags answered", garbled: "something answered that couldn't be read",
+  unknown: "nothing is known of who answered" };
+
+/**
+ * What slots held in which a tag was read, and others may have answered.
+ * @param {bigint[]} uids
+ */
+function read(uids) {
+  return uids.length === 1 ? `${short(uids[0])} was read, perhaps over others` : "one tag was read, perhaps over others";
+}
+
+/**
  * Why slots of a round left UIDs open.
  * @param {Cause} cause
  */
@@ -177,6 +199,19 @@ function because(cause) {
     const which = slots.length > 2 ? `${slots[0]} to ${slots[slots.length - 1]}` : listing(slots);
     return `The ${round} ended before slot${slots.length > 1 ? "s" : ""} ${which}.`;
   }
-  return `In slot${slots.length > 1 ? "s" : ""} ${listing(slots)} of the ${round} ` + (cause.reading === "collision" ? "two or more tags answered"
-    : "something answered that couldn't be read") + ", and not all of these UIDs were asked again.";
+  const held = cause.reading === "captured" ? read(cause.uids) : HELD[cause.reading];
+  return `In slot${slots.length > 1 ? "s" : ""} ${listing(slots)} of the ${round} ${held}, and not all of these UIDs were asked again.`;
+}
+
+/**
+ * Whether the answer would also hold if a strong reply had hidden a weaker one, and else what to ask; of an answer that counts
+ * on it. It is no part of the answer.
+ * @param {Told} told
+ */
+export function alsoHolds({ object: { kind, captured }, counts }) {
+  const certain = /** @type {string[]} */ ([KIND.COMPLETE, KIND.ABSENT, KIND.UNLISTED]);
+  if (!captured || !counts.heard) return null;
+  if (kind === KIND.IMPOSSIBLE) return captured.holds || captured.answer.startsWith(KIND.IMPOSSIBLE) ? null : { words: NO_CONFLICT, ask: [] };
+  if (!certain.includes(kind)) return null;
+  return { words: `${ALSO}${captured.holds ? "yes." : `no. ${TO_KNOW}`}`, ask: captured.ask };
 }

@@ -1,12 +1,12 @@
 /**
- * What the pages read of frames and what the library reads, of each line of standard input that is a request's or a reply's:
- * the lines that differ.
+ * What the pages read of frames and what the library reads, of each line of standard input that is a request's or a reply's,
+ * and the Stay Quiets that the pages write: the lines that differ.
  *
  *     node frames.mjs MODULE.wasm <FRAMES
  */
 import { readFileSync } from "node:fs";
 
-import { inventoryOf, isStayQuiet, linkOf, slotMask, uidIn } from "../../web/frames.mjs";
+import { inventoryOf, isStayQuiet, linkOf, slotMask, stayQuietOf, uidIn } from "../../web/frames.mjs";
 import { Library } from "../../web/library.mjs";
 
 const library = await Library.of(readFileSync(process.argv[2]));
@@ -20,7 +20,7 @@ function differs(digits) {
   if (!reply.fault && uidIn(digits) !== reply.uid) return true;
   if (request.fault) return false;
   if (linkOf(digits) !== request.link || isStayQuiet(digits) !== (request.slots === 0)) return true;
-  if (request.slots === 0) return uidIn(digits) !== request.uid;
+  if (request.slots === 0) return uidIn(digits) !== request.uid || stayQuietOf(request.uid, request.link) !== digits.toUpperCase();
   const read = inventoryOf(digits);
   if (read.slots !== request.slots || read.mask.len !== request.maskLen || read.mask.value !== request.maskValue) return true;
   return [...Array(request.slots).keys()].some((slot) => {
