@@ -2,7 +2,7 @@
 import { el, folded } from "./elements.mjs";
 import { KIND } from "./kinds.mjs";
 import { Pane } from "./pane.mjs";
-import { GRANTED, HOLDS } from "./say.mjs";
+import { ALSO, GRANTED, HOLDS, TO_KNOW } from "./say.mjs";
 import { maskOf, tell } from "./told.mjs";
 import { banner, signed, view } from "./view.mjs";
 import { count, ending, listing, printable } from "./words.mjs";
@@ -13,7 +13,9 @@ import { count, ending, listing, printable } from "./words.mjs";
 /** @typedef {{uid: string | null, state: State, columns: Record<string, string>, certain_in: string[], may_be_in: string[],
  *   belongs?: string}} Item */
 /** @typedef {{file: string, certain: number, open: {mask_len: number, mask_value: string, ask?: string}[], more_open: boolean,
- *   list: {kind: string, status: number, line?: number, error?: string}, object?: LogObject}} OneLog */
+ *   list: {kind: string, status: number, line?: number, error?: string}, captured?: OfField, object?: LogObject}} OneLog */
+/** @typedef {{holds: boolean, mask_len?: number, mask_value?: string}} OfField whether a log says the same of its field if strong
+ *   replies hid weaker ones, and if not, a mask that may have more tags */
 /**
  * The object of a collection, as docs/answers.schema.json has it.
  * @typedef {Object} CollectionObject
@@ -62,7 +64,7 @@ export function collectionView(object) {
   const said = object.name ? [printable(object.name)] : [];
   const look = isWhole(object) ? "yes" : "no", sign = isWhole(object) ? "✓" : "!";
   return [banner({ look, sign, headline: headlineOf(object), lights: lights(object) }, [...said, ` · ${count(object.logs.length, "log")}`]),
-    ...isWhole(object) ? [el("section", { class: "holds" }, el("p", {}, HOLDS))] : [],
+    ...conditionsOfAll(object),
     ...first ? again : [],
     ...items("Look for", LOOK_FOR, of("missing"), {}, true),
     ...items("Move", MOVE, of("misplaced"), { "is in": (item) => namesOf(item.certain_in), "belongs to": (item) => item.belongs ?? "" }, true),
@@ -127,6 +129,18 @@ function lights(object) {
   const read = `${done.toLocaleString("en")} of ${count(logs.length, "log")}`;
   return [{ name: "Read to the end", value: read, look: done === logs.length ? "yes" : "no" },
     { name: "Catalogue", value, look: value === "matches" ? "yes" : differs ? "no" : "plain" }];
+}
+
+/**
+ * What a complete answer is said of; and whether what is here and missing also holds if strong replies hid weaker ones.
+ * @param {CollectionObject} object
+ */
+function conditionsOfAll(object) {
+  const { counts, logs: all } = object, hidden = all.filter((log) => log.captured?.holds === false).map((log) => log.file);
+  if (!isWhole(object) && !counts.missing && !counts.unexpected) return [];
+  const known = all.every((log) => log.captured), where = hidden.length ? `no. In the field of ${namesOf(hidden)}: ${TO_KNOW}.` : "yes.";
+  return [el("section", { class: "holds" }, ...isWhole(object) ? [el("p", {}, HOLDS)] : [],
+    ...known || hidden.length ? [el("p", {}, ALSO + where)] : [])];
 }
 
 /**

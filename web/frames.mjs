@@ -10,12 +10,15 @@ import { hex } from "./words.mjs";
 
 /** The Nb_slots_flag in the flags, which is the Address_flag without inventory; the bits that say the link; the command of a
  *  Stay Quiet request. */
-const ONE_SLOT = 0x20, ADDRESSED = 0x20, LINK = 3, STAY_QUIET = "02";
+const ONE_SLOT = 0x20, ADDRESSED = 0x20, INVENTORY_FLAG = 4, LINK = 3, STAY_QUIET = "02", INVENTORY = "01";
+/** One subcarrier, high data rate. */
+export const ANY_LINK = 2;
 export const SLOTS = 16;
 const SLOT_BITS = 4;
 /** Where the digits of a request's mask and of a UID begin. */
 const VALUE = 6, UID_AT = 4, UID_DIGITS = 16;
-/** ISO/IEC 13239, 16-bit FCS. */
+/** ISO/IEC 13239, 16-bit FCS: so many digits at the end of a frame. */
+export const CRC_DIGITS = 4;
 const CRC_START = 0xFFFF, CRC_POLYNOMIAL = 0x8408;
 
 /**
@@ -45,18 +48,31 @@ export const uidIn = (frame) => numberOf(frame.slice(UID_AT, UID_AT + UID_DIGITS
  */
 export function stayQuietOf(uid, link) {
   const turned = (hex(uid).match(/../g) ?? []).reverse().join("");
-  const frame = hex(BigInt(ADDRESSED | link), 2) + STAY_QUIET + turned, crc = hex(BigInt(crcOf(frame)), 4);
-  return frame + crc.slice(2) + crc.slice(0, 2);
+  const frame = hex(BigInt(ADDRESSED | link), 2) + STAY_QUIET + turned;
+  return frame + crcOf(frame);
 }
 
-/** @param {string} digits of bytes */
-function crcOf(digits) {
+/**
+ * The frame that asks for all tags in one slot.
+ * @param {number} link
+ */
+export function oneSlotOf(link) {
+  const frame = `${hex(BigInt(ONE_SLOT | INVENTORY_FLAG | link), 2)}${INVENTORY}00`;
+  return frame + crcOf(frame);
+}
+
+/**
+ * The CRC of bytes as it is sent, low byte first.
+ * @param {string} digits
+ */
+export function crcOf(digits) {
   let crc = CRC_START;
   for (const pair of digits.match(/../g) ?? []) {
     crc ^= parseInt(pair, 16);
     for (let bit = 0; bit < 8; bit++) crc = crc & 1 ? crc >> 1 ^ CRC_POLYNOMIAL : crc >> 1;
   }
-  return crc ^ CRC_START;
+  const sent = hex(BigInt(crc ^ CRC_START), CRC_DIGITS);
+  return sent.slice(2) + sent.slice(0, 2);
 }
 
 /**

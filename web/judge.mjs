@@ -1,6 +1,6 @@
 /** The object of a log, of what the library says of it: the same as python/vicinity/pages/log.py makes. */
-import { capturedOf } from "./captured.mjs";
-import { linkOf } from "./frames.mjs";
+import { withCaptures } from "./captured.mjs";
+import { ANY_LINK, linkOf } from "./frames.mjs";
 import { FOUND, KIND } from "./kinds.mjs";
 import { LF } from "./log.mjs";
 import { hex } from "./words.mjs";
@@ -9,10 +9,11 @@ import { hex } from "./words.mjs";
 /** @typedef {import("./library.mjs").Answer} Answer */
 /** @typedef {import("./library.mjs").Finding} Finding */
 /** @typedef {import("./told.mjs").LogObject} LogObject */
+/** @typedef {import("./told.mjs").Captured} Captured */
 
 /** How many findings and open masks are told, how many tags are listed, and how much of a refused line is kept. */
 const MOST_TOLD = 1000, MOST_LISTED = 10_000, MOST_QUOTED = 160;
-const SCHEMA = /** @type {1} */ (1), ANY_LINK = 2;
+const SCHEMA = /** @type {1} */ (1);
 /** Findings of these kinds are told in this order. */
 const KINDS = /** @type {[number, string][]} */ ([[FOUND.SILENCED_BY, "silenced by"], [FOUND.CONFLICT, "conflict"],
   [FOUND.ABSENT, KIND.ABSENT], [FOUND.UNLISTED, KIND.UNLISTED], [FOUND.DOUBTFUL, KIND.DOUBTFUL]]);
@@ -29,17 +30,16 @@ export async function judge(library, text, name) {
   const { answer, list, counts, conflict } = library.report(text, MOST_TOLD), possible = answer.status < 2;
   const certain = possible ? library.certain(text).list : [], open = possible ? library.openMasks(text, MOST_TOLD) : NO_MASKS;
   const kept = untilRefused(text, answer), decoded = DECODED.decode(kept), link = linkIn(decoded);
-  const ask = (/** @type {number} */ slots, len = 0, value = 0n) => `T ${hexOf(library.writeInventory(slots, len, value, link))}`;
   const masks = open.list.map(({ len, value }) => ({ ...maskFields(len, value),
-    ask: (len ? [1] : [16, 1]).map((slots) => ask(slots, len, value)) }));
-  return { schema: SCHEMA, version: versionOf(library.version), file: name, ...fields(library, answer), answer: answer.text.trim(),
+    ask: (len ? [1] : [16, 1]).map((slots) => `T ${hexOf(library.writeInventory(slots, len, value, link))}`) }));
+  return { schema: SCHEMA, version: versionOf(library.version), file: name, ...fields(library, answer), ...capturedOf(library, text, answer),
+    answer: answer.text.trim(),
     lines: linesIn(text), ended: text[text.length - 1] === LF, sha256: await sumOf(text),
     findings: [...findingsOf(list.filter((it) => it.kind !== FOUND.CONFLICT)), ...conflict.map((line) => ({ kind: "conflict", line }))],
     found: { absent: counts[FOUND.ABSENT], unlisted: counts[FOUND.UNLISTED], doubtful: counts[FOUND.DOUBTFUL] },
     certain: { count: certain.length, uids: certain.slice(0, MOST_LISTED).map((uid) => hex(uid)) },
     open: { count: open.count, share: open.lengths.reduce((sum, many, length) => sum + many * 2 ** -length, 0), masks },
-    unnoticed: unnoticed(library, text, answer), captured: answer.fault ? null : capturedOf(library, text, answer.text.trim(), ask(1)),
-    text: decoded };
+    unnoticed: unnoticed(library, text, answer), text: decoded };
 }
 
 /**
@@ -49,6 +49,19 @@ export async function judge(library, text, name) {
 function findingsOf(list) {
   return KINDS.flatMap(([kind, word]) => list.filter((it) => it.kind === kind).map(({ line, uid }) =>
     ({ kind: word, ...uid ? { uid: hex(uid) } : {}, ...line ? { line } : {} })));
+}
+
+/**
+ * Whether an answer also holds if strong replies hid weaker ones, and if not, the answer that does; nothing of what is refused.
+ * @param {Library} library
+ * @param {Uint8Array} text
+ * @param {Answer} answer
+ * @returns {{captured?: Captured}}
+ */
+export function capturedOf(library, text, answer) {
+  if (answer.fault) return {};
+  const other = library.check(withCaptures(text)), holds = other.text === answer.text;
+  return { captured: holds ? { holds } : { holds, ...fields(library, other) } };
 }
 
 /**

@@ -6,7 +6,7 @@ import { visible } from "./words.mjs";
 
 const MOST_SHOWN = 160;
 const INSERT = "If a slot has a collision, ask its mask in sixteen slots. In the log, the new lines go before the U lines.";
-const HIDDEN = "What is left to ask where a reply may have hidden others: silence the tags that were read there, and ask again.";
+const ASK_UNDER = "What is left to ask where a reply may have hidden others: silence the tags that were read there, and ask again.";
 const SILENCED = "tags that were silenced before they were heard: only then do they answer";
 const NEW_VERSION = "Tags that were silenced before they were heard answer only after the field was switched off and on, and a log of " +
   "version 1 has no line for that. Begin a new log, of version 2, and ask for the whole field again.";
@@ -38,7 +38,7 @@ function left(told) {
   const more = !all && masks > open.length ? ` (the first ${open.length} of ${masks.toLocaleString("en")})` : "";
   const how = all ? "in sixteen slots, or in one" : `one request for each open mask${more}`;
   if (open.length) parts.push(el("p", {}, `What is left to ask, ${how}. ${INSERT}`), copied(open));
-  if (hidden.length) parts.push(el("p", {}, HIDDEN), copied(hidden));
+  if (hidden.length) parts.push(el("p", {}, ASK_UNDER), copied(hidden));
   if (silenced.length && !told.cycles) parts.push(el("p", {}, NEW_VERSION));
   else if (silenced.length) {
     parts.push(el("p", {}, `${open.length || hidden.length ? "Then switch" : "Switch"} the field off and on, write F, and ask for the ${SILENCED}.`),

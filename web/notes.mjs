@@ -25,10 +25,11 @@ export function notesOf(log, object) {
       const row = absent.size ? log.row(at) : null, found = row?.kind === "quiet" ? absent.get(row.uid) : undefined;
       if (found && found.line < log.lineOf(at)) lost.push({ line: log.lineOf(at), uid: found.uid, at: found.line });
     } else if (log.isRound(at)) {
-      const { slots, mask } = inventoryOf(log.frame(log.lineOf(at))), logged = log.outcomes(at).length;
-      if (logged < slots) cut.push({ line: log.lineOf(at), slots: logged, of: slots });
-      else if (mask.len === 0) hasAskedAll = true;
-      last = logged === slots && mask.len === 0 ? -1 : at;
+      const { slots, mask } = inventoryOf(log.frame(log.lineOf(at))), logged = log.outcomes(at);
+      const isOfAll = mask.len === 0 && logged.filter((line) => log.reading(line) !== "unknown").length === slots;
+      if (logged.length < slots) cut.push({ line: log.lineOf(at), slots: logged.length, of: slots });
+      if (isOfAll) hasAskedAll = true;
+      last = isOfAll ? -1 : at;
     }
   }
   const missed = hasAskedAll ? "stronger replies hid" : "no earlier round asked";

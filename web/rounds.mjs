@@ -32,11 +32,24 @@ export function rounds(told, names) {
   const ringed = new Set(told.ringed), named = new Set(told.named);
   const body = told.rows.map((row) => rowOf(row, ringed, named, names));
   const table = el("table", { class: "rounds" }, el("caption", {}, "The rounds of the session"), el("thead", {}, head), el("tbody", {}, body));
-  const bars = told.strip.map(({ look, line }) => el("i", { class: look, "data-line": String(line) }));
+  const bars = told.strip.map(barOf);
   const label = `The whole session of ${count(told.counts.rounds, "round")}`;
   const strip = bars.length ? [el("p", { class: "strip", role: "img", "aria-label": label }, bars)] : [];
   return [el("section", {}, el("h2", {}, "The rounds"), ...strip, legend(told),
     el("div", { class: "wide", tabindex: "0", role: "group", "aria-label": "The rounds, scrolled sideways" }, table))];
+}
+
+/**
+ * A bar of the strip: of its height each thing that slots held has a share.
+ * @param {import("./strip.mjs").Bar} bar
+ */
+function barOf({ line, isMarked, held }) {
+  const parts = held.map(([look, many]) => {
+    const part = el("b", { class: look });
+    part.style.flexGrow = String(many);
+    return part;
+  });
+  return el("i", { class: isMarked ? "marked" : "", "data-line": String(line) }, ...isMarked ? [] : parts);
 }
 
 /**

@@ -1,11 +1,11 @@
 /** The whole session in one strip: what its rows held, a bar for each few of them. */
 
 /** @typedef {import("./log.mjs").Log} Log */
-/** @typedef {{look: "marked" | import("./log.mjs").Reading | "quiet", line: number}} Bar */
+/** @typedef {{line: number, isMarked: boolean, held: [import("./log.mjs").Reading, number][]}} Bar with how many of its slots held what */
 
 const MOST_BARS = 200;
-/** What a bar shows of its rows: the first of these that there is. */
-const ORDERED = /** @type {Bar["look"][]} */ (["marked", "heard", "captured", "garbled", "collision", "unknown", "silent", "quiet"]);
+/** From above. */
+const ORDERED = /** @type {import("./log.mjs").Reading[]} */ (["silent", "unknown", "collision", "garbled", "captured", "heard"]);
 
 /**
  * @param {Log} log
@@ -15,13 +15,10 @@ const ORDERED = /** @type {Bar["look"][]} */ (["marked", "heard", "captured", "g
 export function strip(log, marked) {
   const each = Math.ceil(log.rowCount / MOST_BARS), bars = [];
   for (let from = 0; from < log.rowCount; from += each) {
-    const looks = new Set(), rows = Array.from({ length: Math.min(each, log.rowCount - from) }, (_, at) => from + at);
-    for (const row of rows) {
-      if (marked.has(row)) looks.add("marked");
-      for (const line of log.outcomes(row)) looks.add(log.reading(line));
-    }
-    const line = log.lineOf(rows.find((row) => marked.has(row)) ?? from);
-    bars.push({ look: ORDERED.find((look) => looks.has(look)) ?? "quiet", line });
+    const rows = Array.from({ length: Math.min(each, log.rowCount - from) }, (_, at) => from + at);
+    const first = rows.find((row) => marked.has(row)), all = rows.flatMap((row) => log.outcomes(row)).map((line) => log.reading(line));
+    const held = ORDERED.map((look) => /** @type {Bar["held"][0]} */ ([look, all.filter((it) => it === look).length]));
+    bars.push({ line: log.lineOf(first ?? from), isMarked: first !== undefined, held: held.filter(([, many]) => many) });
   }
   return bars;
 }

@@ -7,7 +7,7 @@
 import { causesOf, silencedUnheard } from "./causes.mjs";
 import { conflictOf, isLarge, keyLines } from "./conflict.mjs";
 import { drawn } from "./drawn.mjs";
-import { linkOf, stayQuietOf } from "./frames.mjs";
+import { ANY_LINK, linkOf, oneSlotOf, stayQuietOf } from "./frames.mjs";
 import { KIND } from "./kinds.mjs";
 import { Log } from "./log.mjs";
 import { notesOf } from "./notes.mjs";
@@ -43,8 +43,12 @@ import { strip } from "./strip.mjs";
  * @property {{count: number, uids: string[]}} certain
  * @property {{count: number, share: number, masks: {mask_len: number, mask_value: string, ask: string[]}[]}} open
  * @property {string | null} unnoticed a UID that isn't listed, and could be there
- * @property {import("./captured.mjs").Captured | null} captured what the answer would be if each reply may have hidden others; null
- *   of what isn't a log
+ * @property {Captured} [captured] of a log
+ */
+/**
+ * @typedef {Object} Captured
+ * @property {boolean} holds whether the answer also holds if strong replies hid weaker ones
+ * @property {string} [kind] of the answer that does, if it doesn't
  */
 /**
  * @typedef {Object} Told
@@ -56,8 +60,8 @@ import { strip } from "./strip.mjs";
  * @property {Silenced[]} silenced the tags that are open since they were silenced before they were heard
  * @property {number} quiet how many open masks have no other tags
  * @property {number} hidden how many open masks only a reply may have hidden
- * @property {{open: string[], silenced: string[], hidden: string[]}} requests what is left to ask, as lines: at once; after a field
- *   cycle; and where a reply may have hidden others
+ * @property {{open: string[], silenced: string[], hidden: string[], all: string}} requests what is left to ask, as lines: at once; after a
+ *   field cycle; and where a reply may have hidden others; and what asks for all tags in one slot
  * @property {Cause[]} causes slots in which the other open UIDs would answer, by their rounds
  * @property {boolean} neverAsked whether some open mask has no such slot
  * @property {import("./notes.mjs").Notes} notes
@@ -90,7 +94,7 @@ export function tell(object, text = new TextEncoder().encode(object.text)) {
   /** @type {Told} */
   const told = { object, faulty: refused && line <= log.lineCount ? log.line(line) : "",
     cycles: log.version > 1, conflict: null, open: object.open.masks.map(maskOf), silenced: [], quiet: 0, hidden: 0,
-    requests: { open: [], silenced: [], hidden: [] }, causes: [], neverAsked: false, notes: { lost: [], cut: [], last: null },
+    requests: { open: [], silenced: [], hidden: [], all: "" }, causes: [], neverAsked: false, notes: { lost: [], cut: [], last: null },
     counts: log.counts, rows: [], strip: [], ringed: [], named: [] };
   if (!refused) explain(log, told);
   return told;
@@ -110,7 +114,7 @@ function explain(log, told) {
     .slice(0, MOST_REQUESTS).flatMap((mask) => mask.ask);
   Object.assign(told, { silenced: tags, quiet: masks.length, hidden: hidden.size, causes, neverAsked, requests: {
     open: asked((mask) => !quiet.has(mask) && !hidden.has(mask)), silenced: asked((mask) => quiet.has(mask)),
-    hidden: askedAgain(log, causes) } });
+    hidden: askedAgain(log, causes), all: `T ${oneSlotOf(log.rowCount ? linkOf(log.frame(log.lineOf(0))) : ANY_LINK)}` } });
   told.named = named(told);
   told.notes = notesOf(log, object);
   told.ringed = causes.flatMap((cause) => cause.slots.map((number) => `${cause.round}:${number}`));

@@ -53,8 +53,7 @@ export function banner(said, what, heading = "h1") {
  */
 function conditions(told) {
   const also = alsoHolds(told), holds = told.object.kind === KIND.COMPLETE ? [el("p", {}, HOLDS)] : [];
-  const asked = also?.ask.map((line) => el("code", { class: "ask" }, line)) ?? [];
-  const parts = [...holds, ...also ? [el("p", {}, also.words, ...asked.flatMap((it) => [" ", it]))] : []];
+  const parts = [...holds, ...also ? [el("p", {}, also.words, ...also.ask ? [" ", el("code", {}, also.ask)] : [])] : []];
   return parts.length ? [el("section", { class: "holds" }, parts)] : [];
 }
 
