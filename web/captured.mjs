@@ -1,10 +1,9 @@
 /** Whether an answer also holds if strong replies hid weaker ones: the library reads the text again, with each reply so. */
 import { LF } from "./log.mjs";
 
-/** @typedef {import("./library.mjs").Library} Library */
-
-/** Where the header has its version, and the version that knows of replies that may have hidden others. */
-const VERSION_AT = "vicinity-log ".length, [THIRD, REPLY, CAPTURED, SPACE] = [..."3RH "].map((it) => it.charCodeAt(0));
+/** Where the header has its version, and the version that knows of replies that may have hidden others; letters of lines. */
+const VERSION_AT = "vicinity-log ".length, THIRD = "3".charCodeAt(0);
+const ALONE = "R".charCodeAt(0), OVER = "H".charCodeAt(0), SPACE = " ".charCodeAt(0);
 
 /**
  * A log with each R as H, under the header of version 3.
@@ -13,7 +12,7 @@ const VERSION_AT = "vicinity-log ".length, [THIRD, REPLY, CAPTURED, SPACE] = [..
 export function withCaptures(text) {
   const read = text.slice();
   for (let at = 0, end = 0; end >= 0; at = end + 1) {
-    if (text[at] === REPLY && text[at + 1] === SPACE) read[at] = CAPTURED;
+    if (text[at] === ALONE && text[at + 1] === SPACE) read[at] = OVER;
     end = text.indexOf(LF, at);
   }
   read[VERSION_AT] = THIRD;

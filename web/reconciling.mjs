@@ -88,12 +88,11 @@ const maskKey = ({ len, value }) => `${len}:${value}`;
  * @returns {Promise<Surveyed>}
  */
 async function surveyed(library, { name, text }) {
-  const object = await judge(library, text, name), aside = object.status > 1;
+  const { answer, certain, open } = library.survey(text), aside = answer.status > 1;
+  const object = await judge(library, text, name, aside ? undefined : { certain, open });
   if (aside) return { object, aside, certain: [], open: [ALL], captured: object.captured };
-  const open = library.openMasks(text).list, known = new Set(open.map(maskKey));
-  const opened = library.openMasks(withCaptures(text)).list.find((mask) => !known.has(maskKey(mask)));
-  const captured = opened ? { holds: false, ...maskFields(opened.len, opened.value) } : { holds: true };
-  return { object, aside, certain: library.certain(text).list, open, captured };
+  const known = new Set(open.map(maskKey)), opened = library.openMasks(withCaptures(text)).list.find((mask) => !known.has(maskKey(mask)));
+  return { object, aside, certain, open, captured: opened ? { holds: false, ...maskFields(opened.len, opened.value) } : { holds: true } };
 }
 
 /** @param {Surveyed} log */
