@@ -19,11 +19,12 @@ const ADDED = ["state", "certain in", "may be in"], UNEXPECTED = "unexpected";
  * @param {Given[]} files
  */
 export function sorted(files) {
+  if (files.length < 2) return { logs: files, expected: null, places: null };
   const tables = files.filter(looksLikeTable);
   const lists = files.filter((file) => isLog(file) && isList(file));
   const places = tables.find((file) => { const { heads } = headsOf(file); return heads.includes(PLACE) && heads.includes(LOG); });
   const expected = [...tables.filter((file) => file !== places), ...tables.length ? [] : lists];
-  if (expected.length !== 1 || files.length < 2) return { logs: files, expected: null, places: null };
+  if (expected.length !== 1) return { logs: files, expected: null, places: null };
   return { logs: files.filter((file) => file !== places && file !== expected[0]), expected: expected[0], places: places ?? null };
 }
 

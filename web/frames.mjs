@@ -10,7 +10,10 @@ import { hex } from "./words.mjs";
 
 /** The Nb_slots_flag in the flags, which is the Address_flag without inventory; the bits that say the link; the command of a
  *  Stay Quiet request. */
-const ONE_SLOT = 0x20, ADDRESSED = 0x20, INVENTORY_FLAG = 4, LINK = 3, STAY_QUIET = "02", INVENTORY = "01";
+const ONE_SLOT = 0x20, ADDRESSED = 0x20, INVENTORY_FLAG = 4, LINK = 3, INVENTORY = 1;
+export const STAY_QUIET = 2;
+/** Where the digits of the command, and of the length of a mask, begin. */
+export const COMMAND_AT = 2, LENGTH_AT = 4;
 /** One subcarrier, high data rate. */
 export const ANY_LINK = 2;
 export const SLOTS = 16;
@@ -29,8 +32,8 @@ function numberOf(digits) {
   return BigInt(`0x${(digits.match(/../g) ?? []).reverse().join("") || "0"}`);
 }
 
-/** @param {string} frame */
-export const isStayQuiet = (frame) => frame.slice(2, 4) === STAY_QUIET;
+/** @param {number} flags of an Inventory request */
+export const slotsOf = (flags) => flags & ONE_SLOT ? 1 : SLOTS;
 
 /** @param {string} frame */
 export const linkOf = (frame) => parseInt(frame.slice(0, 2), 16) & LINK;
@@ -41,6 +44,9 @@ export const linkOf = (frame) => parseInt(frame.slice(0, 2), 16) & LINK;
  */
 export const uidIn = (frame) => numberOf(frame.slice(UID_AT, UID_AT + UID_DIGITS));
 
+/** @param {number} byte */
+const pairOf = (byte) => hex(BigInt(byte), 2);
+
 /**
  * The frame that silences a tag.
  * @param {bigint} uid
@@ -48,7 +54,7 @@ export const uidIn = (frame) => numberOf(frame.slice(UID_AT, UID_AT + UID_DIGITS
  */
 export function stayQuietOf(uid, link) {
   const turned = (hex(uid).match(/../g) ?? []).reverse().join("");
-  const frame = hex(BigInt(ADDRESSED | link), 2) + STAY_QUIET + turned;
+  const frame = pairOf(ADDRESSED | link) + pairOf(STAY_QUIET) + turned;
   return frame + crcOf(frame);
 }
 
@@ -57,7 +63,7 @@ export function stayQuietOf(uid, link) {
  * @param {number} link
  */
 export function oneSlotOf(link) {
-  const frame = `${hex(BigInt(ONE_SLOT | INVENTORY_FLAG | link), 2)}${INVENTORY}00`;
+  const frame = pairOf(ONE_SLOT | INVENTORY_FLAG | link) + pairOf(INVENTORY) + pairOf(0);
   return frame + crcOf(frame);
 }
 
@@ -80,7 +86,7 @@ export function crcOf(digits) {
  * @returns {Inventory}
  */
 export function inventoryOf(frame) {
-  const len = parseInt(frame.slice(4, VALUE), 16), slots = parseInt(frame.slice(0, 2), 16) & ONE_SLOT ? 1 : SLOTS;
+  const len = parseInt(frame.slice(LENGTH_AT, VALUE), 16), slots = slotsOf(parseInt(frame.slice(0, COMMAND_AT), 16));
   return { slots, mask: { len, value: numberOf(frame.slice(VALUE, VALUE + 2 * Math.ceil(len / 8))) } };
 }
 

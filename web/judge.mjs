@@ -71,7 +71,7 @@ function shareOf(masks) {
  */
 export function capturedOf(library, text, answer) {
   if (answer.fault) return {};
-  const other = library.check(withCaptures(text)), holds = other.text === answer.text;
+  const read = withCaptures(text), other = read ? library.check(read) : answer, holds = other.text === answer.text;
   return { captured: holds ? { holds } : { holds, ...fields(library, other) } };
 }
 

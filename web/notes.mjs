@@ -1,5 +1,4 @@
 /** What is worth a look in a log, and isn't part of its answer. */
-import { inventoryOf } from "./frames.mjs";
 import { KIND } from "./kinds.mjs";
 import { count } from "./words.mjs";
 
@@ -25,8 +24,8 @@ export function notesOf(log, object) {
       const row = absent.size ? log.row(at) : null, found = row?.kind === "quiet" ? absent.get(row.uid) : undefined;
       if (found && found.line < log.lineOf(at)) lost.push({ line: log.lineOf(at), uid: found.uid, at: found.line });
     } else if (log.isRound(at)) {
-      const { slots, mask } = inventoryOf(log.frame(log.lineOf(at))), logged = log.outcomes(at);
-      const isOfAll = mask.len === 0 && logged.filter((line) => log.reading(line) !== "unknown").length === slots;
+      const { slots, len } = log.shape(at), logged = log.outcomes(at);
+      const isOfAll = len === 0 && logged.filter((line) => log.reading(line) !== "unknown").length === slots;
       if (logged.length < slots) cut.push({ line: log.lineOf(at), slots: logged.length, of: slots });
       if (isOfAll) hasAskedAll = true;
       last = isOfAll ? -1 : at;

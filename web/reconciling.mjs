@@ -91,7 +91,8 @@ async function surveyed(library, { name, text }) {
   const { answer, certain, open } = library.survey(text), aside = answer.status > 1;
   const object = await judge(library, text, name, aside ? undefined : { certain, open });
   if (aside) return { object, aside, certain: [], open: [ALL], captured: object.captured };
-  const known = new Set(open.map(maskKey)), opened = library.openMasks(withCaptures(text)).list.find((mask) => !known.has(maskKey(mask)));
+  const read = withCaptures(text), known = new Set(open.map(maskKey));
+  const opened = read && library.openMasks(read).list.find((mask) => !known.has(maskKey(mask)));
   return { object, aside, certain, open, captured: opened ? { holds: false, ...maskFields(opened.len, opened.value) } : { holds: true } };
 }
 

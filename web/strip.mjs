@@ -16,8 +16,9 @@ export function strip(log, marked) {
   const each = Math.ceil(log.rowCount / MOST_BARS), bars = [];
   for (let from = 0; from < log.rowCount; from += each) {
     const rows = Array.from({ length: Math.min(each, log.rowCount - from) }, (_, at) => from + at);
-    const first = rows.find((row) => marked.has(row)), all = rows.flatMap((row) => log.outcomes(row)).map((line) => log.reading(line));
-    const held = ORDERED.map((look) => /** @type {Bar["held"][0]} */ ([look, all.filter((it) => it === look).length]));
+    const first = rows.find((row) => marked.has(row)), counts = ORDERED.map(() => 0);
+    for (const row of rows) for (const line of log.outcomes(row)) counts[ORDERED.indexOf(log.reading(line) ?? "unreached")]++;
+    const held = ORDERED.map((look, at) => /** @type {Bar["held"][0]} */ ([look, counts[at]]));
     bars.push({ line: log.lineOf(first ?? from), isMarked: first !== undefined, held: held.filter(([, many]) => many) });
   }
   return bars;
