@@ -12,6 +12,8 @@ import { UID_BITS } from "./words.mjs";
 const ORDER = ["unreached", "unknown", "collision", "garbled", "captured"];
 /** After so many slots only those are looked for that explain one more mask. */
 const MOST_CAUSING = 1000;
+/** By so many low bits most rounds are known to ask nothing that is open. */
+const LOW_BITS = 16;
 /** How many bits the masks have at least of which each UID may have been silenced. */
 const LEAST_SILENCED = UID_BITS - 6;
 
@@ -50,7 +52,7 @@ export function causesOf(log, masks) {
   const open = new Set(masks.map((mask) => key(mask.len, mask.value))), lengths = [...new Set(masks.map((mask) => mask.len))];
   /** @type {Map<string, Unread>} */
   const unread = new Map(), explained = new Set(), causing = [];
-  for (const slot of masks.length ? unreadSlots(log) : []) {
+  for (const slot of masks.length ? unreadSlots(log, lowBits(masks)) : []) {
     const { len, value } = slot.mask;
     if (!unread.has(key(len, value))) unread.set(key(len, value), slot);
     const around = lengths.filter((it) => it <= len).map((it) => key(it, value)).find((it) => open.has(it));
@@ -70,18 +72,46 @@ export function causesOf(log, masks) {
 }
 
 /**
- * Every slot of the log that wasn't reached or wasn't read, or was read perhaps over others, those of the last round first.
+ * Every slot that wasn't reached or wasn't read, or was read perhaps over others, of the rounds that may ask what is open, those
+ * of the last round first.
  * @param {Log} log
+ * @param {Uint8Array[]} low
  * @returns {Generator<Unread>}
  */
-function* unreadSlots(log) {
+function* unreadSlots(log, low) {
   for (let at = log.rowCount - 1; at >= 0; at--) {
-    const round = log.hasUnread(at) ? log.row(at) : null;
+    const round = mayAsk(log, at, low) && log.hasUnread(at) ? log.row(at) : null;
     if (round?.kind !== "round") continue;
     for (const { number, mask, reading, uid } of round.slots) {
       if (ORDER.includes(reading)) yield { row: at, round: round.line, asked: round.asked, number, mask, reading, uid };
     }
   }
+}
+
+/**
+ * For each number of low bits, which values of these some mask has.
+ * @param {Mask[]} masks
+ */
+function lowBits(masks) {
+  const low = Array.from({ length: LOW_BITS + 1 }, (_, bits) => new Uint8Array(1 << bits));
+  for (const { len, value } of masks) {
+    const bits = Math.min(len, LOW_BITS), first = Number(BigInt.asUintN(bits, value));
+    for (let it = first; it < 1 << LOW_BITS; it += 1 << bits) low[LOW_BITS][it] = 1;
+  }
+  for (let bits = LOW_BITS - 1; bits >= 0; bits--) low[bits] = low[bits].map((_, it) => low[bits + 1][it] | low[bits + 1][it + (1 << bits)]);
+  return low;
+}
+
+/**
+ * Whether the low bits of a round's mask may be those of what is open.
+ * @param {Log} log
+ * @param {number} row
+ * @param {Uint8Array[]} low
+ */
+function mayAsk(log, row, low) {
+  if (!log.isRound(row)) return false;
+  const asked = log.shape(row), bits = Math.min(asked.len, LOW_BITS);
+  return low[bits][asked.low & (1 << bits) - 1] > 0;
 }
 
 /**

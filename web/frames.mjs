@@ -19,7 +19,8 @@ export const ANY_LINK = 2;
 export const SLOTS = 16;
 const SLOT_BITS = 4;
 /** Where the digits of a request's mask and of a UID begin. */
-const VALUE = 6, UID_AT = 4, UID_DIGITS = 16;
+export const VALUE_AT = 6;
+const UID_AT = 4, UID_DIGITS = 16;
 /** ISO/IEC 13239, 16-bit FCS: so many digits at the end of a frame. */
 export const CRC_DIGITS = 4;
 const CRC_START = 0xFFFF, CRC_POLYNOMIAL = 0x8408;
@@ -86,8 +87,8 @@ export function crcOf(digits) {
  * @returns {Inventory}
  */
 export function inventoryOf(frame) {
-  const len = parseInt(frame.slice(LENGTH_AT, VALUE), 16), slots = slotsOf(parseInt(frame.slice(0, COMMAND_AT), 16));
-  return { slots, mask: { len, value: numberOf(frame.slice(VALUE, VALUE + 2 * Math.ceil(len / 8))) } };
+  const len = parseInt(frame.slice(LENGTH_AT, VALUE_AT), 16), slots = slotsOf(parseInt(frame.slice(0, COMMAND_AT), 16));
+  return { slots, mask: { len, value: numberOf(frame.slice(VALUE_AT, VALUE_AT + 2 * Math.ceil(len / 8))) } };
 }
 
 /**

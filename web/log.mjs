@@ -1,5 +1,5 @@
 /** A log's text as rows to draw: rounds, Stay Quiets and field cycles. */
-import { COMMAND_AT, inventoryOf, LENGTH_AT, slotMask, slotsOf, STAY_QUIET, uidIn } from "./frames.mjs";
+import { COMMAND_AT, inventoryOf, LENGTH_AT, slotMask, slotsOf, STAY_QUIET, uidIn, VALUE_AT } from "./frames.mjs";
 
 /** @typedef {import("./frames.mjs").Mask} Mask */
 /** @typedef {"silent" | "heard" | "captured" | "collision" | "garbled" | "unknown" | "unreached"} Reading what a slot held */
@@ -131,12 +131,13 @@ export class Log {
   isRound(index) { return this.#code(this.#rows[index]) === ASKING && !this.#silences(this.#rows[index]); }
 
   /**
-   * How many slots a round has, and how many bits its mask.
+   * How many slots a round has, how many bits its mask, and the low sixteen of these.
    * @param {number} index
    */
   shape(index) {
-    const line = this.#rows[index];
-    return { slots: slotsOf(this.#byte(line, 0)), len: this.#byte(line, LENGTH_AT) };
+    const line = this.#rows[index], len = this.#byte(line, LENGTH_AT);
+    const low = len && this.#byte(line, VALUE_AT) | (len > 8 ? this.#byte(line, VALUE_AT + 2) << 8 : 0);
+    return { slots: slotsOf(this.#byte(line, 0)), len, low };
   }
 
   /**

@@ -25,7 +25,7 @@ function differs(digits) {
   if (linkOf(digits) !== request.link || log.isQuiet(0) !== (request.slots === 0)) return true;
   if (request.slots === 0) return uidIn(digits) !== request.uid || stayQuietOf(request.uid, request.link) !== digits.toUpperCase();
   const read = inventoryOf(digits), asks = hexOf(library.writeInventory(1, 0, 0n, request.link));
-  if (shape.slots !== request.slots || shape.len !== request.maskLen || oneSlotOf(request.link) !== asks) return true;
+  if (shape.slots !== request.slots || shape.len !== request.maskLen || BigInt(shape.low) !== BigInt.asUintN(16, request.maskValue) || oneSlotOf(request.link) !== asks) return true;
   if (read.slots !== request.slots || read.mask.len !== request.maskLen || read.mask.value !== request.maskValue) return true;
   return [...Array(request.slots).keys()].some((slot) => {
     const one = library.slotMask(request, slot), other = slotMask(read, slot);
