@@ -35,6 +35,8 @@ import { count, ending, listing, printable } from "./words.mjs";
 const MOST_ROWS = 2000, FEW_ROWS = 40, MOST_NAMES = 3, MOST_MASKS = 3;
 /** How many cells of the catalogue are the name of an item. */
 const MOST_CELLS = 2;
+/** The head of where items belong, which the catalogue's own column of places repeats. */
+const BELONGS = "belongs to";
 const CANNOT_BE_READ = 4;
 /** How much text of logs stands in a page that is saved. */
 const MOST_TEXT = 4_000_000;
@@ -67,7 +69,7 @@ export function collectionView(object) {
     ...conditionsOfAll(object),
     ...first ? again : [],
     ...items("Look for", LOOK_FOR, of("missing"), {}, true),
-    ...items("Move", MOVE, of("misplaced"), { "is in": (item) => namesOf(item.certain_in), "belongs to": (item) => item.belongs ?? "" }, true),
+    ...items("Move", MOVE, of("misplaced"), { "is in": (item) => namesOf(item.certain_in), [BELONGS]: (item) => item.belongs ?? "" }, true),
     ...first ? [] : again,
     ...items("Unknown", NOT_EXPECTED, of("unexpected"), { "is in": (item) => namesOf(item.certain_in) }, true),
     ...items("Without a tag", NO_TAG, of("no tag"), {}, false),
@@ -136,7 +138,8 @@ function lights(object) {
  * @param {CollectionObject} object
  */
 function conditionsOfAll(object) {
-  const { counts, logs: all } = object, hidden = all.filter((log) => log.captured?.holds === false).map((log) => log.file);
+  const { counts } = object, all = object.logs.filter((log) => !isAside(log));
+  const hidden = all.filter((log) => log.captured?.holds === false).map((log) => log.file);
   if (!isWhole(object) && !counts.missing && !counts.unexpected) return [];
   const known = all.every((log) => log.captured), where = hidden.length ? `no. In the field of ${namesOf(hidden)}: ${TO_KNOW}.` : "yes.";
   return [el("section", { class: "holds" }, ...isWhole(object) ? [el("p", {}, HOLDS)] : [],
@@ -165,8 +168,8 @@ function countAgain(object, unknown, names) {
  */
 function items(title, words, list, where, open) {
   if (!list.length) return [];
-  const columns = [...new Set(list.slice(0, MOST_ROWS).flatMap((item) => Object.keys(item.columns)))]
-    .filter((column) => list.some((item) => item.columns[column]));
+  const isSaid = (/** @type {string} */ column) => list.some((item) => item.columns[column] && !(BELONGS in where && item.columns[column] === item.belongs));
+  const columns = [...new Set(list.slice(0, MOST_ROWS).flatMap((item) => Object.keys(item.columns)))].filter(isSaid);
   const heads = [...columns, ...Object.keys(where), "UID"];
   const said = (/** @type {Item} */ item) => columns.map((column) => printable(item.columns[column] ?? ""));
   const rows = list.slice(0, MOST_ROWS).map((item) => el("tr", {}, cellsOf(heads,
