@@ -107,7 +107,7 @@ THIRD = {
         (EACH, "N", READ_A, *"S" * 14, "T 26010400AB05", "S", LIST_A),
         "The one listed tag is here, and no other.", "Would also hold"),
     "the last round has such a slot": (
-        (EACH, *"S" * 15, "N"), "Not finished", "The last round didn't ask all tags"),
+        (EACH, *"S" * 15, "N"), "Not finished", "Of a slot of the last round, which asked all"),
     "it was silenced": (
         (ALL, OVER_A, QUIET_A, ALL, OVER_A), "The log contradicts itself: tag ..00A1 was silenced "
         "in line 4, but answered in line 6.", "woke up"),
@@ -347,7 +347,8 @@ def test_a_table_is_compared_with_the_logs_that_are_here(page):
     page.drop(**{"books.csv": b"title;uid\nWalden;E0:04:01:00:00:00:00:A1\n"})
     page.until(".banner.yes h1", "The one expected item is here, and no other.")
     page.press(".logs summary")
-    page.until(".logs .uids", "Walden E0040100000000A1")
+    drawn = "return document.querySelector('.logs').textContent"
+    page.wait(lambda: "Walden E0040100000000A1" in page.run(drawn))
     assert "Walden" in page.run("return document.querySelector('td.heard').title")
 
 
