@@ -103,6 +103,14 @@ def test_a_reader_loop(example, language, by):
         assert loop.run(word)[::2] == (b"", 4)
 
 
+@pytest.mark.parametrize("seed", "123")
+def test_a_reader_loop_in_a_field_that_misbehaves(example, seed):
+    """One tag was silenced before it was heard; strong replies hide others, and there is noise."""
+    loop = example("python", LIBRARIES[0], "reader_loop")
+    said = loop.run("30", "--capture", "0.3", "--noise", "0.1", "--seed", seed)
+    assert (said.out[:12], said.status) == (b"complete 30 ", 0)
+
+
 # ---- lists of what is expected; logs in which all tags were asked
 
 A, B = "E0040100000000A1", "E0040100000000B2"

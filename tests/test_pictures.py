@@ -162,7 +162,7 @@ def test_what_is_said_of_a_contradiction(run, form):
     lines, wanted, sentence, cause = FORMS[form]
     text = "".join(f"{line}\n" for line in ("vicinity-log 2", *lines)).encode()
     picture = run("show", "-", input=text).stdout.decode()
-    causes = picture.partition("most likely first:\n- ")[2].replace("\n  ", " ")
+    causes = picture.partition("These causes fit:\n- ")[2].replace("\n  ", " ")
     assert sentence_in(picture) == f"The log contradicts itself: {sentence}"
     assert causes[:len(cause)] == cause
     told = run("report", "-", input=text).stdout.decode()

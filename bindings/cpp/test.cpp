@@ -81,6 +81,11 @@ static void try_frames()
     IS(vicinity::write_listed(A) == "U E0040100000000A1\n");
     IS(vicinity::write_line('S') == "S\n");
     IS(thrown<vicinity::WrongFrame>([] { vicinity::write_line('X'); }) == "WrongLetter");
+    const std::string asked = VICINITY_HEADER_LINE +
+        vicinity::write_line('T', vicinity::write_inventory(2, 1));
+    IS(vicinity::check(asked + vicinity::write_line('N')).line_text() == "unsettled 0 -");
+    const std::string reply = vicinity::write_line('H', vicinity::write_response(0, 0, A));
+    IS(vicinity::check(asked + reply + vicinity::write_listed(A)).line_text() == "unsettled 1 00");
     IS(thrown<vicinity::WrongFrame>([] { vicinity::write_inventory(4, 1); }) == "WrongLink");
     IS(vicinity::read_request(vicinity::write_stay_quiet(2, B)).uid == B);
     IS(vicinity::read_response(vicinity::write_response(0, 7, A)).dsfid == 7);

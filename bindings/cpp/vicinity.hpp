@@ -419,8 +419,8 @@ inline Mask slot_mask(std::uint32_t slots, Mask mask, std::uint32_t slot)
     return {told.len, told.value};
 }
 
-// A line of a log, LF included: 'T' or 'R' with a frame, which isn't judged; 'S', 'C', 'D' or 'F'
-// alone.
+// A line of a log, LF included: 'T', 'R' or 'H' with a frame, which isn't judged; 'S', 'C', 'D', 'N'
+// or 'F' alone.
 inline std::string write_line(char letter, const std::vector<std::uint8_t> &frame = {},
                               std::uint64_t uid = 0)
 {

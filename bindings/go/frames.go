@@ -119,8 +119,8 @@ func SlotMask(slots uint8, mask Mask, slot uint8) (Mask, error) {
 	return Mask{uint32(told.len), uint64(told.value)}, nil
 }
 
-// WriteLine returns a line of a log, LF included: 'T' or 'R' with a frame, which isn't judged; 'S', 'C', 'D' or 'F'
-// alone.
+// WriteLine returns a line of a log, LF included: 'T', 'R' or 'H' with a frame, which isn't judged; 'S', 'C', 'D', 'N'
+// or 'F' alone.
 func WriteLine(letter byte, frame []byte) (string, error) {
 	return line(letter, frame, 0)
 }

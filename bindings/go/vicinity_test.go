@@ -182,6 +182,15 @@ func TestLines(t *testing.T) {
 	if _, err = WriteLine('X', nil); !errors.Is(err, WrongLetter) {
 		t.Error(err)
 	}
+	asked := HeaderLine + "T 260100F60A\n"
+	reply, _ := WriteResponse(0, 0, a)
+	captured, _ := WriteLine('H', reply)
+	unknown, _ := WriteLine('N', nil)
+	for text, wanted := range map[string]string{asked + unknown: "unsettled 0 -", asked + captured: "unlisted E0040100000000A1"} {
+		if answer, err := Check([]byte(text)); err != nil || answer.String() != wanted {
+			t.Error(answer, err)
+		}
+	}
 	if uid, err := ParseUID("e0040100000000a1"); err != nil || uid != a {
 		t.Error(uid, err)
 	}

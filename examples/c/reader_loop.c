@@ -2,10 +2,10 @@
  *
  *     reader_loop [TAGS]
  *
- * Each tag that was heard is silenced, and the mask of each slot in which tags collided is asked in sixteen slots. When no
- * collision is left, all tags are asked once more, in one slot, until none answers: who answers there was hidden by a
- * stronger reply, or came later. Only then is the checker asked, since each call reads the log from its beginning. At
- * `unsettled` a tag was silenced before it was heard: the field is switched off and on, and the mask of the answer is asked.
+ * A reply is noted as H, since a stronger one may have hidden others, and its tag is silenced. The mask of each slot in
+ * which more tags answered, or a reply was damaged, is asked in sixteen slots. At the end all tags are asked in one slot,
+ * until none answers. Only then is the checker asked, since each call reads the log from its beginning. At `unsettled` a
+ * tag was silenced before it was heard: the field is switched off and on, and the mask of the answer is asked.
  * `transceive` and `cycle` are the one place for a chip: here they simulate a field. */
 #include "vicinity.h"
 
@@ -13,7 +13,7 @@
 #include <stdlib.h>
 #include <string.h>
 
-enum { MOST_TAGS = 20000, MOST_ROUNDS = 20000, TEXT_ROOM = 1 << 24, SLOTS = 16, LINK = 2 };
+enum { MOST_TAGS = 20000, MOST_ROUNDS = 20000, TEXT_ROOM = 1 << 24, SLOTS = 16, MOST_BITS = 60, LINK = 2 };
 
 /* What the reader doesn't know: the tags of its field, and which of them are Quiet. */
 static struct { uint64_t uid; int quiet; } field[MOST_TAGS];
@@ -45,7 +45,7 @@ static struct slot listen(const struct vicinity_mask *mask)
     struct slot held = {'S', {0}};
     for (size_t i = 0; i < tags; i++) {
         if (!field[i].quiet && lies_in(field[i].uid, mask)) {
-            held.letter = held.letter == 'S' ? 'R' : 'C';
+            held.letter = held.letter == 'S' ? 'H' : 'C';
             vicinity_write_response(0, 0, field[i].uid, &held.reply);
         }
     }
@@ -105,47 +105,58 @@ static void silence(const struct vicinity_frame *frame)
         heard[count++] = reply.uid;
 }
 
-/* One round over a mask, noted in the log. Returns whether any tag answered. */
-static int ask(uint32_t slots, const struct vicinity_mask *mask)
+/* Whether tags answered in a slot, and none of them was read. */
+static int is_unread(char letter)
+{
+    return letter == 'C' || letter == 'D';
+}
+
+/* One round over a mask, noted in the log. Returns the letter of its last slot. */
+static char ask(uint32_t slots, const struct vicinity_mask *mask)
 {
     struct vicinity_frame frame;
     struct slot held[SLOTS];
-    int answered = 0;
     if (vicinity_write_inventory(LINK, slots, mask->len, mask->value, &frame))
         abort();
     transceive(&frame, held);
     note('T', &frame);
     for (uint32_t k = 0; k < slots; k++) {
         const struct vicinity_frame none = {0};
-        note(held[k].letter, held[k].letter == 'R' ? &held[k].reply : &none);
-        answered |= held[k].letter != 'S';
+        note(held[k].letter, held[k].letter == 'H' ? &held[k].reply : &none);
     }
     for (uint32_t k = 0; k < slots; k++) {
-        if (held[k].letter == 'R')
+        if (held[k].letter == 'H')
             silence(&held[k].reply);
-        if (held[k].letter == 'C' && masks < MOST_TAGS * SLOTS)
+        if (slots == SLOTS && is_unread(held[k].letter) && masks < MOST_TAGS * SLOTS)
             vicinity_slot_mask(slots, mask->len, mask->value, k, &to_ask[masks++]);
     }
     rounds++;
-    return answered;
+    return held[slots - 1].letter;
 }
 
-/* Asks the tags of a mask in sixteen slots, and those of each slot in which tags collided. */
+/* Asks the tags of a mask in sixteen slots, and those of each slot that wasn't read. */
 static void ask_on(const struct vicinity_mask *mask)
 {
     for (to_ask[0] = *mask, masks = 1; masks > 0 && rounds < MOST_ROUNDS;) {
         const struct vicinity_mask next = to_ask[--masks];
-        ask(SLOTS, &next);
+        if (next.len <= MOST_BITS)
+            ask(SLOTS, &next);
     }
+}
+
+/* Asks the tags of a mask until none of them answers. */
+static void find(const struct vicinity_mask *mask)
+{
+    for (char letter = 'C'; letter != 'S' && rounds < MOST_ROUNDS; letter = ask(1, mask))
+        if (is_unread(letter))
+            ask_on(mask);
 }
 
 /* The search. */
 static void find_all(struct vicinity_answer *answer)
 {
     const struct vicinity_mask all = {0};
-    do
-        ask_on(&all);
-    while (ask(1, &all) && rounds < MOST_ROUNDS);
+    find(&all);
     for (;;) {
         vicinity_check_listed((const uint8_t *)text, len, heard, count, answer);
         calls++;
@@ -153,7 +164,7 @@ static void find_all(struct vicinity_answer *answer)
             return;
         const struct vicinity_mask named = {0, answer->mask_len, answer->mask_value};
         cycle();
-        ask_on(&named);
+        find(&named);
     }
 }
 

@@ -1,30 +1,41 @@
 """A reader's search: rounds over a field of tags, each noted in a log, until the checker calls the
 list complete.
 
-    reader_loop.py [TAGS] [--capture P] [--seed N]
+    reader_loop.py [TAGS] [--capture P] [--miss P] [--noise P] [--seed N]
 
-After a collision, the tags of its slot are asked again, by four more bits. Each tag that was heard
-is silenced. When no collision is left, all tags are asked once more, in one slot, until none
-answers: who answers there was hidden by a stronger reply, or came later. Only then is the checker
-asked, since each call reads the log from its beginning. At `unsettled` a tag was silenced before it
-was heard: the field is switched off and on, and the mask of the answer is asked.
+A reply is noted as H, since a stronger one may have hidden others, and its tag is silenced. Where
+more tags answered, or a reply was damaged, the tags of the slot are asked again, by four more bits.
+At the end all are asked in one slot, until none answers. Only then is the checker asked, since each
+call reads the log from its beginning. At `unsettled` a tag was silenced before it was heard: the
+field is switched off and on, and the mask of the answer is asked.
 
-`Field.transceive` is the one place for a chip: here it simulates a field. With --capture P, a
-strong reply hides the others of its slot with this probability. The log then says that one tag
-answered, and a later line contradicts it: the answer is `impossible`, not `complete` with a tag
-missing. Frames, masks of slots and lines come from the library."""
+`transceive` is the one place for a chip: here it simulates a field. --capture is the probability
+that one reply hides the others of its slot, --noise that nothing can be read in a slot, and --miss
+that a request is missed by a weak tag, which one in ten is. Frames, masks of slots and lines come
+from the library."""
 import argparse
 import random
 import sys
-from typing import NoReturn
+from typing import NamedTuple, NoReturn
 
 import vicinity
 
 ALL = vicinity.Mask(0, 0)
 LINK = 2
+WEAK = 0.1
 MOST_ROUNDS = 20_000
-# A slot: its letter, and the frame of a reply.
+# The longest mask that can be asked in sixteen slots.
+MOST_BITS = 60
+# A slot: the letter of its line, and the frame of a reply.
 Slot = tuple[str, bytes]
+
+
+class Chances(NamedTuple):
+    """How often things go wrong in a simulated field."""
+
+    capture: float = 0.0
+    miss: float = 0.0
+    noise: float = 0.0
 
 
 def lies_in(uid: int, mask: vicinity.Mask) -> bool:
@@ -34,8 +45,10 @@ def lies_in(uid: int, mask: vicinity.Mask) -> bool:
 class Field:
     """A simulated field of tags, in place of a reader's chip."""
 
-    def __init__(self, uids: set[int], capture: float, rng: random.Random) -> None:
-        self.uids, self.capture, self.rng = uids, capture, rng
+    def __init__(self, uids: set[int], rng: random.Random, chances: Chances = Chances()) -> None:
+        self.uids, self.rng, self.chances = uids, rng, chances
+        self.weak = {uid for uid in sorted(uids) if rng.random() < WEAK}
+        self.overlooked: set[int] = set()
         self.cycle()
 
     def cycle(self) -> None:
@@ -45,19 +58,27 @@ class Field:
     def transceive(self, frame: bytes) -> list[Slot]:
         """Sends a request, and returns each slot."""
         request = vicinity.read_request(frame)
-        if request.slots == 0:
-            self.ready.discard(request.uid)
+        mask = request.mask if request.slots else vicinity.Mask(64, request.uid)
+        asked = sorted(uid for uid in self.ready if lies_in(uid, mask))
+        missed = {uid for uid in asked
+                  if uid in self.weak and self.rng.random() < self.chances.miss}
+        if not request.slots:
+            self.ready -= set(asked) - missed
             return []
-        asked = sorted(uid for uid in self.ready if lies_in(uid, request.mask))
-        masks = [vicinity.slot_mask(request.slots, request.mask, k) for k in range(request.slots)]
-        return [self.slot([uid for uid in asked if lies_in(uid, mask)]) for mask in masks]
+        self.overlooked |= missed
+        masks = [vicinity.slot_mask(request.slots, mask, slot) for slot in range(request.slots)]
+        return [self.slot([uid for uid in asked if uid not in missed and lies_in(uid, mask)])
+                for mask in masks]
 
     def slot(self, answering: list[int]) -> Slot:
-        """What a chip reports of the slot in which these tags answer."""
+        """What a chip reports of the slot in which these tags answer. It may know of a damaged
+        reply that it was one; else nothing is known."""
+        if self.rng.random() < self.chances.noise:
+            return "D" if answering and self.rng.random() < 0.5 else "N", b""
         if not answering:
             return "S", b""
-        if len(answering) == 1 or self.rng.random() < self.capture:
-            return "R", vicinity.write_response(0, 0, self.rng.choice(answering))
+        if len(answering) == 1 or self.rng.random() < self.chances.capture:
+            return "H", vicinity.write_response(0, 0, self.rng.choice(answering))
         return "C", b""
 
 
@@ -80,21 +101,29 @@ class Search:
         """One round. Silences each tag that was heard, and returns the letter of each slot."""
         self.rounds += 1
         held = self.send(vicinity.write_inventory(LINK, slots, mask))
-        for letter, reply in held:
-            if letter == "R":
+        for _, reply in held:
+            if reply:
                 uid = vicinity.read_response(reply).uid
                 self.send(vicinity.write_stay_quiet(LINK, uid))
                 self.heard.add(uid)
         return [letter for letter, _ in held]
 
     def ask_on(self, mask: vicinity.Mask) -> None:
-        """Asks the tags of a mask in sixteen slots, and those of each slot with a collision."""
+        """Asks the tags of a mask in sixteen slots, and those of each slot that wasn't read."""
         to_ask = [mask]
         while to_ask and self.rounds < MOST_ROUNDS:
             mask = to_ask.pop()
-            for slot, letter in enumerate(self.ask(16, mask)):
-                if letter == "C":
-                    to_ask.append(vicinity.slot_mask(16, mask, slot))
+            letters = self.ask(16, mask) if mask.length <= MOST_BITS else []
+            to_ask += [vicinity.slot_mask(16, mask, slot) for slot, letter in enumerate(letters)
+                       if letter in "CD"]
+
+    def find(self, mask: vicinity.Mask) -> None:
+        """Asks the tags of a mask until none of them answers."""
+        letter = "C"
+        while letter != "S" and self.rounds < MOST_ROUNDS:
+            if letter in "CD":
+                self.ask_on(mask)
+            [letter] = self.ask(1, mask)
 
     def check(self) -> vicinity.Answer:
         self.calls += 1
@@ -102,14 +131,12 @@ class Search:
 
     def run(self) -> vicinity.Answer:
         """Searches, and returns the checker's answer."""
-        self.ask_on(ALL)
-        while self.ask(1, ALL) != ["S"] and self.rounds < MOST_ROUNDS:
-            self.ask_on(ALL)
+        self.find(ALL)
         answer = self.check()
         while answer.kind is vicinity.Kind.UNSETTLED and self.rounds < MOST_ROUNDS:
             self.field.cycle()
             self.lines.append(vicinity.write_line("F"))
-            self.ask_on(vicinity.Mask(answer.mask_len, answer.mask_value))
+            self.find(answer.mask)
             answer = self.check()
         return answer
 
@@ -128,12 +155,13 @@ def count(word: str) -> int:
 def main() -> int:
     words = Words(description="A search over a simulated field, one tag of which is Quiet.")
     words.add_argument("tags", type=count, nargs="?", default=40)
-    words.add_argument("--capture", type=float, default=0.0, metavar="P")
+    for chance in Chances._fields:
+        words.add_argument(f"--{chance}", type=float, default=0.0, metavar="P")
     words.add_argument("--seed", type=int, default=7)
     given = words.parse_args()
     rng = random.Random(given.seed)
     uids = {0xE0 << 56 | rng.randrange(1 << 56) for _ in range(given.tags)}
-    search = Search(Field(uids, given.capture, rng))
+    search = Search(Field(uids, rng, Chances(given.capture, given.miss, given.noise)))
     if uids:
         # a tag is silenced before it was heard
         search.send(vicinity.write_stay_quiet(LINK, min(uids)))

@@ -191,11 +191,12 @@ class Reconcile(Command):
         masks = [{"mask_len": 4, "mask_value": "0E"}, {"mask_len": 4, "mask_value": "0F"}]
         self.assertEqual(logs, [
             {"file": SHELVES[0], "certain": 4, "open": [], "more_open": False,
-             "list": {"status": 0, "kind": "complete", "count": 4}},
+             "list": {"status": 0, "kind": "complete", "count": 4}, "captured": {"holds": True}},
             {"file": SHELVES[1], "certain": 3, "open": [], "more_open": False,
-             "list": {"status": 0, "kind": "complete", "count": 3}},
+             "list": {"status": 0, "kind": "complete", "count": 3}, "captured": {"holds": True}},
             {"file": SHELVES[2], "certain": 3, "open": masks, "more_open": False,
-             "list": {"status": 1, "kind": "unsettled", "mask_len": 4, "mask_value": "0E"}}])
+             "list": {"status": 1, "kind": "unsettled", "mask_len": 4, "mask_value": "0E"},
+             "captured": {"holds": False, "mask_len": 5, "mask_value": "01"}}])
 
     def test_page(self):
         """It draws what is written as JSON, and the logs; the text is that of the lines."""
@@ -420,7 +421,7 @@ class Surroundings(Command):
                 "try: sys.stdout.buffer.write(os.read(ours, 9999))\nexcept OSError: pass")
         for number, wanted in ((51, b"\r0 of 51 logs"), (50, b"")):
             for more in ([], ["--jobs", "2"]):
-                said = subprocess.run([sys.executable, "-c", code, "reconcile", "--expected", self.listed, *more,
+                said = subprocess.run([sys.executable, "-c", code, "reconcile", "--csv", "--expected", self.listed, *more,
                                        *[self.names[1]] * number], capture_output=True).stdout
                 self.assertEqual((said[:len(wanted)], said[-4:]), (wanted, b"\r\33[K" if wanted else b""))
         self.assertEqual(command("reconcile", "--expected", self.listed, *[self.names[1]] * 60), (b"complete 1\n", b"", 0))

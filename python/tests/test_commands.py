@@ -5,7 +5,7 @@ import signal
 import subprocess
 import sys
 
-from cases import (ALL, ANSWERS, FULL, HEARD_A, NAMES, SIXTEEN, Command, command, least, log,
+from cases import (ALL, ANSWERS, FULL, HEARD_A, LIST_A, NAMES, SILENCE_A, SIXTEEN, Command, command, least, log,
                    on_a_terminal, within)
 import vicinity.__main__
 
@@ -54,7 +54,7 @@ class Answers(Command):
             {"status": 3, "kind": "refused", "line": 2, "fault": "Crc"},
             {"status": 4, "kind": "no answer", "error": "cannot read /nowhere.log: No such file or directory"},
         ]
-        self.assertEqual([{key: it[key] for key in it if key not in ("file", "schema")} for it in found], wanted)
+        self.assertEqual([{key: it[key] for key in it if key not in ("file", "schema", "captured")} for it in found], wanted)
         self.assertEqual({it["schema"] for it in found}, {1})
         self.assertEqual(status, 4)
 
@@ -120,11 +120,14 @@ class Words(Command):
 
     def test_a_last_round_that_does_not_ask_all(self):
         last = vicinity.write_line("T", vicinity.write_inventory(2, 1, vicinity.Mask(8, 0xB2))) + b"S\n"
-        for before, missed in ((ALL + b"S\n", "stronger replies hid"), (b"", "no earlier round asked"),
-                               (SIXTEEN + b"S\n" * 15, "no earlier round asked"), (SIXTEEN + b"S\n" * 16, "stronger")):
+        for before, missed in ((ALL + HEARD_A, "stronger replies hid"), (b"", "no earlier round asked"),
+                               (SIXTEEN + b"S\n" * 15, "no earlier round asked"),
+                               (SIXTEEN + b"S\n" + HEARD_A + b"S\n" * 14, "stronger")):
             said = within("report", self.write("some.log", log(before + last)))[0].decode()
             self.assertIn(f"the last round didn't ask all tags: one that {missed}", said)
-        self.assertNotIn("last round", within("report", self.write("some.log", log(last + ALL + b"S\n")))[0].decode())
+        alone = ALL + HEARD_A + SILENCE_A + ALL + b"S\n" + last + LIST_A
+        for lines in (last + ALL + b"S\n", ALL + b"S\n" + last, alone):  # in the others no reply can have hidden a tag
+            self.assertNotIn("last round", within("report", self.write("some.log", log(lines)))[0].decode())
 
     def test_options_are_not_abbreviated(self):
         self.assertEqual(within("check", "--tab", self.names[0])[::2], (b"", 4))

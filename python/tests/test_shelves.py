@@ -155,7 +155,10 @@ class Collection(Command):
     def test_json(self):
         for state, status in self.states():
             said, errors, ended = self.ask("json")
-            self.assertEqual((json.loads(said), errors, ended), (self.wanted_object(state), "", status))
+            told = json.loads(said)
+            holds = [it.pop("captured")["holds"] for it in told["logs"]]  # no log asks again
+            self.assertEqual(holds, [state == "broken" and log == f"{BROKEN}.log" for log in self.logs])
+            self.assertEqual((told, errors, ended), (self.wanted_object(state), "", status))
 
     def test_page(self):
         said, _, status = self.ask("page")
@@ -166,6 +169,9 @@ class Collection(Command):
         self.assertEqual([log["object"]["answer"] for log in broken], ["impossible at line 190"])
         for part in told.pop("version"), told.pop("name"), *(log.pop("object") for log in told["logs"]):
             self.assertTrue(part)
+        for log in told["logs"]:
+            self.assertIn("captured", log)
+            del log["captured"]
         self.assertEqual(told, self.wanted_object("broken"))
 
     def test_strict_ends_as_the_program_does(self):

@@ -31,9 +31,11 @@ class Surveys(Command):
         self.assertEqual((errors, status), (b"vicinity: cannot read /nowhere: No such file or directory\n", 4))
         self.assertEqual(found[3], {
             "schema": 1, "file": self.names[3], "status": 1, "kind": "unlisted", "uid": "E0040100000000A1",
-            "certain": [{"uid": "E0040100000000A1", "line": 3}], "open": []})
+            "certain": [{"uid": "E0040100000000A1", "line": 3}], "open": [],
+            "captured": {"holds": False, "mask_len": 1, "mask_value": "00"}})
         self.assertEqual(found[4]["open"], [{"mask_len": 56, "mask_value": "040100000000A1"}])
-        self.assertEqual(found[6], {"schema": 1, "file": self.names[6], "status": 2, "kind": "impossible", "line": 5})
+        self.assertEqual(found[6], {"schema": 1, "file": self.names[6], "status": 2, "kind": "impossible", "line": 5,
+                                    "captured": {"holds": True}})
         self.assertEqual(found[7], {"schema": 1, "file": "/nowhere", "status": 4, "kind": "no answer",
                                     "error": "cannot read /nowhere: No such file or directory"})
         listed = self.write("listed", log(LIST_A + LIST_B))

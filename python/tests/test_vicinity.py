@@ -58,7 +58,8 @@ class Frames(unittest.TestCase):
                 (vicinity.add_crc(bytes.fromhex("260100")), "260100F60A")):
             self.assertEqual(written.hex().upper(), wanted)
         for line, wanted in ((vicinity.write_line("T", bytes.fromhex("260100F60A")), ALL), (vicinity.write_line("S"), b"S\n"),
-                             (vicinity.write_line("U", uid=A), LIST_A)):
+                             (vicinity.write_line("U", uid=A), LIST_A), (vicinity.write_line("N"), b"N\n"),
+                             (vicinity.write_line("H", vicinity.write_response(0, 0, A)), b"H" + HEARD_A[1:])):
             self.assertEqual(line, wanted)
 
     def test_what_is_not_written(self):

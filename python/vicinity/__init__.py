@@ -15,14 +15,15 @@ from ._answers import (Answer, Explanation, Fault, Finding, FindingKind, Kind, L
                        Report, Simulation, Survey)
 from ._calls import (check, check_listed, explain, explain_into, explain_listed, listed, reconcile,
                      report, report_listed, simulate, simulate_into, survey)
+from ._captured import captured
 from ._drawn import page
 from .frames import (HEADER_LINE, FrameFault, Reply, Request, add_crc, parse_uid, read_request,
                      read_response, slot_mask, uid_text, write_inventory, write_line,
                      write_response, write_stay_quiet)
 
 __all__ = ["Answer", "Explanation", "Fault", "Finding", "FindingKind", "FrameFault", "HEADER_LINE", "Kind",
-           "ListFault", "Mask", "Reply", "Report", "Request", "Simulation", "Survey", "add_crc", "check",
-           "check_listed", "explain", "explain_into", "explain_listed", "listed", "page", "parse_uid",
+           "ListFault", "Mask", "Reply", "Report", "Request", "Simulation", "Survey", "add_crc", "captured",
+           "check", "check_listed", "explain", "explain_into", "explain_listed", "listed", "page", "parse_uid",
            "read_request", "read_response", "reconcile", "report", "report_listed", "simulate",
            "simulate_into", "slot_mask", "survey", "uid_text", "write_inventory", "write_line",
            "write_response", "write_stay_quiet"]

@@ -4,6 +4,7 @@ from __future__ import annotations
 import argparse
 import os
 import sys
+from contextlib import suppress
 from importlib import import_module
 from typing import Mapping
 
@@ -69,6 +70,12 @@ def words() -> tuple[Words, Mapping[str, Words]]:
     for name, what in (("explain", "the answer to a log, and tags that show it"),
                        ("simulate", "the log that listed tags would produce for given requests")):
         commands.add(name, f"{what}, as the program does", f"answers.{name}_one", "LOG", 1, 1)
+    misread = commands.add("misread", "a true log as a reader would have written it that misses, hides or mistakes replies",
+                           "misread.misread", "LOG", 1, 1)
+    for chance, what in (("capture", "one reply is read over the others of its slot"), ("miss", "a reply isn't noticed"),
+                         ("noise", "noise covers a slot")):
+        misread.add_argument(f"--{chance}", metavar="P", type=_chance, default=0.0, help=f"the probability that {what}")
+    misread.add_argument("--seed", metavar="N", type=int, default=0, help="of the random numbers")
     commands.add("frame", "a frame in words, as the program does", "frames.frame", "HEX", 1, 1)
     commands.add("spell", "words as a frame, as the program does", "frames.spell", "WORD", 1, ANY)
     return top, commands.all.choices
@@ -108,6 +115,13 @@ def _jobs(word: str) -> int:
     if not word.isdecimal() or not int(word):
         raise argparse.ArgumentTypeError("a number from 1")
     return int(word)
+
+
+def _chance(word: str) -> float:
+    with suppress(ValueError):
+        if 0 <= float(word) <= 1:
+            return float(word)
+    raise argparse.ArgumentTypeError("a probability, from 0 to 1")
 
 
 def main() -> int:

@@ -1,7 +1,7 @@
 """Answers and masks for JSON, and as the line of one text among many."""
 from __future__ import annotations
 
-from typing import Any, Mapping
+from typing import Any, Mapping, Optional
 
 from ._answers import Answer, Fault, Kind, Mask
 from ._process import shown
@@ -26,6 +26,13 @@ def fields(answer: Answer) -> dict[str, Any]:
     else:
         said["uid"] = uid_text(answer.uid)
     return said
+
+
+def captured_fields(answer: Answer, reread: Optional[Answer]) -> dict[str, Any]:
+    """Whether an answer also holds under capture, and if not, the answer that does; nothing if the text is refused."""
+    if reread is None:
+        return {}
+    return {"captured": {"holds": True} if reread == answer else {"holds": False, **fields(reread)}}
 
 
 def answer_of(said: Mapping[str, Any]) -> Answer:

@@ -117,6 +117,12 @@ def counted(things: Iterable[T], total: int) -> Generator[T, None, None]:
             _note("\r\33[K")
 
 
+def tell_terminal(lines: Iterable[str]) -> None:
+    """Writes to standard error what is for a person alone, if it is a terminal."""
+    if os.isatty(2):
+        _note(*lines)
+
+
 def _note(*pieces: str) -> None:
     """Writes to standard error, if it can."""
     try:

@@ -11,7 +11,7 @@ from ._native import (FrameStruct, LineStruct, MaskStruct, ReplyStruct, RequestS
 if TYPE_CHECKING:
     from ._native import BytesLike
 
-HEADER_LINE = b"vicinity-log 2\n"
+HEADER_LINE = b"vicinity-log 3\n"
 """The first line of a log."""
 HEX = frozenset("0123456789ABCDEFabcdef")
 #: What may be among the digits of a UID beside spaces, as spreadsheets and library systems write it.
@@ -22,7 +22,7 @@ WANTED = {
     "WrongMask": "a mask has at most 64 bits, or 60 with sixteen slots, and its value no more bits than that",
     "WrongSlot": "slots are counted from 0, and are fewer than the round has",
     "WrongReply": "a reply has flags and a DSFID of one byte each, no error flag, and a UID that begins with E0",
-    "TooLong": "there are more bytes than fit", "WrongLetter": "a line begins with T, S, R, C, D, F or U",
+    "TooLong": "there are more bytes than fit", "WrongLetter": "a line begins with T, S, R, H, C, D, N, F or U",
 }
 
 
@@ -115,8 +115,8 @@ def add_crc(content: BytesLike) -> bytes:
 
 
 def write_line(letter: str, frame: BytesLike = b"", uid: int = 0) -> bytes:
-    """A line of a log, with its LF: "T" or "R" with a frame of at most 63 bytes, which isn't judged, "U" with a UID, or only
-    "S", "C", "D" or "F". Raises ValueError, with the name of the refusal and what is asked, if there is no such line."""
+    """A line of a log, with its LF: "T", "R" or "H" with a frame of at most 63 bytes, which isn't judged, "U" with a UID, or
+    only "S", "C", "D", "N" or "F". Raises ValueError, with the name of the refusal and what is asked, if there is no such line."""
     frame, told = bytes_of(frame), LineStruct()
     if not (isinstance(letter, str) and len(letter) == 1 and letter.isascii()):
         raise ValueError(f"WrongLetter: {WANTED['WrongLetter']}, not {letter!r}")

@@ -9,11 +9,13 @@ import signal
 from array import array
 from concurrent.futures import ProcessPoolExecutor
 from contextlib import closing
-from typing import Any, Iterator, NamedTuple, Optional, Sequence
+from typing import Any, Iterator, Mapping, NamedTuple, Optional, Sequence
 
-from .._answers import Answer, Kind, Mask
+from .._answers import Answer, Kind, Mask, Survey
 from .._calls import survey
-from .._fields import SCHEMA, answer_of, fields, mask_fields, mask_of, number_of, refusal
+from .._captured import with_captures
+from .._fields import (SCHEMA, answer_of, captured_fields, fields, mask_fields, mask_of, number_of,
+                       refusal)
 from .._process import NO_ANSWER, NoAnswer, counted, read, shown
 from ..frames import parse_uid, uid_text
 from ..sessions.findings import Shown, tell
@@ -41,17 +43,20 @@ class Log(NamedTuple):
     """Why there is no answer."""
     lines: Optional[Sequence[int]] = None
     """The lines that show the certain UIDs, if a record has them."""
+    captured: Mapping[str, Any] = {}
+    """Whether it says the same of its field if strong replies hid weaker ones, as JSON has it; nothing if that isn't known."""
 
     @classmethod
     def of(cls, name: str, text: bytes) -> Log:
         """What a text says."""
         try:
             found = survey(text)
+            captured = {} if found.answer.kind is Kind.REFUSED else _captured(found, survey(with_captures(text)))
         except MemoryError as error:
             return cls.unread(name, error)
         if found.answer.status > 1:
-            return cls(name, found.answer, [], [ALL])
-        return cls(name, found.answer, found.certain, found.open_masks)
+            return cls(name, found.answer, [], [ALL], captured=captured)
+        return cls(name, found.answer, found.certain, found.open_masks, captured=captured)
 
     @classmethod
     def unread(cls, name: str, error: Exception) -> Log:
@@ -74,6 +79,17 @@ class Log(NamedTuple):
         if self.answer is None:
             return READABLE
         return COUNT_AGAIN if self.answer.kind is Kind.IMPOSSIBLE else CORRECT
+
+
+def _captured(found: Survey, reread: Survey) -> dict[str, Any]:
+    """Whether two surveys of a log say the same; if not, the first mask that only the second leaves open, or, of an impossible
+    log, the second answer."""
+    if max(found.answer.status, reread.answer.status) > 1:
+        captured: dict[str, Any] = captured_fields(found.answer, reread.answer)["captured"]
+        return captured
+    known = set(found.open_masks)
+    opened = next((mask for mask in reread.open_masks if mask not in known), None)
+    return {"holds": False, **mask_fields(opened)} if opened else {"holds": True}
 
 
 class Surveys:
@@ -164,6 +180,8 @@ def record(log: Log, lines: Optional[Sequence[int]]) -> str:
     if log.answer is None:
         return json.dumps({**said, "status": NO_ANSWER, "kind": "no answer", "error": log.error}) + "\n"
     said.update(fields(log.answer))
+    if log.captured:
+        said["captured"] = log.captured
     if lines is not None:
         said["certain"] = [{"uid": uid_text(uid), "line": line} for uid, line in zip(log.certain, lines)]
         said["open"] = [mask_fields(mask) for mask in log.open_masks]
@@ -195,7 +213,16 @@ def _recorded(said: dict[str, Any]) -> Log:
     if said["status"] == NO_ANSWER:
         return Log(name, None, [], [ALL], str(said["error"]))
     answer = answer_of(said)
+    captured = _captured_of(said["captured"]) if "captured" in said else {}
     if answer.status > 1:
-        return Log(name, answer, [], [ALL])
+        return Log(name, answer, [], [ALL], captured=captured)
     pairs = sorted((parse_uid(it["uid"]), number_of(it["line"])) for it in said["certain"])
-    return Log(name, answer, [uid for uid, _ in pairs], [mask_of(it) for it in said["open"]], "", [line for _, line in pairs])
+    return Log(name, answer, [uid for uid, _ in pairs], [mask_of(it) for it in said["open"]], "", [line for _, line in pairs],
+               captured)
+
+
+def _captured_of(said: Mapping[str, Any]) -> dict[str, Any]:
+    """What a record says of captures. Raises ValueError, KeyError or TypeError if it is wrong."""
+    if said["holds"] is True:
+        return {"holds": True}
+    return {"holds": False, **(fields(answer_of(said)) if "kind" in said else mask_fields(mask_of(said)))}

@@ -3,43 +3,48 @@ from __future__ import annotations
 
 import argparse
 import json
-from typing import Union
+from typing import Any, Callable, Mapping, Union
 
 from .._answers import Answer
 from .._calls import check, explain, simulate
-from .._fields import SCHEMA, fields
+from .._captured import if_captured
+from .._fields import SCHEMA, captured_fields, fields
 from .._native import library
 from .._process import NO_ANSWER, NoAnswer, complain, read, shown, write
 from ..frames import uid_text
 from .names import names_of
 
+Fields = Mapping[str, Any]
 
-def judge(name: str) -> Union[Answer, str]:
-    """The answer to a file, or why there is none."""
+
+def judge(name: str, is_reread: bool = False) -> tuple[Union[Answer, str], Fields]:
+    """The answer to a file, or why there is none; and if the file is read again, whether it also holds under capture."""
     try:
-        return check(read(name))
+        text = read(name)
+        answer = check(text)
+        return answer, captured_fields(answer, if_captured(text, answer)) if is_reread else {}
     except NoAnswer as why:
-        return str(why)
+        return str(why), {}
     except MemoryError:
-        return f"out of memory: {shown(name)}"
+        return f"out of memory: {shown(name)}", {}
 
 
-def as_lines(name: str, answer: Union[Answer, str]) -> str:
+def as_lines(name: str, answer: Union[Answer, str], _: Fields) -> str:
     return "" if isinstance(answer, str) else f"{shown(name)}: {answer}\n"
 
 
-def as_tabs(name: str, answer: Union[Answer, str]) -> str:
+def as_tabs(name: str, answer: Union[Answer, str], _: Fields) -> str:
     if isinstance(answer, str):
         return f"{shown(name)}\t{NO_ANSWER}\tno answer\n"
     return f"{shown(name)}\t{answer.status}\t{answer}\n"
 
 
-def as_json(name: str, answer: Union[Answer, str]) -> str:
+def as_json(name: str, answer: Union[Answer, str], more: Fields = {}) -> str:
     said = {"status": NO_ANSWER, "kind": "no answer", "error": answer} if isinstance(answer, str) else fields(answer)
-    return json.dumps({"schema": SCHEMA, "file": name, **said}) + "\n"
+    return json.dumps({"schema": SCHEMA, "file": name, **said, **more}) + "\n"
 
 
-FORMS = {"lines": as_lines, "tabs": as_tabs, "json": as_json}
+FORMS: Mapping[str, Callable[[str, Union[Answer, str], Fields], str]] = {"lines": as_lines, "tabs": as_tabs, "json": as_json}
 
 
 def check_all(asked: argparse.Namespace) -> int:
@@ -47,9 +52,9 @@ def check_all(asked: argparse.Namespace) -> int:
     library()
     worst = 0
     for name in names_of(asked):
-        answer = judge(name)
+        answer, more = judge(name, asked.form == "json")
         worst = max(worst, complain(answer) if isinstance(answer, str) else answer.status)
-        write([FORMS[asked.form](name, answer)])
+        write([FORMS[asked.form](name, answer, more)])
     return worst
 
 

@@ -14,12 +14,16 @@ from ..collections.surveys import Log
 from ..frames import uid_text
 from ..pages.document import document, version
 from ..pages.log import object_of
-from ..sessions.findings import tell
+from ..sessions.findings import tell_people
+from ..sessions.sentence import ALSO, ASK_AGAIN, HEARD
+from ..sessions.words import count, listing
 
 #: How much text of logs stands in a page.
 MOST_TEXT = 4_000_000
 #: Between the names of logs in a cell, and what stands for it inside of a name.
 BETWEEN, WITHIN = ";", "\\x3b"
+#: How many logs a sentence names.
+MOST_NAMES = 20
 
 
 def set_aside(log: Log) -> str:
@@ -54,6 +58,18 @@ def _findings(found: Collection) -> Iterator[str]:
             for name, left in zip(names, found.left()):
                 yield from (f"{Finding(FindingKind.OPEN_MASK, 0, *mask, 0)} in {name}\n" for mask in left.masks)
                 yield f"more open in {name}\n" if left.has_more else ""
+
+
+def notes(found: Collection) -> Iterator[str]:
+    """What a person has to know beside the lines: what a complete answer is said of, and which logs don't hold under capture."""
+    if not found.findings and not found.aside:
+        yield HEARD
+    names = [shown(log.name) for log in found.logs if log.captured.get("holds") is False]
+    if names:
+        more = [count(len(names) - MOST_NAMES, "other log")] * (len(names) > MOST_NAMES)
+        yield f"{ALSO} no. {ASK_AGAIN}, in {listing(names[:MOST_NAMES] + more)}."
+    elif all(log.captured for log in found.logs):
+        yield f"{ALSO} yes."
 
 
 def as_csv(found: Collection) -> Iterator[bytes]:
@@ -102,7 +118,7 @@ def _objects(found: Collection) -> dict[int, dict[str, Any]]:
         room -= len(text or b"")
         if room < 0:
             break
-        told = None if text is None else tell(text)
+        told = None if text is None else tell_people(text)
         if text is not None and told is not None and told.answer == log.answer:
             objects[index] = object_of(shown(os.path.basename(log.name)), text, told)
     return objects
@@ -135,7 +151,7 @@ def _of_item(found: Collection, item: Item) -> dict[str, object]:
 
 def _of_log(log: Log, left: Left) -> dict[str, object]:
     return {"file": log.name, "certain": len(log.certain), "open": [mask_fields(mask) for mask in left.masks],
-            "more_open": left.has_more, "list": _of_answer(log)}
+            "more_open": left.has_more, "list": _of_answer(log), **({"captured": log.captured} if log.captured else {})}
 
 
 def _named(found: Collection, logs: Sequence[int]) -> list[str]:

@@ -6,10 +6,10 @@ from itertools import chain
 from typing import Iterator, Mapping
 
 from .._answers import Kind
-from .._fields import SCHEMA, fields, mask_fields
+from .._fields import SCHEMA, captured_fields, fields, mask_fields
 from ..sessions.conflict import ask
 from ..sessions.faults import ADVICE
-from ..sessions.findings import Shown, Told, tell
+from ..sessions.findings import Shown, Told, tell_people
 from ..sessions.notes import notes
 from ..sessions.quotes import quotes
 from ..sessions.reading import read_session
@@ -23,7 +23,7 @@ MOST = 2000
 
 def reported(text: bytes) -> tuple[Session, Told]:
     """A text as a report needs it."""
-    told = tell(text)
+    told = tell_people(text)
     return read_session(text, told, told.lines(MOST)), told
 
 
@@ -62,7 +62,8 @@ def _shown(session: Session, word: str, shown: Shown) -> Iterator[tuple[int, str
 
 def object_of_report(name: str, session: Session, told: Told) -> Iterator[str]:
     """One object on one line: what `--json` says about a log, with all findings and notes."""
-    yield json.dumps({"schema": SCHEMA, "file": name, **fields(told.answer)})[:-1] + ', "sentence": ' + json.dumps(sentence(session, told))
+    yield json.dumps({"schema": SCHEMA, "file": name, **fields(told.answer), **captured_fields(told.answer, told.reread),
+                      "sentence": sentence(session, told)})[:-1]
     yield ', "findings": ['
     for index, finding in enumerate(_findings(told)):
         yield (", " if index else "") + json.dumps(finding)

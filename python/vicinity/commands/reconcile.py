@@ -7,13 +7,13 @@ from typing import Iterator, Optional
 
 from .._fields import SCHEMA, fields
 from .._native import library
-from .._process import NoAnswer, complain, counted, read, write
+from .._process import NoAnswer, complain, counted, read, tell_terminal, write
 from ..collections.catalogue import Catalogue, How, catalogue
 from ..collections.collection import Collection
 from ..collections.places import Places, places_of
 from ..collections.surveys import Log, Surveys, certain_lines, record, records
 from ..collections.tables import Wrong
-from .forms import FORMS, set_aside
+from .forms import FORMS, notes, set_aside
 from .names import names_of
 
 REFUSED = 3
@@ -44,6 +44,8 @@ def reconcile(asked: argparse.Namespace) -> int:
         for log in found.aside:
             complain(set_aside(log))
     write(FORMS[asked.form](found))
+    if asked.form == "lines":
+        tell_terminal(f"{note}\n" for note in notes(found))
     return found.status
 
 

@@ -8,10 +8,10 @@ from typing import Any, Iterator, Mapping, Optional
 
 from .._answers import Answer, Kind, Mask, Survey
 from .._calls import explain, survey
-from .._fields import SCHEMA, fields, mask_fields
+from .._fields import SCHEMA, captured_fields, fields, mask_fields
 from ..frames import uid_text
 from ..sessions.conflict import ask, has
-from ..sessions.findings import Shown, Told, tell
+from ..sessions.findings import Shown, Told, tell_people
 from ..sessions.reading import read_session
 from ..sessions.show import MOST_LINES, show
 from .document import document, version
@@ -24,7 +24,7 @@ LINK, ANY_LINK = 3, 2
 
 def of_log(text: bytes, name: str) -> tuple[Answer, Iterator[str]]:
     """The answer to a log, and the parts of its page."""
-    told = tell(text)
+    told = tell_people(text)
     said = json.dumps(object_of(name, text, told))
     plain = show(read_session(text, told, told.lines(MOST_LINES)), told)
     return told.answer, document(f"{told.answer}: {name}", [said], plain)
@@ -34,7 +34,8 @@ def object_of(name: str, text: bytes, told: Told) -> dict[str, Any]:
     """All that a page draws of a log."""
     answer, left = told.answer, survey(text)
     return {
-        "schema": SCHEMA, "version": version(), "file": name, **fields(answer), "answer": answer.text,
+        "schema": SCHEMA, "version": version(), "file": name, **fields(answer),
+        **captured_fields(answer, told.reread), "answer": answer.text,
         "lines": text.count(b"\n") + (not text.endswith(b"\n") and bool(text)), "ended": text.endswith(b"\n"),
         "sha256": sha256(text).hexdigest(), "findings": list(_findings(told)),
         "found": {"absent": len(told.absent.uids), "unlisted": len(told.unlisted.uids), "doubtful": len(told.doubtful)},

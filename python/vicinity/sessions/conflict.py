@@ -9,15 +9,17 @@ from .findings import Told
 from .session import Reading, Session, Slot
 from .words import lines, short, uid
 
-NOISE = "Noise was logged as a collision. If something did answer but couldn't be read, write D, in a log of version 2."
-NOISE_UNREAD = "Noise was logged as D. If you don't know whether a tag answered, end the round there."
+NOISE = ("Noise was logged as a collision. If something did answer but couldn't be read, write D; if that isn't known, N, in a log "
+         "of version 3.")
+NOISE_UNREAD = "Noise was logged as D. If you don't know whether a tag answered, write N, in a log of version 3."
+WRITE_H = "If your chip can't exclude that, write H in place of R, in a log of version 3."
 WOKE = "A silenced tag lost power for a moment and woke up."
 SECOND_READER = ("A second reader was active: it keeps tags powered and Quiet while this reader's field is off, and may "
                  "silence tags. Switch it off.")
 
 
 class Contradiction(NamedTuple):
-    """A sentence, and the causes that fit, most likely first."""
+    """A sentence, and the causes that fit."""
 
     sentence: str
     causes: Sequence[str]
@@ -27,7 +29,7 @@ def contradiction(session: Session, told: Told) -> Contradiction:
     """What the conflict of an impossible log says."""
     slots = [session.slots[number] for number in told.conflict if number in session.slots]
     unread = next((slot for slot in slots if slot.reading in (Reading.COLLISION, Reading.GARBLED)), None)
-    heard = [slot for slot in slots if slot.reading is Reading.HEARD]
+    heard = [slot for slot in slots if slot.uid is not None]
     others = [slot for slot in slots if slot is not (unread or heard[0])]
     if told.silenced:
         return _woke(told, heard[-1])
@@ -57,7 +59,7 @@ def _alone(session: Session, slot: Slot) -> Contradiction:
         said = f"{wanted} in line {slot.line}, but the mask asked there has fewer UIDs."
     causes = [f"Line {slot.line} was logged under the wrong request: a late reply, or lines in the wrong order.",
               "The reader sent a request that isn't in the log."]
-    return Contradiction(said, causes if slot.reading is Reading.HEARD else [NOISE, *causes])
+    return Contradiction(said, causes if slot.uid is not None else [NOISE, *causes])
 
 
 def _lost(session: Session, heard: Slot, silent: Slot) -> Contradiction:
@@ -76,9 +78,11 @@ def _lost(session: Session, heard: Slot, silent: Slot) -> Contradiction:
 def _hidden(first: Slot, last: Slot) -> Contradiction:
     assert first.uid is not None and last.uid is not None
     one, other = short(first.uid, [last.uid]), short(last.uid, [first.uid])
+    alone = {Reading.HEARD} == {first.reading, last.reading}
     return Contradiction(
-        f"tags {one} (line {first.line}) and {other} (line {last.line}) were each read alone, but both should have answered.",
-        ("A strong reply hid a weaker one: the stronger of the two was read over the other.",
+        f"tags {one} (line {first.line}) and {other} (line {last.line}) were {'each read alone' * alone}"
+        f"{'read, one of them alone' * (not alone)}, but both should have answered.",
+        (f"A strong reply hid a weaker one: the stronger of the two was read over the other. {WRITE_H}",
          f"A tag came into the field between lines {first.line} and {last.line}, or left it.", SECOND_READER))
 
 
@@ -93,8 +97,9 @@ def _unmet(session: Session, told: Told, unread: Slot, others: Sequence[Slot]) -
     else:
         lost = "A later reply of a tag of that slot was lost, so the later slot was logged as silent."
         causes = [_unheard(session, unread, others) or lost, noise, f"A tag left the field after line {unread.line}."]
-    if len(others) == 1 and others[0].uid is not None and is_collision:
-        causes.insert(1, f"A strong reply in line {others[0].line} hid a weaker one.")
+    hiding = [slot.line for slot in others if slot.reading is Reading.HEARD]
+    if hiding:
+        causes.insert(1, f"A strong reply in {lines(hiding)} hid a weaker one. {WRITE_H}")
     causes.append(SECOND_READER)
     return Contradiction(said, causes)
 

@@ -22,11 +22,12 @@ ADVICE = {
     Fault.TOO_MANY_LINES: Advice("a log has at most 1,000,000 lines", "Write one log per session."),
     Fault.LINE_TOO_LONG: Advice("a line has at most 128 bytes",
                                 "End each line with LF or CR LF, and split long comments over several lines."),
-    Fault.HEADER: Advice("the first line isn't 'vicinity-log 1' or 'vicinity-log 2'",
+    Fault.HEADER: Advice("the first line isn't 'vicinity-log 1', 'vicinity-log 2' or 'vicinity-log 3'",
                          "Write the header as line 1, without a byte order mark or spaces after it, ended by LF or CR LF."),
     Fault.UNKNOWN_ENTRY: Advice("not a log entry",
-                                "Write T, R or U, one space and hex digits, or only S or C (with the header 'vicinity-log 2' "
-                                "also D or F). Put comments on lines of their own, beginning with #."),
+                                "Write T, R or U, one space and hex digits, or only S or C; with the header 'vicinity-log 2' "
+                                "also D or F, with 'vicinity-log 3' also N, or H with hex digits. Put comments on lines of "
+                                "their own, beginning with #."),
     Fault.HEX: Advice("the letter isn't followed by bytes in hex",
                       "Write two hex digits for each byte, with no spaces between or after them."),
     Fault.LISTED_LENGTH: Advice("a UID has sixteen digits", "Write all eight bytes of the UID, E0 first."),

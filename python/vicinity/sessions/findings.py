@@ -8,6 +8,7 @@ from typing import NamedTuple, Optional
 
 from .._answers import Answer, FindingKind, Kind, Mask
 from .._calls import report_records
+from .._captured import if_captured
 
 
 class _Records:
@@ -34,8 +35,10 @@ class Shown(NamedTuple):
 class Told:
     """What `vicinity report` says about a log."""
 
-    def __init__(self, answer: Answer, records: memoryview):
+    def __init__(self, answer: Answer, records: memoryview, reread: Optional[Answer] = None):
         self.answer = answer
+        #: The answer if any reply may have hidden others.
+        self.reread = reread
         self.absent = Shown(array("Q"), array("I"))
         self.unlisted = Shown(array("Q"), array("I"))
         self.doubtful: array[int] = array("Q")
@@ -90,3 +93,9 @@ class Told:
 def tell(text: bytes) -> Told:
     """What `vicinity report` says about a text. Raises what `report` raises."""
     return Told(*report_records(text))
+
+
+def tell_people(text: bytes) -> Told:
+    """The same, and the answer if any reply may have hidden others."""
+    answer, records = report_records(text)
+    return Told(answer, records, if_captured(text, answer))

@@ -3,6 +3,7 @@ from __future__ import annotations
 
 from typing import Iterator, NamedTuple
 
+from .._answers import Kind
 from .findings import Told
 from .session import Session
 from .words import count, span, uid
@@ -35,6 +36,7 @@ def notes(session: Session, told: Told) -> Iterator[Note]:
     if session.short_count > MOST:
         yield Note(session.short[MOST].line, f"{count(session.short_count - MOST, 'more round')} cut short")
     last = session.last_round
-    if last and not last.is_over_all:
+    also_holds = told.answer.kind is Kind.COMPLETE and told.reread == told.answer
+    if last and not last.is_over_all and not (session.has_asked_all and (also_holds or not session.has_alone)):
         missed = "stronger replies hid" if session.has_asked_all else "no earlier round asked"
         yield Note(last.line, f"the last round didn't ask all tags: one that {missed} would go unnoticed")

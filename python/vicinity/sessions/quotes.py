@@ -62,7 +62,7 @@ def _texts(session: Session, slots: Sequence[Slot]) -> str:
 def _meaning(row: Round, slots: Sequence[Slot]) -> str:
     heard = [slot.uid for slot in slots if slot.uid is not None]
     if len(slots) == 1:
-        said = f"{uid(heard[0])} answered alone" if heard else READ[slots[0].reading]
+        said = READ[slots[0].reading].format(uid(heard[0]) if heard else "")
         return f"{said}; asked: {ending(slots[0].mask)}"
     who = f"only {listing([short(number, heard) for number in heard])}" if heard else "none"
     where = "" if len(slots) == row.places else f" in slots {slots[0].place:X} to {slots[-1].place:X}"

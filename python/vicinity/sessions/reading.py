@@ -98,7 +98,8 @@ class _Pass:
         assert isinstance(self.row, Round)
         self.row.outcomes.append((number, line.rstrip()))
         self.row.end = self.session.asked_until = number
-        if letter == b"R":
+        self.session.has_alone |= letter == b"R"
+        if letter in b"RH":
             self.heard.add(int(line[6:22], 16))
 
     def _listed(self, number: int, line: bytes) -> None:

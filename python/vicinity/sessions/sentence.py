@@ -1,12 +1,20 @@
 """The answer as a person would say it, in one sentence."""
 from __future__ import annotations
 
-from .._answers import Kind
-from .conflict import contradiction
+from typing import Iterator
+
+from .._answers import Kind, Mask
+from .conflict import ask, contradiction
 from .faults import ADVICE
 from .findings import Told
 from .session import Session
 from .words import count, listing
+
+ALL = Mask(0, 0)
+HEARD = ("This is said of tags that had power, heard the reader, and were heard when they answered: one that never answers is in "
+         "no log.")
+ASK_AGAIN = "Silence each tag that was heard, and ask all in one slot, until none answers"
+ALSO = "Would also hold if a strong reply hid a weaker one:"
 
 
 def sentence(session: Session, told: Told) -> str:
@@ -20,6 +28,21 @@ def sentence(session: Session, told: Told) -> str:
     if kind is Kind.COMPLETE:
         return _complete(told.answer.count)
     return f"Not complete: {listing(_missing(told))}."
+
+
+def conditions(session: Session, told: Told) -> Iterator[str]:
+    """What an answer is said under: of a complete list which tags it speaks of, and whether it also holds under capture."""
+    answer, reread = told.answer, told.reread
+    if answer.kind is Kind.COMPLETE:
+        yield HEARD
+    if reread is None:
+        return
+    if reread == answer:
+        yield f"{ALSO} yes."
+    elif answer.kind is Kind.IMPOSSIBLE:
+        yield f"{ALSO} no, '{reread}'. If replies may hide others, write H in place of R, in a log of version 3."
+    else:
+        yield f"{ALSO} no, '{reread}'. {ASK_AGAIN} ({ask(session.link, 1, ALL)})."
 
 
 def _complete(number: int) -> str:

@@ -18,6 +18,8 @@ class Reading(Enum):
     HEARD = "R"
     COLLISION = "C"
     GARBLED = "D"
+    CAPTURED = "H"
+    UNKNOWN = "N"
 
 
 class Slot(NamedTuple):
@@ -46,8 +48,8 @@ class Round:
 
     @property
     def is_over_all(self) -> bool:
-        """Whether it asked all tags, to its end."""
-        return self.frame[4:6] == b"00" and len(self.outcomes) == self.places
+        """Whether it asked all tags, to its end, and something is known of each slot."""
+        return self.frame[4:6] == b"00" and len([text for _, text in self.outcomes if text != b"N"]) == self.places
 
     @cached_property
     def request(self) -> Request:
@@ -64,7 +66,7 @@ class Round:
     def _slot(self, place: int, line: int, text: bytes) -> Slot:
         mask = slot_mask(self.request.slots, self.request.mask, place)
         reading = Reading(text[:1].decode())
-        uid = read_response(bytes.fromhex(text[2:].decode())).uid if reading is Reading.HEARD else None
+        uid = read_response(bytes.fromhex(text[2:].decode())).uid if text[2:] else None
         return Slot(line, place, mask, reading, uid)
 
     def has_heard(self, digits: bytes) -> bool:
@@ -128,6 +130,8 @@ class Session:
         self.first_round: Optional[Round] = None
         #: Whether some round asked all tags, to its end.
         self.has_asked_all = False
+        #: Whether some reply was read alone.
+        self.has_alone = False
         #: The refused line, and whether the text ends in it.
         self.refused: bytes = b""
         self.is_cut = False

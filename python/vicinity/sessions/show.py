@@ -11,14 +11,15 @@ from .findings import Shown, Told
 from .notes import notes
 from .quotes import Quote, quotes
 from .rows import Drawn, Gap, chosen
-from .sentence import sentence
+from .sentence import conditions, sentence
 from .session import FieldCycle, Reading, Round, Session, Slot, StayQuiet
 from .words import count, digits_heard, ending, of_uid, printable, span, uid
 
-SIGNS = {Reading.SILENT: "·", Reading.COLLISION: "╳", Reading.GARBLED: "?"}
+SIGNS = {Reading.SILENT: "·", Reading.COLLISION: "╳", Reading.GARBLED: "?", Reading.UNKNOWN: "-"}
 #: What replaces a sign outside ASCII.
 ASCII = {ord("·"): ".", ord("╳"): "X", ord("×"): "x", ord("⋮"): ":"}
-COLOURS = {Reading.SILENT: "2", Reading.HEARD: "32", Reading.COLLISION: "33", Reading.GARBLED: "35"}
+COLOURS = {Reading.SILENT: "2", Reading.HEARD: "32", Reading.COLLISION: "33", Reading.GARBLED: "35", Reading.CAPTURED: "36",
+           Reading.UNKNOWN: "35"}
 ANSWER_COLOURS = ("1;32", "1;33", "1;31", "1;35")
 NAMED = "7"
 #: How many findings of each kind, and lines of a conflict, are written.
@@ -46,7 +47,8 @@ def show(session: Session, told: Told, look: Look = Look()) -> Iterator[str]:
     parts: list[Iterable[str]] = [
         [answer, *look.wrapped(sentence(session, told), "")], _picture(session, told, look), _found(session, told, look),
         _looked_for(session, told, look),
-        [line for note in notes(session, told) for line in look.wrapped(f"note: line {note.line}: {note.text}")], [answer]]
+        [line for note in notes(session, told) for line in look.wrapped(f"note: line {note.line}: {note.text}")],
+        [line for said in conditions(session, told) for line in look.wrapped(said, "")], [answer]]
     is_first = True
     for part in parts:
         lines = list(part)
@@ -97,8 +99,10 @@ def _sign(row: Round, slot: Slot) -> str:
 
 
 def _mark(row: Round, slot: Slot, named: set[int]) -> str:
-    """! beside a named line, q beside a tag that was silenced afterwards."""
-    return "!" if slot.line in named else "q" if slot.uid in row.quiets else " "
+    """! beside a named line, q beside a tag that was silenced afterwards, + beside one that may not have been alone."""
+    if slot.line in named:
+        return "!"
+    return "q" if slot.uid in row.quiets else "+" if slot.reading is Reading.CAPTURED else " "
 
 
 def _narrow(row: Round, labels: int, named: set[int], look: Look) -> Iterator[str]:
@@ -164,6 +168,6 @@ def _more(total: int, what: str) -> Iterator[str]:
 def _looked_for(session: Session, told: Told, look: Look) -> Iterator[str]:
     """The causes that fit a contradiction."""
     if told.answer.kind is Kind.IMPOSSIBLE:
-        yield "These causes fit, most likely first:"
+        yield "These causes fit:"
         for cause in contradiction(session, told).causes:
             yield from look.wrapped(f"- {cause}")

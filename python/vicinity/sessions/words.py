@@ -7,11 +7,14 @@ from .._answers import Mask
 from ..frames import uid_text
 from .session import Reading
 
+#: What was read in a slot; a UID that was heard takes the place of the braces.
 READ = {
     Reading.SILENT: "no tag answered",
-    Reading.HEARD: "one tag answered",
+    Reading.HEARD: "{} answered alone",
     Reading.COLLISION: "two or more tags answered",
     Reading.GARBLED: "one or more tags answered, unreadable",
+    Reading.CAPTURED: "{} answered, perhaps with others",
+    Reading.UNKNOWN: "nothing is known of this slot",
 }
 #: The bits in which UIDs differ; the others are those of E0.
 UID_BITS = 56

@@ -7,7 +7,7 @@
 pub const VICINITY_INTERFACE: u32 = 1;
 
 /// The first line of a log.
-pub const VICINITY_HEADER_LINE: &str = "vicinity-log 2\n";
+pub const VICINITY_HEADER_LINE: &str = "vicinity-log 3\n";
 
 #[repr(C)]
 #[derive(Clone, Copy, Debug)]

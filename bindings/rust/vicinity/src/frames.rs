@@ -40,14 +40,18 @@ pub struct Reply {
 pub enum Entry<'a> {
     /// `T`: this frame was sent.
     Sent(&'a [u8]),
-    /// `R`: this reply was heard.
+    /// `R`: this reply was heard, and no other tag answered.
     Heard(&'a [u8]),
+    /// `H`: this reply was heard; whether others answered too isn't known.
+    Captured(&'a [u8]),
     /// `S`: the slot was silent.
     Silent,
     /// `C`: several tags answered.
     Collision,
     /// `D`: a tag answered at least, and its reply couldn't be read.
     Garbled,
+    /// `N`: nothing is known of the slot.
+    Unknown,
     /// `F`: the field was switched off and on.
     FieldCycle,
     /// `U`: the reader lists this UID.
@@ -154,13 +158,30 @@ pub fn slot_mask(slots: u8, mask: Mask, slot: u8) -> Result<Mask, Refusal> {
 }
 
 /// A line of a log, LF included.
+///
+/// ```
+/// use vicinity::{check, write_line, write_response, Entry, Uid, HEADER_LINE};
+///
+/// let reply = write_response(0, 0, Uid::new(0xE0040100000000A1).unwrap())?;
+/// let asked = format!("{HEADER_LINE}T 260100F60A\n");
+/// for (entry, wanted) in [
+///     (Entry::Captured(&reply), "unlisted E0040100000000A1"),
+///     (Entry::Unknown, "unsettled 0 -"),
+/// ] {
+///     let text = asked.clone() + &write_line(entry)?;
+///     assert_eq!(check(text.as_bytes()).unwrap().to_string(), wanted);
+/// }
+/// # Ok::<(), vicinity::Refusal>(())
+/// ```
 pub fn write_line(entry: Entry<'_>) -> Result<String, Refusal> {
     let (letter, bytes, uid): (u8, &[u8], u64) = match entry {
         Entry::Sent(bytes) => (b'T', bytes, 0),
         Entry::Heard(bytes) => (b'R', bytes, 0),
+        Entry::Captured(bytes) => (b'H', bytes, 0),
         Entry::Silent => (b'S', &[], 0),
         Entry::Collision => (b'C', &[], 0),
         Entry::Garbled => (b'D', &[], 0),
+        Entry::Unknown => (b'N', &[], 0),
         Entry::FieldCycle => (b'F', &[], 0),
         Entry::Listed(uid) => (b'U', &[], uid.number()),
     };

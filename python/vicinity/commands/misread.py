@@ -1,0 +1,85 @@
+"""`misread`: a true log as a reader would have written it that misses replies, reads strong ones over others, or hears noise.
+Its author's software is tested against wrong answers with it."""
+from __future__ import annotations
+
+import argparse
+import random
+from collections import defaultdict
+from io import BytesIO
+from typing import Iterator, Mapping, NamedTuple, Sequence
+
+from .._calls import check, listed, simulate
+from .._captured import HEADER
+from .._process import read, write
+from ..frames import read_response, write_line, write_response
+
+REFUSED = 3
+OUTCOMES = frozenset(b"SCRDHN")
+#: A slot, by the number of its request, and its own in the round.
+Place = tuple[int, int]
+
+
+class Reader(NamedTuple):
+    """With which probabilities it reads one reply over others, misses a reply, and hears noise; and whether it says what it
+    doesn't know, in version 3, or writes R for each reply that it reads and C for noise."""
+
+    capture: float
+    miss: float
+    noise: float
+    is_careful: bool
+    rng: random.Random
+
+    def line(self, answering: Sequence[int]) -> bytes:
+        """What it writes of a slot in which these tags answer."""
+        if self.rng.random() < self.noise:
+            return write_line(("D" if answering else "N") if self.is_careful else "C")
+        heard = [uid for uid in answering if self.rng.random() >= self.miss]
+        if len(heard) == 1 or heard and self.rng.random() < self.capture:
+            return write_line("H" if self.is_careful else "R", write_response(0, 0, self.rng.choice(heard)))
+        return write_line("C" if heard else "S")
+
+
+def misread(asked: argparse.Namespace) -> int:
+    """Writes what a reader would have written, and returns 0; of a text that is refused the refusal, and 3."""
+    text = read(asked.names[0])
+    answer, lines = check(text), list(BytesIO(text))
+    requests = b"".join(line for line in lines if line[0] not in OUTCOMES and line[:1] != b"U")
+    made = simulate(requests)
+    if answer.status == REFUSED or made.status:
+        write([f"{answer}\n" if answer.status == REFUSED else made.text])
+        return REFUSED
+    uids = listed(b"".join(line for line in lines if line[:1] in b"vU"))
+    reader = Reader(asked.capture, asked.miss, asked.noise, text.startswith(HEADER), random.Random(asked.seed))
+    write(_written(lines, _answering(requests, uids), reader))
+    return 0
+
+
+def _answering(requests: bytes, uids: Sequence[int]) -> Mapping[Place, list[int]]:
+    """Which tags answer in each slot. The library says of each tag alone where it does."""
+    found: dict[Place, list[int]] = defaultdict(list)
+    for uid in uids:
+        request = slot = 0
+        for line in simulate(requests + write_line("U", uid=uid)).text.splitlines():
+            if line[:1] == b"T":
+                request, slot = request + 1, 0
+            elif line[0] in OUTCOMES:
+                if line[:1] == b"R":
+                    found[request, slot].append(uid)
+                slot += 1
+    return found
+
+
+def _written(lines: Sequence[bytes], answering: Mapping[Place, list[int]], reader: Reader) -> Iterator[bytes]:
+    """The lines of the log, with other slots, and with a list of the tags that are heard in them."""
+    heard: set[bytes] = set()
+    request = slot = 0
+    for line in lines:
+        if line[:1] == b"T":
+            request, slot = request + 1, 0
+        if line[0] in OUTCOMES:
+            line = reader.line(answering.get((request, slot), ()))
+            slot += 1
+            if line[:1] in b"HR":
+                heard.add(write_line("U", uid=read_response(bytes.fromhex(line[2:].decode())).uid))
+        if line[:1] != b"U" or line.rstrip().upper() + b"\n" in heard:
+            yield line
