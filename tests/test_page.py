@@ -334,10 +334,10 @@ def test_a_reply_is_tried_over_others(page):
 
 
 def test_letters_are_tried_by_the_keyboard(page):
-    """Where the cursor goes in the text."""
+    """Where the cursor goes in the text: from its end two lines up."""
     page.drop(log=log_of("I1 RA UA"))
     page.until("h1", "The one listed tag is here")
-    page.driver.find_element("id", "text").send_keys(*["\ue015"] * 2)
+    page.driver.find_element("id", "text").send_keys("\ue013" * 2)
     page.wait(lambda: page.texts("#trial button") == ["S nobody", "C two or more"])
 
 
