@@ -11,8 +11,8 @@ import { count, ending, lines, printable, TRIAL } from "./words.mjs";
 /** @typedef {import("./told.mjs").Told} Told */
 /** @typedef {Map<string, string>} Names what a catalogue says of UIDs */
 
-/** How many UIDs are shown without being asked for. */
-const FEW = 24;
+/** How many UIDs are shown without being asked for, and of how many rounds the lines of a conflict are on paper. */
+const FEW = 24, MOST_ON_PAPER = 60;
 
 /**
  * The whole of what is drawn of a log.
@@ -105,8 +105,10 @@ function conflict({ conflict: it }) {
   if (!it || !isLarge(it)) return [];
   const items = it.parts.map(({ asked, round, lines: numbers, silent }) => el("li", {}, toLine(numbers[0], lines(numbers)),
     `: ${ending(asked)} were asked in line ${round}${silent ? ", and none answered" : ""}`));
-  return [folded(`The ${count(it.count, "line")} that can't all be true, of ${count(it.rounds, "round")}`, false, el("ul", {}, items),
-    ...rest(it.rounds - items.length))];
+  const part = folded(`The ${count(it.count, "line")} that can't all be true, of ${count(it.rounds, "round")}`, false, el("ul", {}, items),
+    ...rest(it.rounds - items.length));
+  if (it.rounds > MOST_ON_PAPER) part.classList.add("aside");
+  return [part];
 }
 
 /**
