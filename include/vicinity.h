@@ -179,8 +179,8 @@ struct vicinity_name {
     char text[28];
 };
 
-/* The first line of a log. */
-#define VICINITY_HEADER_LINE "vicinity-log 2\n"
+/* The first line of a log of the newest version. */
+#define VICINITY_HEADER_LINE "vicinity-log 3\n"
 
 #if defined(__STDC_VERSION__) && __STDC_VERSION__ >= 201112L
 _Static_assert(sizeof(struct vicinity_answer) == 104, "the size of struct vicinity_answer");
@@ -361,9 +361,9 @@ uint32_t vicinity_slot_mask(uint32_t slots, uint32_t mask_len, uint64_t mask_val
                             struct vicinity_mask *mask);
 
 /*
- * Writes a line of a log. `letter` says which: 'T' or 'R' with a frame of at most 63 `bytes`, which
- * isn't judged; 'U' with `uid`; 'S', 'C', 'D' or 'F' alone. Arguments that a letter does not use
- * are ignored.
+ * Writes a line of a log. `letter` says which: 'T', 'R' or 'H' with a frame of at most 63 `bytes`,
+ * which isn't judged; 'U' with `uid`; 'S', 'C', 'D', 'N' or 'F' alone. Arguments that a letter does
+ * not use are ignored.
  */
 uint32_t vicinity_write_line(uint8_t letter, const uint8_t *bytes, size_t len, uint64_t uid,
                              struct vicinity_line *line);

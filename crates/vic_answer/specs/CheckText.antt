@@ -6,7 +6,8 @@ use Rattle.vic_log.specs.Order.{entries, listed}
 use Rattle.vic_log.specs.Text.{IsLogOf, IsFirstFault}
 use Rattle.vic_verdict.specs.declared.judging.Verdict.{Verdict}
 use Rattle.vic_verdict.specs.declared.judging.Verdict.TheVariants.{Impossible, Absent, Unlisted, Unsettled, Doubtful, Complete}
-use Rattle.vic_verdict.specs.Versions.{IsWholeSecond}
+use Rattle.vic_log.specs.SecondVersion.{AreOfSecondVersion}
+use Rattle.vic_verdict.specs.Versions.{IsWholeSecond, IsWholeThird}
 use Rattle.vic_verdict.specs.Verdict.{IsVerdict, IsWhole}
 use Rattle.vic_answer.specs.Digits.{uid_text, value_text}
 use Rattle.vic_answer.specs.Refusals.{refusal_line}
@@ -64,10 +65,11 @@ pub record BeginsAsCheck (text answer : List ℕ) (status : Status) : Type 0 whe
 
 -- the text has a log whose list is complete, with `count` UIDs: some population could have produced
 -- the log, and each that could has exactly the UIDs that it lists; and the same in the words of
--- version 2
+-- version 3, and of version 2 if it has no line of version 3
 pub record IsCompleteText (text : List ℕ) (count : ℕ) : Type 0 where
   pub log : LogValue
   pub is_log : IsLogOf (lines_of_text text) log
   pub whole : IsWhole (entries log.lines)
-  pub second : IsWholeSecond (entries log.lines)
+  pub second : AreOfSecondVersion (entries log.lines) → IsWholeSecond (entries log.lines)
+  pub third : IsWholeThird (entries log.lines)
   pub counted : count ≡ length (listed (entries log.lines))

@@ -6,7 +6,7 @@ ghost use Rattle.vic_log.specs.Order.{AreValid, IsInOrder, IsRisingFrom, entries
 use crate::steps::{Step, steps_of};
 use crate::waiting::Waiting;
 use std::alloc::{AllocError, Global};
-use vic_log::{Entry, PackedLine};
+use vic_log::PackedLine;
 use vic_walk::{Answering, LogWalk, Parts, Span, open_answers, walk_log};
 
 /// A guess at lines that contradict each other, in a log that became impossible with its last line:
@@ -41,20 +41,21 @@ pub fn guess_conflict(alloc: Global, lines: &[PackedLine]) -> Result<Vec<u32>, A
 /// The line that the last one contradicts, unless its reply doesn't fit its own slot: the first that
 /// rules out the UID that it heard; else the first reply of a UID that it rules out.
 fn other_line(lines: &[PackedLine], steps: &[Step], ends: &[u32]) -> Option<u32> {
-    let Some(Step::Ruling(_, span, own)) = steps.last() else {
-        return None;
+    let (span, own) = match *steps.last()? {
+        Step::Ruling(_, span, own) | Step::Captured(_, span, own) => (span, own),
+        Step::Quiet(_) | Step::Wake | Step::Unread(..) => return None,
     };
-    if let Entry::Heard(_) = lines.last()?.item() {
-        if *own < span.from || span.to <= *own {
+    if lines.last()?.item().heard().is_some() {
+        if own < span.from || span.to <= own {
             return None;
         }
-        let end = *ends.get(*own)? as usize;
+        let end = *ends.get(own)? as usize;
         if end > 0 {
             return Some(lines.get(end - 1)?.number());
         }
     }
     for step in steps {
-        if let Step::Ruling(line, span, heard) = *step {
+        if let Step::Ruling(line, span, heard) | Step::Captured(line, span, heard) = *step {
             if heard < span.to && *ends.get(heard)? as usize == lines.len() {
                 return Some(line);
             }
@@ -133,7 +134,7 @@ fn rulings(
                 waiting.show_all(&quiet);
                 quiet.clear();
             }
-            Step::Unread(..) => {}
+            Step::Captured(..) | Step::Unread(..) => {}
             Step::Ruling(line, ruled, own) => {
                 let (count, after) = count_alone(&alone, next, line, parts, &waiting);
                 next = after;

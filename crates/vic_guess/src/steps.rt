@@ -16,6 +16,9 @@ pub(crate) enum Step {
     /// A slot, by the number of its line, rules out the parts in its mask that are Ready, except for
     /// the one that was heard. If none was, it is the end of the mask's parts.
     Ruling(u32, Span, usize),
+    /// A slot, by the number of its line, in whose mask these parts are, and in which this one was
+    /// heard, alone or among others.
+    Captured(u32, Span, usize),
     /// An unread slot: the position of its line, and the parts in its mask.
     Unread(usize, Span),
 }
@@ -45,12 +48,16 @@ fn step_of(
             let own = parts.at(key(response.uid()));
             Some(Step::Ruling(number, span_of(parts, rounds), own))
         }
+        Entry::Captured(response) => {
+            let own = parts.at(key(response.uid()));
+            Some(Step::Captured(number, span_of(parts, rounds), own))
+        }
         Entry::Collision | Entry::Garbled => Some(Step::Unread(at, span_of(parts, rounds))),
         Entry::FieldCycle => Some(Step::Wake),
         Entry::Sent(Request::StayQuiet { uid, .. }) => {
             Some(Step::Quiet(parts.at(key(Uid::new(uid)?))))
         }
-        Entry::Sent(Request::Inventory { .. }) | Entry::Listed(_) => None,
+        Entry::Sent(Request::Inventory { .. }) | Entry::Unknown | Entry::Listed(_) => None,
     }
 }
 

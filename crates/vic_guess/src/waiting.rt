@@ -103,7 +103,7 @@ impl Waiting {
             match *step {
                 Step::Quiet(part) => self.hide(part),
                 Step::Wake => return,
-                Step::Ruling(..) | Step::Unread(..) => {}
+                Step::Ruling(..) | Step::Captured(..) | Step::Unread(..) => {}
             }
         }
     }
@@ -141,7 +141,7 @@ impl Waiting {
             match steps[index] {
                 Step::Quiet(part) => waiting.show(part),
                 Step::Wake => waiting.hide_last(&steps[..index]),
-                Step::Unread(..) => {}
+                Step::Captured(..) | Step::Unread(..) => {}
                 Step::Ruling(line, span, own) => {
                     for part in &waiting.take_others(alloc, span, own)? {
                         note(&mut last, *part, line);

@@ -2,6 +2,7 @@
 -- something is known, which tags would answer, and what was read; and which UIDs that leaves open.
 use Rattle.std.specs.Prelude.{◌≡◌, ◌≢◌, ◌⊎◌, ℕ, zero, suc, ◌==◌, Bool, true, false, not, ◌&&◌, ◌||◌, Option, Some, None, List, [], ◌∷◌, ⊤, slice_get, length}
 use Rattle.std.specs.List.{list_all, AllByRecursion}
+use Rattle.std.specs.Option.{is_some}
 use Rattle.vic_log.specs.declared.entry.Entry.{Entry}
 use Rattle.vic_log.specs.declared.entry.Entry.TheVariants.{Sent, Silent, Collision, Heard, Listed, Garbled, FieldCycle, Captured, Unknown}
 use Rattle.vic_frame.specs.Uids.{is_uid}
@@ -37,6 +38,10 @@ reading_of Unknown = None
 reading_of (Sent q) = None
 reading_of (Listed u) = None
 reading_of FieldCycle = None
+
+-- the entry is a slot line that tells something of its slot
+abbrev pub tells : Entry → Bool
+tells e = is_some (reading_of e)
 
 -- with one more slot, if there is one
 abbrev pub with_reading : (ℕ → Bool) → Option Reading → List Slot → List Slot

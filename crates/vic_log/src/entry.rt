@@ -2,7 +2,7 @@
 
 ghost use Rattle.std.specs.Prelude.{◌≡◌, ◌==◌, ℕ, false, true, IfSome, IfNone, Some};
 ghost use Rattle.vic_log.specs.Rounds.{is_slot};
-ghost use Rattle.vic_log.specs.Slots.{hears};
+ghost use Rattle.vic_log.specs.Slots.{hears, tells};
 
 use vic_frame::{Request, Response, Uid};
 
@@ -51,6 +51,20 @@ impl Entry {
             | Entry::Garbled
             | Entry::FieldCycle
             | Entry::Unknown => None,
+        }
+    }
+
+    /// Whether it is a slot line that tells something of its slot.
+    pub fn tells(&self) -> bool
+        ensures { result ≡ tells self.now }
+    {
+        match *self {
+            Entry::Silent
+            | Entry::Collision
+            | Entry::Heard(_)
+            | Entry::Garbled
+            | Entry::Captured(_) => true,
+            Entry::Unknown | Entry::Sent(_) | Entry::Listed(_) | Entry::FieldCycle => false,
         }
     }
 

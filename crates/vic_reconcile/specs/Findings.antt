@@ -8,7 +8,7 @@ use Rattle.vic_tree.specs.declared.open_masks.OpenMasks.{OpenMasks}
 use Rattle.vic_tree.specs.declared.open_masks.TheConstants.{MAX_OPEN_MASKS}
 use Rattle.vic_tree.specs.OpenMasks.{AreFirst, IsOpenMask}
 use Rattle.vic_log.specs.declared.entry.Entry.{Entry}
-use Rattle.vic_log.specs.declared.entry.Entry.TheVariants.{Sent, Silent, Collision, Heard, Listed, Garbled, FieldCycle}
+use Rattle.vic_log.specs.declared.entry.Entry.TheVariants.{Sent, Silent, Collision, Heard, Listed, Garbled, FieldCycle, Captured, Unknown}
 use Rattle.vic_log.specs.declared.entry.LogLine.{LogLine}
 use Rattle.vic_log.specs.Order.{entries}
 use Rattle.vic_verdict.specs.Possible as one
@@ -118,6 +118,8 @@ is_listed Silent = false
 is_listed (Heard r) = false
 is_listed Collision = false
 is_listed Garbled = false
+is_listed (Captured r) = false
+is_listed Unknown = false
 is_listed (Sent q) = false
 is_listed FieldCycle = false
 

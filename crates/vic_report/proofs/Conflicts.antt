@@ -1,5 +1,5 @@
 -- Slot lines that no population fits together: all up to the first impossible line; or one reply of a UID that is Quiet there.
-use Rattle.vic_report.proofs.Words.{◌≡◌, ℕ, zero, suc, ◌<◌, ◌≤◌, ◌+◌, ◌-◌, List, [], ◌∷◌, ◌++◌, length, get_or, take, drop, Bool, true, false, cond, Some, refl, sym, ap, ◌∙◌, subst, arith, ⊎_elim, slice_get, nat_le, leb, None, Option, Result, Ok, Err, MatchOption, MatchResult, is_err, option_map, filter, cases_Bool, leb-true, leb-false, map-append, take-append-drop, All-get_or, filter_passes, slice_get-map, slice_get_within, get_or_from_slice_get, Reply, has, Entry, Sent, Heard, Listed, FieldCycle, LogLine, entries, IsRisingFrom, Outcome, outcome_at, Fits, CouldHaveGiven, is_quiet, is_slot, FitsLines, IsConflictAt, IsNoQuietReply, IsSilencedBefore, IsSilencedBy, IsSlotLine, IsPossible, IsContradictedAt, entries_to, IsVerdict, place_of, member_at, IsStrictlyIncreasing, agree_upto, outcome_agrees, CouldHaveGiven-front, slice_get-append, Impossible, IsPossible-front, rising_order, cases_eq, true_from_ne_false, get_or_default, slice_get_read, cases_lt, inl, inr, IsNonDecreasingBy, IsPartitionPoint, All, AllPairs, AllPairs-filter, Equal, Greater, HoldsAt, Less, Lone, and_from, and_parts, answers_at, cond_both, false≢true, get_or-map, has_cases, has_here, has_there, le-leb, length-map, map, nat_cmp, nat_tests, not-true, ordering_index, outcome_of, ranked, silenced-quiet, silences, AreSlotLinesTo, ◌&&◌}
+use Rattle.vic_report.proofs.Words.{◌≡◌, ℕ, zero, suc, ◌<◌, ◌≤◌, ◌+◌, ◌-◌, List, [], ◌∷◌, ◌++◌, length, get_or, take, drop, Bool, true, false, cond, Some, refl, sym, ap, ◌∙◌, subst, arith, ⊎_elim, slice_get, nat_le, leb, None, Option, MatchOption, option_map, filter, cases_Bool, leb-true, leb-false, map-append, take-append-drop, All-get_or, filter_passes, slice_get-map, slice_get_within, get_or_from_slice_get, has, Entry, Sent, Heard, Captured, Unknown, hears, tells, eqb-true, Listed, FieldCycle, LogLine, entries, IsRisingFrom, answerers_at, Fits, CouldHaveGiven, is_quiet, is_slot, FitsLines, IsConflictAt, IsNoQuietReply, IsSilencedBefore, IsSilencedBy, IsSlotLine, IsPossible, entries_to, IsVerdict, place_of, member_at, IsStrictlyIncreasing, agree_upto, answerers_agree, CouldHaveGiven-front, slice_get-append, Impossible, rising_order, cases_eq, true_from_ne_false, get_or_default, slice_get_read, cases_lt, inl, inr, IsNonDecreasingBy, IsPartitionPoint, All, AllPairs, AllPairs-filter, Equal, Greater, HoldsAt, Less, Lone, and_from, and_parts, answers_at, cond_both, false≢true, get_or-map, has_cases, has_here, has_there, le-leb, length-map, map, nat_cmp, nat_tests, not-true, ordering_index, outcome_of, ranked, silenced-quiet, silences, AreSlotLinesTo, ◌&&◌}
 use Rattle.vic_log.proofs.Order.{IsInOrder-front}
 use Rattle.vic_log.specs.Order.{IsInOrder}
 use Rattle.vic_verdict.specs.LogLines.{AreLogLines}
@@ -35,12 +35,12 @@ lines_front n k (l ∷ lines) r =
     (cases_Bool (leb l.number n))
 
 -- so what a population makes of a position among them is what it makes of it among all
-front_outcome : (lines : List LogLine) (n i : ℕ) (p : List ℕ) → IsRisingFrom 0 lines → i < length (entries_to n lines) → outcome_at (entries_to n lines) i p ≡ outcome_at (entries lines) i p
-front_outcome lines n i p r within =
+front_answerers : (lines : List LogLine) (n i : ℕ) (p : List ℕ) → IsRisingFrom 0 lines → i < length (entries_to n lines) → answerers_at (entries_to n lines) i p ≡ answerers_at (entries lines) i p
+front_answerers lines n i p r within =
     let front = lines_to n lines in
     let rest = lines_front n 0 lines r in
-    outcome_agrees i (entries front) (entries front ++ entries rest.0) p (agree_upto (entries front) (entries rest.0) i (omega arith))
-    ∙ ap (λ es. outcome_at es i p) (sym (map-append (λ (l : LogLine). l.item) front rest.0) ∙ ap entries rest.1)
+    answerers_agree i (entries front) (entries front ++ entries rest.0) p (agree_upto (entries front) (entries rest.0) i (omega arith))
+    ∙ ap (λ es. answerers_at es i p) (sym (map-append (λ (l : LogLine). l.item) front rest.0) ∙ ap entries rest.1)
 
 -- the line of an entry
 pub line_of : (lines : List LogLine) (i : ℕ) (e : Entry) → slice_get (entries lines) i ≡ Some e → (x : LogLine) × (slice_get lines i ≡ Some x) × (x.item ≡ e)
@@ -60,17 +60,18 @@ number_within n lines i x k =
     let passes = All-get_or (λ (l : LogLine). nat_le l.number n ≡ true) (lines_to n lines) i x (slice_get_within (lines_to n lines) i x k) (filter_passes (λ (l : LogLine). nat_le l.number n) lines) in
     leb-true x.number n (subst (λ (l : LogLine). nat_le l.number n ≡ true) here passes)
 
--- only slot lines have to fit
-fits_if_slot : (e : Entry) (o : Outcome) → (is_slot e ≡ true → Fits e o) → Fits e o
-fits_if_slot (Sent q) o h = tt
-fits_if_slot (Listed u) o h = tt
-fits_if_slot FieldCycle o h = tt
-fits_if_slot _ o h = h refl
+-- only slot lines that tell something have to fit
+fits_if_told : (e : Entry) (us : List ℕ) → (tells e ≡ true → Fits e us) → Fits e us
+fits_if_told (Sent q) us h = tt
+fits_if_told (Listed u) us h = tt
+fits_if_told FieldCycle us h = tt
+fits_if_told Unknown us h = tt
+fits_if_told _ us h = h refl
 
 -- the numbers have all slot lines up to line n
 abbrev HaveSlotsTo : List LogLine → ℕ → List ℕ → Type 0
 HaveSlotsTo lines n numbers =
-    (k : ℕ) (x : LogLine) → slice_get lines k ≡ Some x → x.number ≤ n → is_slot x.item ≡ true → has numbers x.number ≡ true
+    (k : ℕ) (x : LogLine) → slice_get lines k ≡ Some x → x.number ≤ n → tells x.item ≡ true → has numbers x.number ≡ true
 
 given_to : (lines : List LogLine) (n : ℕ) (numbers p : List ℕ) → IsRisingFrom 0 lines → HaveSlotsTo lines n numbers → FitsLines lines numbers p → CouldHaveGiven p (entries_to n lines)
 given_to lines n numbers p r all fits i e k =
@@ -78,20 +79,20 @@ given_to lines n numbers p r all fits i e k =
     let rest = lines_front n 0 lines r in
     let x = line_of front i e k in
     let there : slice_get lines i ≡ Some x.0 = subst (λ ls. slice_get ls i ≡ Some x.0) rest.1 (sym (slice_get-append front rest.0 i (slice_get_within front i x.0 x.1)) ∙ x.1) in
-    let same = front_outcome lines n i p r (slice_get_within (entries front) i e k) in
-    fits_if_slot e (outcome_at (entries front) i p) (λ slot.
-    subst (Fits e) (sym same) (subst (λ f. Fits f (outcome_at (entries lines) i p)) x.2
-    (fits i x.0 there (all i x.0 there (number_within n lines i x.0 x.1) (subst (λ f. is_slot f ≡ true) (sym x.2) slot)))))
+    let same = front_answerers lines n i p r (slice_get_within (entries front) i e k) in
+    fits_if_told e (answerers_at (entries front) i p) (λ slot.
+    subst (Fits e) (sym same) (subst (λ f. Fits f (answerers_at (entries lines) i p)) x.2
+    (fits i x.0 there (all i x.0 there (number_within n lines i x.0 x.1) (subst (λ f. tells f ≡ true) (sym x.2) slot)))))
 
 below_last : (m n : ℕ) (xs : List ℕ) → m ≤ suc n → has xs m ≡ true → has xs (suc n) ≡ false → m ≤ n
 below_last m n xs small here none = grind (arith, cases_eq m (suc n))
 
 -- a population that could have produced the lines up to n fits each of them
-pub fits_given : (lines : List LogLine) (n : ℕ) (p : List ℕ) (i : ℕ) (l : LogLine) → IsRisingFrom 0 lines → CouldHaveGiven p (entries_to n lines) → slice_get lines i ≡ Some l → l.number ≤ n → Fits l.item (outcome_at (entries lines) i p)
+pub fits_given : (lines : List LogLine) (n : ℕ) (p : List ℕ) (i : ℕ) (l : LogLine) → IsRisingFrom 0 lines → CouldHaveGiven p (entries_to n lines) → slice_get lines i ≡ Some l → l.number ≤ n → Fits l.item (answerers_at (entries lines) i p)
 fits_given lines n p i l r given k small =
     let front = lines_to n lines in
     let there = slice_get-map (λ (x : LogLine). x.item) front i ∙ ap (option_map (λ (x : LogLine). x.item)) (front_there n 0 lines i l r k small) in
-    subst (Fits l.item) (front_outcome lines n i p r (slice_get_within (entries front) i l.item there)) (given i l.item there)
+    subst (Fits l.item) (front_answerers lines n i p r (slice_get_within (entries front) i l.item there)) (given i l.item there)
 
 -- the first impossible line is among the slot lines up to it
 pub last_is_slot : (lines : List LogLine) (n : ℕ) (xs : List ℕ) → IsRisingFrom 0 lines → IsVerdict lines (Impossible n) → ((m : ℕ) → has xs m ≡ true → m ≤ n) → HaveSlotsTo lines n xs → has xs n ≡ true
@@ -142,7 +143,7 @@ numbers_rise k (x ∷ lines) r zero (suc j) d lt below =
 numbers_rise k (x ∷ lines) r (suc i) (suc j) d lt below = numbers_rise x.number lines r.1 i j d (omega arith) (omega arith)
 
 abbrev pub is_slot_to : ℕ → LogLine → Bool
-is_slot_to n l = nat_le l.number n && is_slot l.item
+is_slot_to n l = nat_le l.number n && tells l.item
 
 abbrev slots_to : ℕ → List LogLine → List LogLine
 slots_to n lines = filter (is_slot_to n) lines
@@ -169,7 +170,7 @@ slots_among n m (x ∷ lines) h =
     let later = λ (t : has (slot_numbers_to n lines) m ≡ true). slot_behind n m x lines (slots_among n m lines t) in
     cond_both (is_slot_to n x) (x ∷ rest) rest (λ (ls : List LogLine). has (map (λ (l : LogLine). l.number) ls) m ≡ true → (m ≤ n) × IsSlotLine (x ∷ lines) m)
     (λ yes g.
-    let w = and_parts (nat_le x.number n) (is_slot x.item) yes in
+    let w = and_parts (nat_le x.number n) (tells x.item) yes in
     let small = leb-true x.number n w.0 in
     ⊎_elim (λ e. (omega arith, record { place = 0; line = x; there = refl; number = sym e; slot = w.1 })) later (has_cases m x.number (slot_numbers_to n lines) g))
     (λ no g. later g) h
@@ -220,24 +221,16 @@ upto_last numbers n rising last m h =
     let here = p.2 in
     omega arith
 
-contradicted : (es : List Entry) (i : ℕ) → IsContradictedAt es i → IsPossible es → ⊥
-contradicted es i c p = c.impossible (IsPossible-front (take (i + 1) es) (drop (i + 1) es) (subst IsPossible (sym (take-append-drop (i + 1) es)) p))
-
 -- what the kept lines tell
-pub kept_conflict : (lines : List LogLine) (n : ℕ) (numbers : List ℕ) (kept : List LogLine) (i : ℕ) → IsStrictlyIncreasing numbers → 0 < length numbers → get_or numbers (length numbers - 1) 0 ≡ n → ((m : ℕ) → has numbers m ≡ true → IsSlotLine lines m)
-    → ((p : List ℕ) → FitsLines lines numbers p → CouldHaveGiven p (entries kept)) → IsContradictedAt (entries kept) i → IsConflictAt lines n numbers
-kept_conflict lines n numbers kept i rising some last slots given at = record {
+pub kept_conflict : (lines : List LogLine) (n : ℕ) (numbers : List ℕ) (kept : List LogLine) → IsStrictlyIncreasing numbers → 0 < length numbers → get_or numbers (length numbers - 1) 0 ≡ n → ((m : ℕ) → has numbers m ≡ true → IsSlotLine lines m)
+    → ((p : List ℕ) → FitsLines lines numbers p → CouldHaveGiven p (entries kept)) → (IsPossible (entries kept) → ⊥) → IsConflictAt lines n numbers
+kept_conflict lines n numbers kept rising some last slots given impossible = record {
   rising = rising;
   ends = member_at numbers (length numbers - 1) n 0 (omega arith) last;
   upto = upto_last numbers n rising last;
   slots = slots;
-  unfit = λ p population fits. contradicted (entries kept) i at (p, population, given p fits);
+  unfit = λ p population fits. impossible (p, population, given p fits);
 }
-
--- what an error brings with it
-pub err_of : {T E : Type 0} (P : T → Type 0) (Q : E → Type 0) (r : Result T E) → is_err r ≡ true → MatchResult r P Q → (e : E) × Q e
-err_of P Q (Ok x) err m = cc
-err_of P Q (Err e) err m = (e, m)
 
 -- ---- the line with a number
 
@@ -271,24 +264,23 @@ no_number lines n place point rising i l k e =
       | inr after ↦ absurd (omega (arith, number, ranked (get_or lines i l).number n Greater (sym (halves.1 i l after within))))
     ]
 
-line_with : (lines : List LogLine) (n i : ℕ) (l : LogLine) (r : Reply) → slice_get lines i ≡ Some l → l.number ≡ n → slice_get (entries lines) i ≡ Some (Heard r) → l ≡ record { number = n; item = Heard r }
-line_with lines n i l r k here heard =
-    let item : Some l.item ≡ Some (Heard r) = sym (slice_get-map (λ (x : LogLine). x.item) lines i ∙ ap (option_map (λ (x : LogLine). x.item)) k) ∙ heard in
-    let item' : l.item ≡ Heard r = cc in
-    rw (here, item') refl
+hears_there : (lines : List LogLine) (i u : ℕ) (l : LogLine) → slice_get lines i ≡ Some l → hears (slice_get (entries lines) i) u ≡ hears (Some l.item) u
+hears_there lines i u l k = ap (λ o. hears o u) (slice_get-map (λ (x : LogLine). x.item) lines i ∙ ap (option_map (λ (x : LogLine). x.item)) k)
 
 -- so what is known of that position is known of the number
 pub silenced_there : (lines : List LogLine) (n i : ℕ) (l : LogLine) (o : Option ℕ) → IsRisingFrom 0 lines → slice_get lines i ≡ Some l → l.number ≡ n
-    → MatchOption o ((r : Reply) → slice_get (entries lines) i ≡ Some (Heard r) → is_quiet (entries lines) i r.uid ≡ false) (λ m. (r : Reply) × (slice_get (entries lines) i ≡ Some (Heard r)) × IsSilencedBefore lines i r.uid m)
+    → MatchOption o ((u : ℕ) → hears (slice_get (entries lines) i) u ≡ true → is_quiet (entries lines) i u ≡ false) (λ m. (u : ℕ) × (hears (slice_get (entries lines) i) u ≡ true) × IsSilencedBefore lines i u m)
     → MatchOption o (IsNoQuietReply lines n) (IsSilencedBy lines n)
-silenced_there lines n i l None rising k here none = λ j r g.
-    let same : j ≡ i = same_place 0 lines j i _ l rising g k (sym here) in
-    let there = slice_get-map (λ (x : LogLine). x.item) lines j ∙ ap (option_map (λ (x : LogLine). x.item)) g in
-    subst (λ p. is_quiet (entries lines) p r.uid ≡ false) (sym same) (none r (subst (λ p. slice_get (entries lines) p ≡ Some (Heard r)) same there))
+silenced_there lines n i l None rising k here none = λ j x u g number heard.
+    let same : j ≡ i = same_place 0 lines j i x l rising g k (number ∙ sym here) in
+    subst (λ p. is_quiet (entries lines) p u ≡ false) (sym same) (none u (subst (λ p. hears (slice_get (entries lines) p) u ≡ true) same (hears_there lines j u x g ∙ heard)))
 silenced_there lines n i l (Some m) rising k here some = record {
   place = i;
-  reply = some.0;
-  there = k ∙ ap (λ (x : LogLine). Some x) (line_with lines n i l some.0 k here some.1);
+  line = l;
+  uid = some.0;
+  there = k;
+  number = here;
+  reply = sym (hears_there lines i some.0 l k) ∙ some.1;
   by = some.2;
 }
 
@@ -304,6 +296,21 @@ lone_passes test [] u all lone = cc
 lone_passes test (v ∷ []) u all lone = let same : v ≡ u = cc in subst (λ w. test w ≡ true) same (all 0 v (omega arith))
 lone_passes test (v ∷ w ∷ us) u all lone = cc
 
+member_passes : (test : ℕ → Bool) (us : List ℕ) (u : ℕ) → All (λ v. test v ≡ true) us → has us u ≡ true → test u ≡ true
+member_passes test [] u all h = absurd (false≢true h)
+member_passes test (v ∷ us) u all h = ⊎_elim (λ e. subst (λ w. test w ≡ true) (sym e) (all 0 v (omega arith))) (λ k. member_passes test us u (λ i d below. all (suc i) d (omega (arith, below))) k) (has_cases u v us h)
+
+-- a reply's UID is one of those that answer, and so passes what they pass
+reply_passes : (test : ℕ → Bool) (e : Entry) (us : List ℕ) (u : ℕ) → All (λ v. test v ≡ true) us → hears (Some e) u ≡ true → Fits e us → test u ≡ true
+reply_passes test (Heard r) us u all heard fits = lone_passes test us u all (fits ∙ ap Lone (eqb-true r.uid u heard))
+reply_passes test (Captured r) us u all heard fits = member_passes test us u all (subst (λ v. has us v ≡ true) (eqb-true r.uid u heard) fits)
+reply_passes test e us u all heard fits = absurd (false≢true heard)
+
+reply_tells : (e : Entry) (u : ℕ) → hears (Some e) u ≡ true → tells e ≡ true
+reply_tells (Heard r) u h = refl
+reply_tells (Captured r) u h = refl
+reply_tells e u h = absurd (false≢true h)
+
 alone : (m n : ℕ) → has (n ∷ []) m ≡ true → m ≡ n
 alone m n h = ⊎_elim (λ e. e) (λ none. absurd (false≢true none)) (has_cases m n [] h)
 
@@ -311,17 +318,16 @@ alone m n h = ⊎_elim (λ e. e) (λ none. absurd (false≢true none)) (has_case
 pub quiet_reply_conflict : (lines : List LogLine) (n silencer : ℕ) → IsSilencedBy lines n silencer → IsConflictAt lines n (n ∷ [])
 quiet_reply_conflict lines n silencer s =
     let es = entries lines in
-    let u = s.reply.uid in
     let here = has_here n [] in
     record {
       rising = λ k below. absurd (omega arith);
       ends = here;
       upto = λ m h. omega (arith, alone m n h);
-      slots = λ m h. record { place = s.place; line = record { number = n; item = Heard s.reply }; there = s.there; number = sym (alone m n h); slot = refl };
+      slots = λ m h. record { place = s.place; line = s.line; there = s.there; number = s.number ∙ sym (alone m n h); slot = reply_tells s.line.item s.uid s.reply };
       unfit = λ p population fits.
-          let answers = lone_passes (answers_at es s.place) (filter (answers_at es s.place) p) u (filter_passes (answers_at es s.place) p) (fits s.place (record { number = n; item = Heard s.reply }) s.there here) in
+          let answers = reply_passes (answers_at es s.place) s.line.item (filter (answers_at es s.place) p) s.uid (filter_passes (answers_at es s.place) p) s.reply (fits s.place s.line s.there (rw s.number here)) in
           let ready = not-true _ (and_parts _ _ answers).1 in
-          false≢true (sym ready ∙ quiet_before lines s.place u silencer s.by);
+          false≢true (sym ready ∙ quiet_before lines s.place s.uid silencer s.by);
     }
 
 -- ---- more lines

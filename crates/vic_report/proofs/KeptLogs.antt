@@ -1,5 +1,5 @@
 -- Entries of which some slots are kept, each behind a request of its own: the same tags are Quiet, and a population that fits the kept slots could have produced them.
-use Rattle.vic_report.proofs.Words.{◌≡◌, ℕ, suc, ◌+◌, ◌-◌, List, [], ◌∷◌, ◌++◌, length, Bool, true, false, not, ◌&&◌, ◌||◌, Option, Some, sym, ap, ◌∙◌, subst, arith, length-append, add-one, refl, slice_get, if◌then◌else◌, None, Result, Ok, Err, OnOk, filter_agree, Entry, Sent, Listed, FieldCycle, LogLine, is_slot, mask_at, mask_of_slot, mask_since, ends_round, opener, slots_left, is_quiet, silences, wakes, Outcome, answers_at, outcome_of, outcome_at, Fits, CouldHaveGiven, AreValid, entries, listed, refusal, IsKeptLog, SameQuiet, KeepsLine, BitMask, Inventory, IsValidEntry, quiet_agrees, agree_upto, slice_get_last, CouldHaveGiven-push, IsInOrder-push, entries-push, last_from-push, listed-append, rising-push, slots_left-push, valid-push}
+use Rattle.vic_report.proofs.Words.{◌≡◌, ℕ, suc, ◌+◌, ◌-◌, List, [], ◌∷◌, ◌++◌, length, Bool, true, false, not, ◌&&◌, ◌||◌, Option, Some, sym, ap, ◌∙◌, subst, arith, length-append, add-one, refl, slice_get, if◌then◌else◌, None, Result, Ok, Err, OnOk, filter_agree, Entry, Sent, Listed, FieldCycle, LogLine, is_slot, mask_at, mask_of_slot, mask_since, ends_round, opener, slots_left, is_quiet, silences, wakes, answerers_at, answers_at, Fits, CouldHaveGiven, AreValid, entries, listed, refusal, IsKeptLog, SameQuiet, KeepsLine, BitMask, Inventory, IsValidEntry, quiet_agrees, agree_upto, slice_get_last, CouldHaveGiven-push, IsInOrder-push, entries-push, last_from-push, listed-append, rising-push, slots_left-push, valid-push}
 
 -- who is Quiet after an entry
 abbrev pub quiet_after : Option Entry → Bool → ℕ → Bool
@@ -43,18 +43,18 @@ same_quiet_slot old new es i m e k added same =
     subst (λ fs. SameQuiet fs es (i + 1)) (sym added)
     (same_quiet_pushed (old ++ Sent (Inventory 2 false m) ∷ []) es i e k (same_quiet_opened old es i m same))
 
-same_outcome : (fs es : List Entry) (n i : ℕ) (p : List ℕ) → mask_at es i ≡ mask_at fs n → ((u : ℕ) → is_quiet fs n u ≡ is_quiet es i u) → outcome_at es i p ≡ outcome_at fs n p
-same_outcome fs es n i p mask quiet =
-    ap outcome_of (filter_agree (answers_at es i) (answers_at fs n) (λ u. let q = quiet u in rw (mask, q)) p)
+same_answerers : (fs es : List Entry) (n i : ℕ) (p : List ℕ) → mask_at es i ≡ mask_at fs n → ((u : ℕ) → is_quiet fs n u ≡ is_quiet es i u) → answerers_at es i p ≡ answerers_at fs n p
+same_answerers fs es n i p mask quiet =
+    filter_agree (answers_at es i) (answers_at fs n) (λ u. let q = quiet u in rw (mask, q)) p
 
 -- and the entry behind it fits where it fits among the others
-pub given_with_slot : (old new es : List Entry) (i : ℕ) (m : BitMask) (e : Entry) (p : List ℕ) → Some m ≡ mask_at es i → HasSlotAdded old m e new → SameQuiet old es i → Fits e (outcome_at es i p) → CouldHaveGiven p old → CouldHaveGiven p new
+pub given_with_slot : (old new es : List Entry) (i : ℕ) (m : BitMask) (e : Entry) (p : List ℕ) → Some m ≡ mask_at es i → HasSlotAdded old m e new → SameQuiet old es i → Fits e (answerers_at es i p) → CouldHaveGiven p old → CouldHaveGiven p new
 given_with_slot old new es i m e p here added same fits given =
     let fs = old ++ Sent (Inventory 2 false m) ∷ [] in
     let masks = sym here ∙ sym (mask_opened old m) in
     subst (CouldHaveGiven p) (sym added)
     (CouldHaveGiven-push p fs e (CouldHaveGiven-push p old (Sent (Inventory 2 false m)) given tt)
-    (subst (Fits e) (same_outcome fs es (length fs) i p masks (same_quiet_opened old es i m same)) fits))
+    (subst (Fits e) (same_answerers fs es (length fs) i p masks (same_quiet_opened old es i m same)) fits))
 
 -- ---- what `keep_line` ensures
 
@@ -68,14 +68,14 @@ slot_passed (Ok x) m is_kept e old mid new kept opened added =
     }
 slot_passed (Err x) m is_kept e old mid new kept opened added = tt
 
--- an entry that fits any outcome
+-- an entry that fits any list of UIDs
 abbrev pub FitsAny : Entry → Type 0
-FitsAny e = (o : Outcome) → Fits e o
+FitsAny e = (us : List ℕ) → Fits e us
 
 pub entry_passed : {T E : Type 0} (r : Result T E) (mask : Option BitMask) (is_kept : Bool) (e : Entry) (old new : List Entry) → FitsAny e → OnOk r (new ≡ old ++ e ∷ []) → OnOk r ((es : List Entry) (i : ℕ) → slice_get es i ≡ Some e → mask ≡ mask_at es i → KeepsLine es i is_kept e old new)
 entry_passed (Ok x) mask is_kept e old new any added = λ es i k here. record {
   quiet = λ same. subst (λ fs. SameQuiet fs es (i + 1)) (sym added) (same_quiet_pushed old es i e k same);
-  given = λ p same fits g. subst (CouldHaveGiven p) (sym added) (CouldHaveGiven-push p old e g (any (outcome_at old (length old) p)));
+  given = λ p same fits g. subst (CouldHaveGiven p) (sym added) (CouldHaveGiven-push p old e g (any (answerers_at old (length old) p)));
 }
 entry_passed (Err x) mask is_kept e old new any added = tt
 

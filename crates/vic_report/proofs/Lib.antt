@@ -2,5 +2,6 @@ mod Words
 pub mod KeptLogs
 pub mod Conflicts
 pub mod RuledOut
+mod NotedLines
 pub mod Telling
 pub mod AllFindings

@@ -1,8 +1,7 @@
 -- The first line that rules a UID out, by the end that a walk knows of it.
-use Rattle.vic_report.proofs.Words.{◌≡◌, ℕ, ◌-◌, ◌<◌, ◌≤◌, zero, suc, List, length, take, drop, Bool, true, false, Option, Some, None, refl, sym, ap, ◌∙◌, subst, arith, cases_lt, nat_tests, inl, inr, false≢true, take-append-drop, slice_get, get_or, get_or_default, IsUid, Entry, LogLine, IsRisingFrom, entries, answers_at, reading_of, slots_before, is_open, IsPossible, RulesOut, lacks_reply_of, entry_allows, [], ◌∷◌, option_map, slice_get-map, open_step}
+use Rattle.vic_report.proofs.Words.{◌≡◌, ℕ, ◌-◌, ◌<◌, ◌≤◌, zero, suc, List, length, Bool, true, false, Option, Some, None, refl, sym, ap, ◌∙◌, subst, arith, cases_lt, nat_tests, inl, inr, false≢true, slice_get, get_or, get_or_default, IsUid, Entry, LogLine, IsRisingFrom, entries, answers_at, reading_of, slots_before, is_open, IsPossible, RulesOut, lacks_reply_of, entry_allows, [], ◌∷◌, option_map, slice_get-map, open_step}
 use Rattle.vic_verdict.proofs.Listing.{number_above}
-use Rattle.vic_verdict.proofs.Possibility.{IsPossible-front}
-use Rattle.vic_verdict.proofs.Walking.{borne_out}
+use Rattle.vic_verdict.proofs.Walking.{broken_log}
 use Rattle.vic_verdict.specs.Verdict.{IsLeast}
 use Rattle.vic_walk.proofs.Ending.{open_earlier}
 use Rattle.vic_frame.specs.LowBitsFirst.{mirror}
@@ -30,8 +29,7 @@ rising_numbers n (y ∷ lines) (suc i) (suc j) l x r le g h = rising_numbers y.n
 pub comes_to_end : (bs : List ℕ) (es : List Entry) (broken : Option ℕ) (w : Walk) → IsPossible es → IsEndOfWalk bs es broken w → IsWalkAt bs es (length es) w
 comes_to_end bs es None w possible end = end.0
 comes_to_end bs es (Some i) w possible end =
-    let front = IsPossible-front (take (suc i) es) (drop (suc i) es) (subst IsPossible (sym (take-append-drop (suc i) es)) possible) in
-    absurd (end.3 (borne_out es (suc i) (omega (arith, end.0)) front))
+    absurd (broken_log bs es (Some i) w end refl possible)
 
 -- and knows the end of each UID by that of its part
 pub known_end : (es : List Entry) (w : LogWalk) (u p key end : ℕ) → IsPossible es → IsWalkOver es w → IsUid u → key ≡ mirror u → IsPartOf w.parts key p → end ≡ get_or w.walk.ends.items p end → IsEnd es (length es) u end

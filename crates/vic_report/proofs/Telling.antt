@@ -1,16 +1,21 @@
 -- Lines that tell of UIDs.
-use Rattle.vic_report.proofs.Words.{has, length, ◌≡◌, ℕ, List, true, Some, refl, sym, ap, ◌∙◌, subst, ⊎_elim, slice_get, and_parts, and_from, Entry, Collision, Garbled, Heard, LogLine, entries, answers_at, slots_of, is_open, Forces, ManyReplies, SomeReply, Reply, IsFound, MayAnswer, TellsOf, ShowsCertain, IsPossible, Answering, answering, IsPossibleUid-iff, needs_two_or_one, forces_two_iff, forces_one_iff}
+use Rattle.vic_report.proofs.Words.{has, length, ◌≡◌, ℕ, List, true, Some, refl, sym, ap, ◌∙◌, subst, ⊎_elim, slice_get, and_parts, and_from, Entry, Collision, Garbled, Heard, Captured, hears, eqb-true, false≢true, LogLine, entries, answers_at, slots_of, is_open, Forces, ManyReplies, SomeReply, Reply, IsFound, MayAnswer, TellsOf, ShowsCertain, IsPossible, Answering, answering, IsPossibleUid-iff, needs_two_or_one, forces_two_iff, forces_one_iff}
 use Rattle.vic_report.proofs.Conflicts.{line_of}
 
 -- ---- what a line tells
 
-pub reply_shows : (lines : List LogLine) (i : ℕ) (l : LogLine) (r : Reply) → slice_get lines i ≡ Some l → l.item ≡ Heard r → ShowsCertain lines l.number r.uid
-reply_shows lines i l r k is = record {
+hears_tells : (es : List Entry) (i : ℕ) (e : Entry) (u : ℕ) → hears (Some e) u ≡ true → TellsOf es i u e
+hears_tells es i (Heard r) u h = eqb-true r.uid u h
+hears_tells es i (Captured r) u h = eqb-true r.uid u h
+hears_tells es i e u h = absurd (false≢true h)
+
+pub reply_shows : (lines : List LogLine) (i : ℕ) (l : LogLine) (u : ℕ) → slice_get lines i ≡ Some l → hears (Some l.item) u ≡ true → ShowsCertain lines l.number u
+reply_shows lines i l u k heard = record {
   place = i;
   line = l;
   there = k;
   number = refl;
-  tells = subst (TellsOf (entries lines) i r.uid) (sym is) refl;
+  tells = hears_tells (entries lines) i l.item u heard;
 }
 
 may : (es : List Entry) (i u : ℕ) → IsPossible es → answering (is_open (slots_of es)) es i u ≡ true → MayAnswer es i u

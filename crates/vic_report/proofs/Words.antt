@@ -1,13 +1,13 @@
 -- The words of proofs, from one place: what files name from outside of the crate, and the definitions that several of them name.
-pub use Rattle.std.proofs.Common.{All, Bool, Equal, Err, Greater, Less, List, MatchOption, MatchResult, None, Ok, OnOk, Option, Result, Some, [], add-one, ap, arith, cond, drop, false, filter, get_or, if◌then◌else◌, inl, inr, is_err, leb, length, length-append, ltb-true, map, nat_cmp, nat_eq, nat_le, not, option_map, refl, rules, slice_get, subst, suc, sym, take, true, zero, ℕ, ⊎_elim, ◌&&◌, ◌*◌, ◌++◌, ◌+◌, ◌-◌, ◌<◌, ◌==◌, ◌||◌, ◌↔◌, ◌∙◌, ◌∷◌, ◌≡◌, ◌≤◌}
-pub use Rattle.std.proofs.lemmas.Bool.{and_from, and_parts, cases_Bool, cases_eq, cases_lt, cond_both, eq-eqb, eqb-true, false≢true, le-leb, leb-false, leb-true, ne_eqb, not-true, not_from_false, true_from_ne_false}
+pub use Rattle.std.proofs.Common.{All, Bool, Equal, Err, Greater, Less, List, MatchOption, MatchResult, None, Ok, OnOk, Option, Result, Some, [], add-one, ap, arith, cond, drop, false, filter, get_or, if◌then◌else◌, inl, inr, is_err, leb, length, length-append, ltb-true, map, nat_cmp, nat_eq, nat_le, not, option_map, refl, rules, slice_get, subst, suc, sym, take, true, zero, ℕ, ⊎_elim, ◌&&◌, ◌*◌, ◌++◌, ◌+◌, ◌-◌, ◌<◌, ◌||◌, ◌↔◌, ◌∙◌, ◌∷◌, ◌≡◌, ◌≤◌}
+pub use Rattle.std.proofs.lemmas.Bool.{and_from, and_parts, cases_Bool, cases_eq, cases_lt, cond_both, eq-eqb, eqb-true, false≢true, le-leb, leb-false, leb-true, not-true, not_from_false, true_from_ne_false}
 pub use Rattle.std.proofs.lemmas.Bool.Decides.{nat_tests}
 pub use Rattle.std.proofs.lemmas.Cmp.{ranked}
 pub use Rattle.std.proofs.lemmas.List.{get_or-map, get_or_default, length-map, map-append, map_push, take-append-drop, take_all, take_more}
-pub use Rattle.std.proofs.lemmas.List.Elements.{All-get_or, All-more, All-push, filter_agree, filter_passes}
+pub use Rattle.std.proofs.lemmas.List.Elements.{All-get_or, All-push, filter_agree, filter_passes}
 pub use Rattle.std.proofs.lemmas.List.Filters.{dedup_is}
 pub use Rattle.std.proofs.lemmas.List.Kept.{AllPairs-filter}
-pub use Rattle.std.proofs.lemmas.List.Sorted.{All-permutation, IsPermutation-sym, answers_always, list_any-IsPermutation}
+pub use Rattle.std.proofs.lemmas.List.Sorted.{answers_always, list_any-IsPermutation}
 pub use Rattle.std.proofs.lemmas.Map.Keys.{IsStrictlyIncreasing-dedup}
 pub use Rattle.std.proofs.lemmas.Option.{get_or_from_slice_get, slice_get-map, slice_get_read, slice_get_within}
 pub use Rattle.std.specs.List.{AllPairs, HoldsAt, list_any}
@@ -17,20 +17,19 @@ pub use Rattle.vic_frame.specs.Masks.{BitMask}
 pub use Rattle.vic_frame.specs.Replies.{Reply}
 pub use Rattle.vic_frame.specs.Uids.{IsUid, has}
 pub use Rattle.vic_frame.specs.declared.request.Request.TheVariants.{Inventory}
-pub use Rattle.vic_log.proofs.Places.{CouldHaveGiven-front, CouldHaveGiven-push, agree_upto, outcome_agrees, quiet_agrees, slice_get-append, slice_get_last}
+pub use Rattle.vic_log.proofs.Places.{CouldHaveGiven-front, CouldHaveGiven-push, agree_upto, answerers_agree, quiet_agrees, slice_get-append, slice_get_last}
 pub use Rattle.vic_log.proofs.Push.{IsInOrder-push, entries-push, last_from-push, listed-append, rising-push, rising_long, slots_left-push, valid-push}
 pub use Rattle.vic_log.proofs.Quiet.{silenced-quiet}
 pub use Rattle.vic_log.proofs.Sets.{has_cases, has_here, has_there}
-pub use Rattle.vic_log.proofs.Supply.{is_uid_from}
 pub use Rattle.vic_log.specs.Log.{IsValidEntry}
 pub use Rattle.vic_log.specs.OpenRounds.{IsCursorAt}
 pub use Rattle.vic_log.specs.Order.{AreValid, IsRisingFrom, entries, listed, refusal}
-pub use Rattle.vic_log.specs.Populations.{CouldHaveGiven, Fits, Lone, Outcome, answers_at, outcome_at, outcome_of}
+pub use Rattle.vic_log.specs.Populations.{CouldHaveGiven, Fits, Lone, answerers_at, answers_at, outcome_of}
 pub use Rattle.vic_log.specs.Quiet.{is_quiet, silences, wakes}
 pub use Rattle.vic_log.specs.Rounds.{ends_round, is_slot, mask_at, mask_of_slot, mask_since, opener, slots_left}
-pub use Rattle.vic_log.specs.Slots.{Forces, ManyReplies, SomeReply, is_open, reading_of, slots_before, slots_of}
+pub use Rattle.vic_log.specs.Slots.{Forces, ManyReplies, SomeReply, is_open, reading_of, slots_before, slots_of, hears, tells}
 pub use Rattle.vic_log.specs.declared.entry.Entry.{Entry}
-pub use Rattle.vic_log.specs.declared.entry.Entry.TheVariants.{Collision, FieldCycle, Garbled, Heard, Listed, Sent, Silent}
+pub use Rattle.vic_log.specs.declared.entry.Entry.TheVariants.{Captured, Collision, FieldCycle, Garbled, Heard, Listed, Sent, Silent, Unknown}
 pub use Rattle.vic_log.specs.declared.entry.LogLine.{LogLine}
 pub use Rattle.vic_tree.proofs.GatheringLaws.{found_among, has_dedup}
 pub use Rattle.vic_tree.specs.OpenSet.{SameUids, has_key, without_keys}
@@ -52,7 +51,8 @@ pub use Rattle.vic_verdict.specs.Verdict.{IsAbsent, IsFirstMask, IsUnlisted, IsV
 pub use Rattle.vic_walk.specs.declared.answers.Answering.{Answering}
 pub use Rattle.vic_verdict.specs.declared.judging.Verdict.TheVariants.{Complete, Impossible}
 pub use Rattle.vic_report.specs.Conflicts.{FitsLines, IsConflictAt, IsNoQuietReply, IsSilencedBefore, IsSilencedBy, IsSlotLine}
-pub use Rattle.vic_report.specs.Findings.{IsRuledOut, IsToldOf, MayAnswer, RulesOut, ShowsCertain, TellsOf, lacks_reply_of, uids_of}
+pub use Rattle.vic_report.specs.Findings.{IsRuledOut, IsToldOf, MayAnswer, RulesOut, ShowsCertain, TellsOf, uids_of}
+pub use Rattle.vic_log.specs.Overlooked.{lacks_reply_of}
 pub use Rattle.vic_report.specs.Reports.{AreFindings, AreOpenMasks, IsReport, IsUnsettledWith, verdict_by, unsettled_with, verdict_of}
 pub use Rattle.vic_report.specs.declared.shown.ShownUid.{ShownUid}
 pub use Rattle.vic_report.specs.inner.KeptLogs.{IsKeptLog, KeepsLine, SameQuiet}

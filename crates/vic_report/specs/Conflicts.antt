@@ -2,31 +2,30 @@
 use Rattle.std.specs.Prelude.{◌≡◌, ◌≢◌, ℕ, ◌<◌, ◌≤◌, true, false, Some, List, slice_get, MatchOption}
 use Rattle.std.specs.List.Sorted.{IsStrictlyIncreasing}
 use Rattle.vic_frame.specs.Uids.{has}
-use Rattle.vic_frame.specs.Replies.{Reply}
-use Rattle.vic_log.specs.declared.entry.Entry.TheVariants.{Heard, FieldCycle}
+use Rattle.vic_log.specs.declared.entry.Entry.TheVariants.{FieldCycle}
 use Rattle.vic_log.specs.declared.entry.LogLine.{LogLine}
 use Rattle.vic_log.specs.Order.{entries}
-use Rattle.vic_log.specs.Populations.{IsPopulation, outcome_at, Fits}
+use Rattle.vic_log.specs.Populations.{IsPopulation, answerers_at, Fits}
 use Rattle.vic_log.specs.Quiet.{is_quiet, silences}
-use Rattle.vic_log.specs.Rounds.{is_slot}
+use Rattle.vic_log.specs.Slots.{hears, tells}
 use Rattle.vic_report.specs.declared.conflict.Conflict.{Conflict}
 use Rattle.vic_verdict.specs.declared.judging.Verdict.TheVariants.{Impossible}
 use Rattle.vic_verdict.specs.Verdict.{IsVerdict}
 
--- the population fits the lines with these numbers: each of them that is a slot line fits the
--- outcome that the population has there
+-- the population fits the lines with these numbers: each of them that is a slot line fits those of
+-- the population who answer there
 abbrev pub FitsLines : List LogLine → List ℕ → List ℕ → Type 0
 FitsLines lines numbers p =
     (i : ℕ) (l : LogLine) → slice_get lines i ≡ Some l → has numbers l.number ≡ true
-    → Fits l.item (outcome_at (entries lines) i p)
+    → Fits l.item (answerers_at (entries lines) i p)
 
--- the line with this number is a slot line
+-- the line with this number is a slot line that tells something
 pub record IsSlotLine (lines : List LogLine) (n : ℕ) : Type 0 where
   pub place : ℕ
   pub line : LogLine
   pub there : slice_get lines place ≡ Some line
   pub number : line.number ≡ n
-  pub slot : is_slot line.item ≡ true
+  pub slot : tells line.item ≡ true
 
 -- numbers of slot lines, in rising order, the last one n; no population fits all of these lines
 pub record IsConflictAt (lines : List LogLine) (n : ℕ) (numbers : List ℕ) : Type 0 where
@@ -51,15 +50,18 @@ pub record IsSilencedBefore (lines : List LogLine) (i u n : ℕ) : Type 0 where
 -- the line with this number is a reply of a UID that is Quiet there by the line with another number
 pub record IsSilencedBy (lines : List LogLine) (n silencer : ℕ) : Type 0 where
   pub place : ℕ
-  pub reply : Reply
-  pub there : slice_get lines place ≡ Some (record { number = n; item = Heard reply })
-  pub by : IsSilencedBefore lines place reply.uid silencer
+  pub line : LogLine
+  pub uid : ℕ
+  pub there : slice_get lines place ≡ Some line
+  pub number : line.number ≡ n
+  pub reply : hears (Some line.item) uid ≡ true
+  pub by : IsSilencedBefore lines place uid silencer
 
 -- no line with this number is a reply of a UID that is Quiet there
 abbrev pub IsNoQuietReply : List LogLine → ℕ → Type 0
 IsNoQuietReply lines n =
-    (i : ℕ) (r : Reply) → slice_get lines i ≡ Some (record { number = n; item = Heard r })
-    → is_quiet (entries lines) i r.uid ≡ false
+    (i : ℕ) (l : LogLine) (u : ℕ) → slice_get lines i ≡ Some l → l.number ≡ n
+    → hears (Some l.item) u ≡ true → is_quiet (entries lines) i u ≡ false
 
 -- the first impossible line, slot lines up to it that no population fits, and, if and only if that
 -- first line is a reply of a tag that was Quiet there, the line that silenced the tag

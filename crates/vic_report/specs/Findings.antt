@@ -1,23 +1,14 @@
 -- The lines that show the findings of a possible log (profile).
-use Rattle.std.specs.Prelude.{◌≡◌, ◌≢◌, ◌⊎◌, ℕ, ◌==◌, Bool, true, false, not, Some, List, slice_get, map}
+use Rattle.std.specs.Prelude.{◌≡◌, ◌≢◌, ◌⊎◌, ℕ, true, Some, List, slice_get, map}
 use Rattle.vic_log.specs.declared.entry.Entry.{Entry}
-use Rattle.vic_log.specs.declared.entry.Entry.TheVariants.{Sent, Silent, Collision, Heard, Listed, Garbled, FieldCycle}
+use Rattle.vic_log.specs.declared.entry.Entry.TheVariants.{Sent, Silent, Collision, Heard, Listed, Garbled, FieldCycle, Captured, Unknown}
 use Rattle.vic_log.specs.declared.entry.LogLine.{LogLine}
 use Rattle.vic_log.specs.Order.{entries}
+use Rattle.vic_log.specs.Overlooked.{lacks_reply_of}
 use Rattle.vic_log.specs.Populations.{answers_at}
 use Rattle.vic_report.specs.declared.shown.ShownUid.{ShownUid}
 use Rattle.vic_verdict.specs.Possible.{IsPossibleUid}
 use Rattle.vic_verdict.specs.Verdict.{IsLeast}
-
--- a slot with this entry was silent, or held the reply of another UID
-abbrev pub lacks_reply_of : Entry → ℕ → Bool
-lacks_reply_of Silent u = true
-lacks_reply_of (Heard r) u = not (r.uid == u)
-lacks_reply_of Collision u = false
-lacks_reply_of Garbled u = false
-lacks_reply_of (Sent q) u = false
-lacks_reply_of (Listed v) u = false
-lacks_reply_of FieldCycle u = false
 
 -- the line with this number rules the UID out: a tag with it would answer in its slot, and the slot
 -- lacks its reply
@@ -38,12 +29,14 @@ MayAnswer es i u = IsPossibleUid es u × (answers_at es i u ≡ true)
 -- only one
 abbrev pub TellsOf : List Entry → ℕ → ℕ → Entry → Type 0
 TellsOf es i u (Heard r) = r.uid ≡ u
+TellsOf es i u (Captured r) = r.uid ≡ u
 TellsOf es i u Collision =
     MayAnswer es i u
     × ((v : ℕ) × (v ≢ u) × MayAnswer es i v
     × ((w : ℕ) → MayAnswer es i w → (w ≡ u) ⊎ (w ≡ v)))
 TellsOf es i u Garbled = MayAnswer es i u × ((w : ℕ) → MayAnswer es i w → w ≡ u)
 TellsOf es i u Silent = ⊥
+TellsOf es i u Unknown = ⊥
 TellsOf es i u (Sent q) = ⊥
 TellsOf es i u (Listed v) = ⊥
 TellsOf es i u FieldCycle = ⊥

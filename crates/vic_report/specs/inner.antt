@@ -1,3 +1,4 @@
 -- Definitions that private contracts alone cite.
 pub mod KeptLogs
+pub mod NotedLines
 pub mod SlotLines

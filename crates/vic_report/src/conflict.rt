@@ -14,8 +14,7 @@ use crate::silencer::silencer_of_line;
 use std::alloc::{AllocError, Global};
 use vic_guess::guess_conflict;
 use vic_log::{MAX_LINES, PackedLine};
-use vic_tree::RangeSet;
-use vic_verdict::open_and_met;
+use vic_verdict::is_possible;
 
 /// The first line up to which no population could have produced a log, and slot lines up to it that
 /// no population fits.
@@ -107,7 +106,7 @@ fn is_conflict_at(
         return Ok(false);
     }
     let kept = kept_lines(alloc, lines, numbers)?;
-    Ok(open_and_met::<RangeSet>(alloc, &kept)?.is_err())
+    Ok(!is_possible(alloc, &kept)?)
 }
 
 /// Whether each of some numbers is that of a slot line.
@@ -122,25 +121,25 @@ fn are_slot_lines(lines: &[PackedLine], numbers: &[u32]) -> bool
     true
 }
 
-/// Whether a number is that of a slot line.
+/// Whether a number is that of a slot line that tells something.
 fn is_slot_line(lines: &[PackedLine], number: u32) -> bool
     ensures { result ≡ true → IsSlotLine lines.now number }
 {
     match lines.binary_search_by_key(&number, |line| line.number()) {
-        Ok(place) => lines[place].item().is_slot(),
+        Ok(place) => lines[place].item().tells(),
         Err(_) => false,
     }
 }
 
-/// The numbers of the slot lines up to the line with number `last`. They rise, as those of all
-/// lines do.
+/// The numbers of the slot lines up to the line with number `last` that tell something. They rise,
+/// as those of all lines do.
 fn slot_numbers_to(alloc: Global, lines: &[PackedLine], last: u32) -> Result<Vec<u32>, AllocError>
     requires { AreLogLines lines.now }
     ensures { IfOk result (λ numbers. AreSlotLinesTo lines.now last numbers.items) }
 {
     lines
         .iter()
-        .filter(|line| line.number() <= last && line.item().is_slot())
+        .filter(|line| line.number() <= last && line.item().tells())
         .map(|line| line.number())
         .collect(alloc)
 }

@@ -77,7 +77,12 @@ fn keep_line(
     match *entry {
         Entry::Sent(Request::StayQuiet { .. }) | Entry::FieldCycle => push_next(kept, *entry),
         Entry::Sent(Request::Inventory { .. }) | Entry::Listed(_) => Ok(()),
-        Entry::Silent | Entry::Collision | Entry::Heard(_) | Entry::Garbled => match mask {
+        Entry::Silent
+        | Entry::Collision
+        | Entry::Heard(_)
+        | Entry::Garbled
+        | Entry::Captured(_)
+        | Entry::Unknown => match mask {
             Some(mask) => push_if_kept(kept, mask, entry, is_kept),
             // not in a log, whose slots have masks
             None => Ok(()),

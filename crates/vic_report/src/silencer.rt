@@ -1,10 +1,9 @@
 //! Which line silenced a tag whose reply was heard while it was Quiet.
 
-ghost use Rattle.std.specs.Prelude.{◌≡◌, ℕ, ◌+◌, ◌<◌, MatchOption, Some, List, length, slice_get, false};
-ghost use Rattle.vic_frame.specs.Replies.{Reply};
-ghost use Rattle.vic_log.specs.declared.entry.Entry.TheVariants.{Heard};
+ghost use Rattle.std.specs.Prelude.{◌≡◌, ℕ, ◌+◌, ◌<◌, MatchOption, Some, List, length, slice_get, false, true};
 ghost use Rattle.vic_log.specs.Order.{entries};
 ghost use Rattle.vic_log.specs.Quiet.{is_quiet};
+ghost use Rattle.vic_log.specs.Slots.{hears};
 ghost use Rattle.vic_log.specs.declared.entry.LogLine.{LogLine as LogLineValue};
 ghost use Rattle.vic_report.specs.Conflicts.{IsNoQuietReply, IsSilencedBefore, IsSilencedBy};
 ghost use Rattle.vic_verdict.specs.LogLines.{AreLogLines};
@@ -30,19 +29,14 @@ pub(crate) fn silencer_of_line(lines: &[PackedLine], number: u32) -> Option<u32>
 fn silencer_of_reply(lines: &[PackedLine], place: usize) -> Option<u32>
     requires { place < length lines.now }
     ensures { MatchOption result
-        ((r : Reply) → slice_get (entries lines.now) place ≡ Some (Heard r)
-        → is_quiet (entries lines.now) place r.uid ≡ false)
-        (λ n. (r : Reply) × (slice_get (entries lines.now) place ≡ Some (Heard r))
-        × IsSilencedBefore lines.now place r.uid n) }
+        ((u : ℕ) → hears (slice_get (entries lines.now) place) u ≡ true
+        → is_quiet (entries lines.now) place u ≡ false)
+        (λ n. (u : ℕ) × (hears (slice_get (entries lines.now) place) u ≡ true)
+        × IsSilencedBefore lines.now place u n) }
 {
-    match lines[place].item() {
-        Entry::Heard(response) => silencer_before(lines, place, response.uid()),
-        Entry::Sent(_)
-        | Entry::Silent
-        | Entry::Collision
-        | Entry::Garbled
-        | Entry::FieldCycle
-        | Entry::Listed(_) => None,
+    match lines[place].item().heard() {
+        Some(uid) => silencer_before(lines, place, uid),
+        None => None,
     }
 }
 
@@ -82,6 +76,8 @@ fn next_silencer(silencer: Option<u32>, line: &PackedLine, uid: Uid) -> Option<u
         | Entry::Collision
         | Entry::Heard(_)
         | Entry::Garbled
+        | Entry::Captured(_)
+        | Entry::Unknown
         | Entry::Listed(_) => silencer,
     }
 }

@@ -1,5 +1,5 @@
 -- The first lines of a log.
-use Rattle.vic_verdict.proofs.Words.{take-take, ◌≡◌, ℕ, ◌+◌, ◌≤◌, List, ◌++◌, take, drop, sym, ap, ◌∙◌, take-append-drop, take-map, LogLine, IsPossible, entries, map-append}
+use Rattle.vic_verdict.proofs.Words.{take-take, ◌≡◌, ℕ, ◌≤◌, List, ◌++◌, take, drop, sym, ap, ◌∙◌, take-append-drop, take-map, LogLine, IsPossible, entries, map-append}
 use Rattle.vic_verdict.proofs.Possibility.{IsPossible-front}
 
 -- the first lines, and the others

@@ -1,5 +1,7 @@
 -- What a walk over a log tells: how far the log is possible, and what meets its unread slots.
-use Rattle.vic_verdict.proofs.Words.{◌≡◌, ◌≢◌, ℕ, zero, suc, ◌+◌, ◌<◌, ◌≤◌, ◌∙◌, List, [], ◌∷◌, length, take, drop, Bool, true, false, Option, Some, None, refl, sym, ap, subst, arith, inl, inr, ⊎_elim, common_steps, gets, length-take-le, slice_get, slice_get_past, sum_by, sum_by-cons, All, Any, cases_eq, cases_lt, and_from, and_parts, or_cases, or_left, or_right, eq-eqb, eqb-true, false_from_ne_true, false≢true, has, has_cases, AreDifferent, IsWithin, Reply, Entry, Heard, Captured, ◌&&◌, Collision, Garbled, AgreeBefore, answers_agree, answers_at, reading_of, slots_before, slots_of, is_open, with_entry, SuppliesAll, Answering, HasEnough, LacksSome, answering, IsPossible, IsFirstImpossible, AreFound, AreAnswering, IsAnsweringAt, is_unread, AreBorneOut, was_heard, hears, needs, needs_at, needs_of, all_needs}
+use Rattle.vic_verdict.proofs.Words.{◌≡◌, ℕ, zero, suc, ◌+◌, ◌<◌, ◌≤◌, ◌∙◌, List, [], ◌∷◌, length, take, drop, Bool, true, false, Option, Some, None, refl, sym, ap, subst, arith, inl, inr, ⊎_elim, common_steps, gets, length-take-le, slice_get, slice_get_past, sum_by, sum_by-cons, All, Any, cases_eq, cases_lt, and_from, and_parts, or_cases, or_left, or_right, eq-eqb, eqb-true, false_from_ne_true, false≢true, has, has_cases, AreDifferent, IsWithin, Reply, Entry, Heard, Captured, ◌&&◌, Collision, Garbled, AgreeBefore, answers_agree, answers_at, reading_of, slots_before, slots_of, is_open, with_entry, SuppliesAll, Answering, HasEnough, LacksSome, answering, IsPossible, IsFirstImpossible, AreFound, AreAnswering, IsAnsweringAt, is_unread, AreBorneOut, was_heard, hears, needs, needs_at, needs_of, all_needs}
+use Rattle.std.proofs.Common.{is_some}
+use Rattle.std.proofs.lemmas.List.{take-append-drop, take_all}
 use Rattle.std.specs.List.{AllPairs}
 use Rattle.vic_walk.specs.Met.{AreMetBefore, HasEndsPast, IsMetAt, answers_open}
 use Rattle.vic_walk.specs.Walk.{IsEndOfWalk, IsWalkAt}
@@ -7,6 +9,7 @@ use Rattle.vic_walk.specs.declared.walk.Walk.{Walk}
 use Rattle.vic_walk.proofs.Ending.{open_earlier}
 use Rattle.vic_walk.proofs.GoingBack.{met_only_by}
 use Rattle.vic_verdict.proofs.Decide.{IsPossible-iff}
+use Rattle.vic_verdict.proofs.Possibility.{IsPossible-front}
 use Rattle.vic_verdict.proofs.Entries.{EntryAsks, SuppliesBefore, SuppliesAll-places, enough_needed}
 
 -- ---- the first entries
@@ -70,7 +73,7 @@ borne_earlier es m n le h = record {
 }
 
 -- in possible entries they are
-pub borne_out : (es : List Entry) (n : ℕ) → n ≤ length es → IsPossible (take n es) → AreBorneOut es n
+borne_out : (es : List Entry) (n : ℕ) → n ≤ length es → IsPossible (take n es) → AreBorneOut es n
 borne_out es n le possible = record {
   answer = λ j u below h. (both j u below h).1;
   openness = λ u h. let w = heard_place es n u h in (both w.0 u w.1 w.2).0;
@@ -82,6 +85,16 @@ borne_out es n le possible = record {
 pub walked : (bs : List ℕ) (es : List Entry) (broken : Option ℕ) (w : Walk) → IsEndOfWalk bs es broken w → ((i : ℕ) → broken ≡ Some i → ⊥) → IsWalkAt bs es (length es) w × AreBorneOut es (length es)
 walked bs es None w end none = end
 walked bs es (Some i) w end none = absurd (none i refl)
+
+pub unbroken : (bs : List ℕ) (es : List Entry) (broken : Option ℕ) (w : Walk) → IsEndOfWalk bs es broken w → is_some broken ≡ false → IsWalkAt bs es (length es) w × AreBorneOut es (length es)
+unbroken bs es broken w end none = walked bs es broken w end (λ i some. false≢true (sym none ∙ ap is_some some))
+
+-- and a log that is broken isn't possible
+pub broken_log : (bs : List ℕ) (es : List Entry) (broken : Option ℕ) (w : Walk) → IsEndOfWalk bs es broken w → is_some broken ≡ true → IsPossible es → ⊥
+broken_log bs es None w end some possible = false≢true some
+broken_log bs es (Some i) w end some possible =
+    let front = IsPossible-front (take (suc i) es) (drop (suc i) es) (subst IsPossible (sym (take-append-drop (suc i) es)) possible) in
+    end.3 (borne_out es (suc i) (omega (arith, end.0)) front)
 
 -- the ends that a walk knows, which are those of a walk with the same ends
 pub ends_past : (bs : List ℕ) (es : List Entry) (n i : ℕ) (w v : Walk) → n ≤ i → i ≤ length es → v.ends.items ≡ w.ends.items → IsWalkAt bs es i w → HasEndsPast bs es n v
@@ -125,6 +138,13 @@ supplied_met es n i e borne met below k = tt
 
 possible_front : (es : List Entry) (n : ℕ) → n ≤ length es → AreBorneOut es n → AreMetBefore es n → IsPossible (take n es)
 possible_front es n le borne met = (front_iff es n le).1 (λ i e below k. supplied_met es n i e borne met below k)
+
+-- so it is with all entries
+pub possible_met : (es : List Entry) → AreBorneOut es (length es) → AreMetBefore es (length es) → IsPossible es
+possible_met es borne met = subst IsPossible (take_all (length es) es (omega arith)) (possible_front es (length es) (omega arith) borne met)
+
+pub met_possible : (es : List Entry) → IsPossible es → AreMetBefore es (length es)
+met_possible es possible = met_front es (length es) (omega arith) (subst IsPossible (sym (take_all (length es) es (omega arith))) possible)
 
 -- before position m they are, and before the next one they aren't
 first_at : (es : List Entry) (m : ℕ) → m < length es → AreBorneOut es m → AreMetBefore es m → (AreBorneOut es (m + 1) → AreMetBefore es (m + 1) → ⊥) → IsFirstImpossible es m

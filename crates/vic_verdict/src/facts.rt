@@ -1,7 +1,7 @@
 //! What a possible log tells of the tags: which may be there, and which must; or the first line up
 //! to which no population could have produced it.
 
-ghost use Rattle.std.specs.Prelude.{IfOk, MatchResult, ◌≡◌, ℕ, List, OnOk, length, true, false};
+ghost use Rattle.std.specs.Prelude.{IfOk, MatchResult, ◌≡◌, ◌↔◌, ℕ, List, OnOk, length, true, false};
 ghost use Rattle.std.specs.List.Sorted.{IsStrictlyIncreasing};
 ghost use Rattle.std.specs.List.{All, Any};
 ghost use Rattle.vic_frame.specs.Uids.{has};
@@ -124,6 +124,23 @@ pub fn open_and_met<S: OpenSet>(
     }
     let heard = heard_uids(alloc, lines)?;
     Ok(Ok((set, Met { heard, found })))
+}
+
+/// Whether some population could have produced a log.
+pub fn is_possible(alloc: Global, lines: &[PackedLine]) -> Result<bool, AllocError>
+    requires { AreLogLines lines.now }
+    ensures { IfOk result (λ b. (b ≡ true) ↔ IsPossible (entries lines.now)) }
+{
+    let LogWalk {
+        parts,
+        mut walk,
+        broken,
+    } = walk_log(alloc, lines)?;
+    if broken.is_some() {
+        return Ok(false);
+    }
+    let found = open_answers(alloc, lines, &parts, &mut walk)?;
+    Ok(are_met(&found))
 }
 
 /// Whether in each unread slot as many UIDs answer as it requires.

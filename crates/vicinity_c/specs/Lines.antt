@@ -24,13 +24,14 @@ no_line fault = record { fault = fault; len = 0; text = replicate LINE_ROOM 0 }
 abbrev pub bytes_line : ℕ → List ℕ → List ℕ
 bytes_line letter bytes = (letter ∷ byte " " ∷ []) ++ encode_upper bytes ++ codes "\n"
 
--- the line that begins with a letter: T and R have the bytes of a frame, U has a UID
+-- the line that begins with a letter: T, R and H have the bytes of a frame, U has a UID
 abbrev pub line_of : (letter : ℕ) (bytes : List ℕ) (uid : ℕ) → VicinityLine
 line_of letter bytes uid =
-    if letter == byte "T" || letter == byte "R"
+    if letter == byte "T" || letter == byte "R" || letter == byte "H"
     then (if nat_le (2 + 2 * length bytes) MAX_LINE_LEN then lined (bytes_line letter bytes)
     else no_line TOO_LONG)
     else if letter == byte "U" then lined (bytes_line letter (to_be_bytes w64 uid))
     else if letter == byte "S" || letter == byte "C" || letter == byte "D" || letter == byte "F"
+        || letter == byte "N"
     then lined (letter ∷ codes "\n")
     else no_line WRONG_LETTER

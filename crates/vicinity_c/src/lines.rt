@@ -26,9 +26,9 @@ pub struct VicinityLine {
     pub text: [u8; LINE_ROOM],
 }
 
-/// Writes one line of a log's text, LF included: `letter` and `bytes` for a frame that was sent (T)
-/// or heard (R); U and `uid` for a listed UID; only the letter for a slot that was silent (S), had
-/// a collision (C) or was garbled (D), and for a field cycle (F). What the letter doesn't need
+/// Writes one line of a log's text, LF included: `letter` and `bytes` for a frame that was sent (T),
+/// heard (R) or captured (H); U and `uid` for a listed UID; only the letter for a slot that was
+/// silent (S), had a collision (C), was garbled (D) or is unknown (N), and for a field cycle (F). What the letter doesn't need
 /// isn't looked at, and the bytes aren't judged. The result is 0 or the fault: the letter is
 /// another one, or there are more than 63 bytes.
 #[unsafe(no_mangle)]
@@ -50,7 +50,7 @@ fn line_of(letter: u8, bytes: &[u8], uid: u64) -> VicinityLine
     ensures { result ≡ spec.line_of letter bytes.now uid }
 {
     match letter {
-        b'T' | b'R' => {
+        b'T' | b'R' | b'H' => {
             if bytes.len() <= (MAX_LINE_LEN - 2) / 2 {
                 lined(bytes_line(letter, bytes).as_slice())
             } else {
@@ -58,7 +58,7 @@ fn line_of(letter: u8, bytes: &[u8], uid: u64) -> VicinityLine
             }
         }
         b'U' => lined(bytes_line(letter, &uid.to_be_bytes()).as_slice()),
-        b'S' | b'C' | b'D' | b'F' => lined(&[letter, b'\n']),
+        b'S' | b'C' | b'D' | b'F' | b'N' => lined(&[letter, b'\n']),
         _ => no_line(WRONG_LETTER),
     }
 }

@@ -4,7 +4,7 @@ use Rattle.vic_log.specs.declared.entry.Entry.{Entry}
 use Rattle.vic_log.specs.declared.entry.LogLine.{LogLine}
 use Rattle.vic_log.specs.Log.{last_from}
 use Rattle.vic_log.specs.Order.{entries, listed}
-use Rattle.vic_log.specs.Populations.{outcome_at, Fits, CouldHaveGiven}
+use Rattle.vic_log.specs.Populations.{answerers_at, Fits, CouldHaveGiven}
 use Rattle.vic_log.specs.Quiet.{is_quiet}
 use Rattle.vic_verdict.specs.LogLines.{AreLogLines}
 
@@ -25,5 +25,5 @@ pub record KeepsLine (es : List Entry) (i : ℕ) (is_kept : Bool) (e : Entry)
     (old new : List Entry) : Type 0 where
   pub quiet : SameQuiet old es i → SameQuiet new es (i + 1)
   pub given : (p : List ℕ) → SameQuiet old es i
-      → (is_kept ≡ true → Fits e (outcome_at es i p))
+      → (is_kept ≡ true → Fits e (answerers_at es i p))
       → CouldHaveGiven p old → CouldHaveGiven p new

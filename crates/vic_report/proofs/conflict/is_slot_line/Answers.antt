@@ -1,4 +1,4 @@
-use Rattle.vic_report.proofs.Words.{answers_always, length, refl, sym, ap, ◌∙◌, rules, LogLine, is_slot, slice_get_read}
+use Rattle.vic_report.proofs.Words.{answers_always, length, refl, sym, ap, ◌∙◌, rules, LogLine, tells, slice_get_read}
 use Rattle.vic_report.proofs.Conflicts.{found_number}
 use Rattle.vic_report.proofs.conflict.is_slot_line.Goals as goal
 
@@ -13,5 +13,5 @@ returns-in-Ok c told =
       line = line;
       there = there;
       number = found_number lines c.args.number place line (c.in-Ok.ensures.position (λ (l : LogLine). l.number) (answers_always _ _ _ (λ f a s g called. search rules))) there;
-      slot = ap is_slot (sym c.item.ensures) ∙ (sym c.is_slot.ensures ∙ told);
+      slot = ap tells (sym c.item.ensures) ∙ (sym c.tells.ensures ∙ told);
     }

@@ -1,4 +1,4 @@
-use Rattle.vic_report.proofs.Words.{Some, ap, sym, subst, length, refl, arith, ◌∙◌, slice_get_read, has, Entry, entries, CouldHaveGiven, Fits, outcome_at, is_quiet, IsKeptLog, entry_at}
+use Rattle.vic_report.proofs.Words.{Some, ap, sym, subst, length, refl, arith, ◌∙◌, slice_get_read, has, Entry, entries, CouldHaveGiven, Fits, answerers_at, is_quiet, IsKeptLog, entry_at}
 use Rattle.vic_report.proofs.KeptLogs.{none_numbered, valid_entry}
 use Rattle.vic_report.proofs.kept_log.kept_lines.Goals as goal
 
@@ -34,6 +34,6 @@ loop-line-preserved c =
       limit = let h = more.limit in let b = before.limit in omega arith;
       quiet = kept.quiet before.quiet;
       given = λ p fits. kept.given p before.quiet (λ yes.
-          subst (λ e. Fits e (outcome_at es i p)) (sym c.item-entry.ensures)
+          subst (λ e. Fits e (answerers_at es i p)) (sym c.item-entry.ensures)
           (fits i l (slice_get_read c.args.lines.now (length c.args.lines.now) i l refl c.loop-line-test.true c.line-item.is) (ap (has c.args.numbers.now) (sym c.number-number.ensures) ∙ (sym c.has_number-is_kept.ensures ∙ yes)))) (before.given p fits);
     }

@@ -13,6 +13,6 @@ returns-in-Ok c =
     (found_number lines c.args.number place line (c.in-Ok.ensures.position (λ (l : LogLine). l.number) (answers_always _ _ _ (λ f a s g called. search rules))) there) c.silencer_of_reply.ensures
 
 pub returns-in-Err : goal.returns-in-Err
-returns-in-Err c i r there =
+returns-in-Err c i x u there number heard =
     let none = no_number c.args.lines.now c.args.number c.in-Err.field-0 (c.in-Err.ensures.position (λ (l : LogLine). l.number) (answers_always _ _ _ (λ f a s g called. search rules))) c.requires.rising in
-    absurd (none i _ there refl)
+    absurd (none i x there number)

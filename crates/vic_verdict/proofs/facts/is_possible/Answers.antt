@@ -1,0 +1,23 @@
+use Rattle.vic_verdict.proofs.Words.{◌∙◌, sym, false≢true, true_from_ne_false, entries}
+use Rattle.vic_verdict.proofs.Walking.{broken_log, found_met, lacks_unmet, met_possible, possible_met, unbroken}
+use Rattle.vic_verdict.proofs.facts.is_possible.Goals as goal
+
+pub returns-then-is_some : goal.returns-then-is_some
+returns-then-is_some c =
+    let es = entries c.args.lines.now in
+    let walk = c.in_ok-parts.field-0 in
+    let some = sym c.is_some.ensures ∙ c.if-is_some.true in (
+      (λ no. absurd (false≢true no)),
+      (λ possible. absurd (broken_log walk.parts es walk.broken walk.walk c.in_ok-parts.ensures.walk some possible)),
+    )
+
+pub returns : goal.returns
+returns c =
+    let es = entries c.args.lines.now in
+    let walk = c.in_ok-parts.field-0 in
+    let none = sym c.is_some.ensures ∙ c.if-is_some.false in
+    let end = unbroken walk.parts es walk.broken walk.walk c.in_ok-parts.ensures.walk none in
+    let found = c.in_ok-found.found.items in (
+      (λ met. possible_met es end.1 (found_met es found c.in_ok-found.ensures.found (rw c.deref.ensures.value at (c.are_met.ensures.met met)))),
+      (λ possible. true_from_ne_false _ (λ unmet. lacks_unmet es found c.in_ok-found.ensures.found (rw c.deref.ensures.value at (c.are_met.ensures.unmet unmet)) (met_possible es possible))),
+    )
