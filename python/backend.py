@@ -16,8 +16,8 @@ ABOUT = ("README.md", *LICENSES)
 SCRIPTS = "[console_scripts]\nvicinity-logs = vicinity.__main__:entry\n"
 #: The page that the package fills in; in the repository this makes it.
 PAGE, BUILD = "vicinity/pages/page.html", os.path.join(HERE, "../web/build")
-#: The library in a wheel of its own for a kind of machine.
-LIBRARY = "vicinity/libvicinity.so.1"
+#: The library in a wheel of its own for a kind of machine; on Windows it has another name.
+LIBRARY, DLL = "vicinity/libvicinity.so.1", "vicinity/vicinity.dll"
 EXECUTABLE, PLAIN = 0o755, 0o644
 
 
@@ -60,7 +60,7 @@ def _wheel(folder, files, tag="any"):
     with zipfile.ZipFile(os.path.join(folder, name), "w", zipfile.ZIP_DEFLATED) as wheel:
         for member, content in files.items():
             information = zipfile.ZipInfo(member)
-            information.external_attr = (EXECUTABLE if member == LIBRARY else PLAIN) << 16
+            information.external_attr = (EXECUTABLE if member in (LIBRARY, DLL) else PLAIN) << 16
             wheel.writestr(information, content, zipfile.ZIP_DEFLATED)
     return name
 
@@ -79,9 +79,9 @@ def build_wheel(wheel_directory, config_settings=None, metadata_directory=None):
 
 
 def build_wheel_with(wheel_directory, library, tag):
-    """A wheel with the library in it, for the machines of a tag such as manylinux2014_x86_64."""
+    """A wheel with the library in it, for the machines of a tag such as manylinux2014_x86_64 or win_amd64."""
     with open(library, "rb") as file:
-        return _wheel(wheel_directory, {**_package(), LIBRARY: file.read()}, tag)
+        return _wheel(wheel_directory, {**_package(), DLL if tag.startswith("win") else LIBRARY: file.read()}, tag)
 
 
 def build_editable(wheel_directory, config_settings=None, metadata_directory=None):

@@ -75,12 +75,60 @@ SAID = (
 FOREIGN = (("\uFEFFvicinity-log 1\n", "byte order mark"), ("v\0i\0c\0\n\0", "UTF-16"),
            ("uid,title\nE004,Emma\n", "a table (CSV)"),
            ("uid,title\nE004,Emma\n", "Open the log, not a list"),
+           ("uid,title\nE004,Emma\n", "open it together with them"),
+           ("vicinity-log 1\nT 260100F60B\n", "have the CRC F60A, and the line has F60B"),
            ("vicinity-log 1\rT 260100F60A\rS\r", "CR alone"),
            ("vicinity-log 1 \n", "vicinity-log 1‹space›"),
            ("vicinity-log 1\nU E0040100000000A1\r", "A1‹CR›"),
            ("vicinity-log 1\nT\t260100F60A\n", "T‹TAB›260100F60A"),
            ("vicinity-log 1\nT 260100F60A\nR 0000A1000000000104E06746\nS\n", "gets the line D"),
            ("vicinity-log 1\nT 260100F", "may end in the middle of this line"))
+# Lines of logs of version 3.
+ALL, EACH, OF_B = "T 260100F60A", "T 060100CD09", "T 260108B2923A"
+READ_A, READ_B = "R 0000A1000000000104E06745", "R 0000B2000000000104E0CF94"
+OVER_A, QUIET_A = "H" + READ_A[1:], "T 2202A1000000000104E0662A"
+LIST_A, LIST_B = "U E0040100000000A1", "U E0040100000000B2"
+# These logs, how the headline begins, and what is said besides.
+THIRD = {
+    "a reply that may hide others": (
+        (ALL, OVER_A, LIST_A), "Not finished: 0 % of all UIDs settled. 1 tag proved.",
+        "In slot 0 of the round of line 2, which asked all UIDs, ..00A1 was read, perhaps over "
+        "others"),
+    "none was hidden": (
+        (ALL, OVER_A, QUIET_A, ALL, "S", LIST_A), "The one listed tag is here, and no other.",
+        "Would also hold if a strong reply hid a weaker one: yes."),
+    "two were hidden": (
+        (ALL, OVER_A, QUIET_A, ALL, "C", LIST_A), "Not finished: 0 % of all UIDs settled. 1 tag",
+        "In slot 0 of the round of line 5, which asked all UIDs, two or more tags answered"),
+    "a slot that isn't known": (
+        (EACH, "N", *"S" * 15), "Not finished: 93 % of all UIDs settled. The log has no list",
+        "In slot 0 of the round of line 2, which asked all UIDs, nothing is known of who answered"),
+    "it is asked again": (
+        (EACH, "N", READ_A, *"S" * 14, "T 26010400AB05", "S", LIST_A),
+        "The one listed tag is here, and no other.", "Would also hold"),
+    "the last round has such a slot": (
+        (EACH, *"S" * 15, "N"), "Not finished", "Of a slot of the last round, which asked all"),
+    "it was silenced": (
+        (ALL, OVER_A, QUIET_A, ALL, OVER_A), "The log contradicts itself: tag ..00A1 was silenced "
+        "in line 4, but answered in line 6.", "woke up"),
+    "a silent slot": (
+        (ALL, "S", ALL, OVER_A), "The log contradicts itself: tag ..00A1 answered in line 5, but "
+        "not in line 3, where it was also asked.", "Its reply in line 3 was lost"),
+    "one that was read alone": (
+        (ALL, OVER_A, ALL, READ_B), "The log contradicts itself: tag ..00A1 answered in line 3, "
+        "but not in line 5, where ..00B2 was read alone, and it was asked there too.",
+        "write H for R"),
+    "another mask": (
+        (OF_B, OVER_A), "The log contradicts itself: line 3 is a reply of ..00A1, a tag that",
+        "under the wrong request"),
+    "one slot too many": ((ALL, "N", "N"), "This text isn't a log. Line 4", "no slot"),
+    "a reply cut short": (
+        (ALL, "H 0000A1"), "This text isn't a log. Line 3: the reply doesn't", "gets the line D")}
+# What each answer says of strong replies that hid weaker ones.
+HIDDEN = (
+    ("I16 S RA RB S13 UA UB", "no. To know, silence each tag that was heard, and ask all in one "
+     "slot, until none answers: T 260100F60A"), ("I1 RA QA I1 S UA", "yes."),
+    ("I1 RA I1 S UB", None), ("I1 S", None), ("I1 C UA", None), ("UA UA", None))
 # Logs whose pages are read by everybody: each look of the answer.
 READ = ("I16 S RA RB S13 UA UB", "I16 S C S14 UA", "I1 RA I1 S", "UA UA", "I1 RA")
 TYPE = """
@@ -198,6 +246,110 @@ def test_a_foreign_text_is_told_from_a_log(page, text, words):
     page.drop(log=text.encode())
     page.until("h1", "isn't a log")
     page.until("#told", words)
+
+
+def third(*lines):
+    """The text of a log of version 3."""
+    return text_of(["vicinity-log 3", *lines])
+
+
+@pytest.mark.parametrize("name", THIRD)
+def test_a_log_of_version_3(page, program, name):
+    lines, headline, words = THIRD[name]
+    page.drop(log=third(*lines))
+    page.until("h1", headline)
+    page.until("#told", words)
+    answer = program.run("check", given=third(*lines)).out.decode().strip()
+    assert page.texts(".banner code") == [answer]
+    page.is_readable()
+
+
+def test_slots_of_version_3_are_drawn(page):
+    """Each look once, with its words; the strip is not needed. On paper too."""
+    page.drop(log=third(EACH, "N", OVER_A, READ_B, *"S" * 13))
+    page.until(".lights", "no")
+    drawn = "return [...document.querySelectorAll('.rounds td.captured, .rounds td.unknown')]"
+    looks = page.run(f"{drawn}.map((it) => [it.className, it.title, it.textContent])")
+    assert [look.split()[0] for look, _, _ in looks] == ["unknown", "captured"]
+    assert "nothing is known of it" in looks[0][1] and looks[0][2].startswith("~")
+    assert "others may have answered under it E0040100000000A1" in looks[1][1]
+    assert looks[1][2].startswith("A1")
+    page.media("print")
+    for words in "one tag, perhaps over others", "nothing known":
+        assert words in "\n".join(page.texts(".legend"))
+    assert "1 heard, 1 heard, perhaps over others, 13 silent, 1 of which nothing is known" in (
+        page.run("return document.querySelector('.rounds th .unseen').textContent"))
+
+
+def test_what_is_left_to_ask_under_a_reply(page):
+    """It is silenced, and its round is asked again, in place of each mask around it."""
+    page.drop(log=third(ALL, OVER_A, LIST_A))
+    page.until(".copy", "T ")
+    assert page.texts(".copy") == [f"{QUIET_A}\n{ALL}"]
+
+
+@pytest.mark.parametrize(("names", "words"), HIDDEN, ids=[row[0] for row in HIDDEN])
+def test_whether_it_also_holds_if_replies_were_hidden(page, names, words):
+    page.drop(log=log_of(names))
+    page.until(".banner h1", "")
+    said = [it.partition("hid a weaker one: ")[2] for it in page.texts(".holds p")]
+    assert [it for it in said if it] == ([words] if words else [])
+
+
+def test_a_contradiction_that_hidden_replies_explain(page):
+    page.drop(log=log_of("I1 RA QA I1 RB QB I1 S UA UB"))
+    page.until("#told", "(each R read as H), the log doesn't contradict itself.")
+
+
+@pytest.mark.parametrize(("names", "conditions"), [
+    ("I1 RA UA", 1), ("I1 S", 1), ("I1 RA", 0), ("I1 C UA", 0), ("I1 RA I1 S", 0)])
+def test_what_a_complete_answer_is_said_of(page, names, conditions):
+    page.drop(log=log_of(names))
+    page.until(".banner h1", "")
+    assert page.said().count("tags that had power, heard the reader, and were heard") == conditions
+
+
+@pytest.mark.parametrize(("version", "letters"), [
+    (1, ["S nobody", "C two or more"]), (2, ["S nobody", "C two or more", "D unreadable"]),
+    (3, ["H one tag, perhaps over others", "S nobody", "C two or more", "D unreadable",
+         "N not known"])])
+def test_which_letters_are_tried(page, version, letters):
+    page.drop(log=text_of([f"vicinity-log {version}", ALL, READ_A, LIST_A]))
+    page.until("h1", "The one listed tag is here")
+    page.press("td[data-line='3']")
+    assert page.texts("#trial button") == letters
+
+
+def test_a_reply_is_tried_over_others(page):
+    """Its frame stays."""
+    page.drop(log=third(ALL, READ_A, LIST_A))
+    page.until("h1", "The one listed tag is here")
+    page.press("td[data-line='3']")
+    page.press("#trial button")
+    page.until("h1", "A trial: Not finished: 0 %")
+    field = page.driver.find_element("id", "text").get_property("value")
+    assert field == third(ALL, OVER_A, LIST_A).decode()
+    page.press("#trial button", -1)
+    page.until("h1", "The one listed tag is here")
+
+
+def test_letters_are_tried_by_the_keyboard(page):
+    """Where the cursor goes in the text: from its end two lines up."""
+    page.drop(log=log_of("I1 RA UA"))
+    page.until("h1", "The one listed tag is here")
+    page.driver.find_element("id", "text").send_keys("\ue013" * 2)
+    page.wait(lambda: page.texts("#trial button") == ["S nobody", "C two or more"])
+
+
+def test_a_table_is_compared_with_the_logs_that_are_here(page):
+    page.drop(log=log_of("I1 RA"))
+    page.until("h1", "1 tag proved")
+    page.drop(**{"books.csv": b"title;uid\nWalden;E0:04:01:00:00:00:00:A1\n"})
+    page.until(".banner.yes h1", "The one expected item is here, and no other.")
+    page.press(".logs summary")
+    drawn = "return document.querySelector('.logs').textContent"
+    page.wait(lambda: "Walden E0040100000000A1" in page.run(drawn))
+    assert "Walden" in page.run("return document.querySelector('td.heard').title")
 
 
 def test_a_header_with_a_comma_is_no_table(page):

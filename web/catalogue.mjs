@@ -10,7 +10,7 @@ const HEADER = "vicinity-log", OF_UIDS = "uid", PLACE = "place", LOG = "log";
 /** What may be among the digits of a UID, and before them. */
 const BETWEEN = /[\s:\-\u2010-\u2013]/g, BEFORE = /^'?(0x)?/i, DIGITS = /^E0[0-9A-F]{14}$/;
 /** Lines of a log that aren't a list: requests and outcomes. */
-const ASKED = /^[TSRCDF]/m, LISTED = /^U ([0-9A-Fa-f]{16})/gm;
+const ASKED = /^[TSRHCDNF]/m, LISTED = /^U ([0-9A-Fa-f]{16})/gm;
 /** The columns that `reconcile --csv` has added, and the state of rows that it has. */
 const ADDED = ["state", "certain in", "may be in"], UNEXPECTED = "unexpected";
 
@@ -19,12 +19,12 @@ const ADDED = ["state", "certain in", "may be in"], UNEXPECTED = "unexpected";
  * @param {Given[]} files
  */
 export function sorted(files) {
-  const isLog = (/** @type {Given} */ file) => startOf(file).startsWith(HEADER);
-  const tables = files.filter((file) => !isLog(file) && looksLikeTable(file));
+  if (files.length < 2) return { logs: files, expected: null, places: null };
+  const tables = files.filter(looksLikeTable);
   const lists = files.filter((file) => isLog(file) && isList(file));
   const places = tables.find((file) => { const { heads } = headsOf(file); return heads.includes(PLACE) && heads.includes(LOG); });
   const expected = [...tables.filter((file) => file !== places), ...tables.length ? [] : lists];
-  if (expected.length !== 1 || files.length < 2) return { logs: files, expected: null, places: null };
+  if (expected.length !== 1) return { logs: files, expected: null, places: null };
   return { logs: files.filter((file) => file !== places && file !== expected[0]), expected: expected[0], places: places ?? null };
 }
 
@@ -38,7 +38,13 @@ function headsOf(file) {
 }
 
 /** @param {Given} file */
-const looksLikeTable = (file) => /\.(csv|tsv)$/i.test(file.name) || headsOf(file).heads.includes(OF_UIDS);
+const isLog = (file) => startOf(file).startsWith(HEADER);
+
+/**
+ * Whether a file is a table: its name says so, or it has a column of UIDs.
+ * @param {Given} file
+ */
+export const looksLikeTable = (file) => !isLog(file) && (/\.(csv|tsv)$/i.test(file.name) || headsOf(file).heads.includes(OF_UIDS));
 
 /** @param {Given} file */
 function isList(file) {

@@ -4,14 +4,16 @@ import { UID_BITS } from "./words.mjs";
 /** @typedef {import("./frames.mjs").Mask} Mask */
 /** @typedef {import("./log.mjs").Log} Log */
 /** @typedef {import("./log.mjs").Reading} Reading */
-/** @typedef {{reading: Reading, round: number, slots: number[], asked: Mask}} Cause */
+/** @typedef {{reading: Reading, round: number, slots: number[], asked: Mask, uids: bigint[]}} Cause with the tags that were read */
 /** @typedef {{line: number, uid: bigint}} Silenced a Stay Quiet to a tag that was never heard */
-/** @typedef {{row: number, round: number, asked: Mask, number: number, mask: Mask, reading: Reading}} Unread a slot */
+/** @typedef {{row: number, round: number, asked: Mask, number: number, mask: Mask, reading: Reading, uid: bigint | null}} Unread a slot */
 
 /** Of one round first what wasn't reached, as that is where the reader stopped. */
-const ORDER = ["unreached", "collision", "garbled"];
+const ORDER = ["unreached", "unknown", "collision", "garbled", "captured"];
 /** After so many slots only those are looked for that explain one more mask. */
 const MOST_CAUSING = 1000;
+/** By so many low bits most rounds are known to ask nothing that is open. */
+const LOW_BITS = 16;
 /** How many bits the masks have at least of which each UID may have been silenced. */
 const LEAST_SILENCED = UID_BITS - 6;
 
@@ -40,8 +42,9 @@ export function silencedUnheard(log, open) {
 }
 
 /**
- * The slots that weren't reached or weren't read: those within an open mask, and for a mask without such slots the narrowest
- * around it; with the rows of these slots, and whether a mask has neither.
+ * The slots that weren't reached or weren't read, or in which others than the one that was read may have answered: those within
+ * an open mask, and for a mask without such slots the narrowest around it; with the rows of these slots, whether a mask has
+ * neither, and the masks that only a reply may have hidden.
  * @param {Log} log
  * @param {Mask[]} masks
  */
@@ -49,7 +52,7 @@ export function causesOf(log, masks) {
   const open = new Set(masks.map((mask) => key(mask.len, mask.value))), lengths = [...new Set(masks.map((mask) => mask.len))];
   /** @type {Map<string, Unread>} */
   const unread = new Map(), explained = new Set(), causing = [];
-  for (const slot of masks.length ? unreadSlots(log) : []) {
+  for (const slot of masks.length ? unreadSlots(log, lowBits(masks)) : []) {
     const { len, value } = slot.mask;
     if (!unread.has(key(len, value))) unread.set(key(len, value), slot);
     const around = lengths.filter((it) => it <= len).map((it) => key(it, value)).find((it) => open.has(it));
@@ -59,26 +62,56 @@ export function causesOf(log, masks) {
     if (explained.size === open.size && causing.length >= MOST_CAUSING) break;
   }
   let neverAsked = false;
-  for (const { len, value } of masks.filter((mask) => !explained.has(key(mask.len, mask.value)))) {
-    const around = Array.from({ length: len }, (_, less) => unread.get(key(len - 1 - less, value))).find((it) => it);
+  const hidden = /** @type {Set<Mask>} */ (new Set());
+  for (const mask of masks.filter((it) => !explained.has(key(it.len, it.value)))) {
+    const { len, value } = mask, around = Array.from({ length: len }, (_, less) => unread.get(key(len - 1 - less, value))).find((it) => it);
     if (around) causing.push(around); else neverAsked = true;
+    if (around?.reading === "captured") hidden.add(mask);
   }
-  return { causes: byRound(causing), rows: [...new Set(causing.map((slot) => slot.row))], neverAsked };
+  return { causes: byRound(causing), rows: [...new Set(causing.map((slot) => slot.row))], neverAsked, hidden };
 }
 
 /**
- * Every slot of the log that wasn't reached or wasn't read, those of the last round first.
+ * Every slot that wasn't reached or wasn't read, or was read perhaps over others, of the rounds that may ask what is open, those
+ * of the last round first.
  * @param {Log} log
+ * @param {Uint8Array[]} low
  * @returns {Generator<Unread>}
  */
-function* unreadSlots(log) {
+function* unreadSlots(log, low) {
   for (let at = log.rowCount - 1; at >= 0; at--) {
-    const round = log.hasUnread(at) ? log.row(at) : null;
+    const round = mayAsk(log, at, low) && log.hasUnread(at) ? log.row(at) : null;
     if (round?.kind !== "round") continue;
-    for (const { number, mask, reading } of round.slots) {
-      if (ORDER.includes(reading)) yield { row: at, round: round.line, asked: round.asked, number, mask, reading };
+    for (const { number, mask, reading, uid } of round.slots) {
+      if (ORDER.includes(reading)) yield { row: at, round: round.line, asked: round.asked, number, mask, reading, uid };
     }
   }
+}
+
+/**
+ * For each number of low bits, which values of these some mask has.
+ * @param {Mask[]} masks
+ */
+function lowBits(masks) {
+  const low = Array.from({ length: LOW_BITS + 1 }, (_, bits) => new Uint8Array(1 << bits));
+  for (const { len, value } of masks) {
+    const bits = Math.min(len, LOW_BITS), first = Number(BigInt.asUintN(bits, value));
+    for (let it = first; it < 1 << LOW_BITS; it += 1 << bits) low[LOW_BITS][it] = 1;
+  }
+  for (let bits = LOW_BITS - 1; bits >= 0; bits--) low[bits] = low[bits].map((_, it) => low[bits + 1][it] | low[bits + 1][it + (1 << bits)]);
+  return low;
+}
+
+/**
+ * Whether the low bits of a round's mask may be those of what is open.
+ * @param {Log} log
+ * @param {number} row
+ * @param {Uint8Array[]} low
+ */
+function mayAsk(log, row, low) {
+  if (!log.isRound(row)) return false;
+  const asked = log.shape(row), bits = Math.min(asked.len, LOW_BITS);
+  return low[bits][asked.low & (1 << bits) - 1] > 0;
 }
 
 /**
@@ -89,9 +122,12 @@ function* unreadSlots(log) {
 function byRound(causing) {
   /** @type {Map<string, Cause>} */
   const causes = new Map();
-  for (const { reading, round, asked, number } of causing) {
-    const cause = causes.get(`${round} ${reading}`) ?? { reading, round, slots: [], asked };
-    if (!cause.slots.includes(number)) cause.slots.push(number);
+  for (const { reading, round, asked, number, uid } of causing) {
+    const cause = causes.get(`${round} ${reading}`) ?? { reading, round, slots: [], asked, uids: [] };
+    if (!cause.slots.includes(number)) {
+      cause.slots.push(number);
+      cause.uids.push(...uid === null ? [] : [uid]);
+    }
     causes.set(`${round} ${reading}`, cause);
   }
   for (const cause of causes.values()) cause.slots.sort((one, other) => one - other);

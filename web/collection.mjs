@@ -2,17 +2,20 @@
 import { el, folded } from "./elements.mjs";
 import { KIND } from "./kinds.mjs";
 import { Pane } from "./pane.mjs";
-import { GRANTED } from "./say.mjs";
+import { ALSO, GRANTED, HOLDS, TO_KNOW } from "./say.mjs";
 import { maskOf, tell } from "./told.mjs";
 import { banner, signed, view } from "./view.mjs";
 import { count, ending, listing, printable } from "./words.mjs";
 
 /** @typedef {import("./told.mjs").LogObject} LogObject */
+/** @typedef {import("./view.mjs").Names} Names */
 /** @typedef {"there" | "misplaced" | "missing" | "not provable" | "unexpected" | "no tag"} State */
 /** @typedef {{uid: string | null, state: State, columns: Record<string, string>, certain_in: string[], may_be_in: string[],
  *   belongs?: string}} Item */
 /** @typedef {{file: string, certain: number, open: {mask_len: number, mask_value: string, ask?: string}[], more_open: boolean,
- *   list: {kind: string, status: number, line?: number, error?: string}, object?: LogObject}} OneLog */
+ *   list: {kind: string, status: number, line?: number, error?: string}, captured?: OfField, object?: LogObject}} OneLog */
+/** @typedef {{holds: boolean, mask_len?: number, mask_value?: string}} OfField whether a log says the same of its field if strong
+ *   replies hid weaker ones, and if not, a mask that may have more tags */
 /**
  * The object of a collection, as docs/answers.schema.json has it.
  * @typedef {Object} CollectionObject
@@ -30,6 +33,10 @@ import { count, ending, listing, printable } from "./words.mjs";
 
 /** How many rows of a table are drawn, how many are seen unfolded, and how many logs and masks are named. */
 const MOST_ROWS = 2000, FEW_ROWS = 40, MOST_NAMES = 3, MOST_MASKS = 3;
+/** How many cells of the catalogue are the name of an item. */
+const MOST_CELLS = 2;
+/** The head of where items belong, which the catalogue's own column of places repeats. */
+const BELONGS = "belongs to";
 const CANNOT_BE_READ = 4;
 /** How much text of logs stands in a page that is saved. */
 const MOST_TEXT = 4_000_000;
@@ -55,18 +62,29 @@ const isOpen = (log) => log.open.length > 0;
  */
 export function collectionView(object) {
   const of = (/** @type {State} */ state) => object.items.filter((item) => item.state === state);
-  const again = countAgain(object, of("not provable")), first = object.set_aside.length > 0;
+  const names = namesIn(object), again = countAgain(object, of("not provable"), names), first = object.set_aside.length > 0;
   const said = object.name ? [printable(object.name)] : [];
   const look = isWhole(object) ? "yes" : "no", sign = isWhole(object) ? "✓" : "!";
   return [banner({ look, sign, headline: headlineOf(object), lights: lights(object) }, [...said, ` · ${count(object.logs.length, "log")}`]),
+    ...conditionsOfAll(object),
     ...first ? again : [],
     ...items("Look for", LOOK_FOR, of("missing"), {}, true),
-    ...items("Move", MOVE, of("misplaced"), { "is in": (item) => namesOf(item.certain_in), "belongs to": (item) => item.belongs ?? "" }, true),
+    ...items("Move", MOVE, of("misplaced"), { "is in": (item) => namesOf(item.certain_in), [BELONGS]: (item) => item.belongs ?? "" }, true),
     ...first ? [] : again,
     ...items("Unknown", NOT_EXPECTED, of("unexpected"), { "is in": (item) => namesOf(item.certain_in) }, true),
     ...items("Without a tag", NO_TAG, of("no tag"), {}, false),
     ...items("Here, and in place", "", of("there"), { "is in": (item) => namesOf(item.certain_in) }, false),
-    ...logs("Read to the end", "", object.logs.filter((log) => !isOpen(log)), false), ...grantedOfAll(object), recordOfAll(object)];
+    ...logs("Read to the end", "", object.logs.filter((log) => !isOpen(log)), false, names), ...grantedOfAll(object), recordOfAll(object)];
+}
+
+/**
+ * What the catalogue says of each UID, in as many of its cells as name it.
+ * @param {CollectionObject} object
+ * @returns {Names}
+ */
+function namesIn({ items: all }) {
+  const said = (/** @type {Item} */ { columns }) => Object.values(columns).filter((cell) => cell.trim()).slice(0, MOST_CELLS).join(" · ");
+  return new Map(all.flatMap((item) => item.uid ? [[item.uid, said(item)]] : []));
 }
 
 /**
@@ -116,13 +134,27 @@ function lights(object) {
 }
 
 /**
+ * What a complete answer is said of; and whether what is here and missing also holds if strong replies hid weaker ones.
+ * @param {CollectionObject} object
+ */
+function conditionsOfAll(object) {
+  const { counts } = object, all = object.logs.filter((log) => !isAside(log));
+  const hidden = all.filter((log) => log.captured?.holds === false).map((log) => log.file);
+  if (!isWhole(object) && !counts.missing && !counts.unexpected) return [];
+  const known = all.every((log) => log.captured), where = hidden.length ? `no. In the field of ${namesOf(hidden)}: ${TO_KNOW}.` : "yes.";
+  return [el("section", { class: "holds" }, ...isWhole(object) ? [el("p", {}, HOLDS)] : [],
+    ...known || hidden.length ? [el("p", {}, ALSO + where)] : [])];
+}
+
+/**
  * The logs to be counted again, those first that say nothing, and the items that may be in their fields.
  * @param {CollectionObject} object
  * @param {Item[]} unknown
+ * @param {Names} names
  */
-function countAgain(object, unknown) {
+function countAgain(object, unknown, names) {
   const open = object.logs.filter(isOpen), aside = open.filter(isAside);
-  return [...logs("Count again", COUNT_EACH, [...aside, ...open.filter((log) => !isAside(log))], true),
+  return [...logs("Count again", COUNT_EACH, [...aside, ...open.filter((log) => !isAside(log))], true, names),
     ...items("Not known yet", UNKNOWN_YET, unknown, { "may be in": (item) => namesOf(item.may_be_in) }, false)];
 }
 
@@ -136,8 +168,8 @@ function countAgain(object, unknown) {
  */
 function items(title, words, list, where, open) {
   if (!list.length) return [];
-  const columns = [...new Set(list.slice(0, MOST_ROWS).flatMap((item) => Object.keys(item.columns)))]
-    .filter((column) => list.some((item) => item.columns[column]));
+  const isSaid = (/** @type {string} */ column) => list.some((item) => item.columns[column] && !(BELONGS in where && item.columns[column] === item.belongs));
+  const columns = [...new Set(list.slice(0, MOST_ROWS).flatMap((item) => Object.keys(item.columns)))].filter(isSaid);
   const heads = [...columns, ...Object.keys(where), "UID"];
   const said = (/** @type {Item} */ item) => columns.map((column) => printable(item.columns[column] ?? ""));
   const rows = list.slice(0, MOST_ROWS).map((item) => el("tr", {}, cellsOf(heads,
@@ -184,22 +216,26 @@ const nameOf = (file) => printable(file.split("/").pop() || file);
  * @param {string} words
  * @param {OneLog[]} list
  * @param {boolean} open
+ * @param {Names} names
  */
-function logs(title, words, list, open) {
+function logs(title, words, list, open, names) {
   if (!list.length) return [];
   const more = list.length > MOST_ROWS ? [el("p", {}, `and ${(list.length - MOST_ROWS).toLocaleString("en")} more`)] : [];
   return [folded(`${title} (${count(list.length, "log")})`, open, ...words ? [el("p", {}, words)] : [],
-    el("ul", { class: "logs" }, list.slice(0, MOST_ROWS).map((log) => el("li", {}, oneLog(log)))), ...more)];
+    el("ul", { class: "logs" }, list.slice(0, MOST_ROWS).map((log) => el("li", {}, oneLog(log, names)))), ...more)];
 }
 
-/** @param {OneLog} log */
-function oneLog(log) {
+/**
+ * @param {OneLog} log
+ * @param {Names} names
+ */
+function oneLog(log, names) {
   const words = [el("b", { title: printable(log.file) }, nameOf(log.file)), ` ${saidOf(log)}`];
   const { object } = log;
   if (!object) return el("p", { class: "log" }, words);
   const it = /** @type {HTMLDetailsElement} */ (el("details", { class: "log aside" }, el("summary", {}, words)));
   it.addEventListener("toggle", () => {
-    if (it.open && it.childElementCount === 1) it.append(drawnLog(object));
+    if (it.open && it.childElementCount === 1) it.append(drawnLog(object, names));
   });
   return it;
 }
@@ -207,9 +243,10 @@ function oneLog(log) {
 /**
  * A log and its text.
  * @param {LogObject} object
+ * @param {Names} names
  */
-function drawnLog(object) {
-  const label = `The text of ${printable(object.file)}`, shown = el("div", {}, view(tell(object), "h3"));
+function drawnLog(object, names) {
+  const label = `The text of ${printable(object.file)}`, shown = el("div", {}, view(tell(object), "h3", names));
   const field = /** @type {HTMLTextAreaElement} */ (el("textarea", { class: "text", readonly: "", "aria-label": label }));
   new Pane(field, shown).put(object.text);
   return el("div", { class: "both" }, shown, el("div", { class: "beside" }, field));

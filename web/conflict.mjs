@@ -33,12 +33,12 @@ export const isLarge = (conflict) => conflict !== null && conflict.count > MOST_
  * @returns {Conflict}
  */
 export function conflictOf(log, lines, silencer) {
-  const heard = lines.filter((line) => log.letter(line) === "R");
-  const unread = lines.find((line) => "CD".includes(log.letter(line)));
+  const heard = lines.filter((line) => log.isReply(line)), isSilent = (/** @type {number} */ line) => log.reading(line) === "silent";
+  const unread = lines.find((line) => !log.isReply(line) && !isSilent(line));
   return { count: lines.length, first: lines[0], last: lines[lines.length - 1], silencer,
     unread: unread ? log.slot(unread) : null,
     heard: [...new Set([...heard.slice(0, 1), ...heard.slice(-1)])].flatMap((line) => log.slot(line) ?? []),
-    silent: lines.find((line) => log.letter(line) === "S") ?? 0, ...partsOf(log, lines) };
+    silent: lines.find(isSilent) ?? 0, ...partsOf(log, lines) };
 }
 
 /**
@@ -55,7 +55,7 @@ function partsOf(log, lines) {
   }
   const parts = [...byRow].slice(0, MOST_PARTS).flatMap(([at, its]) => {
     const row = log.row(at);
-    const silent = its.every((line) => log.letter(line) === "S");
+    const silent = its.every((line) => log.reading(line) === "silent");
     return row.kind === "round" ? [{ asked: row.asked, round: row.line, lines: its, silent }] : [];
   });
   return { rounds: byRow.size, parts };

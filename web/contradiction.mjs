@@ -5,9 +5,10 @@ import { count, short } from "./words.mjs";
 /** @typedef {import("./log.mjs").Slot} Slot */
 /** @typedef {{sentence: string, causes: string[], test: string}} Contradiction */
 
-const NOISE = "Noise was logged as an answer: a slot that may have been noise gets no line, nor does the rest of its round.";
-const ONE_DAMAGED = "One damaged reply was logged as a collision: if the chip can't tell these apart, write D, in a log of version 2.";
-const HIDDEN = "A strong reply hid a weaker one.";
+const NOISE = "Noise was logged as an answer: a slot that may have been noise gets no line, nor does the rest of its round; in a log " +
+  "of version 3 it gets the line N.";
+const ONE_DAMAGED = "One damaged reply was logged as a collision: if the chip can't tell these apart, write D, in a log of version 2 or 3.";
+const HIDDEN = "A strong reply hid a weaker one: if the chip can't rule that out, write H for R, in a log of version 3.";
 const SECOND_READER = "A second reader kept tags powered and silent, or silenced some.";
 const WRONG_PLACE = "The line was logged under the wrong request: a late reply, or lines in the wrong order.";
 const LEFT_OUT = "A Stay Quiet or another request was sent that isn't in the log, or the field was off and the log has no line F.";
@@ -53,7 +54,7 @@ function woke(slot, silencer) {
  */
 function alone(slot) {
   const { line } = slot;
-  if (slot.reading === "heard") {
+  if (slot.uid !== null) {
     return { sentence: `line ${line} is a reply of ${name(slot)}, a tag that wasn't asked there.`,
       causes: [WRONG_PLACE, LEFT_OUT], test: "" };
   }
@@ -88,8 +89,11 @@ function unmet({ count: number, first, last, heard }, unread) {
  */
 function hidden(first, last) {
   const one = short(first.uid ?? 0n, [last.uid ?? 0n]), other = short(last.uid ?? 0n, [first.uid ?? 0n]);
-  return { sentence: `tags ${one} (line ${first.line}) and ${other} (line ${last.line}) were each read alone, but both should ` +
-    "have answered in one of these two slots.",
+  const over = first.reading === "captured" ? `${one} answered in line ${first.line}, but not in line ${last.line}, where ${other} was read alone`
+    : `${other} answered in line ${last.line}, but not in line ${first.line}, where ${one} was read alone`;
+  const isOver = first.reading === "captured" || last.reading === "captured";
+  return { sentence: isOver ? `tag ${over}, and it was asked there too.` : `tags ${one} (line ${first.line}) and ${other} (line ${last.line}) ` +
+    "were each read alone, but both should have answered in one of these two slots.",
     causes: [HIDDEN, `A tag came into the field between lines ${first.line} and ${last.line}, or left it.`, LEFT_OUT, SECOND_READER],
     test: "Move the two apart or lower the gain, and ask in sixteen slots, so that fewer tags answer at once." };
 }

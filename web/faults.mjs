@@ -5,7 +5,7 @@
 const COUNT_AGAIN = "Don't change this line. Count again, using only Inventory and Stay Quiet.";
 const CRC = "Write the frame as it was on the air, with both bytes of its CRC, low byte first. If the chip " +
   "removes the CRC, add it again.";
-const DAMAGED = "A reply that was damaged gets the line D in a log of version 2; in version 1 its slot, and the rest of its round, " +
+const DAMAGED = "A reply that was damaged gets the line D in a log of version 2 or 3; in version 1 its slot, and the rest of its round, " +
   "get no line.";
 const LOGGER = "Fix the software that writes the log.";
 
@@ -20,13 +20,13 @@ const ADVICE = {
     fix: "End each line with LF or CR LF, and split long comments over several lines.",
   },
   Header: {
-    wrong: "the first line isn't 'vicinity-log 1' or 'vicinity-log 2'",
+    wrong: "the first line isn't 'vicinity-log 1', 'vicinity-log 2' or 'vicinity-log 3'",
     fix: "Write the header as line 1, without a byte order mark or spaces after it, ended by LF or CR LF.",
   },
   UnknownEntry: {
     wrong: "not a log entry",
-    fix: "Write T, R or U, one space and hex digits, or only S or C (with the header 'vicinity-log 2' also D or " +
-    "F). Put comments on lines of their own, beginning with #.",
+    fix: "Write T, R or U, one space and hex digits, or only S or C (with the header 'vicinity-log 2' also D or F; with " +
+    "'vicinity-log 3' also these, N, or H as R). Put comments on lines of their own, beginning with #.",
   },
   Hex: {
     wrong: "the letter isn't followed by bytes in hex",
@@ -137,6 +137,6 @@ const OF_REPLY = {
  * @returns {Advice}
  */
 export function advice(fault, line) {
-  const ofReply = line.startsWith("R ") ? OF_REPLY[fault] : undefined;
+  const ofReply = /^[RH] /.test(line) ? OF_REPLY[fault] : undefined;
   return ofReply ?? ADVICE[fault] ?? { wrong: "this line isn't part of a log", fix: LOGGER };
 }

@@ -3,15 +3,27 @@
  * the layout.
  */
 
+import { hex } from "./words.mjs";
+
 /** @typedef {{len: number, value: bigint}} Mask the UIDs whose low bits, so many, are the value */
 /** @typedef {{slots: number, mask: Mask}} Inventory */
 
-/** The Nb_slots_flag in the flags, the bits that say the link, and the command of a Stay Quiet request. */
-const ONE_SLOT = 0x20, LINK = 3, STAY_QUIET = "02";
+/** The Nb_slots_flag in the flags, which is the Address_flag without inventory; the bits that say the link; the command of a
+ *  Stay Quiet request. */
+const ONE_SLOT = 0x20, ADDRESSED = 0x20, INVENTORY_FLAG = 4, LINK = 3, INVENTORY = 1;
+export const STAY_QUIET = 2;
+/** Where the digits of the command, and of the length of a mask, begin. */
+export const COMMAND_AT = 2, LENGTH_AT = 4;
+/** One subcarrier, high data rate. */
+export const ANY_LINK = 2;
 export const SLOTS = 16;
 const SLOT_BITS = 4;
 /** Where the digits of a request's mask and of a UID begin. */
-const VALUE = 6, UID_AT = 4, UID_DIGITS = 16;
+export const VALUE_AT = 6;
+const UID_AT = 4, UID_DIGITS = 16;
+/** ISO/IEC 13239, 16-bit FCS: so many digits at the end of a frame. */
+export const CRC_DIGITS = 4;
+const CRC_START = 0xFFFF, CRC_POLYNOMIAL = 0x8408;
 
 /**
  * The number that bytes have, which are sent low byte first.
@@ -21,8 +33,8 @@ function numberOf(digits) {
   return BigInt(`0x${(digits.match(/../g) ?? []).reverse().join("") || "0"}`);
 }
 
-/** @param {string} frame */
-export const isStayQuiet = (frame) => frame.slice(2, 4) === STAY_QUIET;
+/** @param {number} flags of an Inventory request */
+export const slotsOf = (flags) => flags & ONE_SLOT ? 1 : SLOTS;
 
 /** @param {string} frame */
 export const linkOf = (frame) => parseInt(frame.slice(0, 2), 16) & LINK;
@@ -33,13 +45,50 @@ export const linkOf = (frame) => parseInt(frame.slice(0, 2), 16) & LINK;
  */
 export const uidIn = (frame) => numberOf(frame.slice(UID_AT, UID_AT + UID_DIGITS));
 
+/** @param {number} byte */
+const pairOf = (byte) => hex(BigInt(byte), 2);
+
+/**
+ * The frame that silences a tag.
+ * @param {bigint} uid
+ * @param {number} link
+ */
+export function stayQuietOf(uid, link) {
+  const turned = (hex(uid).match(/../g) ?? []).reverse().join("");
+  const frame = pairOf(ADDRESSED | link) + pairOf(STAY_QUIET) + turned;
+  return frame + crcOf(frame);
+}
+
+/**
+ * The frame that asks for all tags in one slot.
+ * @param {number} link
+ */
+export function oneSlotOf(link) {
+  const frame = pairOf(ONE_SLOT | INVENTORY_FLAG | link) + pairOf(INVENTORY) + pairOf(0);
+  return frame + crcOf(frame);
+}
+
+/**
+ * The CRC of bytes as it is sent, low byte first.
+ * @param {string} digits
+ */
+export function crcOf(digits) {
+  let crc = CRC_START;
+  for (const pair of digits.match(/../g) ?? []) {
+    crc ^= parseInt(pair, 16);
+    for (let bit = 0; bit < 8; bit++) crc = crc & 1 ? crc >> 1 ^ CRC_POLYNOMIAL : crc >> 1;
+  }
+  const sent = hex(BigInt(crc ^ CRC_START), CRC_DIGITS);
+  return sent.slice(2) + sent.slice(0, 2);
+}
+
 /**
  * @param {string} frame
  * @returns {Inventory}
  */
 export function inventoryOf(frame) {
-  const len = parseInt(frame.slice(4, VALUE), 16), slots = parseInt(frame.slice(0, 2), 16) & ONE_SLOT ? 1 : SLOTS;
-  return { slots, mask: { len, value: numberOf(frame.slice(VALUE, VALUE + 2 * Math.ceil(len / 8))) } };
+  const len = parseInt(frame.slice(LENGTH_AT, VALUE_AT), 16), slots = slotsOf(parseInt(frame.slice(0, COMMAND_AT), 16));
+  return { slots, mask: { len, value: numberOf(frame.slice(VALUE_AT, VALUE_AT + 2 * Math.ceil(len / 8))) } };
 }
 
 /**

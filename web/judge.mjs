@@ -1,41 +1,45 @@
 /** The object of a log, of what the library says of it: the same as python/vicinity/pages/log.py makes. */
-import { linkOf } from "./frames.mjs";
+import { withCaptures } from "./captured.mjs";
+import { ANY_LINK, linkOf } from "./frames.mjs";
 import { FOUND, KIND } from "./kinds.mjs";
 import { LF } from "./log.mjs";
-import { hex } from "./words.mjs";
+import { hex, UID_BITS } from "./words.mjs";
 
 /** @typedef {import("./library.mjs").Library} Library */
 /** @typedef {import("./library.mjs").Answer} Answer */
 /** @typedef {import("./library.mjs").Finding} Finding */
+/** @typedef {import("./frames.mjs").Mask} Mask */
 /** @typedef {import("./told.mjs").LogObject} LogObject */
+/** @typedef {import("./told.mjs").Captured} Captured */
 
 /** How many findings and open masks are told, how many tags are listed, and how much of a refused line is kept. */
 const MOST_TOLD = 1000, MOST_LISTED = 10_000, MOST_QUOTED = 160;
-const SCHEMA = /** @type {1} */ (1), ANY_LINK = 2;
+const SCHEMA = /** @type {1} */ (1);
 /** Findings of these kinds are told in this order. */
 const KINDS = /** @type {[number, string][]} */ ([[FOUND.SILENCED_BY, "silenced by"], [FOUND.CONFLICT, "conflict"],
   [FOUND.ABSENT, KIND.ABSENT], [FOUND.UNLISTED, KIND.UNLISTED], [FOUND.DOUBTFUL, KIND.DOUBTFUL]]);
 const DECODED = new TextDecoder("utf-8", { ignoreBOM: true });
-const NO_MASKS = { list: /** @type {import("./library.mjs").Mask[]} */ ([]), count: 0, lengths: /** @type {number[]} */ ([]) };
 
 /**
  * @param {Library} library
  * @param {Uint8Array} text
  * @param {string} name
+ * @param {{certain: bigint[], open: Mask[]}} [left] what the library has said of the field of a possible log
  * @returns {Promise<LogObject>}
  */
-export async function judge(library, text, name) {
+export async function judge(library, text, name, left) {
   const { answer, list, counts, conflict } = library.report(text, MOST_TOLD), possible = answer.status < 2;
-  const certain = possible ? library.certain(text).list : [], open = possible ? library.openMasks(text, MOST_TOLD) : NO_MASKS;
+  const { certain, open } = left ?? (possible ? library.survey(text) : { certain: [], open: [] });
   const kept = untilRefused(text, answer), decoded = DECODED.decode(kept), link = linkIn(decoded);
-  const masks = open.list.map(({ len, value }) => ({ ...maskFields(len, value),
+  const masks = open.slice(0, MOST_TOLD).map(({ len, value }) => ({ ...maskFields(len, value),
     ask: (len ? [1] : [16, 1]).map((slots) => `T ${hexOf(library.writeInventory(slots, len, value, link))}`) }));
-  return { schema: SCHEMA, version: versionOf(library.version), file: name, ...fields(library, answer), answer: answer.text.trim(),
+  return { schema: SCHEMA, version: versionOf(library.version), file: name, ...fields(library, answer), ...capturedOf(library, text, answer),
+    answer: answer.text.trim(),
     lines: linesIn(text), ended: text[text.length - 1] === LF, sha256: await sumOf(text),
     findings: [...findingsOf(list.filter((it) => it.kind !== FOUND.CONFLICT)), ...conflict.map((line) => ({ kind: "conflict", line }))],
     found: { absent: counts[FOUND.ABSENT], unlisted: counts[FOUND.UNLISTED], doubtful: counts[FOUND.DOUBTFUL] },
     certain: { count: certain.length, uids: certain.slice(0, MOST_LISTED).map((uid) => hex(uid)) },
-    open: { count: open.count, share: open.lengths.reduce((sum, many, length) => sum + many * 2 ** -length, 0), masks },
+    open: { count: open.length, share: shareOf(open), masks },
     unnoticed: unnoticed(library, text, answer), text: decoded };
 }
 
@@ -46,6 +50,29 @@ export async function judge(library, text, name) {
 function findingsOf(list) {
   return KINDS.flatMap(([kind, word]) => list.filter((it) => it.kind === kind).map(({ line, uid }) =>
     ({ kind: word, ...uid ? { uid: hex(uid) } : {}, ...line ? { line } : {} })));
+}
+
+/**
+ * The share of all UIDs that masks have. They are added up by their lengths, so that the order makes no difference.
+ * @param {Mask[]} masks
+ */
+function shareOf(masks) {
+  const lengths = /** @type {number[]} */ (new Array(UID_BITS + 1).fill(0));
+  for (const { len } of masks) lengths[len]++;
+  return lengths.reduce((sum, many, length) => sum + many * 2 ** -length, 0);
+}
+
+/**
+ * Whether an answer also holds if strong replies hid weaker ones, and if not, the answer that does; nothing of what is refused.
+ * @param {Library} library
+ * @param {Uint8Array} text
+ * @param {Answer} answer
+ * @returns {{captured?: Captured}}
+ */
+export function capturedOf(library, text, answer) {
+  if (answer.fault) return {};
+  const read = withCaptures(text), other = read ? library.check(read) : answer, holds = other.text === answer.text;
+  return { captured: holds ? { holds } : { holds, ...fields(library, other) } };
 }
 
 /**

@@ -26,7 +26,7 @@ import { FOUND } from "./kinds.mjs";
 /** @typedef {(...words: (number | bigint)[]) => number | bigint} Call */
 /** @typedef {(bytes: number) => number} Take reserves bytes until the call has ended, and says where */
 
-const INTERFACE = 1, NO_ANSWER = 4, FIRST_ROOM = 64, MOST_BITS = 64;
+const INTERFACE = 1, NO_ANSWER = 4, FIRST_ROOM = 64;
 /** The sizes of the header's structs, in bytes, and where the text of an answer begins. */
 const ANSWER = 104, TEXT = 40, FINDING = 32, MASK = 16, UID = 8, REQUEST = 32, REPLY = 16, FRAME = 24, NAME = 32, NUMBER = 8;
 const DECODER = new TextDecoder();
@@ -210,19 +210,29 @@ export class Library {
   /** @param {Uint8Array | string} text */
   certain(text) { return this.#listed("certain", (take) => this.#put(take, text), UID, uidAt, roomFor(text)); }
 
+  /** @param {Uint8Array | string} text */
+  openMasks(text) { return this.#listed("open_masks", (take) => this.#put(take, text), MASK, maskAt, roomFor(text)); }
+
   /**
-   * The answer, the first open masks, and how many there are of each length.
+   * The answer, the UIDs that must be there, and all open masks, of one look at the text.
    * @param {Uint8Array | string} text
-   * @param {number} most how many are listed
+   * @returns {{answer: Answer, certain: bigint[], open: Mask[]}}
    */
-  openMasks(text, most = Infinity) {
-    const lengths = /** @type {number[]} */ (new Array(MOST_BITS + 1).fill(0));
-    let count = 0;
-    const { answer, list } = this.#listed("open_masks", (take) => this.#put(take, text), MASK, (view, at) => {
-      lengths[view.getUint32(at + 4, true)]++;
-      return count++ < most ? maskAt(view, at) : null;
-    }, roomFor(text));
-    return { answer, count, lengths, list: /** @type {Mask[]} */ (list.filter((it) => it)) };
+  survey(text) {
+    return this.#within((take) => {
+      const given = this.#put(take, text), answer = take(ANSWER), uidsNeeded = take(NUMBER), masksNeeded = take(NUMBER);
+      for (let uidRoom = roomFor(text), maskRoom = uidRoom; ;) {
+        const uids = take(uidRoom * UID), masks = take(maskRoom * MASK);
+        this.#call("survey", ...given, answer, uids, uidRoom, uidsNeeded, masks, maskRoom, masksNeeded);
+        const view = this.#view, [certain, open] = [uidsNeeded, masksNeeded].map((at) => Number(view.getBigUint64(at, true)));
+        const told = this.#answer(answer);
+        if (certain <= uidRoom && open <= maskRoom) {
+          return { answer: told, certain: Array.from({ length: certain }, (_, i) => uidAt(view, uids + i * UID)),
+            open: Array.from({ length: open }, (_, i) => maskAt(view, masks + i * MASK)) };
+        }
+        [uidRoom, maskRoom] = [Math.max(uidRoom, certain), Math.max(maskRoom, open)];
+      }
+    });
   }
 
   /**

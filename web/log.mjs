@@ -1,8 +1,8 @@
 /** A log's text as rows to draw: rounds, Stay Quiets and field cycles. */
-import { inventoryOf, isStayQuiet, slotMask, uidIn } from "./frames.mjs";
+import { COMMAND_AT, inventoryOf, LENGTH_AT, slotMask, slotsOf, STAY_QUIET, uidIn, VALUE_AT } from "./frames.mjs";
 
 /** @typedef {import("./frames.mjs").Mask} Mask */
-/** @typedef {"silent" | "heard" | "collision" | "garbled" | "unreached"} Reading what a slot held */
+/** @typedef {"silent" | "heard" | "captured" | "collision" | "garbled" | "unknown" | "unreached"} Reading what a slot held */
 /** @typedef {{line: number, number: number, mask: Mask, reading: Reading, uid: bigint | null, silenced: number}} Slot */
 /** @typedef {{kind: "round", line: number, end: number, asked: Mask, slots: Slot[]}} Round */
 /** @typedef {{kind: "quiet", line: number, end: number, uid: bigint}} Quiet */
@@ -11,10 +11,17 @@ import { inventoryOf, isStayQuiet, slotMask, uidIn } from "./frames.mjs";
 
 export const LF = 10;
 const CR = 13;
-/** The letters of lines that tell of slots, and of those that weren't read. */
-const OUTCOMES = new Set("SRCD"), UNREAD = new Set("CD");
-/** @type {Record<string, Reading>} */
-const READINGS = { S: "silent", R: "heard", C: "collision", D: "garbled" };
+/** @param {string} letter */
+const codeOf = (letter) => letter.charCodeAt(0);
+const ASKING = codeOf("T"), CYCLED = codeOf("F"), LISTING = codeOf("U");
+/** What a slot held, by the byte with which its line begins. */
+const READINGS = /** @type {(Reading | undefined)[]} */ (new Array(256).fill(undefined));
+Object.assign(READINGS, { [codeOf("S")]: "silent", [codeOf("R")]: "heard", [codeOf("H")]: "captured", [codeOf("C")]: "collision",
+  [codeOf("D")]: "garbled", [codeOf("N")]: "unknown" });
+/** Those that name a tag, and those in which others may have answered. */
+const REPLIES = new Set(["heard", "captured"]), UNREAD = new Set(["captured", "collision", "garbled", "unknown"]);
+/** Where a frame begins in its line. */
+const FRAME_AT = 2;
 /** A byte order mark stays, since it is why a text is refused. */
 const LINES = new TextDecoder("utf-8", { ignoreBOM: true });
 
@@ -41,16 +48,17 @@ export class Log {
   #count() {
     const rows = [], counts = this.counts;
     for (let line = 2; line <= counts.lines; line++) {
-      const letter = this.letter(line);
-      if (letter === "T" || letter === "F") {
+      const code = this.#code(line), reading = READINGS[code];
+      if (reading) {
+        counts.slots++;
+        if (REPLIES.has(reading)) counts.heard++;
+      } else if (code === LISTING) counts.listed++;
+      else if (code === ASKING || code === CYCLED) {
         rows.push(line);
-        if (letter === "F") counts.cycles++;
+        if (code === CYCLED) counts.cycles++;
         else if (this.#silences(line)) counts.quiets++;
         else counts.rounds++;
-      } else if (OUTCOMES.has(letter)) {
-        counts.slots++;
-        if (letter === "R") counts.heard++;
-      } else if (letter === "U") counts.listed++;
+      }
     }
     return rows;
   }
@@ -66,17 +74,45 @@ export class Log {
     return LINES.decode(this.text.subarray(from, to));
   }
 
-  /** @param {number} line */
-  letter(line) { return String.fromCharCode(this.text[this.#starts[line - 1]]); }
+  /**
+   * The byte with which a line begins.
+   * @param {number} line
+   */
+  #code(line) { return this.text[this.#starts[line - 1]]; }
+
+  /**
+   * A byte of the frame of a line, from its two digits.
+   * @param {number} line
+   * @param {number} at its first digit
+   */
+  #byte(line, at) {
+    const from = this.#starts[line - 1] + FRAME_AT + at;
+    return parseInt(String.fromCharCode(this.text[from], this.text[from + 1]), 16);
+  }
 
   /**
    * The digits of the frame that a line has.
    * @param {number} line
    */
-  frame(line) { return this.line(line).slice(2).trimEnd(); }
+  frame(line) { return this.line(line).slice(FRAME_AT).trimEnd(); }
+
+  /**
+   * What a line says that a slot held.
+   * @param {number} line
+   */
+  reading(line) { return READINGS[this.#code(line)]; }
+
+  /**
+   * Whether a line is a reply, alone or not.
+   * @param {number} line
+   */
+  isReply(line) { return REPLIES.has(this.reading(line) ?? ""); }
+
+  /** The version that the header names. */
+  get version() { return Number(this.line(1).slice(-1)); }
 
   /** @param {number} line */
-  #silences(line) { return isStayQuiet(this.frame(line)); }
+  #silences(line) { return this.#byte(line, COMMAND_AT) === STAY_QUIET; }
 
   get lineCount() { return this.#starts.length - 1; }
 
@@ -89,10 +125,20 @@ export class Log {
   lineOf(index) { return this.#rows[index]; }
 
   /** @param {number} index */
-  isQuiet(index) { return this.letter(this.#rows[index]) === "T" && this.#silences(this.#rows[index]); }
+  isQuiet(index) { return this.#code(this.#rows[index]) === ASKING && this.#silences(this.#rows[index]); }
 
   /** @param {number} index */
-  isRound(index) { return this.letter(this.#rows[index]) === "T" && !this.#silences(this.#rows[index]); }
+  isRound(index) { return this.#code(this.#rows[index]) === ASKING && !this.#silences(this.#rows[index]); }
+
+  /**
+   * How many slots a round has, how many bits its mask, and the low sixteen of these.
+   * @param {number} index
+   */
+  shape(index) {
+    const line = this.#rows[index], len = this.#byte(line, LENGTH_AT);
+    const low = len && this.#byte(line, VALUE_AT) | (len > 8 ? this.#byte(line, VALUE_AT + 2) << 8 : 0);
+    return { slots: slotsOf(this.#byte(line, 0)), len, low };
+  }
 
   /**
    * Which row has a line: the last that begins there or before.
@@ -113,7 +159,7 @@ export class Log {
    */
   row(index) {
     const line = this.#rows[index];
-    if (this.letter(line) === "F") return { kind: "cycle", line, end: line };
+    if (this.#code(line) === CYCLED) return { kind: "cycle", line, end: line };
     if (this.#silences(line)) return { kind: "quiet", line, end: line, uid: uidIn(this.frame(line)) };
     const asked = inventoryOf(this.frame(line)), slots = this.#slots(asked, this.outcomes(index));
     return { kind: "round", line, end: slots.reduce((most, slot) => Math.max(most, slot.line), line), asked: asked.mask, slots };
@@ -129,13 +175,13 @@ export class Log {
   }
 
   /**
-   * Whether a row is a round in which a slot wasn't reached or wasn't read.
+   * Whether a row is a round in which a slot wasn't reached, wasn't read, or may have had others than the one that was read.
    * @param {number} index
    */
   hasUnread(index) {
     if (!this.isRound(index)) return false;
     const outcomes = this.outcomes(index);
-    return outcomes.some((line) => UNREAD.has(this.letter(line))) || outcomes.length < inventoryOf(this.frame(this.#rows[index])).slots;
+    return outcomes.length < this.shape(index).slots || outcomes.some((line) => UNREAD.has(this.reading(line) ?? ""));
   }
 
   /**
@@ -145,7 +191,7 @@ export class Log {
   outcomes(index) {
     const lines = [], end = index + 1 < this.#rows.length ? this.#rows[index + 1] : this.lineCount + 1;
     for (let line = this.#rows[index] + 1; line < end; line++) {
-      if (OUTCOMES.has(this.letter(line))) lines.push(line);
+      if (this.reading(line)) lines.push(line);
     }
     return lines;
   }
@@ -157,8 +203,8 @@ export class Log {
    */
   #slots(asked, outcomes) {
     return Array.from({ length: asked.slots }, (_, number) => {
-      const line = outcomes[number] ?? 0, reading = line ? READINGS[this.letter(line)] : "unreached";
-      const uid = reading === "heard" ? uidIn(this.frame(line)) : null;
+      const line = outcomes[number] ?? 0, reading = line ? this.reading(line) : "unreached";
+      const uid = line && this.isReply(line) ? uidIn(this.frame(line)) : null;
       return /** @type {Slot} */ ({ line, number, mask: slotMask(asked, number), reading, uid, silenced: 0 });
     });
   }

@@ -6,6 +6,7 @@ import { visible } from "./words.mjs";
 
 const MOST_SHOWN = 160;
 const INSERT = "If a slot has a collision, ask its mask in sixteen slots. In the log, the new lines go before the U lines.";
+const ASK_UNDER = "What is left to ask where a reply may have hidden others: silence the tags that were read there, and ask again.";
 const SILENCED = "tags that were silenced before they were heard: only then do they answer";
 const NEW_VERSION = "Tags that were silenced before they were heard answer only after the field was switched off and on, and a log of " +
   "version 1 has no line for that. Begin a new log, of version 2, and ask for the whole field again.";
@@ -32,13 +33,15 @@ export function maintainer(told, said) {
  * @param {Told} told
  */
 function left(told) {
-  const { open, silenced } = told.requests, parts = [], masks = told.object.open.count - told.quiet, all = told.open[0]?.len === 0;
+  const { open, silenced, hidden } = told.requests, parts = [], all = told.open[0]?.len === 0;
+  const masks = told.object.open.count - told.quiet - told.hidden;
   const more = !all && masks > open.length ? ` (the first ${open.length} of ${masks.toLocaleString("en")})` : "";
   const how = all ? "in sixteen slots, or in one" : `one request for each open mask${more}`;
   if (open.length) parts.push(el("p", {}, `What is left to ask, ${how}. ${INSERT}`), copied(open));
+  if (hidden.length) parts.push(el("p", {}, ASK_UNDER), copied(hidden));
   if (silenced.length && !told.cycles) parts.push(el("p", {}, NEW_VERSION));
   else if (silenced.length) {
-    parts.push(el("p", {}, `${open.length ? "Then switch" : "Switch"} the field off and on, write F, and ask for the ${SILENCED}.`),
+    parts.push(el("p", {}, `${open.length || hidden.length ? "Then switch" : "Switch"} the field off and on, write F, and ask for the ${SILENCED}.`),
       copied(["F", ...silenced]));
   }
   return parts;

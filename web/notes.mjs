@@ -1,11 +1,10 @@
 /** What is worth a look in a log, and isn't part of its answer. */
-import { inventoryOf } from "./frames.mjs";
 import { KIND } from "./kinds.mjs";
 import { count } from "./words.mjs";
 
 /** @typedef {import("./log.mjs").Log} Log */
 /** @typedef {{line: number, uid: string, at: number}} Lost a listed tag that the reader silenced, and that a line before rules out */
-/** @typedef {{lost: Lost[], cut: {line: number, slots: number, of: number}[], last: {line: number, missed: string} | null}} Notes */
+/** @typedef {{lost: Lost[], cut: {line: number, slots: number, of: number}[], last: {line: number, lacks: string} | null}} Notes */
 
 /** How many notes of a kind are told. */
 const MOST_NOTES = 5;
@@ -16,23 +15,26 @@ const MOST_NOTES = 5;
  * @returns {Notes}
  */
 export function notesOf(log, object) {
+  let last = -1, hasAskedAll = false, hasAsked = false;
   const absent = new Map(object.findings.filter((it) => it.kind === KIND.ABSENT)
     .map(({ uid = "", line = 0 }) => [BigInt(`0x${uid}`), { uid, line }]));
   const lost = [], cut = [];
-  let last = -1, hasAskedAll = false;
   for (let at = 0; at < log.rowCount; at++) {
     if (log.isQuiet(at)) {
       const row = absent.size ? log.row(at) : null, found = row?.kind === "quiet" ? absent.get(row.uid) : undefined;
       if (found && found.line < log.lineOf(at)) lost.push({ line: log.lineOf(at), uid: found.uid, at: found.line });
     } else if (log.isRound(at)) {
-      const { slots, mask } = inventoryOf(log.frame(log.lineOf(at))), logged = log.outcomes(at).length;
-      if (logged < slots) cut.push({ line: log.lineOf(at), slots: logged, of: slots });
-      else if (mask.len === 0) hasAskedAll = true;
-      last = logged === slots && mask.len === 0 ? -1 : at;
+      const { slots, len } = log.shape(at), logged = log.outcomes(at), isKnown = logged.every((line) => log.reading(line) !== "unknown");
+      if (logged.length < slots) cut.push({ line: log.lineOf(at), slots: logged.length, of: slots });
+      hasAsked = logged.length === slots && len === 0;
+      if (hasAsked && isKnown) hasAskedAll = true;
+      last = hasAsked && isKnown ? -1 : at;
     }
   }
-  const missed = hasAskedAll ? "stronger replies hid" : "no earlier round asked";
-  return { lost, cut, last: last < 0 ? null : { line: log.lineOf(last), missed } };
+  const missed = hasAskedAll ? "that stronger replies hid" : "that no earlier round asked";
+  const lacks = hasAsked ? "Of a slot of the last round, which asked all tags, nothing is known: one there"
+    : `The last round didn't ask all tags: one ${missed}`;
+  return { lost, cut, last: last < 0 ? null : { line: log.lineOf(last), lacks } };
 }
 
 /**
@@ -45,7 +47,7 @@ export function noted({ lost, cut, last }) {
     lost.map(({ line, uid, at }) => [line, `${uid} was silenced here and never heard: its reply may have been lost in line ${at}.`]),
     cut.map(({ line, slots, of }) => [line, slots ? `This round was cut short after ${slots} of ${count(of, "slot")}.`
       : "None of this round's slots is logged."]),
-    last ? [[last.line, `The last round didn't ask all tags: one that ${last.missed} would go unnoticed.`]] : []]);
+    last ? [[last.line, `${last.lacks} would go unnoticed.`]] : []]);
   return kinds.flatMap((kind) => kind.length <= MOST_NOTES ? kind
     : [...kind.slice(0, MOST_NOTES), [kind[MOST_NOTES][0], `${count(kind.length - MOST_NOTES, "more note")} like these.`]]);
 }

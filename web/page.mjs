@@ -1,5 +1,5 @@
 /** The page that judges: takes logs, has them judged, and shows one. */
-import { sorted } from "./catalogue.mjs";
+import { looksLikeTable, sorted } from "./catalogue.mjs";
 import { collectionView, headlineOf, withRoom } from "./collection.mjs";
 import { at, el } from "./elements.mjs";
 import { Pane } from "./pane.mjs";
@@ -67,10 +67,15 @@ function take(taken) {
   show();
 }
 
-/** @param {Iterable<File>} chosen */
+/**
+ * Tables alone belong to the logs that are here.
+ * @param {Iterable<File>} chosen
+ */
 async function open(chosen) {
-  const taken = await Promise.all([...chosen].map(read)), { expected, places, logs } = sorted(taken.filter((entry) => !entry.error));
-  if (expected && logs.length && taken.every((entry) => !entry.error)) {
+  const taken = await Promise.all([...chosen].map(read)), isRead = taken.every((entry) => !entry.error);
+  const here = isRead && taken.every(looksLikeTable) ? entries.filter((entry) => !entry.error && !entry.given) : [];
+  const { expected, places, logs } = sorted([...here, ...taken].filter((entry) => !entry.error));
+  if (expected && logs.length && isRead) {
     take([{ name: expected.name, text: new Uint8Array(), given: { expected, places, logs } }]);
   } else if (taken.length) take(taken);
 }

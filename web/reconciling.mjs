@@ -1,5 +1,6 @@
 /** The object of a collection, of what the library says of its logs: the same as `python3 -m vicinity reconcile` writes. */
 import { placeColumn, placesOf, readCatalogue } from "./catalogue.mjs";
+import { withCaptures } from "./captured.mjs";
 import { fields, judge, maskFields } from "./judge.mjs";
 import { FOUND, KIND } from "./kinds.mjs";
 import { UID_BITS, hex } from "./words.mjs";
@@ -9,7 +10,8 @@ import { UID_BITS, hex } from "./words.mjs";
 /** @typedef {import("./catalogue.mjs").Given} Given */
 /** @typedef {import("./collection.mjs").CollectionObject} CollectionObject */
 /** @typedef {import("./collection.mjs").State} State */
-/** @typedef {{object: import("./told.mjs").LogObject, certain: bigint[], open: Mask[], aside: boolean}} Surveyed */
+/** @typedef {import("./collection.mjs").OfField} OfField */
+/** @typedef {{object: import("./told.mjs").LogObject, certain: bigint[], open: Mask[], aside: boolean, captured?: OfField}} Surveyed */
 
 const COUNT_IT = "count it again", CORRECT_IT = "correct it, or count it again";
 const ALL = { fault: 0, len: 0, value: 0n };
@@ -76,15 +78,22 @@ export async function reconciled(library, given) {
     items, logs: leftOf(logs) };
 }
 
+/** @param {Mask} mask */
+const maskKey = ({ len, value }) => `${len}:${value}`;
+
 /**
+ * What a log says of its field, and whether it would say so if strong replies hid weaker ones.
  * @param {Library} library
  * @param {Given} log
  * @returns {Promise<Surveyed>}
  */
 async function surveyed(library, { name, text }) {
-  const object = await judge(library, text, name), aside = object.status > 1;
-  return aside ? { object, aside, certain: [], open: [ALL] }
-    : { object, aside, certain: library.certain(text).list, open: library.openMasks(text).list };
+  const { answer, certain, open } = library.survey(text), aside = answer.status > 1;
+  const object = await judge(library, text, name, aside ? undefined : { certain, open });
+  if (aside) return { object, aside, certain: [], open: [ALL], captured: object.captured };
+  const read = withCaptures(text), known = new Set(open.map(maskKey));
+  const opened = read && library.openMasks(read).list.find((mask) => !known.has(maskKey(mask)));
+  return { object, aside, certain, open, captured: opened ? { holds: false, ...maskFields(opened.len, opened.value) } : { holds: true } };
 }
 
 /** @param {Surveyed} log */
@@ -155,7 +164,8 @@ function leftOf(logs) {
   return logs.map((log) => {
     const masks = log.aside ? [ALL] : without(log.open, certain);
     const open = masks.slice(0, MOST_OPEN).map(({ len, value }) => maskFields(len, value));
-    return { file: log.object.file, certain: log.certain.length, open, more_open: masks.length > MOST_OPEN, list: answerOf(log.object), object: log.object };
+    return { file: log.object.file, certain: log.certain.length, open, more_open: masks.length > MOST_OPEN, list: answerOf(log.object),
+      ...log.captured ? { captured: log.captured } : {}, object: log.object };
   });
 }
 

@@ -1,5 +1,6 @@
 /** What a person is told of a text that isn't a log. */
 import { advice } from "./faults.mjs";
+import { crcOf, CRC_DIGITS } from "./frames.mjs";
 
 /** @typedef {import("./told.mjs").Told} Told */
 
@@ -7,9 +8,10 @@ const COUNT = "Count again, to a new log. If that is refused too, no count will 
   "to whoever maintains the software that writes it.";
 const COPY = "The file may have been cut off, by a full disk or because it was copied while it was written: copy it again.";
 const NO_LIST = "Open the log, not a list: a list of UIDs isn't enough.";
+const BOTH = "To compare this table with what the logs show, open it together with them.";
 const ANOTHER = "Choose another file, or count again.";
 /** How a text begins that somebody meant as a log: with a header, or with a line of it. */
-const OF_A_LOG = /^(vicinity-log|[TRU] [0-9A-F]|[SCDF]$|#)/i;
+const OF_A_LOG = /^(vicinity-log|[TRHU] [0-9A-F]|[SCDNF]$|#)/i;
 /** What an editor adds to it, or a coding makes of it. */
 const CODING = /[\0\uFEFF\uFFFD]/g;
 
@@ -18,11 +20,20 @@ export function refused(told) {
   const { line = 0, fault = "", ended } = told.object, { wrong, fix } = advice(fault, told.faulty);
   const last = line === told.counts.lines && line > 1;
   if (told.counts.lines === 0) return { headline: "The text is empty.", shelf: [ANOTHER], causes: [] };
-  const foreign = line === 1 && !OF_A_LOG.test(told.faulty.replace(CODING, ""));
-  return { headline: `This text isn't a log. Line ${line}: ${wrong}.`,
-    shelf: foreign ? [NO_LIST] : last ? [COPY, COUNT] : [COUNT],
+  const foreign = line === 1 && !OF_A_LOG.test(told.faulty.replace(CODING, "")), table = foreign && isTable(told.faulty);
+  return { headline: table ? "This file isn't a log, but a table." : `This text isn't a log. Line ${line}: ${wrong}.`,
+    shelf: table ? [NO_LIST, BOTH] : foreign ? [NO_LIST] : last ? [COPY, COUNT] : [COUNT],
     causes: [...last && !ended ? ["The file may end in the middle of this line: it was cut off, or the software was still writing."] : [],
-      ...line === 1 ? ofFirst(told.faulty, foreign) : [], ...foreign && isTable(told.faulty) ? [] : [fix]] };
+      ...line === 1 ? ofFirst(told.faulty, foreign) : [], ...fault === "Crc" ? [rightCrc(told.faulty)] : [], ...table ? [] : [fix]] };
+}
+
+/**
+ * The CRC that the other bytes of a line have.
+ * @param {string} line
+ */
+function rightCrc(line) {
+  const frame = line.slice(2).trimEnd();
+  return `The bytes before it have the CRC ${crcOf(frame.slice(0, -CRC_DIGITS))}, and the line has ${frame.slice(-CRC_DIGITS).toUpperCase()}.`;
 }
 
 /** @param {string} text */
@@ -37,6 +48,6 @@ function ofFirst(text, foreign) {
   if (text.startsWith("\uFEFF")) causes.push("The file begins with a byte order mark: save it as UTF-8 without one.");
   if (text.includes("\0")) causes.push("The file seems to be UTF-16: save it as ASCII or UTF-8.");
   if (text.includes("\r")) causes.push("The lines end with CR alone: write LF, or CR LF.");
-  if (foreign && isTable(text)) causes.push("This seems to be a table (CSV), not the log of a reader.");
+  if (foreign && isTable(text)) causes.push("This seems to be a table (CSV), not the log of a reader: its first line isn't that of a log.");
   return causes;
 }

@@ -1,7 +1,7 @@
 /** Draws the rounds of a log: a row for each, a cell for each slot. */
 import { el, toLine } from "./elements.mjs";
 import { SLOTS } from "./frames.mjs";
-import { count, ending, hex } from "./words.mjs";
+import { count, ending, hex, printable } from "./words.mjs";
 
 /** @typedef {import("./told.mjs").Told} Told */
 /** @typedef {import("./drawn.mjs").Gap} Gap */
@@ -12,20 +12,27 @@ import { count, ending, hex } from "./words.mjs";
 /** What a slot held: the sign of its cell, and words. */
 const LOOKS = {
   silent: { sign: "·", words: "no tag answered" }, heard: { sign: "", words: "one tag was heard" },
+  captured: { sign: "", words: "one tag was heard, and others may have answered under it" },
   collision: { sign: "×", words: "two or more tags answered" }, garbled: { sign: "?", words: "something answered that couldn't be read" },
-  unreached: { sign: "", words: "not reached" },
+  unknown: { sign: "~", words: "nothing is known of it" }, unreached: { sign: "", words: "not reached" },
 };
+/** What the signs mean. */
+const LEGEND = [["silent", "·", "nobody"], ["heard", "A1", "one tag"], ["captured", "A1", "one tag, perhaps over others"],
+  ["heard quiet", "A1", "silenced afterwards"], ["collision", "×", "two or more"], ["garbled", "?", "unreadable"],
+  ["unknown", "~", "nothing known"], ["unreached", "\u00A0", "not reached"], ["silent named", "·", "the answer rests on it"]];
 
-
-/** @param {Told} told */
-export function rounds(told) {
+/**
+ * @param {Told} told
+ * @param {import("./view.mjs").Names} names
+ */
+export function rounds(told, names) {
   if (!told.rows.length) return [];
   const numbers = Array.from({ length: SLOTS }, (_, slot) => el("th", { scope: "col" }, slot.toString(16).toUpperCase()));
   const head = el("tr", {}, el("th", { scope: "col" }, "lines"), el("th", { scope: "col" }, "asked"), ...numbers);
   const ringed = new Set(told.ringed), named = new Set(told.named);
-  const body = told.rows.map((row) => rowOf(row, ringed, named));
+  const body = told.rows.map((row) => rowOf(row, ringed, named, names));
   const table = el("table", { class: "rounds" }, el("caption", {}, "The rounds of the session"), el("thead", {}, head), el("tbody", {}, body));
-  const bars = told.strip.map(({ look, line }) => el("i", { class: look, "data-line": String(line) }));
+  const bars = told.strip.map(barOf);
   const label = `The whole session of ${count(told.counts.rounds, "round")}`;
   const strip = bars.length ? [el("p", { class: "strip", role: "img", "aria-label": label }, bars)] : [];
   return [el("section", {}, el("h2", {}, "The rounds"), ...strip, legend(told),
@@ -33,15 +40,30 @@ export function rounds(told) {
 }
 
 /**
+ * A bar of the strip: of its height each thing that slots held has a share.
+ * @param {import("./strip.mjs").Bar} bar
+ */
+function barOf({ line, isMarked, held }) {
+  const parts = held.map(([look, many]) => {
+    const part = el("b", { class: look });
+    part.style.flexGrow = String(many);
+    return part;
+  });
+  return el("i", { class: isMarked ? "marked" : "", "data-line": String(line) }, ...isMarked ? [] : parts);
+}
+
+/**
  * @param {Row | Gap} row
  * @param {Set<string>} ringed
  * @param {Set<number>} named
+ * @param {import("./view.mjs").Names} names
  */
-function rowOf(row, ringed, named) {
+function rowOf(row, ringed, named, names) {
   if (row.kind === "gap") return wide("⋮", count(row.rows, "more request"), 0, false);
   if (row.kind === "cycle") return wide(String(row.line), "field off and on", row.line, named.has(row.line));
   if (row.kind === "quiet") return wide(String(row.line), `Stay Quiet ${hex(row.uid)}`, row.line, named.has(row.line));
-  const cells = row.slots.map((slot) => cell(row, slot, ringed.has(`${row.line}:${slot.number}`) || named.has(slot.line)));
+  const isNamed = (/** @type {Slot} */ slot) => ringed.has(`${row.line}:${slot.number}`) || named.has(slot.line);
+  const cells = row.slots.map((slot) => cell(row, slot, isNamed(slot), slot.uid === null ? "" : names.get(hex(slot.uid)) ?? ""));
   const till = row.end > row.line ? [el("span", { class: "till" }, `–${row.end}`)] : [];
   return el("tr", {}, el("th", { scope: "row" }, toLine(row.line, String(row.line), ...till),
     el("span", { class: "unseen" }, summary(row))), el("td", { class: "mask" }, row.asked.len ? `..${tail(row.asked)}` : "all"), ...cells);
@@ -74,8 +96,9 @@ function wide(head, words, line, named) {
  */
 function summary(round) {
   const number = (/** @type {string} */ reading) => round.slots.filter((slot) => slot.reading === reading).length;
-  const parts = [[number("heard"), "heard"], [number("collision"), "with collisions"], [number("garbled"), "unreadable"],
-    [number("silent"), "silent"], [number("unreached"), "not reached"]];
+  const parts = [[number("heard"), "heard"], [number("captured"), "heard, perhaps over others"], [number("collision"), "with collisions"],
+    [number("garbled"), "unreadable"], [number("silent"), "silent"], [number("unknown"), "of which nothing is known"],
+    [number("unreached"), "not reached"]];
   return ` ${count(round.slots.length, "slot")}: ${parts.filter(([many]) => many).map(([many, what]) => `${many} ${what}`).join(", ")}`;
 }
 
@@ -83,14 +106,15 @@ function summary(round) {
  * @param {Round} round
  * @param {Slot} slot
  * @param {boolean} named
+ * @param {string} name
  */
-function cell(round, slot, named) {
+function cell(round, slot, named, name) {
   const look = LOOKS[slot.reading], uid = slot.uid;
   const open = BigInt(Math.min(Math.floor(round.asked.len / 4) * 4, 56));
   const one = round.slots.length === 1;
   const sign = uid === null ? look.sign : one ? hex(uid) : hex(BigInt.asUintN(8, uid >> open), 2);
   const title = [slot.line ? `line ${slot.line}` : "", `slot ${slot.number.toString(16).toUpperCase()}`, ending(slot.mask),
-    look.words + (uid === null ? "" : ` ${hex(uid)}`), slot.silenced ? `silenced in line ${slot.silenced}` : ""].filter((it) => it).join(", ");
+    look.words + (uid === null ? "" : ` ${hex(uid)}`), printable(name), slot.silenced ? `silenced in line ${slot.silenced}` : ""].filter((it) => it).join(", ");
   const attributes = /** @type {Record<string, string>} */ ({ title,
     class: `${slot.reading}${slot.silenced ? " quiet" : ""}${named ? " named" : ""}` });
   if (one) attributes.colspan = String(SLOTS);
@@ -111,13 +135,10 @@ function marked(named) {
  * @param {Told} told
  */
 function legend(told) {
-  const drawn = new Set(told.rows.flatMap((row) => row.kind !== "round" ? [] : row.slots.flatMap((slot) => slot.silenced
-    ? ["heard quiet"] : [slot.reading])));
-  const signs = [["silent", "·", "nobody"], ["heard", "A1", "one tag"], ["heard quiet", "A1", "silenced afterwards"],
-    ["collision", "×", "two or more"], ["garbled", "?", "unreadable"], ["unreached", "\u00A0", "not reached"],
-    ["silent named", "·", "the answer rests on it"]];
+  const slots = told.rows.flatMap((row) => row.kind === "round" ? row.slots : []), drawn = new Set(slots.map((slot) => String(slot.reading)));
+  const digits = slots.some((slot) => slot.uid !== null) ? [el("li", {}, "A1: the two digits of the UID before those asked")] : [];
+  if (slots.some((slot) => slot.silenced)) drawn.add("heard quiet");
   if (told.ringed.length || told.named.length) drawn.add("silent named");
-  const digits = [...drawn].some((look) => look.startsWith("heard")) ? [el("li", {}, "A1: the two digits of the UID before those asked")] : [];
-  return el("ul", { class: "legend" }, signs.filter(([look]) => drawn.has(look))
+  return el("ul", { class: "legend" }, LEGEND.filter(([look]) => drawn.has(look))
     .map(([look, sign, words]) => el("li", {}, el("span", { class: `cell ${look}` }, sign), ` ${words}`)), digits);
 }

@@ -41,6 +41,13 @@ const NOT_HEARD = "If a tag that can't be here answers when no other tag is near
   "it should have been heard.";
 const NOT_CLAIMED = "If the list is what the reader found: its software has to write a U line for each UID that it heard.";
 
+/** What a complete answer speaks of. */
+export const HOLDS = "This is said of tags that had power, heard the reader, and were heard when they answered.";
+/** Whether an answer about tags would also be that of a log whose replies may have hidden others. */
+export const ALSO = "Would also hold if a strong reply hid a weaker one: ";
+export const TO_KNOW = "silence each tag that was heard, and ask all in one slot, until none answers";
+const NO_CONFLICT = "If strong replies may have hidden weaker ones (each R read as H), the log doesn't contradict itself.";
+
 /** How many rounds are named as causes. */
 const MOST_CAUSES = 24;
 
@@ -66,9 +73,9 @@ export function say(told) {
   const none = { lights: [], why: "", lead: "", test: "" };
   if (told.object.kind === KIND.REFUSED) return { ...none, look: "refused", sign: "?", ...refused(told) };
   if (!told.conflict) return possible(told);
-  const { sentence: found, causes, test } = contradiction(told.conflict);
+  const { sentence: found, causes, test } = contradiction(told.conflict), other = told.object.captured?.kind ?? KIND.IMPOSSIBLE;
   return { ...none, look: "broken", sign: "≠", headline: `The log contradicts itself: ${found}`, shelf: [NEW_LOG, STAYS],
-    lead: "Mostly it is one of these:", causes, test };
+    lead: "Mostly it is one of these:", causes, test: [test, other === KIND.IMPOSSIBLE ? "" : NO_CONFLICT].filter((it) => it).join(" ") };
 }
 
 /**
@@ -166,17 +173,53 @@ function whyOpen({ causes, silenced, neverAsked, counts }) {
 }
 
 /**
+ * What a slot held that wasn't read.
+ * @type {Record<string, string>}
+ */
+const HELD = { collision: "two or more tags answered", garbled: "something answered that couldn't be read",
+  unknown: "nothing is known of who answered" };
+
+/**
+ * What slots held in which a tag was read, and others may have answered.
+ * @param {bigint[]} uids
+ */
+function readIn(uids) {
+  return uids.length === 1 ? `${short(uids[0])} was read, perhaps over others` : "one tag was read, perhaps over others";
+}
+
+/**
+ * 0, 3 to 6 and F.
+ * @param {number[]} slots
+ */
+function runs(slots) {
+  const parts = /** @type {number[][]} */ ([]), name = (/** @type {number} */ slot) => slot.toString(16).toUpperCase();
+  for (const slot of slots) {
+    const last = parts[parts.length - 1];
+    if (last && last[last.length - 1] === slot - 1) last.push(slot); else parts.push([slot]);
+  }
+  return listing(parts.flatMap((part) => part.length > 2 ? [`${name(part[0])} to ${name(part[part.length - 1])}`] : part.map(name)));
+}
+
+/**
  * Why slots of a round left UIDs open.
  * @param {Cause} cause
  */
 function because(cause) {
-  const slots = cause.slots.map((slot) => slot.toString(16).toUpperCase()), asks = cause.asked.len ? ending(cause.asked) : "all UIDs";
-  const round = `round of line ${cause.round}, which asked ${asks},`;
-  if (cause.reading === "unreached") {
-    if (cause.slots[0] === 0) return `Of the ${round} no slot was logged.`;
-    const which = slots.length > 2 ? `${slots[0]} to ${slots[slots.length - 1]}` : listing(slots);
-    return `The ${round} ended before slot${slots.length > 1 ? "s" : ""} ${which}.`;
-  }
-  return `In slot${slots.length > 1 ? "s" : ""} ${listing(slots)} of the ${round} ` + (cause.reading === "collision" ? "two or more tags answered"
-    : "something answered that couldn't be read") + ", and not all of these UIDs were asked again.";
+  const asks = cause.asked.len ? ending(cause.asked) : "all UIDs", round = `round of line ${cause.round}, which asked ${asks},`;
+  const slots = `slot${cause.slots.length > 1 ? "s" : ""} ${runs(cause.slots)}`;
+  if (cause.reading === "unreached") return cause.slots[0] === 0 ? `Of the ${round} no slot was logged.` : `The ${round} ended before ${slots}.`;
+  const held = cause.reading === "captured" ? readIn(cause.uids) : HELD[cause.reading];
+  return `In ${slots} of the ${round} ${held}, and not all of these UIDs were asked again.`;
+}
+
+/**
+ * Whether the answer would also hold if a strong reply had hidden a weaker one, and else what to ask; of an answer that counts
+ * on it. It is no part of the answer.
+ * @param {Told} told
+ */
+export function alsoHolds({ object: { kind, captured }, counts, requests }) {
+  const certain = /** @type {string[]} */ ([KIND.COMPLETE, KIND.ABSENT, KIND.UNLISTED]);
+  if (!captured || !counts.heard) return null;
+  if (!certain.includes(kind)) return null;
+  return captured.holds ? { words: `${ALSO}yes.`, ask: "" } : { words: `${ALSO}no. To know, ${TO_KNOW}:`, ask: requests.all };
 }

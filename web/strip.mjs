@@ -1,13 +1,11 @@
 /** The whole session in one strip: what its rows held, a bar for each few of them. */
 
 /** @typedef {import("./log.mjs").Log} Log */
-/** @typedef {{look: "marked" | "heard" | "collision" | "garbled" | "silent" | "quiet", line: number}} Bar */
+/** @typedef {{line: number, isMarked: boolean, held: [import("./log.mjs").Reading, number][]}} Bar with how many of its slots held what */
 
 const MOST_BARS = 200;
-/** What a bar shows of its rows: the first of these that there is. */
-const ORDERED = /** @type {Bar["look"][]} */ (["marked", "heard", "garbled", "collision", "silent", "quiet"]);
-/** @type {Record<string, Bar["look"]>} */
-const OF_LETTER = { R: "heard", C: "collision", D: "garbled", S: "silent" };
+/** From above. */
+const ORDERED = /** @type {import("./log.mjs").Reading[]} */ (["silent", "unknown", "collision", "garbled", "captured", "heard"]);
 
 /**
  * @param {Log} log
@@ -17,13 +15,11 @@ const OF_LETTER = { R: "heard", C: "collision", D: "garbled", S: "silent" };
 export function strip(log, marked) {
   const each = Math.ceil(log.rowCount / MOST_BARS), bars = [];
   for (let from = 0; from < log.rowCount; from += each) {
-    const looks = new Set(), rows = Array.from({ length: Math.min(each, log.rowCount - from) }, (_, at) => from + at);
-    for (const row of rows) {
-      if (marked.has(row)) looks.add("marked");
-      for (const line of log.outcomes(row)) looks.add(OF_LETTER[log.letter(line)]);
-    }
-    const line = log.lineOf(rows.find((row) => marked.has(row)) ?? from);
-    bars.push({ look: ORDERED.find((look) => looks.has(look)) ?? "quiet", line });
+    const rows = Array.from({ length: Math.min(each, log.rowCount - from) }, (_, at) => from + at);
+    const first = rows.find((row) => marked.has(row)), counts = ORDERED.map(() => 0);
+    for (const row of rows) for (const line of log.outcomes(row)) counts[ORDERED.indexOf(log.reading(line) ?? "unreached")]++;
+    const held = ORDERED.map((look, at) => /** @type {Bar["held"][0]} */ ([look, counts[at]]));
+    bars.push({ line: log.lineOf(first ?? from), isMarked: first !== undefined, held: held.filter(([, many]) => many) });
   }
   return bars;
 }

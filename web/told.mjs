@@ -7,6 +7,7 @@
 import { causesOf, silencedUnheard } from "./causes.mjs";
 import { conflictOf, isLarge, keyLines } from "./conflict.mjs";
 import { drawn } from "./drawn.mjs";
+import { ANY_LINK, linkOf, oneSlotOf, stayQuietOf } from "./frames.mjs";
 import { KIND } from "./kinds.mjs";
 import { Log } from "./log.mjs";
 import { notesOf } from "./notes.mjs";
@@ -42,6 +43,12 @@ import { strip } from "./strip.mjs";
  * @property {{count: number, uids: string[]}} certain
  * @property {{count: number, share: number, masks: {mask_len: number, mask_value: string, ask: string[]}[]}} open
  * @property {string | null} unnoticed a UID that isn't listed, and could be there
+ * @property {Captured} [captured] of a log
+ */
+/**
+ * @typedef {Object} Captured
+ * @property {boolean} holds whether the answer also holds if strong replies hid weaker ones
+ * @property {string} [kind] of the answer that does, if it doesn't
  */
 /**
  * @typedef {Object} Told
@@ -52,7 +59,9 @@ import { strip } from "./strip.mjs";
  * @property {Mask[]} open the first open masks
  * @property {Silenced[]} silenced the tags that are open since they were silenced before they were heard
  * @property {number} quiet how many open masks have no other tags
- * @property {{open: string[], silenced: string[]}} requests what is left to ask, as lines; at once, and after a field cycle
+ * @property {number} hidden how many open masks only a reply may have hidden
+ * @property {{open: string[], silenced: string[], hidden: string[], all: string}} requests what is left to ask, as lines: at once; after a
+ *   field cycle; and where a reply may have hidden others; and what asks for all tags in one slot
  * @property {Cause[]} causes slots in which the other open UIDs would answer, by their rounds
  * @property {boolean} neverAsked whether some open mask has no such slot
  * @property {import("./notes.mjs").Notes} notes
@@ -84,8 +93,8 @@ export function tell(object, text = new TextEncoder().encode(object.text)) {
   log.counts.lines = object.lines;
   /** @type {Told} */
   const told = { object, faulty: refused && line <= log.lineCount ? log.line(line) : "",
-    cycles: log.line(1).endsWith("2"), conflict: null, open: object.open.masks.map(maskOf), silenced: [], quiet: 0,
-    requests: { open: [], silenced: [] }, causes: [], neverAsked: false, notes: { lost: [], cut: [], last: null },
+    cycles: log.version > 1, conflict: null, open: object.open.masks.map(maskOf), silenced: [], quiet: 0, hidden: 0,
+    requests: { open: [], silenced: [], hidden: [], all: "" }, causes: [], neverAsked: false, notes: { lost: [], cut: [], last: null },
     counts: log.counts, rows: [], strip: [], ringed: [], named: [] };
   if (!refused) explain(log, told);
   return told;
@@ -99,17 +108,31 @@ export function tell(object, text = new TextEncoder().encode(object.text)) {
 function explain(log, told) {
   const { object, open } = told, lines = linesOf(object, "conflict");
   if (object.kind === KIND.IMPOSSIBLE) told.conflict = conflictOf(log, lines, linesOf(object, "silenced by")[0] ?? 0);
-  const { masks, tags } = silencedUnheard(log, open), quiet = new Set(masks), asks = object.open.masks.map((mask) => mask.ask);
-  const asked = (/** @type {boolean} */ silenced) => asks.filter((_, at) => quiet.has(open[at]) === silenced)
-    .slice(0, MOST_REQUESTS).flat();
-  const { causes, rows, neverAsked } = causesOf(log, open.filter((mask) => !quiet.has(mask)));
-  Object.assign(told, { silenced: tags, quiet: masks.length, causes, neverAsked,
-    requests: { open: asked(false), silenced: asked(true) } });
+  const { masks, tags } = silencedUnheard(log, open), quiet = new Set(masks);
+  const { causes, rows, neverAsked, hidden } = causesOf(log, open.filter((mask) => !quiet.has(mask)));
+  const asked = (/** @type {(mask: Mask) => boolean} */ isIt) => object.open.masks.filter((_, at) => isIt(open[at]))
+    .slice(0, MOST_REQUESTS).flatMap((mask) => mask.ask);
+  Object.assign(told, { silenced: tags, quiet: masks.length, hidden: hidden.size, causes, neverAsked, requests: {
+    open: asked((mask) => !quiet.has(mask) && !hidden.has(mask)), silenced: asked((mask) => quiet.has(mask)),
+    hidden: askedAgain(log, causes), all: `T ${oneSlotOf(log.rowCount ? linkOf(log.frame(log.lineOf(0))) : ANY_LINK)}` } });
   told.named = named(told);
   told.notes = notesOf(log, object);
   told.ringed = causes.flatMap((cause) => cause.slots.map((number) => `${cause.round}:${number}`));
   told.rows = drawn(log, told.named, rows, !isLarge(told.conflict));
   if (told.rows.some((row) => row.kind === "gap")) told.strip = strip(log, new Set([...rows, ...told.named.map((line) => log.rowAt(line))]));
+}
+
+/**
+ * The lines that silence the tags that may have hidden others, and ask these again.
+ * @param {Log} log
+ * @param {Cause[]} causes
+ */
+function askedAgain(log, causes) {
+  const captured = causes.filter((cause) => cause.reading === "captured");
+  return captured.flatMap(({ round, uids }) => {
+    const request = log.frame(round).toUpperCase(), link = linkOf(request);
+    return [...uids.map((uid) => `T ${stayQuietOf(uid, link)}`), `T ${request}`];
+  }).slice(0, MOST_REQUESTS);
 }
 
 /**

@@ -2,8 +2,11 @@
 import { el } from "./elements.mjs";
 import { TRIAL } from "./words.mjs";
 
-/** What a slot may have held, by the letters of lines; the last only in a log of version 2. */
-const TRIED = /** @type {[string, string][]} */ ([["S", "nobody"], ["C", "two or more"], ["D", "unreadable"]]);
+/** What a slot may have held, by the letters of lines, from which version of the log on. */
+const TRIED = /** @type {[string, string, number][]} */ ([["S", "nobody", 1], ["C", "two or more", 1], ["D", "unreadable", 2], ["N", "not known", 3]]);
+/** What a reply may have been instead, as its frame stays. */
+const READ = /** @type {[string, string, number][]} */ ([["R", "one tag alone", 3], ["H", "one tag, perhaps over others", 3]]);
+const FIRST_LINE = /^vicinity-log (\d)/, MOVES = /^(Arrow|Page|Home|End|Tab)/;
 
 export class Trial {
   /** The text and the name as they were. */
@@ -24,6 +27,8 @@ export class Trial {
       const cell = /** @type {HTMLElement} */ (event.target).closest("td[data-line]");
       if (cell && !pane.field.readOnly) this.#offer(Number(cell.getAttribute("data-line")));
     });
+    // and by the keys that move the cursor
+    pane.field.addEventListener("keyup", (event) => { if (MOVES.test(event.key) && !pane.field.readOnly) this.#offer(pane.line); });
   }
 
   /** The text is another one now. */
@@ -34,8 +39,9 @@ export class Trial {
 
   /** @param {number} line */
   #offer(line) {
-    const lines = this.pane.field.value.split("\n"), letter = lines[line - 1]?.[0] ?? "", isSecond = lines[0].startsWith("vicinity-log 2");
-    const tried = "SRCD".includes(letter) && letter ? TRIED.filter(([it]) => it !== letter && (it !== "D" || isSecond)) : [];
+    const lines = this.pane.field.value.split("\n"), letter = lines[line - 1]?.[0] ?? "", version = Number(lines[0].match(FIRST_LINE)?.[1]);
+    const isReply = READ.some(([it]) => it === letter), isSlot = isReply || TRIED.some(([it]) => it === letter);
+    const known = [...isReply ? READ : [], ...isSlot ? TRIED : []], tried = known.filter(([it, , from]) => it !== letter && from <= version);
     const buttons = tried.map(([it, words]) => this.#button(`${it} ${words}`, () => this.#try(lines, line, it)));
     const back = this.#before ? [this.#button("As it was", () => this.#back())] : [];
     this.bar.replaceChildren(...tried.length ? [`What if line ${line} were `] : [], ...[...buttons, ...back].flatMap((it) => [it, " "]));
@@ -59,7 +65,8 @@ export class Trial {
    */
   #try(lines, line, letter) {
     this.#before ??= { text: this.pane.field.value, name: this.name() };
-    this.#put(lines.map((it, at) => at === line - 1 ? letter : it).join("\n"), line);
+    const frame = READ.some(([it]) => it === letter) ? lines[line - 1].slice(1) : "";
+    this.#put(lines.map((it, at) => at === line - 1 ? letter + frame : it).join("\n"), line);
     const name = this.#before.name, others = this.name().match(TRIAL)?.[0].slice(9, -1);
     this.changed(`${name} (trial: ${others ? `${others}, ` : ""}line ${line} is ${letter})`);
     this.#offer(line);

@@ -5,26 +5,28 @@ import { maintainer } from "./maintainer.mjs";
 import { KIND } from "./kinds.mjs";
 import { noted } from "./notes.mjs";
 import { rounds } from "./rounds.mjs";
-import { GRANTED, say } from "./say.mjs";
+import { alsoHolds, GRANTED, HOLDS, say } from "./say.mjs";
 import { count, ending, lines, printable, TRIAL } from "./words.mjs";
 
 /** @typedef {import("./told.mjs").Told} Told */
+/** @typedef {Map<string, string>} Names what a catalogue says of UIDs */
 
-/** How many UIDs are shown without being asked for. */
-const FEW = 24;
+/** How many UIDs are shown without being asked for, and of how many rounds the lines of a conflict are on paper. */
+const FEW = 24, MOST_ON_PAPER = 60;
 
 /**
  * The whole of what is drawn of a log.
  * @param {Told} told
  * @param {string} [heading] the element of its heading
+ * @param {Names} [names]
  * @returns {Node[]}
  */
-export function view(told, heading = "h1") {
+export function view(told, heading = "h1", names = new Map()) {
   const said = say(told), what = [printable(told.object.file), " · ", el("code", {}, told.object.answer)];
   // what is only tried is never green
   const trial = TRIAL.test(told.object.file) ? { look: /** @type {const} */ ("read"), sign: "?", headline: `A trial: ${said.headline}` } : {};
-  return [banner({ ...said, ...trial }, what, heading), shelf(said), ...findings(told),
-    ...tags(told), ...conflict(told), ...rounds(told), ...maintainer(told, said), ...notes(told), ...granted(told.object.status), record(told)];
+  return [banner({ ...said, ...trial }, what, heading), ...conditions(told), shelf(said),
+    ...findings(told, names), ...tags(told, names), ...conflict(told), ...rounds(told, names), ...maintainer(told, said), ...notes(told), ...granted(told.object.status), record(told)];
 }
 
 /** @param {Told} told */
@@ -45,14 +47,27 @@ export function banner(said, what, heading = "h1") {
     ...lights.length ? [el("dl", { class: "lights" }, lights)] : []);
 }
 
+/**
+ * What the answer rests on, in a line each.
+ * @param {Told} told
+ */
+function conditions(told) {
+  const also = alsoHolds(told), holds = told.object.kind === KIND.COMPLETE ? [el("p", {}, HOLDS)] : [];
+  const parts = [...holds, ...also ? [el("p", {}, also.words, ...also.ask ? [" ", el("code", {}, also.ask)] : [])] : []];
+  return parts.length ? [el("section", { class: "holds" }, parts)] : [];
+}
+
 /** @param {import("./say.mjs").Said} said */
 function shelf(said) {
   const why = said.why ? [el("p", { class: "why" }, `The cause: ${said.why}`)] : [];
   return el("section", {}, el("h2", {}, "At the shelf"), el("ul", { class: "steps" }, said.shelf.map((step) => el("li", {}, step))), ...why);
 }
 
-/** @param {Told} told */
-function findings({ object: { findings, found }, counts }) {
+/**
+ * @param {Told} told
+ * @param {Names} names
+ */
+function findings({ object: { findings, found }, counts }, names) {
   const listed = counts.listed > 0;
   const kinds = /** @type {["absent" | "unlisted" | "doubtful", string, string, string][]} */ ([
     [KIND.ABSENT, "listed tag that can't be here", "listed tags that can't be here", "ruled out by "],
@@ -62,9 +77,19 @@ function findings({ object: { findings, found }, counts }) {
   return kinds.filter(([kind]) => found[kind]).map(([kind, one, many, by]) => {
     const list = findings.filter((it) => it.kind === kind), all = found[kind];
     const shown = (/** @type {number} */ line) => [" ", el("span", { class: "by" }, by), toLine(line)];
-    const items = list.map(({ uid = "", line }) => el("li", {}, el("code", {}, uid), ...line ? shown(line) : []));
+    const items = list.map(({ uid = "", line }) => el("li", {}, ...tagWith(uid, names), ...line ? shown(line) : []));
     return folded(count(all, one, many), all <= FEW, el("ul", { class: "uids" }, items), ...rest(all - list.length));
   });
+}
+
+/**
+ * A UID, after what a catalogue says of it.
+ * @param {string} uid
+ * @param {Names} names
+ */
+function tagWith(uid, names) {
+  const name = names.get(uid);
+  return [...name ? [el("b", {}, printable(name)), " "] : [], el("code", {}, uid)];
 }
 
 /** @param {number} number */
@@ -80,17 +105,20 @@ function conflict({ conflict: it }) {
   if (!it || !isLarge(it)) return [];
   const items = it.parts.map(({ asked, round, lines: numbers, silent }) => el("li", {}, toLine(numbers[0], lines(numbers)),
     `: ${ending(asked)} were asked in line ${round}${silent ? ", and none answered" : ""}`));
-  return [folded(`The ${count(it.count, "line")} that can't all be true, of ${count(it.rounds, "round")}`, false, el("ul", {}, items),
-    ...rest(it.rounds - items.length))];
+  const part = folded(`The ${count(it.count, "line")} that can't all be true, of ${count(it.rounds, "round")}`, false, el("ul", {}, items),
+    ...rest(it.rounds - items.length));
+  if (it.rounds > MOST_ON_PAPER) part.classList.add("aside");
+  return [part];
 }
 
 /**
  * The tags of a log without a list, or of a complete one, which stands on paper in full.
  * @param {Told} told
+ * @param {Names} names
  */
-function tags({ object: { certain, found } }) {
+function tags({ object: { certain, found } }, names) {
   if (!certain.count || found.unlisted === certain.count) return [];
-  const items = certain.uids.map((uid) => el("li", {}, el("code", {}, uid)));
+  const items = certain.uids.map((uid) => el("li", {}, ...tagWith(uid, names)));
   return [folded(certain.count === 1 ? "The tag that is here" : `The ${count(certain.count, "tag")} that are here`, false,
     el("ul", { class: "uids" }, items), ...rest(certain.count - items.length))];
 }

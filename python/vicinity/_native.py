@@ -4,6 +4,7 @@ from __future__ import annotations
 import ctypes
 import functools
 import os
+import platform
 from typing import TYPE_CHECKING, Sequence, Union
 
 if TYPE_CHECKING:
@@ -12,7 +13,8 @@ if TYPE_CHECKING:
     BytesLike = Union[bytes, bytearray, memoryview, mmap.mmap]
 
 INTERFACE = 1
-NAME = "libvicinity.so.1"
+#: The library's file.
+NAME = "vicinity.dll" if os.name == "nt" else "libvicinity.so.1"
 X86_64_V2 = ("cx16", "lahf_lm", "popcnt", "sse4_1", "sse4_2", "ssse3")
 
 
@@ -160,7 +162,7 @@ def library() -> ctypes.CDLL:
     one."""
     within = os.path.join(os.path.dirname(os.path.abspath(__file__)), NAME)
     name = os.environ.get("LIBVICINITY") or (within if os.path.exists(within) else NAME)
-    lacking = lacking_of(os.uname().machine, _flags())
+    lacking = lacking_of(platform.machine(), _flags())
     if lacking:
         raise OSError(f"the library {name} needs a processor with x86-64-v2: this one lacks {', '.join(lacking)}")
     try:

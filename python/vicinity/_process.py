@@ -17,6 +17,8 @@ from typing import Any, Callable, Generator, Iterable, NoReturn, Sequence, TypeV
 # Within these bytes, a longer text has a line that is too long, or too many lines: 1,000,000 lines of 130 bytes, plus one.
 MOST_BYTES = 1_000_000 * 130 + 1
 PIECE = 1 << 16
+#: How a file is opened: read as it is, also on Windows, and not left open to other programs.
+AS_BYTES = os.O_RDONLY | getattr(os, "O_CLOEXEC", 0) | getattr(os, "O_BINARY", 0)
 NO_ANSWER = 4
 #: With more logs than this, a terminal is told how many have been read, each time after so many.
 MOST_UNCOUNTED, TOLD_EACH = 50, 10
@@ -32,6 +34,7 @@ def run(command: Callable[[], int]) -> int:
     """The status of a command, which is 4 if it has no answer."""
     signal.signal(signal.SIGINT, signal.SIG_DFL)  # also while the library judges
     sys.unraisablehook = lambda _: None  # failures while something is released as memory runs out
+    _bytes_on_windows()
     try:
         return command()
     except NoAnswer as why:
@@ -44,6 +47,14 @@ def run(command: Callable[[], int]) -> int:
         return complain(shown(f"{type(error).__name__}: {error}"))
 
 
+def _bytes_on_windows() -> None:
+    """Windows would change line ends that are read and written."""
+    if sys.platform == "win32":
+        import msvcrt
+        for file in (0, 1):
+            msvcrt.setmode(file, os.O_BINARY)
+
+
 def complain(why: str) -> int:
     """Writes to standard error why there is no answer, if it can, and returns the status."""
     _note("vicinity: ", why, "\n")
@@ -53,7 +64,7 @@ def complain(why: str) -> int:
 def read(name: str) -> bytes:
     """The contents of a file, as far as they can matter; - is standard input."""
     try:
-        file = os.dup(0) if name == "-" else os.open(name, os.O_RDONLY | os.O_CLOEXEC)
+        file = os.dup(0) if name == "-" else os.open(name, AS_BYTES)
         try:
             pieces, left, wanted = [], MOST_BYTES, max(PIECE, os.fstat(file).st_size)
             while left > 0:
@@ -137,7 +148,9 @@ def has_colours() -> bool:
 
 
 def has_unicode() -> bool:
-    """Whether the text of this locale is UTF-8."""
+    """Whether the text of this locale is UTF-8; on Windows, which has no such locale, that of the terminal."""
+    if sys.platform == "win32":
+        return sys.stdout is not None and sys.stdout.encoding.upper() in ("UTF-8", "UTF8")
     return locale.nl_langinfo(locale.CODESET).upper() in ("UTF-8", "UTF8")
 
 

@@ -38,9 +38,13 @@ function explained(library, text) {
  * @param {Uint8Array} text
  */
 function surveyed(library, text) {
-  const certain = library.certain(text), open = library.openMasks(text);
-  const written = [shown(certain.answer), shown(open.answer), ...certain.list.map((uid) => ` ${hex(uid)}`),
-    ...open.list.map((mask) => ` ${mask.fault} ${mask.len} ${hex(mask.value)}`), "\n"];
+  const certain = library.certain(text), open = library.openMasks(text), left = library.survey(text);
+  const said = (/** @type {bigint[]} */ uids, /** @type {import("../../web/library.mjs").Mask[]} */ masks) =>
+    [...uids.map((uid) => ` ${hex(uid)}`), ...masks.map((mask) => ` ${mask.fault} ${mask.len} ${hex(mask.value)}`), "\n"].join("");
+  const written = [shown(certain.answer), shown(open.answer), said(certain.list, open.list)];
+  if (shown(left.answer) + said(left.certain, left.open) !== shown(certain.answer) + said(certain.list, open.list)) {
+    written.push("the survey differs\n");
+  }
   const { answer, list } = library.reconcile(EXPECTED, certain.list, open.list);
   written.push(shown(answer), ...list.map((found) =>
     `${found.kind} ${found.line} ${found.maskLen} ${hex(found.maskValue)} ${hex(found.uid)}\n`));
