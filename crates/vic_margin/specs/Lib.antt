@@ -1,0 +1,2 @@
+pub mod Overlooked
+pub mod inner
