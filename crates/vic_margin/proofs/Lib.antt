@@ -1,2 +1,4 @@
 mod Words
 pub mod Trees
+pub mod Turning
+pub mod Steps

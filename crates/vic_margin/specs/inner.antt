@@ -1,3 +1,4 @@
 -- Definitions that private contracts alone cite.
 pub mod Trees
 pub mod Counts
+pub mod Tallies

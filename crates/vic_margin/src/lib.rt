@@ -2,3 +2,4 @@
 #![tactic(auto)]
 
 mod counts;
+mod tally;
