@@ -2,3 +2,7 @@ mod Words
 pub mod Trees
 pub mod Turning
 pub mod Steps
+pub mod Places
+pub mod Lowest
+pub mod Kept
+pub mod Telling

@@ -234,4 +234,7 @@ margin_at_end es u p n old new h all lt t = elim (cases_Bool (is_quiet es (lengt
 ]
 
 pub margins_at_end : (bs : List ℕ) (es : List Entry) (n : ℕ) (old new : Tally) → IsTurned (λ q. nat_lt q n && not (is_marked old.quiet q)) old new → length old.rest.items ≤ n → IsTallyAt bs es (length es) old → AreMargins bs es new.rest.items
-margins_at_end bs es n old new h all t u p is at = margin_at_end es u p n old new h all (let r = t.room.rest in let w = at.within in omega arith) (t.known u p is at)
+margins_at_end bs es n old new h all t = record {
+  room = h.places ∙ t.room.rest;
+  margin = λ u p is at. margin_at_end es u p n old new h all (let r = t.room.rest in let w = at.within in omega arith) (t.known u p is at);
+}

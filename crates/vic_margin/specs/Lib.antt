@@ -1,2 +1,3 @@
 pub mod Overlooked
+pub mod Margins
 pub mod inner

@@ -2,3 +2,4 @@
 pub mod Trees
 pub mod Counts
 pub mod Tallies
+pub mod Least

@@ -73,6 +73,7 @@ pub record IsPlace (bs : List ℕ) (es : List Entry) (i : ℕ) (e : Entry) (roun
   pub cut : AreCut bs es
 
 -- the margin of the UIDs of each part
-abbrev pub AreMargins : List ℕ → List Entry → List ℕ → Type 0
-AreMargins bs es margins =
-    (u p : ℕ) → IsUid u → IsPartOf bs (mirror u) p → slice_index margins p ≡ margin_of es u
+pub record AreMargins (bs : List ℕ) (es : List Entry) (margins : List ℕ) : Type 0 where
+  pub room : length margins ≡ part_count bs
+  pub margin : (u p : ℕ) → IsUid u → IsPartOf bs (mirror u) p
+      → slice_index margins p ≡ margin_of es u
