@@ -6,6 +6,8 @@ use Rattle.vic_frame.specs.Masks.{BitMask, lies_in}
 use Rattle.vic_log.specs.Order.{listed}
 use Rattle.vic_tree.specs.OpenSet.{AllOpen, IsAtMost, IsWidest, SameUids, has_key, without_keys}
 use Rattle.vic_tree.specs.Ranges.{in_ranges, is_outside}
+use Rattle.vic_verdict.specs.Keys.{AreKeysOf}
+use Rattle.vic_verdict.specs.Rising.{SameMembers}
 use Rattle.vic_verdict.specs.Verdict.{IsFirstMask, IsLeast}
 use Rattle.vic_walk.proofs.PartLaws.{one_part, part_of_key}
 use Rattle.vic_margin.specs.Margins.{IsMargin, IsMarginOfSome, IsOfMargin, IsWeakest}
@@ -28,6 +30,9 @@ has_map f (x ∷ xs) u h = elim (or_cases (nat_eq u x) (has xs u) h) [
 -- the keys of the listed UIDs
 abbrev pub AreListedKeys : List Entry → List ℕ → Type 0
 AreListedKeys es keys = (u : ℕ) → IsUid u → has_key keys u ≡ has (listed es) u
+
+pub listed_keys : (es : List Entry) (keys us vs : List ℕ) → AreKeysOf keys vs → vs ≡ us → SameMembers us (listed es) → AreListedKeys es keys
+listed_keys es keys us vs k is same u uid = k.members u uid ∙ (ap (λ xs. has xs u) is ∙ same u)
 
 some_free : (es : List Entry) (keys : List ℕ) → AreListedKeys es keys → length es < 2 ^ 56 → ((k : ℕ) → k < 2 ^ 56 → has keys k ≡ true) → ⊥
 some_free es keys named short all =
@@ -104,8 +109,8 @@ of_mask : (es : List Entry) (m : ℕ) (set : ℕ → Bool) (mask : BitMask) → 
 of_mask es m set mask is h = record {
   short = h.short;
   fits = h.is_mask.1;
-  unlisted = λ u uid lies. let it = sym (is u uid) ∙ h.open_throughout u uid lies in let w = and_parts _ _ it in grind (arith, nat_tests, w.1);
-  margin = λ u uid lies. let it = sym (is u uid) ∙ h.open_throughout u uid lies in let w = and_parts _ _ it in eqb-true _ _ w.0;
+  unlisted = λ u uid lies. let it = sym (is u uid) ∙ h.open_throughout u uid lies in let w = and_parts (margin_of es u == m) (not (has (listed es) u)) it in grind (arith, nat_tests, w.1);
+  margin = λ u uid lies. let it = sym (is u uid) ∙ h.open_throughout u uid lies in let w = and_parts (margin_of es u == m) (not (has (listed es) u)) it in eqb-true (margin_of es u) m w.0;
 }
 
 pub first_of_margin : (es : List Entry) (m : ℕ) (set : ℕ → Bool) (mask : BitMask) → ((u : ℕ) → IsUid u → set u ≡ has_it es m u) → IsWidest set mask → IsFirstMask (IsOfMargin es m) mask

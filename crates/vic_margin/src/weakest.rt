@@ -1,6 +1,6 @@
 //! The margin of a log, and the first mask of UIDs that have it.
 
-ghost use Rattle.std.specs.Prelude.{IfOk, MatchOption, ⊥};
+ghost use Rattle.std.specs.Prelude.{◌≤◌, IfOk, MatchOption, length};
 ghost use Rattle.vic_log.specs.Order.{entries};
 ghost use Rattle.vic_verdict.specs.LogLines.{AreLogLines};
 ghost use Rattle.vic_verdict.specs.Possible.{IsPossible};
@@ -12,7 +12,7 @@ use crate::least::least_besides;
 use crate::margins::part_margins;
 use crate::others::other_keys;
 use std::alloc::{AllocError, Global};
-use vic_log::{Log, PackedLine};
+use vic_log::{Log, MAX_LINES, PackedLine};
 use vic_tree::{OpenSet, RangeSet};
 use vic_verdict::{Verdict, judge, keys_in_order, listed_uids};
 use vic_walk::Parts;
@@ -24,6 +24,7 @@ pub fn margin(alloc: Global, log: &Log) -> Result<Margin, AllocError>
         (IsPossible (entries log.now.lines) → ⊥)
         (λ w. IsPossible (entries log.now.lines) × IsWeakest (entries log.now.lines) w)) }
 {
+    let lines = log.lines();
     let verdict = judge(alloc, log)?;
     let weakest = match verdict {
         Verdict::Impossible { .. } => None,
@@ -31,7 +32,7 @@ pub fn margin(alloc: Global, log: &Log) -> Result<Margin, AllocError>
         | Verdict::Unlisted(_)
         | Verdict::Unsettled(_)
         | Verdict::Doubtful(_)
-        | Verdict::Complete { .. } => Some(weakest_of(alloc, log.lines())?),
+        | Verdict::Complete { .. } => Some(weakest_of(alloc, lines)?),
     };
     Ok(Margin { verdict, weakest })
 }
@@ -39,6 +40,7 @@ pub fn margin(alloc: Global, log: &Log) -> Result<Margin, AllocError>
 /// The margin of the lines of a log, and the first mask of UIDs that have it.
 fn weakest_of(alloc: Global, lines: &[PackedLine]) -> Result<Weakest, AllocError>
     requires lines { AreLogLines lines.now }
+    requires limit { length lines.now ≤ MAX_LINES }
     ensures { IfOk result (IsWeakest (entries lines.now)) }
 {
     let parts = Parts::of(alloc, lines)?;
