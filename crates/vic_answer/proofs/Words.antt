@@ -46,7 +46,7 @@ pub use Rattle.vic_log.specs.declared.fault.LineFault.{LineFault}
 pub use Rattle.vic_log.specs.declared.fault.LogFault.{LogFault}
 pub use Rattle.vic_log.specs.declared.fault.LogFault.TheVariants.{Line}
 pub use Rattle.vic_tree.specs.declared.open_masks.OpenMasks.{OpenMasks}
-pub use Rattle.vic_verdict.proofs.TwoVersions.{complete_second}
+pub use Rattle.vic_verdict.proofs.Versions.{complete_second}
 pub use Rattle.vic_verdict.proofs.Verdicts.{complete_whole}
 pub use Rattle.vic_verdict.specs.Explained.{IsPopulationBehind, IsShownByNone, Shows}
 pub use Rattle.vic_verdict.specs.Verdict.{IsVerdict}

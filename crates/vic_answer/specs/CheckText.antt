@@ -6,7 +6,7 @@ use Rattle.vic_log.specs.Order.{entries, listed}
 use Rattle.vic_log.specs.Text.{IsLogOf, IsFirstFault}
 use Rattle.vic_verdict.specs.declared.judging.Verdict.{Verdict}
 use Rattle.vic_verdict.specs.declared.judging.Verdict.TheVariants.{Impossible, Absent, Unlisted, Unsettled, Doubtful, Complete}
-use Rattle.vic_verdict.specs.TwoVersions.{IsWholeSecond}
+use Rattle.vic_verdict.specs.Versions.{IsWholeSecond}
 use Rattle.vic_verdict.specs.Verdict.{IsVerdict, IsWhole}
 use Rattle.vic_answer.specs.Digits.{uid_text, value_text}
 use Rattle.vic_answer.specs.Refusals.{refusal_line}

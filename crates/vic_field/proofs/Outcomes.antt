@@ -1,5 +1,5 @@
 -- The Ready tags of a field, and the members of a population that answer: the outcome is the same.
-use Rattle.vic_field.proofs.Words.{◌≡◌, ℕ, Bool, true, false, not, ◌&&◌, List, [], ◌∷◌, length, Option, Some, None, refl, sym, ap, ◌∙◌, unwrap_or, arith, ⊎_elim, nat_eq, if◌then◌else◌, filter, is_some-lookup, nat_tests, both_ways, false≢true, BitMask, lies_in, IsUid, has, Entry, IsPopulation, is_quiet, slot_line, uids, readiness, ready_in, and_parts, AreDifferent, Outcome, Lone, outcome_of, Fits, IsWithin, AreDifferent-population, AreDifferent-filter, has_at, has_here, has_there, has_cases, has_filter, filter_has, IsUid-member}
+use Rattle.vic_field.proofs.Words.{◌≡◌, ℕ, Bool, true, false, not, ◌&&◌, List, [], ◌∷◌, length, Option, Some, None, refl, sym, ap, ◌∙◌, unwrap_or, arith, ⊎_elim, nat_eq, if◌then◌else◌, filter, is_some-lookup, nat_tests, both_ways, false≢true, BitMask, lies_in, IsUid, has, Entry, IsPopulation, is_quiet, slot_line, uids, readiness, ready_in, and_parts, AreDifferent, Outcome, Nobody, Lone, Several, outcome_of, Fits, IsWithin, AreDifferent-population, AreDifferent-filter, has_at, has_here, has_there, has_cases, has_filter, filter_has, IsUid-member}
 use Rattle.vic_field.specs.Tags.{told}
 
 only : (x y : ℕ) → has (x ∷ []) y ≡ true → y ≡ x
@@ -63,5 +63,7 @@ outcome_told p es tags m pop tagged tells =
           same u (IsUid-member p u pop (and_parts (has p u) (answers u) k).0) ∙ k
 
 -- the line of an outcome fits it
-pub fits_told : (o : Outcome) → Fits (slot_line (told o)) o
-fits_told o = grind arith
+pub fits_told : (o : Outcome) (us : List ℕ) → outcome_of us ≡ o → Fits (slot_line (told o)) us
+fits_told Nobody us h = h
+fits_told (Lone u) us h = h
+fits_told Several us h = h

@@ -1,5 +1,5 @@
 -- A session in play: the entries of a log so far, filled, and the field's tags behind them.
-use Rattle.vic_field.proofs.Words.{◌≡◌, ℕ, zero, suc, ◌+◌, ◌<◌, ◌≤◌, Bool, true, false, not, ◌&&◌, ◌||◌, List, [], ◌∷◌, ◌++◌, length, Option, Some, None, refl, sym, ap, ◌∙◌, subst, arith, append_assoc, append-nil, length-append, ⊎_elim, slice_get, if◌then◌else◌, option_map, false≢true, Request, BitMask, lies_in, slot_count, mask_in, IsUid, has, Entry, Sent, IsPopulation, is_quiet, is_slot, slots_opened, line_count, slot_line, slot_lines_to, slot_lines, uids, readiness, ready_in, heard, filter-append, filter_agree, answers_at, outcome_of, outcome_at, Fits, CouldHaveGiven, silences, wakes, mask_at, lies_in_some, still_there, last_or, CouldHaveGiven-push, without_slots, HasAllSlots, IsPlain, ArePlain, slice_get-get_or, get_or}
+use Rattle.vic_field.proofs.Words.{◌≡◌, ℕ, zero, suc, ◌+◌, ◌<◌, ◌≤◌, Bool, true, false, not, ◌&&◌, ◌||◌, List, [], ◌∷◌, ◌++◌, length, Option, Some, None, refl, sym, ap, ◌∙◌, subst, arith, append_assoc, append-nil, length-append, ⊎_elim, slice_get, if◌then◌else◌, option_map, false≢true, Request, BitMask, lies_in, slot_count, mask_in, IsUid, has, Entry, Sent, IsPopulation, is_quiet, is_slot, slots_opened, line_count, slot_line, slot_lines_to, slot_lines, uids, readiness, ready_in, heard, filter-append, filter_agree, answers_at, outcome_of, answerers_at, Fits, CouldHaveGiven, silences, wakes, mask_at, lies_in_some, still_there, last_or, CouldHaveGiven-push, without_slots, HasAllSlots, IsPlain, ArePlain, slice_get-get_or, get_or}
 use Rattle.vic_field.specs.inner.Steps.{ready_after}
 use Rattle.vic_field.proofs.Outcomes.{Tells, outcome_told, fits_told}
 use Rattle.vic_field.proofs.Rounds.{place_in, second_place, slot_line-is_slot, slot_line-plain, slot_lines-slots, slot_lines-length, IsOpen, IsOpen-sent, IsOpen-slots, IsOpen-mask, quiet-next}
@@ -8,15 +8,15 @@ use Rattle.vic_field.proofs.Rounds.{place_in, second_place, slot_line-is_slot, s
 
 -- the line of a slot fits its outcome in the population
 slot_fits : (p : List ℕ) (es : List Entry) (tags : List (ℕ × Bool)) (m : BitMask) → IsPopulation p → IsPopulation (uids tags) → Tells p es tags → mask_at es (length es) ≡ Some m
-    → Fits (slot_line (heard (ready_in m tags))) (outcome_at es (length es) p)
+    → Fits (slot_line (heard (ready_in m tags))) (answerers_at es (length es) p)
 slot_fits p es tags m pop tagged tells at =
-    let same : outcome_of (ready_in m tags) ≡ outcome_at es (length es) p =
+    let same : outcome_of (ready_in m tags) ≡ outcome_of (answerers_at es (length es) p) =
     outcome_told p es tags m pop tagged tells
     ∙ ap outcome_of (filter_agree (λ u. lies_in m u && not (is_quiet es (length es) u)) (answers_at es (length es)) (λ u. ap (λ (o : Option BitMask). lies_in_some o u && not (is_quiet es (length es) u)) (sym at)) p) in
-    subst (Fits (slot_line (heard (ready_in m tags)))) same (fits_told (outcome_of (ready_in m tags)))
+    fits_told (outcome_of (ready_in m tags)) (answerers_at es (length es) p) (sym same)
 
-fits_any : (e : Entry) → is_slot e ≡ false → (o : _) → Fits e o
-fits_any e s o = grind arith
+fits_any : (e : Entry) → is_slot e ≡ false → (us : List ℕ) → Fits e us
+fits_any e s us = grind arith
 
 plain_any : (e : Entry) → is_slot e ≡ false → IsPlain e
 plain_any e s = grind arith
@@ -34,7 +34,7 @@ pub record HasRound (p : List ℕ) (es : List Entry) (tags : List (ℕ × Bool))
   pub plain : ArePlain es
   pub tells : Tells p es tags
 
-HasRound-next : (p : List ℕ) (es : List Entry) (tags after : List (ℕ × Bool)) (e : Entry) → Fits e (outcome_at es (length es) p) → IsPlain e → ((u : ℕ) → IsUid u → readiness after u ≡ option_map (ready_after e u) (readiness tags u))
+HasRound-next : (p : List ℕ) (es : List Entry) (tags after : List (ℕ × Bool)) (e : Entry) → Fits e (answerers_at es (length es) p) → IsPlain e → ((u : ℕ) → IsUid u → readiness after u ≡ option_map (ready_after e u) (readiness tags u))
     → HasRound p es tags → HasRound p (es ++ e ∷ []) after
 HasRound-next p es tags after e fits plain step h = record {
   outcomes = CouldHaveGiven-push p es e h.outcomes fits;
@@ -105,7 +105,7 @@ pub IsPlayed-next : (p : List ℕ) (done es : List Entry) (tags after : List (�
     → ((u : ℕ) → IsUid u → readiness after u ≡ option_map (ready_after e u) (readiness tags u)) → IsPlayed p done es tags → IsPlayed p (done ++ e ∷ []) (es ++ e ∷ slot_lines after e) after
 IsPlayed-next p done es tags after e pop s tagged step h =
     let joined : (es ++ e ∷ []) ++ slot_lines after e ≡ es ++ e ∷ slot_lines after e = append_assoc es (e ∷ []) (slot_lines after e) in
-    let pushed = HasRound-next p es tags after e (fits_any e s (outcome_at es (length es) p)) (plain_any e s) step h.round in
+    let pushed = HasRound-next p es tags after e (fits_any e s (answerers_at es (length es) p)) (plain_any e s) step h.round in
     record {
       kept = kept_next done es after e s h.kept;
       slots = slots_next es after e h.slots;

@@ -36,7 +36,7 @@ pub use Rattle.vic_log.proofs.Push.{entries-numbered, entries_next, listed-appen
 pub use Rattle.vic_log.proofs.Sets.{AreDifferent-filter, AreDifferent-population, IsUid-member, IsWithin, filter_has, has_at, has_cases, has_filter, has_here, has_there}
 pub use Rattle.vic_log.specs.Log.{AreTyped, IsValidEntry, LogValue, last_from}
 pub use Rattle.vic_log.specs.Order.{IsInOrder, entries, is_empty, listed, refusal}
-pub use Rattle.vic_log.specs.Populations.{CouldHaveGiven, Fits, IsPopulation, Lone, Outcome, answers_at, outcome_at, outcome_of}
+pub use Rattle.vic_log.specs.Populations.{CouldHaveGiven, Fits, IsPopulation, Lone, Nobody, Outcome, Several, answerers_at, answers_at, outcome_of}
 pub use Rattle.vic_log.specs.Quiet.{is_quiet, silences, wakes}
 pub use Rattle.vic_log.specs.Rounds.{ends_round, is_slot, lies_in_some, mask_at, opener, slots_left, slots_opened}
 pub use Rattle.vic_log.specs.Writing.{numbered}

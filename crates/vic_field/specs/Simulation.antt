@@ -4,7 +4,7 @@ use Rattle.std.specs.List.{filter}
 use Rattle.vic_frame.specs.declared.request.Request.{Request}
 use Rattle.vic_frame.specs.Slots.{slot_count}
 use Rattle.vic_log.specs.declared.entry.Entry.{Entry}
-use Rattle.vic_log.specs.declared.entry.Entry.TheVariants.{Sent, Heard, Garbled}
+use Rattle.vic_log.specs.declared.entry.Entry.TheVariants.{Sent, Heard, Garbled, Captured, Unknown}
 use Rattle.vic_log.specs.declared.entry.LogLine.{LogLine}
 use Rattle.vic_log.specs.declared.entry.TheConstants.{MAX_LINES}
 use Rattle.vic_log.specs.Order.{entries, listed}
@@ -24,10 +24,12 @@ HasAllSlots es =
     (i k : ℕ) (q : Request) → slice_get es i ≡ Some (Sent q) → k < slot_count q
     → (e : Entry) × (slice_get es (suc i + k) ≡ Some e) × (is_slot e ≡ true)
 
--- no reply is garbled, and a reply has flags 0 and DSFID 0
+-- no reply is garbled or captured, no slot is unknown, and a reply has flags 0 and DSFID 0
 abbrev pub IsPlain : Entry → Type 0
 IsPlain (Heard r) = (r.flags ≡ 0) × (r.dsfid ≡ 0)
 IsPlain Garbled = ⊥
+IsPlain (Captured r) = ⊥
+IsPlain Unknown = ⊥
 IsPlain e = ⊤
 
 abbrev pub ArePlain : List Entry → Type 0

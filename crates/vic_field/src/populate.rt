@@ -44,7 +44,9 @@ fn push_listed(keys: &mut Vec<u64>, item: &Entry) -> Result<(), AllocError>
         | Entry::Collision
         | Entry::Heard(_)
         | Entry::Garbled
-        | Entry::FieldCycle => {}
+        | Entry::FieldCycle
+        | Entry::Captured(_)
+        | Entry::Unknown => {}
     }
     Ok(())
 }

@@ -7,8 +7,9 @@ ghost use Rattle.vic_field.specs.Tags.{uids};
 ghost use Rattle.vic_frame.specs.Requests.{IsValid};
 ghost use Rattle.vic_frame.specs.Slots.{slot_count};
 ghost use Rattle.vic_log.specs.declared.entry.Entry.{Entry};
-ghost use Rattle.vic_log.specs.declared.entry.Version.TheVariants.{V1};
+ghost use Rattle.vic_log.specs.declared.entry.Version.TheVariants.{V1, V2};
 ghost use Rattle.vic_log.specs.FirstVersion.{IsOfFirstVersion};
+ghost use Rattle.vic_log.specs.SecondVersion.{IsOfSecondVersion};
 ghost use Rattle.vic_log.specs.Log.{last_from, IsValidEntry};
 ghost use Rattle.vic_log.specs.Order.{entries, refusal};
 ghost use Rattle.vic_log.specs.Populations.{IsPopulation};
@@ -108,7 +109,9 @@ fn slots_opened(item: &Entry) -> u32
         | Entry::Heard(_)
         | Entry::Listed(_)
         | Entry::Garbled
-        | Entry::FieldCycle => 0,
+        | Entry::FieldCycle
+        | Entry::Captured(_)
+        | Entry::Unknown => 0,
     }
 }
 
@@ -117,6 +120,7 @@ fn play_entry(filled: &mut Log, field: &mut Field, item: &Entry) -> Result<(), S
     requires follows { refusal (entries filled.old.lines) item.now ≡ None }
     requires valid { IsValidEntry item.now }
     requires first_version { filled.old.version ≡ V1 → IsOfFirstVersion item.now }
+    requires second_version { filled.old.version ≡ V2 → IsOfSecondVersion item.now }
     requires room { next_line filled.old + slots_opened (Some item.now) ≤ MAX_LINES }
     ensures added { OnOk result
         (filled.new ≡ with_entries filled.old (item.now ∷ slot_lines field.new item.now)) }
@@ -135,8 +139,13 @@ fn play_entry(filled: &mut Log, field: &mut Field, item: &Entry) -> Result<(), S
             field.power_cycle();
             Ok(())
         }
-        Entry::Listed(_) | Entry::Silent | Entry::Collision | Entry::Heard(_) | Entry::Garbled =>
-            Ok(()),
+        Entry::Listed(_)
+        | Entry::Silent
+        | Entry::Collision
+        | Entry::Heard(_)
+        | Entry::Garbled
+        | Entry::Captured(_)
+        | Entry::Unknown => Ok(()),
     }
 }
 
@@ -182,6 +191,7 @@ fn push_next(filled: &mut Log, item: Entry) -> Result<(), SimFault>
     requires follows { refusal (entries filled.old.lines) item ≡ None }
     requires valid { IsValidEntry item }
     requires first_version { filled.old.version ≡ V1 → IsOfFirstVersion item }
+    requires second_version { filled.old.version ≡ V2 → IsOfSecondVersion item }
     requires room { next_line filled.old ≤ MAX_LINES }
     ensures added { OnOk result (filled.new ≡ with_entries filled.old (item ∷ [])) }
     ensures memory { IfErr result (λ e. e ≡ SimFault.Memory) }

@@ -1,48 +1,61 @@
 //! A guess at the lines of a conflict, none of which can be left out.
 
-use crate::course::{Course, course_of};
-use crate::parts::Parts;
-use crate::steps::{Found, Step};
-use crate::waiting::{Waiting, last_rulings, ruled_spans};
-use std::alloc::{AllocError, Global};
-use vic_log::PackedLine;
+ghost use Rattle.std.specs.Prelude.{◌≤◌, IfSome, length};
+ghost use Rattle.vic_log.specs.Order.{AreValid, IsInOrder, IsRisingFrom, entries};
 
-/// A guess at lines of a log that contradict each other: the one with this number, which is the
-/// first impossible line, and as few of those before it as needed. In no order.
-pub fn guess_conflict(
-    alloc: Global,
-    lines: &[PackedLine],
-    last: u32,
-) -> Result<Vec<u32>, AllocError> {
-    let count = lines.partition_point(|line| line.number() <= last);
-    let mut course = course_of(alloc, &lines[..count])?;
-    let mut numbers = match other_line(&course) {
-        Some(other) => vec![in alloc; other]?,
-        None => lines_of_lack(alloc, &mut course)?,
+use crate::steps::{Step, steps_of};
+use crate::waiting::Waiting;
+use std::alloc::{AllocError, Global};
+use vic_log::{Entry, PackedLine};
+use vic_walk::{Answering, LogWalk, Parts, Span, open_answers, walk_log};
+
+/// A guess at lines that contradict each other, in a log that became impossible with its last line:
+/// that one, and as few of those before it as needed. Their numbers, in no order.
+pub fn guess_conflict(alloc: Global, lines: &[PackedLine]) -> Result<Vec<u32>, AllocError>
+    requires order { IsInOrder (entries lines.now) }
+    requires valid { AreValid (entries lines.now) }
+    requires rising { IsRisingFrom 0 lines.now }
+{
+    let LogWalk {
+        parts,
+        mut walk,
+        broken,
+    } = walk_log(alloc, lines)?;
+    let steps = steps_of(alloc, lines, &parts)?;
+    let mut numbers = match broken {
+        Some(_) => match other_line(lines, &steps, &walk.ends) {
+            Some(other) => vec![in alloc; other]?,
+            None => Vec::new(alloc),
+        },
+        None => {
+            let found = open_answers(alloc, lines, &parts, &mut walk)?;
+            lines_of_lack(alloc, lines, &steps, &parts, &found)?
+        }
     };
-    numbers.push(last)?;
+    if let Some(last) = lines.last() {
+        numbers.push(last.number())?;
+    }
     Ok(numbers)
 }
 
-/// The line that the last one contradicts by itself, if there is one: the last one itself, if its
-/// reply doesn't fit its own slot; else the first that rules out the UID that it heard; else the
-/// first reply of a UID that it rules out.
-fn other_line(course: &Course) -> Option<u32> {
-    let Some(Step::Slot(last, span, found)) = course.steps.last() else {
+/// The line that the last one contradicts, unless its reply doesn't fit its own slot: the first that
+/// rules out the UID that it heard; else the first reply of a UID that it rules out.
+fn other_line(lines: &[PackedLine], steps: &[Step], ends: &[u32]) -> Option<u32> {
+    let Some(Step::Ruling(_, span, own)) = steps.last() else {
         return None;
     };
-    let fates = &course.fates;
-    if let Found::One(part) = *found {
-        if !fates.answers(*span, part) {
-            return Some(*last);
+    if let Entry::Heard(_) = lines.last()?.item() {
+        if *own < span.from || span.to <= *own {
+            return None;
         }
-        if fates.end(part) < *last {
-            return Some(fates.end(part));
+        let end = *ends.get(*own)? as usize;
+        if end > 0 {
+            return Some(lines.get(end - 1)?.number());
         }
     }
-    for step in &course.steps {
-        if let Step::Slot(line, _, Found::One(heard)) = *step {
-            if fates.answers(*span, heard) && found.rules_out(heard) {
+    for step in steps {
+        if let Step::Ruling(line, span, heard) = *step {
+            if heard < span.to && *ends.get(heard)? as usize == lines.len() {
                 return Some(line);
             }
         }
@@ -52,38 +65,63 @@ fn other_line(course: &Course) -> Option<u32> {
 
 /// The line of the first slot with too few UIDs left, and those that rule out the UIDs that could
 /// have answered there.
-fn lines_of_lack(alloc: Global, course: &mut Course) -> Result<Vec<u32>, AllocError> {
-    let steps = course.steps.as_slice();
-    let Some(index) = course.fates.first_unmet(steps, &course.parts)? else {
-        return Ok(Vec::new(alloc));
-    };
-    let Some(Step::Slot(line, span, found)) = steps.get(index) else {
-        return Ok(Vec::new(alloc));
-    };
-    let answers = course.fates.answering(alloc, *span, course.parts.count())?;
-    let mut numbers = rulings(alloc, steps, &course.parts, &answers, found.need())?;
-    numbers.push(*line)?;
-    Ok(numbers)
+fn lines_of_lack(
+    alloc: Global,
+    lines: &[PackedLine],
+    steps: &[Step],
+    parts: &Parts,
+    found: &[Answering],
+) -> Result<Vec<u32>, AllocError> {
+    for one in found {
+        if one.uids.len() < one.need {
+            let mut numbers = rulings(alloc, steps, parts, one)?;
+            if let Some(line) = lines.get(one.at) {
+                numbers.push(line.number())?;
+            }
+            return Ok(numbers);
+        }
+    }
+    Ok(Vec::new(alloc))
+}
+
+/// The step of the unread slot at a position: its index, and the parts in its mask.
+fn step_at(steps: &[Step], position: usize) -> Option<(usize, Span)>
+    ensures { IfSome result (λ r. r.0 ≤ length steps.now) }
+{
+    for (index, step) in steps.iter().enumerate() {
+        if let Step::Unread(at, span) = *step {
+            if at == position {
+                return Some((index, span));
+            }
+        }
+    }
+    None
 }
 
 /// How many UIDs a part counts as: one or several.
-fn weight(parts: &Parts, part: u32) -> u32 {
-    if parts.has_several(part) { 2 } else { 1 }
+fn weight(parts: &Parts, part: usize) -> usize {
+    if part < parts.count() && parts.end(part).saturating_sub(parts.first(part)) > 1 {
+        2
+    } else {
+        1
+    }
 }
 
-/// The lines that are needed to rule out all but fewer than `need` of the UIDs that answer. One is
-/// left out if those kept before it, and all after it, rule out enough.
+/// The lines that are needed to rule out all but fewer of the UIDs that answer in an unread slot
+/// than it needs. One is left out if those kept before it, and all after it, rule out enough.
 fn rulings(
     alloc: Global,
     steps: &[Step],
     parts: &Parts,
-    answers: &[bool],
-    need: u32,
+    lack: &Answering,
 ) -> Result<Vec<u32>, AllocError> {
-    let (mut spare, alone) = ruled_alone(alloc, steps, parts, answers, need)?;
-    let mut waiting = Waiting::new(alloc, answers)?;
-    let mut quiet = Vec::new(alloc);
     let mut kept = Vec::new(alloc);
+    let Some((index, span)) = step_at(steps, lack.at) else {
+        return Ok(kept);
+    };
+    let mut waiting = Waiting::new(alloc, parts.count(), span, &steps[..index])?;
+    let (mut spare, alone) = ruled_alone(alloc, steps, parts, &waiting, span, lack.need)?;
+    let mut quiet = Vec::new(alloc);
     let mut next = 0;
     for step in steps {
         match *step {
@@ -95,16 +133,15 @@ fn rulings(
                 waiting.show_all(&quiet);
                 quiet.clear();
             }
-            Step::Slot(line, span, found) => {
+            Step::Unread(..) => {}
+            Step::Ruling(line, ruled, own) => {
                 let (count, after) = count_alone(&alone, next, line, parts, &waiting);
                 next = after;
                 if count <= spare {
                     spare -= count;
                 } else {
                     kept.push(line)?;
-                    for part_of_span in ruled_spans(span, found) {
-                        waiting.take_all(part_of_span);
-                    }
+                    waiting.take_others(alloc, ruled, own)?;
                 }
             }
         }
@@ -112,27 +149,25 @@ fn rulings(
     Ok(kept)
 }
 
-/// How many of the UIDs that answer may be left besides those that no line rules out; and the
-/// others, each after the last line that rules it out.
+/// How many of the UIDs that wait may be left besides those that no line rules out; and the others,
+/// each after the last line that rules it out.
 fn ruled_alone(
     alloc: Global,
     steps: &[Step],
     parts: &Parts,
-    answers: &[bool],
-    need: u32,
-) -> Result<(u32, Vec<(u32, u32)>), AllocError> {
-    let last = last_rulings(alloc, steps, answers)?;
+    waiting: &Waiting,
+    span: Span,
+    need: usize,
+) -> Result<(usize, Vec<(u32, usize)>), AllocError> {
+    let last = waiting.last_rulings(alloc, steps)?;
     let mut spare = need.saturating_sub(1);
     let mut alone = Vec::new(alloc);
-    for (index, answer) in answers.iter().enumerate() {
-        let part = match u32::try_from(index) {
-            Ok(part) => part,
-            Err(_) => u32::MAX,
-        };
-        match last.get(index) {
-            Some(line) if *answer && *line > 0 => alone.push((*line, part))?,
-            _ if *answer => spare = spare.saturating_sub(weight(parts, part)),
-            _ => {}
+    for part in span.from..span.to {
+        if waiting.has(part) {
+            match last.get(part) {
+                Some(line) if *line > 0 => alone.push((*line, part))?,
+                _ => spare = spare.saturating_sub(weight(parts, part)),
+            }
         }
     }
     alone.sort_unstable();
@@ -142,13 +177,13 @@ fn ruled_alone(
 /// How many UIDs still wait for a line that is the last to rule them out; and the position after
 /// them.
 fn count_alone(
-    alone: &[(u32, u32)],
+    alone: &[(u32, usize)],
     start: usize,
     line: u32,
     parts: &Parts,
     waiting: &Waiting,
-) -> (u32, usize) {
-    let mut count: u32 = 0;
+) -> (usize, usize) {
+    let mut count: usize = 0;
     let mut next = start;
     while next < alone.len() && alone[next].0 == line {
         let part = alone[next].1;

@@ -1,54 +1,100 @@
 //! The parts of the UIDs that wait for a line to rule them out.
 
-use crate::marks::Marks;
-use crate::parts::number_of;
-use crate::steps::{Found, Span, Step};
+ghost use Rattle.std.specs.Prelude.{◌≡◌, length};
+
+use crate::steps::Step;
 use std::alloc::{AllocError, Global};
+use vic_walk::{Marks, Span};
 
 /// Parts that wait, and those of them that are Ready.
 #[derive(Drop)]
 pub(crate) struct Waiting {
+    count: usize,
     waits: Marks,
     ready: Marks,
+    ghost room_waits: { length waits ≡ count },
+    ghost room_ready: { length ready ≡ count },
 }
 
 impl Waiting {
-    /// The parts that answer, all Ready.
-    pub(crate) fn new(alloc: Global, answers: &[bool]) -> Result<Waiting, AllocError> {
-        let count = number_of(answers.len());
-        let mut waits = Marks::new(alloc, count)?;
-        let mut ready = Marks::new(alloc, count)?;
-        for (index, answer) in answers.iter().enumerate() {
-            if *answer {
-                waits.put(number_of(index));
-                ready.put(number_of(index));
+    /// No parts of so many.
+    fn none(alloc: Global, count: usize) -> Result<Waiting, AllocError> {
+        Ok(Waiting {
+            count,
+            waits: Marks::none(alloc, count)?,
+            ready: Marks::none(alloc, count)?,
+        })
+    }
+
+    /// Of so many parts those of a span, all Ready, except for those that some steps silenced since
+    /// all were last made Ready.
+    pub(crate) fn new(
+        alloc: Global,
+        count: usize,
+        span: Span,
+        steps: &[Step],
+    ) -> Result<Waiting, AllocError> {
+        let mut waiting = Waiting::none(alloc, count)?;
+        for part in span.from..span.to {
+            waiting.add(part);
+        }
+        waiting.hide_last(steps);
+        waiting.leave_ready();
+        Ok(waiting)
+    }
+
+    /// The same parts that wait, all Ready.
+    fn again(&self, alloc: Global) -> Result<Waiting, AllocError> {
+        let mut waiting = Waiting::none(alloc, self.count)?;
+        for part in 0..self.count {
+            if self.has(part) {
+                waiting.add(part);
             }
         }
-        Ok(Waiting { waits, ready })
+        Ok(waiting)
+    }
+
+    /// Adds a part, which is Ready.
+    fn add(&mut self, part: usize) {
+        if part < self.count {
+            self.waits.put(part);
+            self.ready.put(part);
+        }
+    }
+
+    /// Takes out the parts that aren't Ready.
+    fn leave_ready(&mut self) {
+        for part in 0..self.count {
+            if part < self.count && !self.ready.has(part) {
+                self.waits.take(part);
+            }
+        }
     }
 
     /// Whether a part waits.
-    pub(crate) fn has(&self, part: u32) -> bool {
+    pub(crate) fn has(&self, part: usize) -> bool {
         self.waits.has(part)
     }
 
     /// Makes a part Ready, if it waits.
-    pub(crate) fn show(&mut self, part: u32) {
-        if self.has(part) {
+    fn show(&mut self, part: usize) {
+        if part < self.count && self.has(part) {
             self.ready.put(part);
         }
     }
 
     /// Makes those of some parts Ready that wait.
-    pub(crate) fn show_all(&mut self, parts: &[u32]) {
+    pub(crate) fn show_all(&mut self, parts: &[usize]) {
         for part in parts {
             self.show(*part);
         }
     }
 
     /// Makes a part Quiet.
-    pub(crate) fn hide(&mut self, part: u32) {
-        self.ready.take(part);
+    pub(crate) fn hide(&mut self, part: usize) {
+        if part < self.count {
+            self.ready.take(part);
+        }
     }
 
     /// Makes those parts Quiet that some steps silenced since all were last made Ready.
@@ -57,70 +103,59 @@ impl Waiting {
             match *step {
                 Step::Quiet(part) => self.hide(part),
                 Step::Wake => return,
-                Step::Slot(..) => {}
+                Step::Ruling(..) | Step::Unread(..) => {}
             }
         }
     }
 
-    /// Takes out a part of a span that waits and is Ready.
-    fn take(&mut self, span: Span) -> Option<u32> {
-        let part = self.ready.first(span.from, span.to)?;
-        self.waits.take(part);
-        self.ready.take(part);
-        Some(part)
-    }
-
-    /// Takes out all parts of a span that wait and are Ready.
-    pub(crate) fn take_all(&mut self, span: Span) {
-        for _ in span.from..span.to {
-            if self.take(span).is_none() {
-                return;
+    /// Takes out the parts of a span that wait and are Ready, except for one, and returns them.
+    pub(crate) fn take_others(
+        &mut self,
+        alloc: Global,
+        span: Span,
+        own: usize,
+    ) -> Result<Vec<usize>, AllocError> {
+        let mut taken = Vec::new(alloc);
+        let mut from = span.from;
+        while let Some(part) = self.ready.first(from, span.to) {
+            if part != own && part < self.count {
+                self.waits.take(part);
+                self.ready.take(part);
+                taken.push(part)?;
             }
+            from = part + 1;
         }
+        Ok(taken)
     }
 
-    /// Takes out all parts of a span that wait and are Ready, and notes a line for each.
-    fn rule_out(&mut self, span: Span, line: u32, last: &mut [u32]) {
-        for _ in span.from..span.to {
-            let Some(part) = self.take(span) else {
-                return;
-            };
-            if let Some(number) = last.get_mut(part as usize) {
-                *number = line;
-            }
-        }
-    }
-}
-
-/// What a slot rules out.
-pub(crate) fn ruled_spans(span: Span, found: Found) -> [Span; 2] {
-    let nothing = Span { from: 0, to: 0 };
-    match found {
-        Found::Nobody => [span, nothing],
-        Found::One(part) => [span.before(part), span.after(part)],
-        Found::Some | Found::Two => [nothing, nothing],
-    }
-}
-
-/// For each part that answers, the last line that rules it out; 0 if none does.
-pub(crate) fn last_rulings(
-    alloc: Global,
-    steps: &[Step],
-    answers: &[bool],
-) -> Result<Vec<u32>, AllocError> {
-    let mut last = vec![in alloc; 0; answers.len()]?;
-    let mut waiting = Waiting::new(alloc, answers)?;
-    waiting.hide_last(steps);
-    for index in (0..steps.len()).rev() {
-        match steps[index] {
-            Step::Quiet(part) => waiting.show(part),
-            Step::Wake => waiting.hide_last(&steps[..index]),
-            Step::Slot(line, span, found) => {
-                for part_of_span in ruled_spans(span, found) {
-                    waiting.rule_out(part_of_span, line, &mut last);
+    /// For each of so many parts, the last line that rules it out if it waits; 0 if none does.
+    pub(crate) fn last_rulings(
+        &self,
+        alloc: Global,
+        steps: &[Step],
+    ) -> Result<Vec<u32>, AllocError> {
+        let mut last = vec![in alloc; 0; self.count]?;
+        let mut waiting = self.again(alloc)?;
+        waiting.hide_last(steps);
+        for index in (0..steps.len()).rev() {
+            match steps[index] {
+                Step::Quiet(part) => waiting.show(part),
+                Step::Wake => waiting.hide_last(&steps[..index]),
+                Step::Unread(..) => {}
+                Step::Ruling(line, span, own) => {
+                    for part in &waiting.take_others(alloc, span, own)? {
+                        note(&mut last, *part, line);
+                    }
                 }
             }
         }
+        Ok(last)
     }
-    Ok(last)
+}
+
+/// Notes a number at a place.
+fn note(numbers: &mut [u32], place: usize, number: u32) {
+    if let Some(noted) = numbers.get_mut(place) {
+        *noted = number;
+    }
 }

@@ -1,5 +1,5 @@
 -- On entries of version 1 both versions say the same.
-use Rattle.vic_log.proofs.Words.{◌≡◌, ℕ, zero, suc, List, false, Option, Some, None, refl, sym, ap, subst, ◌∙◌, ◌↔◌, arith, nat_tests, filter, Entry, FieldCycle, IsInOrder, is_slot, ends_round, opener, wakes, is_quiet, Outcome, Fits, answers_at, outcome_of, CouldHaveGiven, IsOfFirstVersion, AreOfFirstVersion, filter_agree}
+use Rattle.vic_log.proofs.Words.{◌≡◌, ℕ, zero, suc, List, false, Option, Some, None, refl, sym, ap, subst, ◌∙◌, ◌↔◌, arith, nat_tests, filter, Entry, FieldCycle, IsInOrder, is_slot, ends_round, opener, wakes, is_quiet, Fits, answers_at, outcome_of, CouldHaveGiven, IsOfFirstVersion, AreOfFirstVersion, filter_agree}
 use Rattle.vic_log.specs.FirstVersion.{ends_first_round, first_opener, is_first_quiet, FitsFirst, answers_first_at, CouldHaveGivenFirst, is_first_slot, IsInFirstOrder}
 
 ends_same : (o : Option Entry) → ((e : Entry) → o ≡ Some e → IsOfFirstVersion e) → ends_round o ≡ ends_first_round o
@@ -18,19 +18,19 @@ pub quiet-first : (es : List Entry) → AreOfFirstVersion es → (i u : ℕ) →
 quiet-first es h zero u = refl
 quiet-first es h (suc j) u = grind (arith, nat_tests, wakes_none, quiet-first es h j u)
 
-pub fits-first : (e : Entry) → IsOfFirstVersion e → (o : Outcome) → Fits e o ↔ FitsFirst e o
-fits-first e h o = grind (arith, nat_tests)
+pub fits-first : (e : Entry) → IsOfFirstVersion e → (us : List ℕ) → Fits e us ↔ FitsFirst e (outcome_of us)
+fits-first e h us = grind (arith, nat_tests)
 
 answers-first : (es : List Entry) → AreOfFirstVersion es → (i u : ℕ) → answers_at es i u ≡ answers_first_at es i u
 answers-first es h i u = grind (arith, nat_tests, opener-first, quiet-first)
 
-outcome-first : (es : List Entry) → AreOfFirstVersion es → (i : ℕ) (p : List ℕ) → outcome_of (filter (answers_at es i) p) ≡ outcome_of (filter (answers_first_at es i) p)
-outcome-first es h i p = ap outcome_of (filter_agree (answers_at es i) (answers_first_at es i) (answers-first es h i) p)
+answerers-first : (es : List Entry) → AreOfFirstVersion es → (i : ℕ) (p : List ℕ) → filter (answers_at es i) p ≡ filter (answers_first_at es i) p
+answerers-first es h i p = filter_agree (answers_at es i) (answers_first_at es i) (answers-first es h i) p
 
 pub given-first : (es : List Entry) → AreOfFirstVersion es → (p : List ℕ) → CouldHaveGiven p es ↔ CouldHaveGivenFirst p es
 given-first es h p = (
-  (λ g i e k. (fits-first e (h i e k) _).0 (subst (Fits e) (outcome-first es h i p) (g i e k))),
-  (λ g i e k. subst (Fits e) (sym (outcome-first es h i p)) ((fits-first e (h i e k) _).1 (g i e k))),
+  (λ g i e k. (fits-first e (h i e k) _).0 (subst (Fits e) (answerers-first es h i p) (g i e k))),
+  (λ g i e k. subst (Fits e) (sym (answerers-first es h i p)) ((fits-first e (h i e k) _).1 (g i e k))),
 )
 
 slot-first : (e : Entry) → IsOfFirstVersion e → is_slot e ≡ is_first_slot e

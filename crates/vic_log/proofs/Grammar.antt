@@ -1,7 +1,7 @@
 -- A line reads as an entry if and only if it spells it.
-use Rattle.vic_log.proofs.Words.{◌≡◌, inl, ℕ, ◌+◌, ◌*◌, ◌/◌, ◌%◌, ◌<◌, ◌≤◌, true, false, Option, Some, None, Result, Ok, Err, List, [], ◌∷◌, length, refl, ap, subst, ◌∙◌, arith, nat_lt, ◌==◌, ◌||◌, if◌then◌else◌, IfOk, nat_tests, cond_both, eqb-true, hex_digit_value, IsUid, Entry, Sent, Silent, Collision, Heard, Listed, Garbled, FieldCycle, Version, V2, LineFault, line_reading, to_be_bytes, w64, be_bytes_8, from_be_bytes-to_be_bytes_8, decode_of, digit_or_error, ◌>>=◌, FromHexError, decode_of-even, decode_pairs-ok, cons_byte, decode_pairs-ok_pair, AreBytes, SpellsRequest, request_reading, reply_reading, Request, FrameFault, request_found, request_only, reply_found, reply_only, ⊤, IsDigitOf, AreDigitsOf, HasBytes, SpellsEntry, IsPassedOver}
+use Rattle.vic_log.proofs.Words.{◌≡◌, inl, ℕ, ◌+◌, ◌*◌, ◌/◌, ◌%◌, ◌<◌, ◌≤◌, true, false, Option, Some, None, Result, Ok, Err, List, [], ◌∷◌, length, refl, ap, subst, ◌∙◌, arith, nat_lt, ◌==◌, ◌||◌, if◌then◌else◌, IfOk, nat_tests, cond_both, eqb-true, hex_digit_value, IsUid, Entry, Sent, Silent, Collision, Heard, Listed, Garbled, FieldCycle, Captured, Unknown, Version, V1, V2, V3, LineFault, line_reading, to_be_bytes, w64, be_bytes_8, from_be_bytes-to_be_bytes_8, decode_of, digit_or_error, ◌>>=◌, FromHexError, decode_of-even, decode_pairs-ok, cons_byte, decode_pairs-ok_pair, AreBytes, SpellsRequest, request_reading, reply_reading, Request, FrameFault, request_found, request_only, reply_found, reply_only, ⊤, IsDigitOf, AreDigitsOf, HasBytes, SpellsEntry, IsPassedOver}
 use Rattle.hex.specs.Hex.{decode_pairs}
-use Rattle.vic_log.specs.LineReading.{one_letter, with_digits, with_bytes, sent, heard, listed_uid}
+use Rattle.vic_log.specs.LineReading.{one_letter, with_digits, added_digits, with_bytes, sent, heard, captured, listed_uid}
 use Rattle.vic_log.proofs.Supply.{IsUid-from, is_uid_from}
 use Rattle.vic_log.proofs.HexPairs.{both}
 use Rattle.vic_log.proofs.FrameBytes.{length-request, length-reply}
@@ -71,6 +71,9 @@ sent-says v line frame h r k = grind (arith, nat_tests)
 heard-says : (v : Version) (line frame : List ℕ) → HasBytes line 82 frame → Says v line (heard (reply_reading frame))
 heard-says v line frame h = grind (arith, nat_tests, reply_found, are_bytes)
 
+captured-says : (line frame : List ℕ) → HasBytes line 72 frame → Says V3 line (captured (reply_reading frame))
+captured-says line frame h = grind (arith, nat_tests, reply_found, are_bytes)
+
 listed-says : (v : Version) (line bytes : List ℕ) → HasBytes line 85 bytes → Says v line (listed_uid bytes)
 listed-says v line bytes has = grind (arith, nat_tests, cond_both, IsUid-from, be_bytes_8, eqb-true, are_bytes)
 
@@ -83,10 +86,15 @@ letter-says : (v : Version) (x letter : ℕ) (digits : List ℕ) (f : List ℕ �
     → Says v (x ∷ 32 ∷ digits) (if x == letter then with_bytes f (decode_of digits) else other)
 letter-says v x letter digits f other h k = grind (arith, nat_tests, has_bytes)
 
-digits-say : (v : Version) (x : ℕ) (digits : List ℕ) → Says v (x ∷ 32 ∷ digits) (with_digits x digits)
+added-say : (v : Version) (x : ℕ) (digits : List ℕ) → Says v (x ∷ 32 ∷ digits) (added_digits v x digits)
+added-say V1 x digits = tt
+added-say V2 x digits = tt
+added-say V3 x digits = letter-says V3 x 72 digits _ _ (captured-says _) tt
+
+digits-say : (v : Version) (x : ℕ) (digits : List ℕ) → Says v (x ∷ 32 ∷ digits) (with_digits v x digits)
 digits-say v x digits =
     letter-says v x 84 digits _ _ (λ frame h. sent-says v _ frame h (request_reading frame) (request_found frame (are_bytes h.0 frame h.2)))
-    (letter-says v x 82 digits _ _ (heard-says v _) (letter-says v x 85 digits _ _ (listed-says v _) tt))
+    (letter-says v x 82 digits _ _ (heard-says v _) (letter-says v x 85 digits _ _ (listed-says v _) (added-say v x digits)))
 
 -- more than a letter
 longer-says : (v : Version) (x y : ℕ) (digits : List ℕ) (lone spaced : Result (Option Entry) LineFault) (long unknown : LineFault) → (y ≡ 32 → Says v (x ∷ y ∷ digits) spaced)
@@ -96,8 +104,10 @@ longer-says v x y digits lone spaced long unknown h = grind (arith, nat_tests)
 
 line-says : (v : Version) (line : List ℕ) → Says v line (line_reading v line)
 line-says v [] = (omega arith, inl refl)
-line-says v (x ∷ []) = grind (arith, nat_tests)
-line-says v (x ∷ y ∷ digits) = longer-says v x y digits (one_letter v x) (with_digits x digits) _ _ (λ space. rw space (digits-say v x digits))
+line-says V1 (x ∷ []) = grind (arith, nat_tests)
+line-says V2 (x ∷ []) = grind (arith, nat_tests)
+line-says V3 (x ∷ []) = grind (arith, nat_tests)
+line-says v (x ∷ y ∷ digits) = longer-says v x y digits (one_letter v x) (with_digits v x digits) _ _ (λ space. rw space (digits-say v x digits))
 
 pub reads-spelled : (v : Version) (line : List ℕ) (e : Entry) → line_reading v line ≡ Ok (Some e) → SpellsEntry v line e
 reads-spelled v line e h = subst (Says v line) h (line-says v line)
@@ -107,14 +117,14 @@ reads-passed v line h = subst (Says v line) h (line-says v line)
 
 -- ---- a spelled entry is read
 
-lettered : (v : Version) (letter : ℕ) (digits : List ℕ) → letter == 35 ≡ false → length digits ≤ 126 → line_reading v (letter ∷ 32 ∷ digits) ≡ with_digits letter digits
+lettered : (v : Version) (letter : ℕ) (digits : List ℕ) → letter == 35 ≡ false → length digits ≤ 126 → line_reading v (letter ∷ 32 ∷ digits) ≡ with_digits v letter digits
 lettered v letter digits other few = grind (arith, nat_tests)
 
 listed_reads : (u : ℕ) → IsUid u → listed_uid (to_be_bytes w64 u) ≡ Ok (Some (Listed u))
 listed_reads u h = let below = h.1 in rw (from_be_bytes-to_be_bytes_8 u (omega arith), is_uid_from u h)
 
 -- a letter, a space and digits
-spaced : (v : Version) (letter : ℕ) (line bytes : List ℕ) (f : List ℕ → Result (Option Entry) LineFault) → letter == 35 ≡ false → ((digits : List ℕ) → with_digits letter digits ≡ with_bytes f (decode_of digits)) → length bytes ≤ 63
+spaced : (v : Version) (letter : ℕ) (line bytes : List ℕ) (f : List ℕ → Result (Option Entry) LineFault) → letter == 35 ≡ false → ((digits : List ℕ) → with_digits v letter digits ≡ with_bytes f (decode_of digits)) → length bytes ≤ 63
     → HasBytes line letter bytes → line_reading v line ≡ f bytes
 spaced v letter line bytes f h k g p = grind (arith, nat_tests, twice, lettered, of_digits)
 
@@ -130,8 +140,18 @@ spelled-reads v line (Heard r) (frame, spells, has) =
     let size = ap length spells.1 in
     spaced v 82 line frame (λ bytes. heard (reply_reading bytes)) refl (λ d. refl) (omega arith) has ∙ ap heard (reply_only frame r spells)
 spelled-reads v line (Listed u) (uid, has) = spaced v 85 line (to_be_bytes w64 u) listed_uid refl (λ d. refl) (omega arith) has ∙ listed_reads u uid
-spelled-reads v line Garbled h = ap (λ w. line_reading w line) h.0 ∙ ap (line_reading V2) h.1
-spelled-reads v line FieldCycle h = ap (λ w. line_reading w line) h.0 ∙ ap (line_reading V2) h.1
+spelled-reads V1 line Garbled h = absurd (h.0 refl)
+spelled-reads V2 line Garbled h = ap (line_reading V2) h.1
+spelled-reads V3 line Garbled h = ap (line_reading V3) h.1
+spelled-reads V1 line FieldCycle h = absurd (h.0 refl)
+spelled-reads V2 line FieldCycle h = ap (line_reading V2) h.1
+spelled-reads V3 line FieldCycle h = ap (line_reading V3) h.1
+spelled-reads v line (Captured r) (third, frame, spells, has) =
+    let few = length-reply r in
+    let size = ap length spells.1 in
+    ap (λ w. line_reading w line) third
+    ∙ (spaced V3 72 line frame (λ bytes. captured (reply_reading bytes)) refl (λ d. refl) (omega arith) has ∙ ap captured (reply_only frame r spells))
+spelled-reads v line Unknown h = ap (λ w. line_reading w line) h.0 ∙ ap (line_reading V3) h.1
 
 -- ---- lines that are passed over
 

@@ -1,18 +1,18 @@
 -- From the entries of a log to its slots; what entries that follow leave as it is.
-use Rattle.vic_log.proofs.Words.{◌≡◌, ℕ, zero, suc, ◌<◌, ◌≤◌, List, [], ◌∷◌, ◌++◌, length, Bool, Option, Some, None, refl, sym, ap, ◌∙◌, subst, arith, ◌↔◌, inl, inr, slice_get, nat_tests, filter, cases_lt, cond_both, length_push, slice_get_within, Entry, opener, is_quiet, answers_at, outcome_of, Fits, CouldHaveGiven, Slot, filter_agree, outcome_at, with_entry, slots_before, slots_of}
+use Rattle.vic_log.proofs.Words.{◌≡◌, ℕ, zero, suc, ◌<◌, ◌≤◌, List, [], ◌∷◌, ◌++◌, length, Bool, Option, Some, None, refl, sym, ap, ◌∙◌, subst, arith, ◌↔◌, inl, inr, slice_get, nat_tests, filter, cases_lt, cond_both, length_push, slice_get_within, Entry, opener, is_quiet, answers_at, Fits, CouldHaveGiven, Slot, filter_agree, answerers_at, with_entry, slots_before, slots_of}
 use Rattle.vic_log.specs.Rounds.{mask_at}
 use Rattle.vic_log.proofs.Meeting.{MeetsAll}
 
 -- ---- entries and slots
 
-fits_entry : (answers : ℕ → Bool) (e : Entry) (slots : List Slot) (p : List ℕ) → MeetsAll p (with_entry answers (Some e) slots) ↔ (Fits e (outcome_of (filter answers p)) × MeetsAll p slots)
+fits_entry : (answers : ℕ → Bool) (e : Entry) (slots : List Slot) (p : List ℕ) → MeetsAll p (with_entry answers (Some e) slots) ↔ (Fits e (filter answers p) × MeetsAll p slots)
 fits_entry answers e slots p = grind (arith, nat_tests)
 
 -- the entries of the first n positions fit
 abbrev FitBefore : List ℕ → List Entry → ℕ → Type 0
-FitBefore p es n = (i : ℕ) (e : Entry) → i < n → slice_get es i ≡ Some e → Fits e (outcome_at es i p)
+FitBefore p es n = (i : ℕ) (e : Entry) → i < n → slice_get es i ≡ Some e → Fits e (answerers_at es i p)
 
-slot_step : (p : List ℕ) (answers : ℕ → Bool) (o : Option Entry) (slots : List Slot) → MeetsAll p (with_entry answers o slots) ↔ (((e : Entry) → o ≡ Some e → Fits e (outcome_of (filter answers p))) × MeetsAll p slots)
+slot_step : (p : List ℕ) (answers : ℕ → Bool) (o : Option Entry) (slots : List Slot) → MeetsAll p (with_entry answers o slots) ↔ (((e : Entry) → o ≡ Some e → Fits e (filter answers p)) × MeetsAll p slots)
 slot_step p answers None slots = grind (arith, nat_tests)
 slot_step p answers (Some e) slots = grind (arith, nat_tests, fits_entry answers e slots p)
 
@@ -51,8 +51,8 @@ mask_agrees n es fs a = grind (arith, nat_tests, opener_agrees, opener_below)
 pub answers_agree : (n : ℕ) (es fs : List Entry) → AgreeBefore n es fs → (u : ℕ) → answers_at es n u ≡ answers_at fs n u
 answers_agree n es fs a u = grind (arith, nat_tests, mask_agrees, quiet_agrees)
 
-pub outcome_agrees : (n : ℕ) (es fs : List Entry) (p : List ℕ) → AgreeBefore n es fs → outcome_at es n p ≡ outcome_at fs n p
-outcome_agrees n es fs p a = ap outcome_of (filter_agree (answers_at es n) (answers_at fs n) (answers_agree n es fs a) p)
+pub answerers_agree : (n : ℕ) (es fs : List Entry) (p : List ℕ) → AgreeBefore n es fs → answerers_at es n p ≡ answerers_at fs n p
+answerers_agree n es fs p a = filter_agree (answers_at es n) (answers_at fs n) (answers_agree n es fs a) p
 
 pub slice_get-append : {A : Type 0} (es fs : List A) (i : ℕ) → i < length es → slice_get es i ≡ slice_get (es ++ fs) i
 slice_get-append [] fs i h = absurd (omega arith)
@@ -67,7 +67,7 @@ pub CouldHaveGiven-front : (p : List ℕ) (es fs : List Entry) → CouldHaveGive
 CouldHaveGiven-front p es fs h i e k =
     let within = slice_get_within es i e k in
     let a : AgreeBefore i es (es ++ fs) = λ j below. agree_append es fs j (omega arith) in
-    subst (Fits e) (sym (outcome_agrees i es (es ++ fs) p a)) (h i e (sym (agree_append es fs i within) ∙ k))
+    subst (Fits e) (sym (answerers_agree i es (es ++ fs) p a)) (h i e (sym (agree_append es fs i within) ∙ k))
 
 -- ---- one entry more
 
@@ -92,7 +92,7 @@ last_or es e f i k before last = elim (cases_lt i (length es)) [
 ]
 
 -- with one entry more, that one has to fit too
-pub CouldHaveGiven-push : (p : List ℕ) (es : List Entry) (e : Entry) → CouldHaveGiven p es → Fits e (outcome_at es (length es) p) → CouldHaveGiven p (es ++ e ∷ [])
+pub CouldHaveGiven-push : (p : List ℕ) (es : List Entry) (e : Entry) → CouldHaveGiven p es → Fits e (answerers_at es (length es) p) → CouldHaveGiven p (es ++ e ∷ [])
 CouldHaveGiven-push p es e g h i f k = last_or es e f i k
-    (λ below here. subst (Fits f) (outcome_agrees i es (es ++ e ∷ []) p (agree_upto es (e ∷ []) i (omega arith))) (g i f here))
-    (λ same it. rw (same, ← it) (subst (Fits e) (outcome_agrees (length es) es (es ++ e ∷ []) p (agree_upto es (e ∷ []) (length es) (omega arith))) h))
+    (λ below here. subst (Fits f) (answerers_agree i es (es ++ e ∷ []) p (agree_upto es (e ∷ []) i (omega arith))) (g i f here))
+    (λ same it. rw (same, ← it) (subst (Fits e) (answerers_agree (length es) es (es ++ e ∷ []) p (agree_upto es (e ∷ []) (length es) (omega arith))) h))

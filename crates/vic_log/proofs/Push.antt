@@ -1,5 +1,5 @@
 -- One entry more: what entries in order keep, and what a log keeps.
-use Rattle.vic_log.proofs.Words.{◌≡◌, ℕ, zero, suc, ◌+◌, ◌-◌, ◌<◌, ◌≤◌, Bool, true, false, Some, None, List, [], ◌∷◌, ◌++◌, length, take, length-append, refl, sym, ap, subst, ◌∙◌, arith, slice_get, nat_lt, if◌then◌else◌, not, ◌||◌, nat_tests, map-append, length-map, Entry, Sent, Listed, FieldCycle, LogLine, has, Version, V1, IsOfFirstVersion, slots_left, is_slot, IsInOrder, entries, listed, AreValid, is_empty, refusal, last_from, IsValidEntry, IsTyped, numbered, IsRisingFrom, is_outside_round, is_after_list, is_duplicate, left_after, Keeps}
+use Rattle.vic_log.proofs.Words.{◌≡◌, ℕ, zero, suc, ◌+◌, ◌-◌, ◌<◌, ◌≤◌, Bool, true, false, Some, None, List, [], ◌∷◌, ◌++◌, length, take, length-append, refl, sym, ap, subst, ◌∙◌, arith, slice_get, nat_lt, if◌then◌else◌, not, ◌||◌, nat_tests, map-append, length-map, Entry, Sent, Listed, FieldCycle, LogLine, has, Version, V1, V2, IsOfFirstVersion, IsOfSecondVersion, slots_left, is_slot, IsInOrder, entries, listed, AreValid, is_empty, refusal, last_from, IsValidEntry, IsTyped, numbered, IsRisingFrom, is_outside_round, is_after_list, is_duplicate, left_after, Keeps}
 use Rattle.vic_log.specs.Log.{IsLog}
 use Rattle.vic_log.proofs.Places.{last_or, AgreeBefore, opener_agrees, opener_below, agree_append, slice_get_last, agree_upto}
 use Rattle.vic_log.proofs.Order.{in_round-slots_left}
@@ -110,19 +110,19 @@ last_from-last n (x ∷ y ∷ ls) l k =
 
 -- ---- what a log keeps
 
-pub IsLog-push : (v : Version) (ls : List LogLine) (l : LogLine) → IsLog v ls → refusal (entries ls) l.item ≡ None → last_from 1 ls < l.number → l.number ≤ 1000000 → IsValidEntry l.item → IsTyped l.item → (v ≡ V1 → IsOfFirstVersion l.item) → IsLog v (ls ++ l ∷ [])
-IsLog-push v ls l g h above limit valid typed first =
-    grind (arith, nat_tests, entries-push, IsInOrder-push, rising-push, last_from-push, valid-push, each-push IsTyped, each-push IsOfFirstVersion)
+pub IsLog-push : (v : Version) (ls : List LogLine) (l : LogLine) → IsLog v ls → refusal (entries ls) l.item ≡ None → last_from 1 ls < l.number → l.number ≤ 1000000 → IsValidEntry l.item → IsTyped l.item → (v ≡ V1 → IsOfFirstVersion l.item) → (v ≡ V2 → IsOfSecondVersion l.item) → IsLog v (ls ++ l ∷ [])
+IsLog-push v ls l g h above limit valid typed first second =
+    grind (arith, nat_tests, entries-push, IsInOrder-push, rising-push, last_from-push, valid-push, each-push IsTyped, each-push IsOfFirstVersion, each-push IsOfSecondVersion)
 
 pub Keeps-push : (v : Version) (ls : List LogLine) (l : LogLine) (listing further : Bool) (left rest : ℕ) → Keeps v ls listing left
-    → refusal (entries ls) l.item ≡ None → last_from 1 ls < l.number → l.number ≤ 1000000 → IsValidEntry l.item → IsTyped l.item → (v ≡ V1 → IsOfFirstVersion l.item)
+    → refusal (entries ls) l.item ≡ None → last_from 1 ls < l.number → l.number ≤ 1000000 → IsValidEntry l.item → IsTyped l.item → (v ≡ V1 → IsOfFirstVersion l.item) → (v ≡ V2 → IsOfSecondVersion l.item)
     → further ≡ (listing || not (is_empty (listed (l.item ∷ [])))) → rest ≡ left_after left l.item
     → Keeps v (ls ++ l ∷ []) further rest
-Keeps-push v ls l listing further left rest k h above limit valid typed first f r =
+Keeps-push v ls l listing further left rest k h above limit valid typed first second f r =
     let es_long : length (entries ls) ≡ length ls = length-map ls (λ (x : LogLine). x.item) in
     let long : length (ls ++ l ∷ []) ≡ suc (length (entries ls)) = omega (arith, length-append ls (l ∷ [])) in
     record {
-      is_log = IsLog-push v ls l k.is_log h above limit valid typed first;
+      is_log = IsLog-push v ls l k.is_log h above limit valid typed first second;
       listing_is = rw (entries-push ls l, listed-append, empty-append, f, k.listing_is) refl;
       left_is = rw (entries-push ls l, long, slots_left-push, r, k.left_is, es_long) refl;
     }

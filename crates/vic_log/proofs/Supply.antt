@@ -1,5 +1,5 @@
 -- A population meets the slots where its members are open and it supplies what the slots ask for.
-use Rattle.vic_log.proofs.Words.{◌≡◌, ℕ, List, [], ◌∷◌, Bool, true, refl, ⊎_elim, ◌≢◌, ◌↔◌, arith, nat_tests, eqb-true, leb-true, ltb-true, lt-ltb, and_parts, and_from, false≢true, both_ways, has, is_uid, IsUid, AreDifferent, IsPopulation, outcome_of, Reading, SomeReply, Slot, list_all, le-leb, may_be, allows, is_open, Asks, Supplies, SuppliesAll}
+use Rattle.vic_log.proofs.Words.{◌≡◌, ℕ, List, [], ◌∷◌, Bool, true, refl, ⊎_elim, ◌≢◌, ◌↔◌, arith, nat_tests, eqb-true, leb-true, ltb-true, lt-ltb, and_parts, and_from, false≢true, both_ways, has, is_uid, IsUid, AreDifferent, IsPopulation, Reading, SomeReply, Slot, list_all, le-leb, may_be, allows, is_open, Asks, Supplies, SuppliesAll}
 use Rattle.vic_log.proofs.Meeting.{ReadingFits, Meets, MeetsAll}
 use Rattle.vic_log.proofs.Sets.{IsWithin, has_here, has_at, has_there, has_cases, has_filter, filter_has, AreDifferent-filter, AreDifferent-population, IsUid-member}
 
@@ -11,16 +11,16 @@ only_member u x h = ⊎_elim (λ e. e) (λ k. absurd (false≢true k)) (has_case
 two_differ : (x y : ℕ) (q : List ℕ) → AreDifferent (x ∷ y ∷ q) → x ≢ y
 two_differ x y q d e = both_ways (has (y ∷ q) x) d.0 (has_at x y q e)
 
-fits_allows : (r : Reading) (q : List ℕ) → ReadingFits r (outcome_of q) → (u : ℕ) → has q u ≡ true → may_be r true u ≡ true
+fits_allows : (r : Reading) (q : List ℕ) → ReadingFits r q → (u : ℕ) → has q u ≡ true → may_be r true u ≡ true
 fits_allows r q h u k = grind (arith, nat_tests)
 
-pub fits_asks : (r : Reading) (q : List ℕ) → AreDifferent q → ReadingFits r (outcome_of q) → Asks r (has q)
+pub fits_asks : (r : Reading) (q : List ℕ) → AreDifferent q → ReadingFits r q → Asks r (has q)
 fits_asks r [] d f = grind (arith, nat_tests)
 fits_asks SomeReply (x ∷ []) d f = (x, has_here x [])
 fits_asks r (x ∷ []) d f = grind (arith, nat_tests, has_at)
 fits_asks r (x ∷ y ∷ q) d f = grind (arith, nat_tests, two_differ, has_here, has_there)
 
-asks_fits : (r : Reading) (q : List ℕ) → AreDifferent q → ((u : ℕ) → has q u ≡ true → may_be r true u ≡ true) → Asks r (has q) → ReadingFits r (outcome_of q)
+asks_fits : (r : Reading) (q : List ℕ) → AreDifferent q → ((u : ℕ) → has q u ≡ true → may_be r true u ≡ true) → Asks r (has q) → ReadingFits r q
 asks_fits r [] d m a = grind (arith, nat_tests)
 asks_fits r (x ∷ []) d m a = let may = m x (has_here x []) in grind (arith, nat_tests, eqb-true, only_member)
 asks_fits r (x ∷ y ∷ q) d m a = grind (arith, nat_tests, eqb-true, has_here, has_there, two_differ)

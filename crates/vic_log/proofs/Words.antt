@@ -46,6 +46,7 @@ pub use Rattle.vic_log.specs.Begun.{AreRead, HasCut, HasJudged, HasTaken, IsCut,
 pub use Rattle.vic_log.specs.Device.{HandsOut, HasTakenBut, HasTakenPrefix, KeepsOrHides, TellsOn}
 pub use Rattle.vic_log.specs.Early.{HasNoEarlyFault, IsEarly, IsEarlyFault, IsJudged, IsLong, Judges, ReadsAs, ReadsWhere}
 pub use Rattle.vic_log.specs.FirstVersion.{AreOfFirstVersion, IsOfFirstVersion}
+pub use Rattle.vic_log.specs.SecondVersion.{AreOfSecondVersion, IsOfSecondVersion}
 pub use Rattle.vic_log.specs.Grammar.{AreDigitsOf, HasBytes, IsDigitOf, IsPassedOver, SpellsEntry}
 pub use Rattle.vic_log.specs.Kept.{Keeps, left_after}
 pub use Rattle.vic_log.specs.LineReading.{line_reading}
@@ -53,17 +54,17 @@ pub use Rattle.vic_log.specs.Lines.{all_but_last, content, cr, cut, ends_with, l
 pub use Rattle.vic_log.specs.Log.{AreTyped, IsTyped, IsValidEntry, LogValue, last_from}
 pub use Rattle.vic_log.specs.OpenRounds.{IsCursorAt, round_at}
 pub use Rattle.vic_log.specs.Order.{AreValid, IsInOrder, IsRisingFrom, entries, first_reason, is_after_list, is_duplicate, is_empty, is_outside_round, listed, refusal}
-pub use Rattle.vic_log.specs.Populations.{CouldHaveGiven, Fits, IsPopulation, Lone, Nobody, Outcome, Several, answers_at, outcome_at, outcome_of}
+pub use Rattle.vic_log.specs.Populations.{CouldHaveGiven, Fits, IsPopulation, Lone, Nobody, Outcome, Several, answerers_at, answers_at, outcome_of}
 pub use Rattle.vic_log.specs.Quiet.{is_quiet, wakes}
 pub use Rattle.vic_log.specs.Rounds.{IsInRound, ends_round, is_slot, opener, slots_left}
-pub use Rattle.vic_log.specs.Slots.{Asks, ManyReplies, NoReply, OneReply, Reading, Slot, SomeReply, Supplies, SuppliesAll, allows, is_open, may_be, slots_before, slots_of, with_entry}
+pub use Rattle.vic_log.specs.Slots.{Asks, ManyReplies, NoReply, OneReply, Reading, ReplyAmong, Slot, SomeReply, Supplies, SuppliesAll, allows, is_open, may_be, slots_before, slots_of, with_entry}
 pub use Rattle.vic_log.specs.Text.{GiveEntries, IsFirstFault, IsLogOf, Refuses, entry_line, fault_on, header, line_fault, log_upto, logged, named_version, reading_fault, version_of}
 pub use Rattle.vic_log.specs.Writing.{entry_text, joined, lines_text, listed_text, numbered, text_of}
 pub use Rattle.vic_log.specs.declared.entry.Entry.{Entry}
-pub use Rattle.vic_log.specs.declared.entry.Entry.TheVariants.{Collision, FieldCycle, Garbled, Heard, Listed, Sent, Silent}
+pub use Rattle.vic_log.specs.declared.entry.Entry.TheVariants.{Captured, Collision, FieldCycle, Garbled, Heard, Listed, Sent, Silent, Unknown}
 pub use Rattle.vic_log.specs.declared.entry.LogLine.{LogLine}
 pub use Rattle.vic_log.specs.declared.entry.Version.{Version}
-pub use Rattle.vic_log.specs.declared.entry.Version.TheVariants.{V1, V2}
+pub use Rattle.vic_log.specs.declared.entry.Version.TheVariants.{V1, V2, V3}
 pub use Rattle.vic_log.specs.declared.fault.LineFault.{LineFault}
 pub use Rattle.vic_log.specs.declared.fault.LineFault.TheVariants.{Header, LineTooLong, TooManyLines}
 pub use Rattle.vic_log.specs.declared.fault.LogFault.{LogFault}

@@ -1,10 +1,11 @@
--- The rules of log version 1, which has no garbled slots and no field cycles.
+-- The rules of log version 1, which has no garbled slots, no field cycles, and none of the lines of
+-- version 3.
 use Rattle.std.specs.Prelude.{◌≡◌, ◌≢◌, ℕ, zero, suc, ◌-◌, ◌<◌, Bool, true, false, not, ◌&&◌, ◌||◌, Option, Some, None, List, ⊤, slice_get, if◌then◌else◌}
 use Rattle.std.specs.List.{filter}
 use Rattle.vic_frame.specs.Slots.{slot_count}
 use Rattle.vic_frame.specs.declared.request.Request.{Request}
 use Rattle.vic_log.specs.declared.entry.Entry.{Entry}
-use Rattle.vic_log.specs.declared.entry.Entry.TheVariants.{Sent, Silent, Collision, Heard, Listed, Garbled, FieldCycle}
+use Rattle.vic_log.specs.declared.entry.Entry.TheVariants.{Sent, Silent, Collision, Heard, Listed, Garbled, FieldCycle, Captured, Unknown}
 use Rattle.vic_log.specs.Quiet.{silences}
 use Rattle.vic_log.specs.Populations.{Outcome, Nobody, Lone, Several, outcome_of}
 use Rattle.vic_log.specs.Rounds.{mask_since, lies_in_some}
@@ -12,6 +13,8 @@ use Rattle.vic_log.specs.Rounds.{mask_since, lies_in_some}
 abbrev pub IsOfFirstVersion : Entry → Type 0
 IsOfFirstVersion Garbled = ⊥
 IsOfFirstVersion FieldCycle = ⊥
+IsOfFirstVersion (Captured r) = ⊥
+IsOfFirstVersion Unknown = ⊥
 IsOfFirstVersion e = ⊤
 
 -- all entries are of version 1

@@ -2,7 +2,7 @@
 use Rattle.std.specs.Prelude.{◌≡◌, ℕ, ◌-◌, Bool, not, List, length}
 use Rattle.vic_frame.specs.Slots.{slot_count}
 use Rattle.vic_log.specs.declared.entry.Entry.{Entry}
-use Rattle.vic_log.specs.declared.entry.Entry.TheVariants.{Sent, Silent, Collision, Heard, Listed, Garbled, FieldCycle}
+use Rattle.vic_log.specs.declared.entry.Entry.TheVariants.{Sent, Silent, Collision, Heard, Listed, Garbled, FieldCycle, Captured, Unknown}
 use Rattle.vic_log.specs.declared.entry.LogLine.{LogLine}
 use Rattle.vic_log.specs.declared.entry.Version.{Version}
 use Rattle.vic_log.specs.Log.{IsLog}
@@ -18,6 +18,8 @@ left_after left Silent = left - 1
 left_after left Collision = left - 1
 left_after left (Heard r) = left - 1
 left_after left Garbled = left - 1
+left_after left (Captured r) = left - 1
+left_after left Unknown = left - 1
 
 -- whether a UID is listed, and how many slots of the round are left
 pub record Keeps (version : Version) (lines : List LogLine) (listing : Bool) (left : ℕ)

@@ -2,8 +2,11 @@ pub mod Rounds
 pub mod Quiet
 pub mod Populations
 pub mod Slots
+pub mod Weaker
+pub mod Overlooked
 pub mod Order
 pub mod FirstVersion
+pub mod SecondVersion
 pub mod Log
 pub mod Kept
 pub mod Lines

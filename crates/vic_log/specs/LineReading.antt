@@ -11,9 +11,9 @@ use Rattle.vic_frame.specs.declared.request.Request.{Request}
 use Rattle.vic_frame.specs.declared.fault.FrameFault.{FrameFault}
 use Rattle.vic_log.specs.declared.entry.TheConstants.{MAX_LINE_LEN}
 use Rattle.vic_log.specs.declared.entry.Entry.{Entry}
-use Rattle.vic_log.specs.declared.entry.Entry.TheVariants.{Sent, Silent, Collision, Heard, Listed, Garbled, FieldCycle}
+use Rattle.vic_log.specs.declared.entry.Entry.TheVariants.{Sent, Silent, Collision, Heard, Listed, Garbled, FieldCycle, Captured, Unknown}
 use Rattle.vic_log.specs.declared.entry.Version.{Version}
-use Rattle.vic_log.specs.declared.entry.Version.TheVariants.{V1, V2}
+use Rattle.vic_log.specs.declared.entry.Version.TheVariants.{V1, V2, V3}
 use Rattle.vic_log.specs.declared.fault.LineFault.{LineFault}
 use Rattle.vic_log.specs.declared.fault.LineFault.TheVariants.{LineTooLong, UnknownEntry, Hex, ListedLength, Frame, NotVicinity}
 
@@ -28,6 +28,10 @@ sent (Err f) = Err (Frame f)
 abbrev pub heard : Result Reply FrameFault → Result (Option Entry) LineFault
 heard (Ok r) = Ok (Some (Heard r))
 heard (Err f) = Err (Frame f)
+
+abbrev pub captured : Result Reply FrameFault → Result (Option Entry) LineFault
+captured (Ok r) = Ok (Some (Captured r))
+captured (Err f) = Err (Frame f)
 
 -- what a line that claims a number says: that UID is listed, or the number isn't a UID
 abbrev pub claimed : ℕ → Result (Option Entry) LineFault
@@ -44,12 +48,18 @@ with_bytes f (Ok bytes) = f bytes
 with_bytes f (Err e) = Err Hex
 
 -- the letters that version 2 adds: D and F
-abbrev pub added_letter : Version → ℕ → Result (Option Entry) LineFault
-added_letter V1 letter = Err UnknownEntry
-added_letter V2 letter =
+abbrev pub second_letter : ℕ → Result (Option Entry) LineFault
+second_letter letter =
     if letter == byte "D" then Ok (Some Garbled)
     else if letter == byte "F" then Ok (Some FieldCycle)
     else Err UnknownEntry
+
+-- the letters that a version adds; version 3 has N besides
+abbrev pub added_letter : Version → ℕ → Result (Option Entry) LineFault
+added_letter V1 letter = Err UnknownEntry
+added_letter V2 letter = second_letter letter
+added_letter V3 letter =
+    if letter == byte "N" then Ok (Some Unknown) else second_letter letter
 
 -- only a letter: S and C, and those that the version adds
 abbrev pub one_letter : Version → ℕ → Result (Option Entry) LineFault
@@ -58,15 +68,24 @@ one_letter version letter =
     else if letter == byte "C" then Ok (Some Collision)
     else added_letter version letter
 
--- T, R and U with hex digits after a space
-abbrev pub with_digits : ℕ → List ℕ → Result (Option Entry) LineFault
-with_digits letter digits =
+-- the letter that version 3 adds with hex digits after a space: H
+abbrev pub added_digits : Version → ℕ → List ℕ → Result (Option Entry) LineFault
+added_digits V1 letter digits = Err UnknownEntry
+added_digits V2 letter digits = Err UnknownEntry
+added_digits V3 letter digits =
+    if letter == byte "H"
+    then with_bytes (λ bytes. captured (reply_reading bytes)) (decode_of digits)
+    else Err UnknownEntry
+
+-- T, R and U with hex digits after a space, and what the version adds
+abbrev pub with_digits : Version → ℕ → List ℕ → Result (Option Entry) LineFault
+with_digits version letter digits =
     if letter == byte "T"
     then with_bytes (λ bytes. sent (request_reading bytes)) (decode_of digits)
     else if letter == byte "R"
     then with_bytes (λ bytes. heard (reply_reading bytes)) (decode_of digits)
     else if letter == byte "U" then with_bytes listed_uid (decode_of digits)
-    else Err UnknownEntry
+    else added_digits version letter digits
 
 -- the entry that a line after the header spells in this version, None if it is ignored, or the
 -- first of the faults that it has by itself
@@ -75,5 +94,6 @@ line_reading version line =
     if nat_lt MAX_LINE_LEN (length line) then Err LineTooLong
     else if is_passed_over line then Ok None
     else if length line == 1 then one_letter version (slice_index line 0)
-    else if slice_index line 1 == byte " " then with_digits (slice_index line 0) (drop 2 line)
+    else if slice_index line 1 == byte " "
+    then with_digits version (slice_index line 0) (drop 2 line)
     else Err UnknownEntry

@@ -4,14 +4,15 @@ use Rattle.vic_frame.specs.Requests.{IsInRange, IsValid}
 use Rattle.vic_frame.specs.Replies.{IsReply}
 use Rattle.vic_frame.specs.Uids.{IsUid}
 use Rattle.vic_log.specs.declared.entry.Entry.{Entry}
-use Rattle.vic_log.specs.declared.entry.Entry.TheVariants.{Sent, Heard, Listed}
+use Rattle.vic_log.specs.declared.entry.Entry.TheVariants.{Sent, Heard, Listed, Captured}
 use Rattle.vic_log.specs.declared.entry.LogLine.{LogLine}
 use Rattle.vic_log.specs.declared.entry.TheConstants.{MAX_LINES}
 use Rattle.vic_log.specs.declared.entry.Version.{Version}
-use Rattle.vic_log.specs.declared.entry.Version.TheVariants.{V1}
+use Rattle.vic_log.specs.declared.entry.Version.TheVariants.{V1, V2}
 use Rattle.vic_log.specs.declared.fault.PushFault.{PushFault}
 use Rattle.vic_log.specs.declared.fault.PushFault.TheVariants.{Memory}
 use Rattle.vic_log.specs.FirstVersion.{AreOfFirstVersion}
+use Rattle.vic_log.specs.SecondVersion.{AreOfSecondVersion}
 use Rattle.vic_log.specs.Order.{IsInOrder, entries, IsRisingFrom, AreValid}
 
 -- a log as a value
@@ -36,6 +37,7 @@ last_from n (l ∷ lines) = last_from l.number lines
 abbrev pub IsTyped : Entry → Type 0
 IsTyped (Sent q) = IsInRange q
 IsTyped (Heard r) = IsReply r
+IsTyped (Captured r) = IsReply r
 IsTyped (Listed u) = IsUid u
 IsTyped e = ⊤
 
@@ -47,8 +49,8 @@ abbrev pub IsValidEntry : Entry → Type 0
 IsValidEntry (Sent q) = IsValid q
 IsValidEntry e = ⊤
 
--- the lines of a log: entries in order, on lines 2 to 1,000,000, in version 1 only those that it
--- has
+-- the lines of a log: entries in order, on lines 2 to 1,000,000, in versions 1 and 2 only those that
+-- they have
 pub record IsLog (version : Version) (lines : List LogLine) : Type 0 where
   pub order : IsInOrder (entries lines)
   pub rising : IsRisingFrom 1 lines
@@ -56,6 +58,7 @@ pub record IsLog (version : Version) (lines : List LogLine) : Type 0 where
   pub valid : AreValid (entries lines)
   pub typed : AreTyped (entries lines)
   pub first_version : version ≡ V1 → AreOfFirstVersion (entries lines)
+  pub second_version : version ≡ V2 → AreOfSecondVersion (entries lines)
 
 -- an entry is refused for its reason, or because memory was refused only if there is no reason
 abbrev pub RefusesOr : Option PushFault → PushFault → Type 0

@@ -8,7 +8,7 @@ use Rattle.vic_log.specs.declared.entry.Entry.{Entry}
 use Rattle.vic_log.specs.declared.entry.Entry.TheVariants as entry
 use Rattle.vic_log.specs.declared.entry.LogLine.{LogLine}
 use Rattle.vic_log.specs.declared.packed.Packed.{Packed}
-use Rattle.vic_log.specs.declared.packed.Packed.TheVariants.{Inventory, StayQuiet, Silent, Collision, Heard, Listed, Garbled, FieldCycle}
+use Rattle.vic_log.specs.declared.packed.Packed.TheVariants.{Inventory, StayQuiet, Silent, Collision, Heard, Listed, Garbled, FieldCycle, Captured, Unknown}
 
 abbrev on : ℕ → Entry → LogLine
 on number item = record { number = number; item = item }
@@ -25,6 +25,9 @@ line_of (Heard flags dsfid number uid) =
 line_of (Listed number uid) = on number (entry.Listed uid)
 line_of (Garbled number) = on number entry.Garbled
 line_of (FieldCycle number) = on number entry.FieldCycle
+line_of (Captured flags dsfid number uid) =
+    on number (entry.Captured (record { flags = flags; dsfid = dsfid; uid = uid }))
+line_of (Unknown number) = on number entry.Unknown
 
 abbrev packed_request : ℕ → Request → Packed
 packed_request number (request.Inventory link sixteen mask) =
@@ -40,11 +43,15 @@ packed_of number (entry.Heard r) = Heard r.flags r.dsfid number r.uid
 packed_of number (entry.Listed u) = Listed number u
 packed_of number entry.Garbled = Garbled number
 packed_of number entry.FieldCycle = FieldCycle number
+packed_of number (entry.Captured r) = Captured r.flags r.dsfid number r.uid
+packed_of number entry.Unknown = Unknown number
 
 -- its fields are those of a mask and of a reply
 abbrev pub IsPacked : Packed → Type 0
 IsPacked (Inventory link sixteen len number value) =
     IsMask (record { len = len; value = value })
 IsPacked (Heard flags dsfid number uid) =
+    IsReply (record { flags = flags; dsfid = dsfid; uid = uid })
+IsPacked (Captured flags dsfid number uid) =
     IsReply (record { flags = flags; dsfid = dsfid; uid = uid })
 IsPacked p = ⊤

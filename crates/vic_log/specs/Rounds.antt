@@ -5,7 +5,7 @@ use Rattle.vic_frame.specs.Masks.{BitMask, lies_in}
 use Rattle.vic_frame.specs.Slots.{slot_count, slot_mask}
 use Rattle.vic_frame.specs.declared.request.Request.{Request}
 use Rattle.vic_log.specs.declared.entry.Entry.{Entry}
-use Rattle.vic_log.specs.declared.entry.Entry.TheVariants.{Sent, Silent, Collision, Heard, Listed, Garbled, FieldCycle}
+use Rattle.vic_log.specs.declared.entry.Entry.TheVariants.{Sent, Silent, Collision, Heard, Listed, Garbled, FieldCycle, Captured, Unknown}
 
 -- the entry is a slot line
 abbrev pub is_slot : Entry → Bool
@@ -13,6 +13,8 @@ is_slot Silent = true
 is_slot Collision = true
 is_slot (Heard r) = true
 is_slot Garbled = true
+is_slot (Captured r) = true
+is_slot Unknown = true
 is_slot (Sent q) = false
 is_slot (Listed u) = false
 is_slot FieldCycle = false

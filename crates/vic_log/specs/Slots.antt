@@ -1,11 +1,18 @@
--- What a log says, slot by slot, without its requests and positions: for each slot line, which tags
--- would answer, and what was read; and which UIDs that leaves open.
-use Rattle.std.specs.Prelude.{◌≡◌, ◌≢◌, ◌⊎◌, ℕ, zero, suc, ◌==◌, Bool, true, not, ◌&&◌, ◌||◌, Option, Some, None, List, [], ◌∷◌, ⊤, slice_get, length}
+-- What a log says, slot by slot, without its requests and positions: for each slot line of which
+-- something is known, which tags would answer, and what was read; and which UIDs that leaves open.
+use Rattle.std.specs.Prelude.{◌≡◌, ◌≢◌, ◌⊎◌, ℕ, zero, suc, ◌==◌, Bool, true, false, not, ◌&&◌, ◌||◌, Option, Some, None, List, [], ◌∷◌, ⊤, slice_get, length}
 use Rattle.std.specs.List.{list_all, AllByRecursion}
 use Rattle.vic_log.specs.declared.entry.Entry.{Entry}
-use Rattle.vic_log.specs.declared.entry.Entry.TheVariants.{Sent, Silent, Collision, Heard, Listed, Garbled, FieldCycle}
+use Rattle.vic_log.specs.declared.entry.Entry.TheVariants.{Sent, Silent, Collision, Heard, Listed, Garbled, FieldCycle, Captured, Unknown}
 use Rattle.vic_frame.specs.Uids.{is_uid}
 use Rattle.vic_log.specs.Populations.{answers_at}
+
+-- the entry is a reply of this UID
+abbrev pub hears : Option Entry → ℕ → Bool
+hears (Some (Heard r)) u = r.uid == u
+hears (Some (Captured r)) u = r.uid == u
+hears (Some e) u = false
+hears None u = false
 
 -- what was read in a slot
 pub data Reading : Type 0 where
@@ -13,17 +20,20 @@ pub data Reading : Type 0 where
   OneReply : (uid : ℕ) → Reading
   ManyReplies : Reading
   SomeReply : Reading
+  ReplyAmong : (uid : ℕ) → Reading  -- this one, alone or among others
 
 pub record Slot : Type 0 where
   pub answers : ℕ → Bool  -- the UIDs of the tags that answer, if they are in the field
   pub reading : Reading
 
--- the reading of a slot line
+-- the reading of a slot line, unless nothing is known of the slot
 abbrev pub reading_of : Entry → Option Reading
 reading_of Silent = Some NoReply
 reading_of (Heard r) = Some (OneReply r.uid)
 reading_of Collision = Some ManyReplies
 reading_of Garbled = Some SomeReply
+reading_of (Captured r) = Some (ReplyAmong r.uid)
+reading_of Unknown = None
 reading_of (Sent q) = None
 reading_of (Listed u) = None
 reading_of FieldCycle = None
@@ -52,6 +62,7 @@ may_be NoReply answers u = not answers
 may_be (OneReply h) answers u = not answers || (u == h)
 may_be ManyReplies answers u = true
 may_be SomeReply answers u = true
+may_be (ReplyAmong h) answers u = true
 
 abbrev pub allows : ℕ → Slot → Bool
 allows u s = may_be s.reading (s.answers u) u
@@ -66,6 +77,7 @@ Asks NoReply t = ⊤
 Asks (OneReply h) t = t h ≡ true
 Asks ManyReplies t = (u v : ℕ) × (u ≢ v) × (t u ≡ true) × (t v ≡ true)
 Asks SomeReply t = (u : ℕ) × (t u ≡ true)
+Asks (ReplyAmong h) t = t h ≡ true
 
 -- the set of UIDs has the tags that the slot requires
 abbrev pub Supplies : (ℕ → Bool) → Slot → Type 0
@@ -82,6 +94,7 @@ Forces ManyReplies t u =
     (v : ℕ) × (v ≢ u) × (t u ≡ true) × (t v ≡ true)
     × ((w : ℕ) → t w ≡ true → (w ≡ u) ⊎ (w ≡ v))
 Forces SomeReply t u = (t u ≡ true) × ((w : ℕ) → t w ≡ true → w ≡ u)
+Forces (ReplyAmong h) t u = h ≡ u
 
 -- some slot shows that the UID is there, by the open UIDs
 abbrev pub IsForcedBy : (ℕ → Bool) → List Slot → ℕ → Type 0

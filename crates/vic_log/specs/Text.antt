@@ -5,7 +5,7 @@ use Rattle.vic_log.specs.declared.entry.TheConstants.{MAX_LINE_LEN, MAX_LINES}
 use Rattle.vic_log.specs.declared.entry.Entry.{Entry}
 use Rattle.vic_log.specs.declared.entry.LogLine.{LogLine}
 use Rattle.vic_log.specs.declared.entry.Version.{Version}
-use Rattle.vic_log.specs.declared.entry.Version.TheVariants.{V1, V2}
+use Rattle.vic_log.specs.declared.entry.Version.TheVariants.{V1, V2, V3}
 use Rattle.vic_log.specs.declared.fault.LineFault.{LineFault}
 use Rattle.vic_log.specs.declared.fault.LineFault.TheVariants.{TooManyLines, LineTooLong, Header, SlotOutsideRound, EntryAfterList, DuplicateListed}
 use Rattle.vic_log.specs.declared.fault.LogFault.{LogFault}
@@ -19,14 +19,17 @@ use Rattle.vic_log.specs.LineReading.{line_reading}
 abbrev pub header : Version → List ℕ
 header V1 = codes "vicinity-log 1"
 header V2 = codes "vicinity-log 2"
+header V3 = codes "vicinity-log 3"
 
 -- a line is the header of one of the versions
 abbrev pub is_header : List ℕ → Bool
-is_header line = bytes_eq line (header V1) || bytes_eq line (header V2)
+is_header line =
+    bytes_eq line (header V1) || bytes_eq line (header V2) || bytes_eq line (header V3)
 
--- a first line names version 2 if it is the header of version 2, and version 1 otherwise
+-- a first line names version 2 or 3 if it is the header of that version, and version 1 otherwise
 abbrev pub named_version : Option (List ℕ) → Version
-named_version (Some line) = if bytes_eq line (header V2) then V2 else V1
+named_version (Some line) =
+    if bytes_eq line (header V2) then V2 else if bytes_eq line (header V3) then V3 else V1
 named_version None = V1
 
 -- the version of a text is the one that its first line names

@@ -5,7 +5,7 @@ use Rattle.hex.specs.Hex.{encode_upper}
 use Rattle.vic_frame.specs.Requests.{request_spelling}
 use Rattle.vic_frame.specs.Replies.{reply_spelling}
 use Rattle.vic_log.specs.declared.entry.Entry.{Entry}
-use Rattle.vic_log.specs.declared.entry.Entry.TheVariants.{Sent, Silent, Collision, Heard, Listed, Garbled, FieldCycle}
+use Rattle.vic_log.specs.declared.entry.Entry.TheVariants.{Sent, Silent, Collision, Heard, Listed, Garbled, FieldCycle, Captured, Unknown}
 use Rattle.vic_log.specs.declared.entry.LogLine.{LogLine}
 use Rattle.vic_log.specs.Lines.{lf}
 use Rattle.vic_log.specs.Log.{LogValue}
@@ -21,6 +21,8 @@ entry_text (Heard r) = codes "R " ++ encode_upper (reply_spelling r)
 entry_text (Listed u) = codes "U " ++ encode_upper (to_be_bytes w64 u)
 entry_text Garbled = codes "D"
 entry_text FieldCycle = codes "F"
+entry_text (Captured r) = codes "H " ++ encode_upper (reply_spelling r)
+entry_text Unknown = codes "N"
 
 -- each line with LF after it
 abbrev pub joined : List (List ℕ) → List ℕ

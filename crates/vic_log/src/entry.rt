@@ -1,7 +1,8 @@
 //! The entries of a log.
 
-ghost use Rattle.std.specs.Prelude.{◌≡◌, false, true};
+ghost use Rattle.std.specs.Prelude.{◌≡◌, ◌==◌, ℕ, false, true, IfSome, IfNone, Some};
 ghost use Rattle.vic_log.specs.Rounds.{is_slot};
+ghost use Rattle.vic_log.specs.Slots.{hears};
 
 use vic_frame::{Request, Response, Uid};
 
@@ -24,19 +25,46 @@ pub enum Entry {
     Heard(Response),
     /// `U`: the reader claims this UID.
     Listed(Uid),
-    /// `D`, only in version 2: one or more tags answered in the next slot, and none was read.
+    /// `D`, from version 2 on: one or more tags answered in the next slot, and none was read.
     Garbled,
-    /// `F`, only in version 2: the field was switched off and on.
+    /// `F`, from version 2 on: the field was switched off and on.
     FieldCycle,
+    /// `H`, only in version 3: this reply was read in the next slot; whether other tags answered
+    /// under it isn't known.
+    Captured(Response),
+    /// `N`, only in version 3: the next slot passed, and nothing is known of it.
+    Unknown,
 }
 
 impl Entry {
+    /// The UID of the reply that was read in its slot, if one was.
+    pub fn heard(&self) -> Option<Uid>
+        ensures some { IfSome result (λ uid. (u : ℕ) → hears (Some self.now) u ≡ (uid == u)) }
+        ensures none { IfNone result ((u : ℕ) → hears (Some self.now) u ≡ false) }
+    {
+        match *self {
+            Entry::Heard(response) | Entry::Captured(response) => Some(response.uid()),
+            Entry::Sent(_)
+            | Entry::Silent
+            | Entry::Collision
+            | Entry::Listed(_)
+            | Entry::Garbled
+            | Entry::FieldCycle
+            | Entry::Unknown => None,
+        }
+    }
+
     /// Whether it is a slot line.
     pub fn is_slot(&self) -> bool
         ensures { result ≡ is_slot self.now }
     {
         match *self {
-            Entry::Silent | Entry::Collision | Entry::Heard(_) | Entry::Garbled => true,
+            Entry::Silent
+            | Entry::Collision
+            | Entry::Heard(_)
+            | Entry::Garbled
+            | Entry::Captured(_)
+            | Entry::Unknown => true,
             Entry::Sent(_) | Entry::Listed(_) | Entry::FieldCycle => false,
         }
     }
@@ -45,10 +73,12 @@ impl Entry {
 /// Which lines a log may have.
 #[derive(Clone, Copy, Debug, PartialEq, Eq)]
 pub enum Version {
-    /// Neither `D` nor `F`.
+    /// Neither `D`, `F`, `H` nor `N`.
     V1,
-    /// All entries.
+    /// Neither `H` nor `N`.
     V2,
+    /// All entries.
+    V3,
 }
 
 /// An entry with the number of its line. In a log the numbers rise, from 2 to 1,000,000.

@@ -1,6 +1,7 @@
 //! Laws about logs and their text.
 
 ghost use Rattle.std.specs.Prelude.{◌≡◌, ◌++◌, ◌∷◌, ◌↔◌, ◌⊎◌, ℕ, true, [], List, Some, None, Ok, Result};
+ghost use Rattle.vic_frame.specs.Uids.{IsUid};
 ghost use Rattle.vic_log.specs.declared.entry.Entry.{Entry};
 ghost use Rattle.vic_log.specs.declared.fault.LineFault.{LineFault};
 ghost use Rattle.vic_log.specs.declared.fault.LogFault.{LogFault};
@@ -11,11 +12,15 @@ ghost use Rattle.vic_log.specs.Grammar.{SpellsEntry, IsPassedOver};
 ghost use Rattle.vic_log.specs.LineReading.{line_reading};
 ghost use Rattle.vic_log.specs.Lines.{lines_of_text};
 ghost use Rattle.vic_log.specs.Log.{IsLog, LogValue};
-ghost use Rattle.vic_log.specs.Order.{IsInOrder, refusal};
-ghost use Rattle.vic_log.specs.Populations.{Outcome, Fits, CouldHaveGiven};
+ghost use Rattle.vic_log.specs.Order.{IsInOrder, listed, refusal};
+ghost use Rattle.vic_log.specs.Overlooked.{IsNeverOverlooked};
+ghost use Rattle.vic_log.specs.Populations.{Fits, CouldHaveGiven, outcome_of};
+ghost use Rattle.vic_log.specs.SecondVersion.{IsOfSecondVersion, AreOfSecondVersion, FitsSecond, CouldHaveGivenOutcomes};
+ghost use Rattle.vic_log.specs.Slots.{is_open, slots_of};
 ghost use Rattle.vic_log.specs.Quiet.{is_quiet, IsSilenced};
-ghost use Rattle.vic_log.specs.Rounds.{opener};
+ghost use Rattle.vic_log.specs.Rounds.{is_slot, opener};
 ghost use Rattle.vic_log.specs.Text.{IsLogOf, IsFirstFault};
+ghost use Rattle.vic_log.specs.Weaker.{AreWeaker, FitsLess, is_weaker};
 ghost use Rattle.vic_log.specs.Writing.{text_of, renumbered};
 
 /// A line is read as an entry if and only if it spells it, and is ignored if and only if it is
@@ -70,8 +75,7 @@ pub fn quiet_since_stay_quiet()
     ensures { (es : List Entry) (i u : ℕ) → (is_quiet es i u ≡ true) ↔ IsSilenced es i u }
 {}
 
-/// For entries of version 1, the rules with garbled slots and field cycles agree with those without
-/// them: on rounds, Quiet tags, outcomes, the order of entries, and what a population could have
+/// For entries of version 1, the rules of later versions agree with those of version 1: on rounds, Quiet tags, outcomes, the order of entries, and what a population could have
 /// produced.
 pub fn first_version_is_kept()
     ensures opener { (es : List Entry) → AreOfFirstVersion es
@@ -79,9 +83,38 @@ pub fn first_version_is_kept()
     ensures quiet { (es : List Entry) → AreOfFirstVersion es
         → (i u : ℕ) → is_quiet es i u ≡ is_first_quiet es i u }
     ensures fits { (e : Entry) → IsOfFirstVersion e
-        → (o : Outcome) → Fits e o ↔ FitsFirst e o }
+        → (us : List ℕ) → Fits e us ↔ FitsFirst e (outcome_of us) }
     ensures order { (es : List Entry) → AreOfFirstVersion es
         → IsInOrder es ↔ IsInFirstOrder es }
     ensures given { (es : List Entry) → AreOfFirstVersion es
         → (p : List ℕ) → CouldHaveGiven p es ↔ CouldHaveGivenFirst p es }
+{}
+
+/// For entries of version 2, the rules of version 3 agree with those of version 2: on outcomes, and
+/// what a population could have produced.
+pub fn second_version_is_kept()
+    ensures fits { (e : Entry) → IsOfSecondVersion e
+        → (us : List ℕ) → Fits e us ↔ FitsSecond e (outcome_of us) }
+    ensures given { (es : List Entry) → AreOfSecondVersion es
+        → (p : List ℕ) → CouldHaveGiven p es ↔ CouldHaveGivenOutcomes p es }
+{}
+
+/// A slot line is weaker than another if and only if every list of UIDs that fits the other fits it.
+pub fn weaker_fits_more()
+    ensures { (d e : Entry) → is_slot d ≡ true → is_slot e ≡ true
+        → (is_weaker d e ≡ true) ↔ FitsLess d e }
+{}
+
+/// A population that could have produced entries could have produced all that are weaker; these
+/// list the same UIDs.
+pub fn weaker_entries_keep_populations()
+    ensures given { (ds es : List Entry) → AreWeaker ds es
+        → (p : List ℕ) → CouldHaveGiven p es → CouldHaveGiven p ds }
+    ensures listed { (ds es : List Entry) → AreWeaker ds es → listed ds ≡ listed es }
+{}
+
+/// A UID that is overlooked nowhere is open.
+pub fn never_overlooked_is_open()
+    ensures { (es : List Entry) (u : ℕ) → IsUid u
+        → IsNeverOverlooked es u ↔ (is_open (slots_of es) u ≡ true) }
 {}

@@ -3,28 +3,32 @@
 ghost use Rattle.std.specs.Prelude.{◌≡◌, ◌≤◌, IfOk, IfSome, length};
 ghost use Rattle.vic_log.specs.Log.{IsValidEntry};
 ghost use Rattle.vic_log.specs.FirstVersion.{IsOfFirstVersion};
+ghost use Rattle.vic_log.specs.SecondVersion.{IsOfSecondVersion};
 ghost use Rattle.vic_frame.specs.Reading.{request_reading, reply_reading};
-ghost use Rattle.vic_log.specs.declared.entry.Version.TheVariants.{V1};
-ghost use Rattle.vic_log.specs.LineReading.{line_reading, with_digits, one_letter, sent, heard, listed_uid};
+ghost use Rattle.vic_log.specs.declared.entry.Version.TheVariants.{V1, V2};
+ghost use Rattle.vic_log.specs.LineReading.{line_reading, with_digits, one_letter, sent, heard, captured, listed_uid};
 
 use crate::decoding::decode;
 use crate::entry::{Entry, MAX_LINE_LEN, Version};
 use crate::fault::LineFault;
 use vic_frame::{Uid, read_request, read_response};
 
-/// The entry of a line with only a letter. `D` and `F` belong to version 2.
+/// The entry of a line with only a letter. `D` and `F` belong to version 2 and 3, `N` to 3.
 #[inline(always)]
 fn letter_entry(version: Version, letter: u8) -> Result<Option<Entry>, LineFault>
     ensures reading { result ≡ one_letter version letter }
     ensures valid { IfOk result (λ entry. IfSome entry IsValidEntry) }
     ensures first_version { version ≡ V1
         → IfOk result (λ entry. IfSome entry IsOfFirstVersion) }
+    ensures second_version { version ≡ V2
+        → IfOk result (λ entry. IfSome entry IsOfSecondVersion) }
 {
     match (version, letter) {
         (_, b'S') => Ok(Some(Entry::Silent)),
         (_, b'C') => Ok(Some(Entry::Collision)),
-        (Version::V2, b'D') => Ok(Some(Entry::Garbled)),
-        (Version::V2, b'F') => Ok(Some(Entry::FieldCycle)),
+        (Version::V2 | Version::V3, b'D') => Ok(Some(Entry::Garbled)),
+        (Version::V2 | Version::V3, b'F') => Ok(Some(Entry::FieldCycle)),
+        (Version::V3, b'N') => Ok(Some(Entry::Unknown)),
         _ => Err(LineFault::UnknownEntry),
     }
 }
@@ -35,6 +39,7 @@ fn request_entry(bytes: &[u8]) -> Result<Option<Entry>, LineFault>
     ensures reading { result ≡ sent (request_reading bytes.now) }
     ensures valid { IfOk result (λ entry. IfSome entry IsValidEntry) }
     ensures first_version { IfOk result (λ entry. IfSome entry IsOfFirstVersion) }
+    ensures second_version { IfOk result (λ entry. IfSome entry IsOfSecondVersion) }
 {
     match read_request(bytes) {
         Ok(request) => Ok(Some(Entry::Sent(request))),
@@ -48,9 +53,22 @@ fn reply_entry(bytes: &[u8]) -> Result<Option<Entry>, LineFault>
     ensures reading { result ≡ heard (reply_reading bytes.now) }
     ensures valid { IfOk result (λ entry. IfSome entry IsValidEntry) }
     ensures first_version { IfOk result (λ entry. IfSome entry IsOfFirstVersion) }
+    ensures second_version { IfOk result (λ entry. IfSome entry IsOfSecondVersion) }
 {
     match read_response(bytes) {
         Ok(response) => Ok(Some(Entry::Heard(response))),
+        Err(fault) => Err(LineFault::Frame(fault)),
+    }
+}
+
+/// The entry of a captured reply's frame.
+#[inline(always)]
+fn captured_entry(bytes: &[u8]) -> Result<Option<Entry>, LineFault>
+    ensures reading { result ≡ captured (reply_reading bytes.now) }
+    ensures valid { IfOk result (λ entry. IfSome entry IsValidEntry) }
+{
+    match read_response(bytes) {
+        Ok(response) => Ok(Some(Entry::Captured(response))),
         Err(fault) => Err(LineFault::Frame(fault)),
     }
 }
@@ -61,6 +79,7 @@ fn uid_entry(bytes: &[u8]) -> Result<Option<Entry>, LineFault>
     ensures reading { result ≡ listed_uid bytes.now }
     ensures valid { IfOk result (λ entry. IfSome entry IsValidEntry) }
     ensures first_version { IfOk result (λ entry. IfSome entry IsOfFirstVersion) }
+    ensures second_version { IfOk result (λ entry. IfSome entry IsOfSecondVersion) }
 {
     if bytes.len() != 8 {
         return Err(LineFault::ListedLength);
@@ -76,17 +95,21 @@ fn uid_entry(bytes: &[u8]) -> Result<Option<Entry>, LineFault>
 
 /// The entry of a letter with hex digits after it.
 #[inline(always)]
-fn digits_entry(letter: u8, digits: &[u8]) -> Result<Option<Entry>, LineFault>
+fn digits_entry(version: Version, letter: u8, digits: &[u8]) -> Result<Option<Entry>, LineFault>
     requires { length digits.now ≤ 126 }
-    ensures reading { result ≡ with_digits letter digits.now }
+    ensures reading { result ≡ with_digits version letter digits.now }
     ensures valid { IfOk result (λ entry. IfSome entry IsValidEntry) }
-    ensures first_version { IfOk result (λ entry. IfSome entry IsOfFirstVersion) }
+    ensures first_version { version ≡ V1
+        → IfOk result (λ entry. IfSome entry IsOfFirstVersion) }
+    ensures second_version { version ≡ V2
+        → IfOk result (λ entry. IfSome entry IsOfSecondVersion) }
 {
     let mut room = [0; 63];
-    match letter {
-        b'T' => request_entry(decode(digits, &mut room)?),
-        b'R' => reply_entry(decode(digits, &mut room)?),
-        b'U' => uid_entry(decode(digits, &mut room)?),
+    match (version, letter) {
+        (_, b'T') => request_entry(decode(digits, &mut room)?),
+        (_, b'R') => reply_entry(decode(digits, &mut room)?),
+        (_, b'U') => uid_entry(decode(digits, &mut room)?),
+        (Version::V3, b'H') => captured_entry(decode(digits, &mut room)?),
         _ => Err(LineFault::UnknownEntry),
     }
 }
@@ -99,6 +122,8 @@ pub fn line_entry_of(version: Version, line: &[u8]) -> Result<Option<Entry>, Lin
     ensures valid { IfOk result (λ entry. IfSome entry IsValidEntry) }
     ensures first_version { version ≡ V1
         → IfOk result (λ entry. IfSome entry IsOfFirstVersion) }
+    ensures second_version { version ≡ V2
+        → IfOk result (λ entry. IfSome entry IsOfSecondVersion) }
 {
     if line.len() > MAX_LINE_LEN {
         return Err(LineFault::LineTooLong);
@@ -112,7 +137,7 @@ pub fn line_entry_of(version: Version, line: &[u8]) -> Result<Option<Entry>, Lin
     if line[1] != b' ' {
         return Err(LineFault::UnknownEntry);
     }
-    digits_entry(line[0], &line[2..])
+    digits_entry(version, line[0], &line[2..])
 }
 
 /// The entry on one line after the header of a log of version 1, without its line end; `None` if

@@ -2,9 +2,10 @@
 
 ghost use Rattle.std.specs.Prelude.{◌≡◌, ◌<◌, ◌≤◌, [], ◌∷◌, ◌++◌, not, ◌||◌, true, false};
 ghost use Rattle.std.specs.Prelude.{Some, None, MatchResult, OnOk, OnErr, if◌then◌else◌};
-ghost use Rattle.vic_log.specs.declared.entry.Version.TheVariants.{V1};
+ghost use Rattle.vic_log.specs.declared.entry.Version.TheVariants.{V1, V2};
 ghost use Rattle.vic_log.specs.declared.fault.PushFault.TheVariants.{DuplicateListed};
 ghost use Rattle.vic_log.specs.FirstVersion.{IsOfFirstVersion};
+ghost use Rattle.vic_log.specs.SecondVersion.{IsOfSecondVersion};
 ghost use Rattle.vic_frame.specs.Uids.{has};
 ghost use Rattle.vic_log.specs.inner.UidSets.{IsIndex};
 ghost use Rattle.vic_log.specs.Kept.{left_after, Keeps};
@@ -106,9 +107,12 @@ impl Log {
         ensures { result ≡ refusal (entries self.now.lines) item.now }
     {
         match *item {
-            Entry::Silent | Entry::Collision | Entry::Heard(_) | Entry::Garbled => {
-                (self.slots_left == 0).then_some(PushFault::SlotOutsideRound)
-            }
+            Entry::Silent
+            | Entry::Collision
+            | Entry::Heard(_)
+            | Entry::Garbled
+            | Entry::Captured(_)
+            | Entry::Unknown => { (self.slots_left == 0).then_some(PushFault::SlotOutsideRound) }
             Entry::Sent(_) | Entry::FieldCycle => {
                 self.listing.then_some(PushFault::EntryAfterList)
             }
@@ -124,6 +128,7 @@ impl Log {
         requires limit { number ≤ MAX_LINES }
         requires valid { IsValidEntry item }
         requires first_version { self.old.version ≡ V1 → IsOfFirstVersion item }
+        requires second_version { self.old.version ≡ V2 → IsOfSecondVersion item }
         ensures answer { MatchResult result
             (λ _. refusal (entries self.old.lines) item ≡ None)
             (RefusesOr (refusal (entries self.old.lines) item)) }
@@ -153,9 +158,12 @@ fn slots_after(left: u8, item: &Entry) -> u8
     match *item {
         Entry::Sent(request) => request.slots(),
         Entry::Listed(_) | Entry::FieldCycle => 0,
-        Entry::Silent | Entry::Collision | Entry::Heard(_) | Entry::Garbled => {
-            left.saturating_sub(1)
-        }
+        Entry::Silent
+        | Entry::Collision
+        | Entry::Heard(_)
+        | Entry::Garbled
+        | Entry::Captured(_)
+        | Entry::Unknown => { left.saturating_sub(1) }
     }
 }
 
@@ -167,7 +175,12 @@ fn listing_after(listing: bool, item: &Entry) -> bool
     match *item {
         Entry::Listed(_) => true,
         Entry::Sent(_) | Entry::FieldCycle => listing,
-        Entry::Silent | Entry::Collision | Entry::Heard(_) | Entry::Garbled => listing,
+        Entry::Silent
+        | Entry::Collision
+        | Entry::Heard(_)
+        | Entry::Garbled
+        | Entry::Captured(_)
+        | Entry::Unknown => listing,
     }
 }
 

@@ -43,6 +43,15 @@ enum Packed {
     FieldCycle {
         number: u32,
     },
+    Captured {
+        flags: u8,
+        dsfid: u8,
+        number: u32,
+        uid: Uid,
+    },
+    Unknown {
+        number: u32,
+    },
 }
 
 /// A line of a log, in 16 bytes: an entry with the number of its line.
@@ -96,6 +105,13 @@ impl PackedLine {
             Entry::Listed(uid) => Packed::Listed { number, uid },
             Entry::Garbled => Packed::Garbled { number },
             Entry::FieldCycle => Packed::FieldCycle { number },
+            Entry::Captured(response) => Packed::Captured {
+                flags: response.flags(),
+                dsfid: response.dsfid(),
+                number,
+                uid: response.uid(),
+            },
+            Entry::Unknown => Packed::Unknown { number },
         };
         PackedLine { packed }
     }
@@ -113,7 +129,9 @@ impl PackedLine {
             | Packed::Heard { number, .. }
             | Packed::Listed { number, .. }
             | Packed::Garbled { number }
-            | Packed::FieldCycle { number } => number,
+            | Packed::FieldCycle { number }
+            | Packed::Captured { number, .. }
+            | Packed::Unknown { number } => number,
         }
     }
 
@@ -146,6 +164,13 @@ impl PackedLine {
             Packed::Listed { uid, .. } => Entry::Listed(uid),
             Packed::Garbled { .. } => Entry::Garbled,
             Packed::FieldCycle { .. } => Entry::FieldCycle,
+            Packed::Captured {
+                flags,
+                dsfid,
+                uid,
+                ..
+            } => Entry::Captured(Response::of_fields(flags, dsfid, uid)),
+            Packed::Unknown { .. } => Entry::Unknown,
         }
     }
 }

@@ -1,8 +1,9 @@
 //! One line after those that a log was read from.
 
 ghost use Rattle.std.specs.Prelude.{◌≡◌, ◌<◌, ◌≤◌, [], ◌∷◌, Some, None, MatchResult, OnOk, if◌then◌else◌};
-ghost use Rattle.vic_log.specs.declared.entry.Version.TheVariants.{V1};
+ghost use Rattle.vic_log.specs.declared.entry.Version.TheVariants.{V1, V2};
 ghost use Rattle.vic_log.specs.FirstVersion.{IsOfFirstVersion};
+ghost use Rattle.vic_log.specs.SecondVersion.{IsOfSecondVersion};
 ghost use Rattle.vic_log.specs.Order.{entries};
 ghost use Rattle.vic_log.specs.Log.{last_from, with_line, IsValidEntry};
 ghost use Rattle.vic_log.specs.Text.{order_fault, is_header, named_version};
@@ -22,6 +23,8 @@ fn version_named(line: &[u8]) -> Option<Version>
         Some(Version::V1)
     } else if line == b"vicinity-log 2".as_slice() {
         Some(Version::V2)
+    } else if line == b"vicinity-log 3".as_slice() {
+        Some(Version::V3)
     } else {
         None
     }
@@ -34,6 +37,7 @@ fn take_entry(log: &mut Log, number: u32, entry: Entry) -> Result<(), LogFault>
     requires limit { number ≤ MAX_LINES }
     requires valid { IsValidEntry entry }
     requires first_version { log.old.version ≡ V1 → IsOfFirstVersion entry }
+    requires second_version { log.old.version ≡ V2 → IsOfSecondVersion entry }
     ensures answer { MatchResult result
         (λ _. order_fault (entries log.old.lines) entry ≡ None)
         (RefusesLine (order_fault (entries log.old.lines) entry)

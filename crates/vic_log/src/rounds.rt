@@ -208,7 +208,12 @@ fn pass_entry(round: &mut Option<KeyedRound>, entry: &Entry)
     match *entry {
         Entry::Sent(request) => *round = Some(KeyedRound::opened(request)),
         Entry::Listed(_) | Entry::FieldCycle => *round = None,
-        Entry::Silent | Entry::Collision | Entry::Heard(_) | Entry::Garbled => {
+        Entry::Silent
+        | Entry::Collision
+        | Entry::Heard(_)
+        | Entry::Garbled
+        | Entry::Captured(_)
+        | Entry::Unknown => {
             if let Some(round) = round {
                 round.pass_slot();
             }

@@ -145,7 +145,9 @@ fn lists(item: &Entry, uid: Uid) -> bool
         | Entry::Collision
         | Entry::Heard(_)
         | Entry::Garbled
-        | Entry::FieldCycle => false,
+        | Entry::FieldCycle
+        | Entry::Captured(_)
+        | Entry::Unknown => false,
     }
 }
 
@@ -196,7 +198,9 @@ fn put_listed(set: &mut UidSet, item: &Entry) -> Result<(), AllocError>
         | Entry::Collision
         | Entry::Heard(_)
         | Entry::Garbled
-        | Entry::FieldCycle => {}
+        | Entry::FieldCycle
+        | Entry::Captured(_)
+        | Entry::Unknown => {}
     }
     Ok(())
 }

@@ -94,6 +94,7 @@ fn with_header(version: Version) -> Piece
     let line = match version {
         Version::V1 => b"vicinity-log 1\n".as_slice(),
         Version::V2 => b"vicinity-log 2\n".as_slice(),
+        Version::V3 => b"vicinity-log 3\n".as_slice(),
     };
     beginning(line)
 }
@@ -150,6 +151,8 @@ fn push_entry(piece: &mut Piece, item: &Entry)
         Entry::Listed(uid) => push_bytes(piece, b'U', uid.number().to_be_bytes().as_slice()),
         Entry::Garbled => piece.push(b'D'),
         Entry::FieldCycle => piece.push(b'F'),
+        Entry::Captured(response) => push_bytes(piece, b'H', write_response(&response).as_slice()),
+        Entry::Unknown => piece.push(b'N'),
     }
     piece.push(b'\n');
 }

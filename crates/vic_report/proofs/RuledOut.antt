@@ -1,31 +1,78 @@
--- Lines that rule out UIDs, and those that leave them open.
-use Rattle.vic_report.proofs.Words.{◌≡◌, ℕ, ◌+◌, ◌<◌, ◌==◌, ◌&&◌, List, length, get_or, take, Bool, true, false, not, Some, refl, sym, ap, ◌∙◌, subst, add-one, ⊎_elim, slice_get, All, and_parts, and_from, not_from_false, cases_eq, eq-eqb, ne_eqb, get_or_default, All-more, Entry, Silent, Heard, LogLine, entries, answers_at, reading_of, slots_before, is_open, ShownUid, IsRuledOut, RulesOut, lacks_reply_of, entry_allows, open_step}
+-- The first line that rules a UID out, by the end that a walk knows of it.
+use Rattle.vic_report.proofs.Words.{◌≡◌, ℕ, ◌-◌, ◌<◌, ◌≤◌, zero, suc, List, length, take, drop, Bool, true, false, Option, Some, None, refl, sym, ap, ◌∙◌, subst, arith, cases_lt, nat_tests, inl, inr, false≢true, take-append-drop, slice_get, get_or, get_or_default, IsUid, Entry, LogLine, IsRisingFrom, entries, answers_at, reading_of, slots_before, is_open, IsPossible, RulesOut, lacks_reply_of, entry_allows, [], ◌∷◌, option_map, slice_get-map, open_step}
+use Rattle.vic_verdict.proofs.Listing.{number_above}
+use Rattle.vic_verdict.proofs.Possibility.{IsPossible-front}
+use Rattle.vic_verdict.proofs.Walking.{borne_out}
+use Rattle.vic_verdict.specs.Verdict.{IsLeast}
+use Rattle.vic_walk.proofs.Ending.{open_earlier}
+use Rattle.vic_frame.specs.LowBitsFirst.{mirror}
+use Rattle.vic_walk.specs.Borders.{IsPartOf}
+use Rattle.vic_walk.specs.Walk.{IsEnd, IsEndOfWalk, IsWalkAt, IsWalkOver}
+use Rattle.vic_walk.specs.declared.walk.LogWalk.{LogWalk}
+use Rattle.std.specs.Prelude.{slice_index}
+use Rattle.vic_walk.specs.declared.walk.Walk.{Walk}
 
--- the line at position i rules the UID out where a test says so
-pub rules_out_from : (lines : List LogLine) (i : ℕ) (l : LogLine) (u : ℕ) (b : Bool) → slice_get lines i ≡ Some l → b ≡ (lacks_reply_of l.item u && answers_at (entries lines) i u) → b ≡ true → RulesOut lines l.number u
-rules_out_from lines i l u b k is told =
-    let w = and_parts _ _ (sym is ∙ told) in
-    record { place = i; line = l; there = k; number = refl; answers = w.1; lacks = w.0 }
+-- the entry of a line
+line_at : (lines : List LogLine) (i : ℕ) (l : LogLine) → slice_get lines i ≡ Some l → slice_get (entries lines) i ≡ Some l.item
+line_at lines i l k = slice_get-map (λ (x : LogLine). x.item) lines i ∙ ap (option_map (λ (x : LogLine). x.item)) k
 
-allows_else : (e : Entry) (answers : Bool) (u : ℕ) → (lacks_reply_of e u && answers) ≡ false → entry_allows (reading_of e) answers u ≡ true
-allows_else Silent answers u h = not_from_false _ h
-allows_else (Heard r) true u h =
-    ⊎_elim
-    (λ e. eq-eqb u r.uid (sym e))
-    (λ ne. let other : (r.uid == u) ≡ false = ne_eqb r.uid u ne in let no = ap (λ b. not b && true) (sym other) ∙ h in cc)
-    (cases_eq r.uid u)
-allows_else _ answers u h = refl
+-- later lines have higher numbers
+rising_numbers : (n : ℕ) (lines : List LogLine) (i j : ℕ) (l x : LogLine) → IsRisingFrom n lines → i ≤ j → slice_get lines i ≡ Some l → slice_get lines j ≡ Some x → l.number ≤ x.number
+rising_numbers n [] i j l x r le g h = cc
+rising_numbers n (y ∷ lines) zero zero l x r le g h = let same : l ≡ x = cc in omega (arith, ap (λ (z : LogLine). z.number) same)
+rising_numbers n (y ∷ lines) zero (suc j) l x r le g h =
+    let same : y ≡ l = cc in
+    omega (arith, ap (λ (z : LogLine). z.number) same, number_above y.number lines j x r.1 h)
+rising_numbers n (y ∷ lines) (suc i) zero l x r le g h = absurd (omega (arith, le))
+rising_numbers n (y ∷ lines) (suc i) (suc j) l x r le g h = rising_numbers y.number lines i j l x r.1 (omega (arith, le)) g h
 
--- and leaves it open where the test says no
-pub open_passed : (es : List Entry) (i : ℕ) (e : Entry) (u : ℕ) (b : Bool) → slice_get es i ≡ Some e → b ≡ (lacks_reply_of e u && answers_at es i u) → b ≡ false → is_open (slots_before es i) u ≡ true → is_open (slots_before es (i + 1)) u ≡ true
-open_passed es i e u b k is told before =
-    ap (λ n. is_open (slots_before es n) u) (add-one i)
-    ∙ (open_step es i e u k ∙ and_from _ _ before (allows_else e (answers_at es i u) u (sym is ∙ told)))
+-- a walk over a possible log comes to its end
+pub comes_to_end : (bs : List ℕ) (es : List Entry) (broken : Option ℕ) (w : Walk) → IsPossible es → IsEndOfWalk bs es broken w → IsWalkAt bs es (length es) w
+comes_to_end bs es None w possible end = end.0
+comes_to_end bs es (Some i) w possible end =
+    let front = IsPossible-front (take (suc i) es) (drop (suc i) es) (subst IsPossible (sym (take-append-drop (suc i) es)) possible) in
+    absurd (end.3 (borne_out es (suc i) (omega (arith, end.0)) front))
 
--- one UID more is ruled out by its line
-pub passed_more : (lines : List LogLine) (shown : List ShownUid) (n i : ℕ) (l : LogLine) (d e : ShownUid) (b : Bool) → n < length shown → (get_or shown n d).line ≡ l.number → slice_get lines i ≡ Some l → b ≡ (lacks_reply_of l.item (get_or shown n e).uid && answers_at (entries lines) i (get_or shown n e).uid) → b ≡ true → All (IsRuledOut lines) (take n shown) → All (IsRuledOut lines) (take (n + 1) shown)
-passed_more lines shown n i l d e b below at k is told before =
-    let number : l.number ≡ (get_or shown n e).line = sym at ∙ ap (λ (z : ShownUid). z.line) (get_or_default shown n d e below) in
-    let u = (get_or shown n e).uid in
-    All-more (IsRuledOut lines) shown n e below before
-    (subst (λ m. RulesOut lines m u) number (rules_out_from lines i l u b k is told))
+-- and knows the end of each UID by that of its part
+pub known_end : (es : List Entry) (w : LogWalk) (u p key end : ℕ) → IsPossible es → IsWalkOver es w → IsUid u → key ≡ mirror u → IsPartOf w.parts key p → end ≡ get_or w.walk.ends.items p end → IsEnd es (length es) u end
+known_end es w u p key end possible over is k part read =
+    let at = comes_to_end w.parts es w.broken w.walk possible over.walk in
+    let inside = part.within in
+    let same : slice_index w.walk.ends.items p ≡ end = get_or_default w.walk.ends.items p 0 end (omega (arith, inside, at.room.ends)) ∙ sym read in
+    subst (IsEnd es (length es) u) same (at.known u p is (subst (λ x. IsPartOf w.parts x p) k part)).end
+
+-- a UID that isn't open has an end
+pub has_end : (es : List Entry) (n u end : ℕ) → IsEnd es n u end → is_open (slots_before es n) u ≡ false → (0 < end) × (end ≤ n)
+has_end es n u zero h shut = absurd (false≢true (sym shut ∙ h))
+has_end es n u (suc j) h shut = let below = h.0 in (omega arith, omega (arith, below))
+
+-- what an entry doesn't allow to a tag lacks its reply, which it would have given
+not_allowed : (e : Entry) (answers : Bool) (u : ℕ) → entry_allows (reading_of e) answers u ≡ false → (answers ≡ true) × (lacks_reply_of e u ≡ true)
+not_allowed e answers u h = grind (arith, nat_tests)
+
+-- and the other way round
+allows_none : (e : Entry) (u : ℕ) → lacks_reply_of e u ≡ true → entry_allows (reading_of e) true u ≡ false
+allows_none e u h = grind (arith, nat_tests)
+
+-- a UID that a line rules out isn't open after it
+shut_after : (lines : List LogLine) (n u : ℕ) (r : RulesOut lines n u) → is_open (slots_before (entries lines) (suc r.place)) u ≡ false
+shut_after lines n u r =
+    let none = allows_none r.line.item u r.lacks in
+    let step = open_step (entries lines) r.place r.line.item u (line_at lines r.place r.line r.there) in
+    grind (arith, step, r.answers, none)
+
+-- the line at the end is the first that rules the UID out
+pub first_ruling : (lines : List LogLine) (u end : ℕ) (l : LogLine) → IsRisingFrom 0 lines → IsEnd (entries lines) (length (entries lines)) u end → 0 < end → slice_get lines (end - 1) ≡ Some l → IsLeast (λ n. RulesOut lines n u) l.number
+first_ruling lines u zero l rising h some k = absurd (omega (arith, some))
+first_ruling lines u (suc j) l rising h some read =
+    let es = entries lines in
+    let back : suc j - 1 ≡ j = omega arith in
+    let k : slice_get lines j ≡ Some l = subst (λ n. slice_get lines n ≡ Some l) back read in
+    let step = open_step es j l.item u (line_at lines j l k) in
+    let not = not_allowed l.item (answers_at es j u) u (grind (arith, step, h.1, h.2)) in (
+      record { place = j; line = l; there = k; number = refl; answers = not.0; lacks = not.1 },
+      (λ n r. elim (cases_lt r.place j) [
+        | inl before ↦ absurd (false≢true (sym (shut_after lines n u r) ∙ open_earlier es u (suc r.place) j (omega (arith, before)) h.1))
+        | inr after ↦ rw (← r.number) (rising_numbers 0 lines j r.place l r.line rising after k r.there)
+      ]),
+    )

@@ -55,6 +55,5 @@ pub use Rattle.vic_report.specs.Conflicts.{FitsLines, IsConflictAt, IsNoQuietRep
 pub use Rattle.vic_report.specs.Findings.{IsRuledOut, IsToldOf, MayAnswer, RulesOut, ShowsCertain, TellsOf, lacks_reply_of, uids_of}
 pub use Rattle.vic_report.specs.Reports.{AreFindings, AreOpenMasks, IsReport, IsUnsettledWith, verdict_by, unsettled_with, verdict_of}
 pub use Rattle.vic_report.specs.declared.shown.ShownUid.{ShownUid}
-pub use Rattle.vic_report.specs.inner.FieldCursors.{IsFieldCursorAt}
 pub use Rattle.vic_report.specs.inner.KeptLogs.{IsKeptLog, KeepsLine, SameQuiet}
 pub use Rattle.vic_report.specs.inner.SlotLines.{AreSlotLinesTo}

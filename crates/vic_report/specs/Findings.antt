@@ -7,6 +7,7 @@ use Rattle.vic_log.specs.Order.{entries}
 use Rattle.vic_log.specs.Populations.{answers_at}
 use Rattle.vic_report.specs.declared.shown.ShownUid.{ShownUid}
 use Rattle.vic_verdict.specs.Possible.{IsPossibleUid}
+use Rattle.vic_verdict.specs.Verdict.{IsLeast}
 
 -- a slot with this entry was silent, or held the reply of another UID
 abbrev pub lacks_reply_of : Entry → ℕ → Bool
@@ -55,9 +56,9 @@ pub record ShowsCertain (lines : List LogLine) (n u : ℕ) : Type 0 where
   pub number : line.number ≡ n
   pub tells : TellsOf (entries lines) place u line.item
 
--- the line beside a UID rules it out
+-- the line beside a UID rules it out, and no earlier line does
 abbrev pub IsRuledOut : List LogLine → ShownUid → Type 0
-IsRuledOut lines s = RulesOut lines s.line s.uid
+IsRuledOut lines s = IsLeast (λ n. RulesOut lines n s.uid) s.line
 
 -- the line beside a UID shows that it is there
 abbrev pub IsToldOf : List LogLine → ShownUid → Type 0

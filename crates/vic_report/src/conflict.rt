@@ -69,7 +69,8 @@ fn numbers_of_conflict(
     requires impossible { IsVerdict lines.now (Impossible last) }
     ensures { IfOk result (λ numbers. IsConflictAt lines.now last numbers.items) }
 {
-    let mut guess = guess_conflict(alloc, lines, last)?;
+    let count = lines.partition_point(|line| line.number() <= last);
+    let mut guess = guess_conflict(alloc, &lines[..count])?;
     put_numbers_in_order(&mut guess);
     if is_conflict_at(alloc, lines, &guess, last)? {
         return Ok(guess);

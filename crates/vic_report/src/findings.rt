@@ -8,8 +8,8 @@ ghost use Rattle.vic_verdict.specs.Facts.{AreFactsOf};
 ghost use Rattle.vic_verdict.specs.LogLines.{AreLogLines};
 ghost use Rattle.vic_report.specs.Reports.{AreFindings, AreNone, first_verdict, unsettled_with};
 
+use crate::absent_lines::lines_of_absent;
 use crate::certain_lines::lines_of_certain;
-use crate::ruled_out::lines_of_absent;
 use crate::shown::ShownUid;
 use std::alloc::{AllocError, Global};
 use vic_frame::{Mask, Uid};
@@ -20,7 +20,8 @@ use vic_verdict::{Facts, Verdict, compare, keys_in_order, listed_uids, missing_f
 /// The findings of a possible log: where it contradicts its list, or leaves it undecided.
 #[derive(Drop)]
 pub struct Findings {
-    /// The listed UIDs that can't be there, in rising order, each with a line that rules it out.
+    /// The listed UIDs that can't be there, in rising order, each with the first line that rules it
+    /// out.
     pub absent: Vec<ShownUid>,
     /// The UIDs that must be there and aren't listed, in rising order, each with a line that shows
     /// it.

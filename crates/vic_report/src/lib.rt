@@ -1,21 +1,19 @@
 //! All findings of a log, and the lines that show them; or the conflict of an impossible one.
 //!
 //! `report` begins with the verdict of `vic_verdict::judge`. It reports the findings of a possible
-//! log, or the conflict of an impossible one. The lines of absent UIDs and of a conflict are
-//! guessed by `vic_guess` and checked here, except that a reply of a Quiet tag is a conflict by
-//! itself; those of certain UIDs are looked up. Only tested: that the line of an absent UID is the
-//! first that rules it out, that the reply shown for a certain UID is its first, and that no line
-//! of a conflict can be left out.
+//! log, or the conflict of an impossible one. The lines of absent UIDs are read off a walk over the
+//! log; those of certain UIDs are looked up. The lines of a conflict are guessed by `vic_guess` and
+//! checked here, except that a reply of a Quiet tag is a conflict by itself. Only tested: that the
+//! reply shown for a certain UID is its first, and that no line of a conflict can be left out.
 #![tactic(auto)]
 
+mod absent_lines;
 mod certain_lines;
 mod conflict;
-mod field_cursor;
 mod findings;
 mod kept_log;
 pub mod laws;
 mod reporting;
-mod ruled_out;
 mod shown;
 mod silencer;
 

@@ -1,6 +1,6 @@
 -- What a judge that goes over the entries once needs: what each entry does to the open UIDs, and what the open UIDs that
 -- could have answered in a slot, up to three of them, tell.
-use Rattle.vic_verdict.proofs.Words.{◌≡◌, ℕ, zero, suc, ◌<◌, ◌≤◌, List, [], ◌∷◌, length, Bool, true, ◌&&◌, Option, Some, None, ap, ◌∙◌, arith, nat_tests, inl, inr, ◌⊎◌, ◌↔◌, slice_get, cases_eq, Reply, Entry, Heard, Collision, Garbled, has, AreDifferent, IsWithin, answers_at, Reading, ManyReplies, SomeReply, Slot, reading_of, slots_before, is_open, Asks, SuppliesAll, Forces, IsForcedBy, UpToThree, answering, needs, with_entry, may_be, ⊤, subst, needs_of, refl, sym}
+use Rattle.vic_verdict.proofs.Words.{◌≡◌, ℕ, zero, suc, ◌<◌, ◌≤◌, List, [], ◌∷◌, length, Bool, true, ◌&&◌, Option, Some, None, ap, ◌∙◌, arith, nat_tests, inl, inr, ◌⊎◌, ◌↔◌, slice_get, cases_eq, eq-eqb, eqb-true, false≢true, Entry, Heard, Captured, hears, Collision, Garbled, has, AreDifferent, IsWithin, answers_at, Reading, ManyReplies, SomeReply, Slot, reading_of, slots_before, is_open, Asks, SuppliesAll, Forces, IsForcedBy, UpToThree, answering, needs, with_entry, may_be, ⊤, subst, needs_of, refl, sym}
 
 -- what a slot line asks of the UIDs that answer there; an entry that is no slot line asks nothing
 abbrev pub EntryAsks : Option Reading → (ℕ → Bool) → Type 0
@@ -120,5 +120,16 @@ needs_two_or_one (Some Garbled) n e lt = inr (refl, sym e)
 needs_two_or_one o n e lt = absurd (omega arith)
 
 -- an entry that forces a UID heard it, or needs tags
-pub forces_cases : (e : Entry) (t : ℕ → Bool) (u : ℕ) → EntryForces (reading_of e) t u → ((r : Reply) × (e ≡ Heard r) × (r.uid ≡ u)) ⊎ (0 < needs e)
-forces_cases e t u f = grind (arith, nat_tests)
+pub forces_cases : (e : Entry) (t : ℕ → Bool) (u : ℕ) → EntryForces (reading_of e) t u → (hears (Some e) u ≡ true) ⊎ (0 < needs e)
+forces_cases (Heard r) t u f = inl (eq-eqb r.uid u f)
+forces_cases (Captured r) t u f = inl (eq-eqb r.uid u f)
+forces_cases Collision t u f = inr (omega arith)
+forces_cases Garbled t u f = inr (omega arith)
+forces_cases e t u f = absurd f
+
+-- an entry that heard a UID forces it
+pub hears_forces : (o : Option Entry) (u : ℕ) (t : ℕ → Bool) → hears o u ≡ true → (e : Entry) × (o ≡ Some e) × EntryForces (reading_of e) t u
+hears_forces None u t h = absurd (false≢true h)
+hears_forces (Some (Heard r)) u t h = (Heard r, refl, eqb-true r.uid u h)
+hears_forces (Some (Captured r)) u t h = (Captured r, refl, eqb-true r.uid u h)
+hears_forces (Some e) u t h = absurd (false≢true h)

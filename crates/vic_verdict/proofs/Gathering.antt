@@ -1,10 +1,10 @@
 -- A small population, gathered from what the slots of a possible log ask for.
-use Rattle.vic_verdict.proofs.Words.{take-append-drop, drop, ◌≡◌, ℕ, suc, ◌+◌, ◌<◌, ◌≤◌, List, [], ◌∷◌, ◌++◌, length, take, get_or, Bool, true, false, ◌||◌, Option, Some, refl, sym, ap, ◌∙◌, subst, arith, nat_tests, inl, inr, ⊎_elim, length-append, ◌⊎◌, nat_eq, slice_get, filter, sum_by, ne_eqb, length-take, IsStrictlyIncreasing, both_ways, and_parts, and_from, or_cases, or_left, or_right, list_any, list_any_at, list_any_none, list_any-append, Any-from_list_any, slice_get_within, IsUid, has, AreDifferent, Entry, Collision, Heard, Garbled, IsPopulation, answers_at, Reading, ManyReplies, SomeReply, reading_of, slots_of, is_open, Asks, IsWithin, AreDifferent-population, AreDifferent-filter, has_filter, has_here, has_at, has_there, MeetsAll-iff, IsUid-from, CouldHaveGiven-slots, Answering, Met, IsFoundAt, IsFound, IsMet, is_other, chosen, chosen_population, answering, IsPossible, IsPossibleUid, IsCertainUid, SameMembers, AllPairs-from_increasing, sum_by-cons, AllByRecursion, IsDistinct, or_parts, nat_eq_equiv, IsDistinct-cons, IsDistinct-from_apart, length-le_from_is_member, asks_within, all_chosen, needs_at, needs_of, IsSmallPopulation}
+use Rattle.vic_verdict.proofs.Words.{take-append-drop, drop, ◌≡◌, ℕ, suc, ◌+◌, ◌<◌, ◌≤◌, List, [], ◌∷◌, ◌++◌, length, take, get_or, Bool, true, false, ◌||◌, Option, Some, refl, sym, ap, ◌∙◌, subst, arith, nat_tests, inl, inr, ⊎_elim, length-append, ◌⊎◌, nat_eq, slice_get, filter, sum_by, ne_eqb, length-take, IsStrictlyIncreasing, both_ways, and_parts, and_from, or_cases, or_left, or_right, list_any, list_any_at, list_any_none, list_any-append, Any-from_list_any, slice_get_within, IsUid, has, AreDifferent, Entry, Collision, Heard, Captured, Garbled, eq-eqb, IsPopulation, answers_at, Reading, ManyReplies, SomeReply, reading_of, slots_of, is_open, Asks, IsWithin, AreDifferent-population, AreDifferent-filter, has_filter, has_here, has_at, has_there, MeetsAll-iff, IsUid-from, CouldHaveGiven-slots, Answering, Met, IsFoundAt, IsFound, IsMet, is_other, chosen, chosen_population, answering, IsPossible, IsPossibleUid, IsCertainUid, SameMembers, AllPairs-from_increasing, sum_by-cons, AllByRecursion, IsDistinct, or_parts, nat_eq_equiv, IsDistinct-cons, IsDistinct-from_apart, length-le_from_is_member, asks_within, all_chosen, needs_at, needs_of, IsSmallPopulation}
 use Rattle.vic_verdict.specs.Explained.{AreFew}
 use Rattle.vic_verdict.proofs.Decide.{IsPossibleUid-iff, supplied_each}
 use Rattle.vic_verdict.proofs.Entries.{EntryAsks, EntryForces, SuppliesBefore, SuppliesAll-places, forces_two_iff, forces_one_iff, needs_two_or_one}
 use Rattle.vic_verdict.proofs.Populations.{is_open-is_uid}
-use Rattle.vic_verdict.proofs.Possibility.{Heard-certain}
+use Rattle.vic_verdict.proofs.Possibility.{heard_certain}
 
 -- ---- rising lists of UIDs are populations
 
@@ -110,7 +110,7 @@ enough_others es f avoid n h = grind (arith, most_are_others avoid f.uids.items 
 gathered_from : (es : List Entry) (m : Met) (avoid : Option ℕ) (u : ℕ) → IsMet es m → has (chosen_population avoid m) u ≡ true → IsCertainUid es u ⊎ ((f : Answering) × IsFound es f × (has (chosen avoid f) u ≡ true))
 gathered_from es m avoid u met h =
     ⊎_elim
-    (λ a. let heard = (met.heard u).0 a in inl (subst (IsCertainUid es) heard.3 (Heard-certain es heard.0 heard.1 heard.2)))
+    (λ a. let heard = (met.heard u).0 a in inl (heard_certain es heard.0 u heard.1))
     (λ b.
     let w = Any-from_list_any (λ f. has (chosen avoid f) u) m.found.items (sym (all_chosen-has avoid m.found.items u) ∙ b) in
     inr (w.1, subst (IsFound es) w.3 (met.found.found w.0 w.1 w.2), w.4))
@@ -151,8 +151,11 @@ needed_there es m avoid i n is some none met =
 
 gathered_asks : (es : List Entry) (m : Met) (avoid : Option ℕ) → IsPossible es → AvoidsNoneCertain es avoid → IsMet es m → (i : ℕ) (e : Entry) → slice_get es i ≡ Some e → EntryAsks (reading_of e) (answering (has (chosen_population avoid m)) es i)
 gathered_asks es m avoid possible none met i (Heard r) k =
-    let member = append_left m.heard.items (all_chosen avoid m.found.items) r.uid ((met.heard r.uid).1 (i, r, k, refl)) in
+    let member = append_left m.heard.items (all_chosen avoid m.found.items) r.uid ((met.heard r.uid).1 (i, rw k (eq-eqb r.uid r.uid refl))) in
     and_from _ _ member (and_parts _ _ (supplied_each es i (Heard r) k possible)).1
+gathered_asks es m avoid possible none met i (Captured r) k =
+    let member = append_left m.heard.items (all_chosen avoid m.found.items) r.uid ((met.heard r.uid).1 (i, rw k (eq-eqb r.uid r.uid refl))) in
+    and_from _ _ member (and_parts _ _ (supplied_each es i (Captured r) k possible)).1
 gathered_asks es m avoid possible none met i Collision k =
     let w = needed_there es m avoid i 2 (ap needs_of k) (omega arith) none met in
     asks_within ManyReplies _ _ w.3 (two_of w.0 w.1 w.2)

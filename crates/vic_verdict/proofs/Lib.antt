@@ -5,7 +5,7 @@ pub mod Populations
 pub mod Decide
 pub mod Masks
 pub mod Verdicts
-pub mod TwoVersions
+pub mod Versions
 pub mod Entries
 pub mod FirstLines
 pub mod Failing

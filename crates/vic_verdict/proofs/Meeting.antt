@@ -1,6 +1,8 @@
 -- What is met makes a log possible, and UIDs certain.
-use Rattle.vic_verdict.proofs.Words.{◌≡◌, ℕ, ◌+◌, ◌<◌, ◌≤◌, ◌==◌, ◌&&◌, ◌||◌, ◌++◌, List, [], ◌∷◌, length, take, get_or, Bool, true, Some, sym, ap, ◌∙◌, arith, nat_tests, inl, inr, ◌↔◌, slice_get, Any, list_any, slice_get_within, list_any-append, list_any-from_Any, list_any_more, take_all, Any-from_list_any, has, Reply, Entry, Heard, reading_of, slots_of, is_open, IsForcedBy, Answering, Met, IsPossible, answering, needs, needs_of, HasHeard, IsFound, AreFound, IsMet, IsMetFor, IsHeard, AreBorneOut, AreDifferent, IsWithin}
-use Rattle.vic_verdict.proofs.Entries.{EntryForces, IsForcedBy-places, enough_forced, forces_cases}
+use Rattle.vic_verdict.proofs.Words.{false, false≢true, cases_lt, nat_eq, or_cases, or_left, or_right, ◌≡◌, ℕ, ◌+◌, ◌<◌, ◌≤◌, ◌==◌, ◌&&◌, ◌||◌, ◌++◌, List, [], ◌∷◌, length, take, get_or, Bool, true, Some, sym, ap, ◌∙◌, arith, nat_tests, inl, inr, ◌↔◌, slice_get, Any, list_any, slice_get_within, list_any-append, list_any-from_Any, list_any_more, take_all, Any-from_list_any, has, Entry, hears, reading_of, slots_of, is_open, IsForcedBy, Answering, Met, IsPossible, answering, needs, needs_of, HasHeard, IsFound, AreFound, IsMet, IsMetFor, IsHeard, AreBorneOut, AreDifferent, IsWithin}
+use Rattle.std.proofs.Math.Bool.{or-false}
+use Rattle.vic_log.proofs.Sets.{eq_swapped}
+use Rattle.vic_verdict.proofs.Entries.{EntryForces, IsForcedBy-places, enough_forced, forces_cases, hears_forces}
 use Rattle.vic_verdict.proofs.Gathering.{exact_forces}
 use Rattle.vic_verdict.specs.Rising.{Adds}
 use Rattle.vic_walk.specs.Met.{AreMetBefore}
@@ -10,11 +12,31 @@ use Rattle.vic_verdict.proofs.Decide.{supplied_all}
 -- ---- who was heard
 
 -- an entry more, and whom it heard
-pub heard_kept : (es : List Entry) (i : ℕ) (us : List ℕ) (e : Entry) → slice_get es i ≡ Some e → ((r : Reply) → e ≡ Heard r → ⊥) → HasHeard es i us → HasHeard es (i + 1) us
-heard_kept es i us e k none h u = let before = h u in grind (arith, none)
+pub heard_kept : (es : List Entry) (i : ℕ) (us : List ℕ) (e : Entry) → slice_get es i ≡ Some e → ((u : ℕ) → hears (Some e) u ≡ false) → HasHeard es i us → HasHeard es (i + 1) us
+heard_kept es i us e k none h u =
+    let before = h u in
+    let no : hears (slice_get es i) u ≡ false = ap (λ o. hears o u) k ∙ none u in (
+      (λ there. let w = before.0 there in (w.0, omega (arith, w.1), w.2)),
+      (λ w. elim (cases_lt w.0 i) [
+        | inl less ↦ before.1 (w.0, less, w.2)
+        | inr more ↦ let same : w.0 ≡ i = omega (arith, w.1) in absurd (false≢true (sym no ∙ (rw same at w.2)))
+      ]),
+    )
 
-pub heard_pushed : (es : List Entry) (i : ℕ) (us : List ℕ) (r : Reply) → slice_get es i ≡ Some (Heard r) → HasHeard es i us → HasHeard es (i + 1) (us ++ r.uid ∷ [])
-heard_pushed es i us r k h u = let before = h u in grind (arith, nat_tests, list_any-append)
+pub heard_pushed : (es : List Entry) (i : ℕ) (us : List ℕ) (e : Entry) (v : ℕ) → slice_get es i ≡ Some e → ((u : ℕ) → hears (Some e) u ≡ (v == u)) → HasHeard es i us → HasHeard es (i + 1) (us ++ v ∷ [])
+heard_pushed es i us e v k own h u =
+    let before = h u in
+    let here : hears (slice_get es i) u ≡ (v == u) = ap (λ o. hears o u) k ∙ own u in
+    let all : has (us ++ v ∷ []) u ≡ (has us u || v == u) = list_any-append (nat_eq u) us (v ∷ []) ∙ ap (λ b. has us u || b) (or-false (nat_eq u v) ∙ eq_swapped u v) in (
+      (λ there. elim (or_cases _ _ (sym all ∙ there)) [
+        | inl old ↦ let w = before.0 old in (w.0, omega (arith, w.1), w.2)
+        | inr new ↦ (i, omega arith, here ∙ new)
+      ]),
+      (λ w. all ∙ elim (cases_lt w.0 i) [
+        | inl less ↦ or_left _ _ (before.1 (w.0, less, w.2))
+        | inr more ↦ let same : w.0 ≡ i = omega (arith, w.1) in or_right _ _ (sym here ∙ (rw same at w.2))
+      ]),
+    )
 
 -- ---- what makes a log possible
 
@@ -65,14 +87,14 @@ forced_iff es m u met = (
   (λ f.
       let w = (IsForcedBy-places (is_open (slots_of es)) es (length es) u).0 f in
       elim (forces_cases w.1 _ u w.4) [
-        | inl x ↦ inl ((met.heard u).1 (w.0, x.0, w.3 ∙ ap (λ e. Some e) x.1, x.2))
+        | inl x ↦ inl ((met.heard u).1 (w.0, ap (λ o. hears o u) w.3 ∙ x))
         | inr some ↦
             let y = met_found es m.found.items w.0 w.1 met.found w.3 some in
             let x = enough_forced w.1 _ y.1.uids.items u some y.4.0 y.4.2 y.4.3 w.4 in
             inr (y.0, y.1, y.2, y.3, (x.0 ∙ y.4.1, x.1))
       ]),
   (λ x. elim x [
-    | inl heard ↦ let w = (met.heard u).0 heard in there w.0 (Heard w.1) w.2 w.3
+    | inl heard ↦ let w = (met.heard u).0 heard in let x = hears_forces (slice_get es w.0) u (answering (is_open (slots_of es)) es w.0) w.1 in there w.0 x.0 x.1 x.2
     | inr some ↦
         let found : IsFound es some.1 = rw some.3 at (met.found.found some.0 some.1 some.2) in
         let w = exact_forces es found.0 u some.1 found.1 some.4.0 some.4.1 in

@@ -1,5 +1,5 @@
 -- Which slots are possible, and which UIDs are possible and certain.
-use Rattle.vic_verdict.proofs.Words.{◌≡◌, ℕ, zero, suc, ◌<◌, ◌*◌, ◌^◌, List, [], ◌∷◌, Bool, true, not, ◌&&◌, sym, ◌∙◌, subst, arith, inl, inr, ⊎_elim, ◌⊎◌, ◌≢◌, ◌↔◌, ◌==◌, and_parts, and_thrice, cases_eq, cases_Bool, nat_tests, false≢true, both_ways, has, is_uid, IsUid, IsPopulation, Reading, NoReply, OneReply, ManyReplies, SomeReply, Slot, is_open, Asks, SuppliesAll, Forces, IsForcedBy, IsWithin, MeetsAll-iff, IsUid-from, has_with_member, with_member, with_member_keeps, with_member_cases, IsPopulation-with_member, SuppliesAll-within, MeetsAll}
+use Rattle.vic_verdict.proofs.Words.{◌≡◌, ℕ, zero, suc, ◌<◌, ◌*◌, ◌^◌, List, [], ◌∷◌, Bool, true, not, ◌&&◌, sym, ◌∙◌, subst, arith, inl, inr, ⊎_elim, ◌⊎◌, ◌≢◌, ◌↔◌, ◌==◌, and_parts, and_thrice, cases_eq, cases_Bool, nat_tests, false≢true, both_ways, has, is_uid, IsUid, IsPopulation, Reading, NoReply, OneReply, ManyReplies, SomeReply, ReplyAmong, Slot, is_open, Asks, SuppliesAll, Forces, IsForcedBy, IsWithin, MeetsAll-iff, IsUid-from, has_with_member, with_member, with_member_keeps, with_member_cases, IsPopulation-with_member, SuppliesAll-within, MeetsAll}
 use Rattle.vic_verdict.proofs.Search.{Either, test_either, and_either, some_either}
 
 -- a population meets every slot
@@ -83,6 +83,7 @@ pub asks_either : (r : Reading) (t : ℕ → Bool) (n : ℕ) → ((w : ℕ) → 
 asks_either NoReply t n b = inl tt
 asks_either (OneReply h) t n b = test_either (t h)
 asks_either SomeReply t n b = some_needed t n b
+asks_either (ReplyAmong h) t n b = test_either (t h)
 asks_either ManyReplies t n b =
     let other = λ (u : ℕ). some_needed (without u t) n (λ w h. b w (without_parts u t w h).0) in
     elim (some_either (λ u. (t u ≡ true) × Asks SomeReply (without u t)) (λ u. and_either (test_either (t u)) (other u)) n (λ u h. b u h.0)) [
@@ -103,6 +104,7 @@ two_force t u v few ne hu hv = (v, ne, hu, hv, λ w h. grind (arith, nat_tests, 
 tells : (r : Reading) (t : ℕ → Bool) (u : ℕ) → Asks r t → (Asks r (without u t) → ⊥) → Forces r t u
 tells NoReply t u a few = few tt
 tells (OneReply h) t u a few = ⊎_elim (λ e. e) (λ ne. absurd (few (without_from u t h a ne))) (cases_eq h u)
+tells (ReplyAmong h) t u a few = ⊎_elim (λ e. e) (λ ne. absurd (few (without_from u t h a ne))) (cases_eq h u)
 tells ManyReplies t u a few = elim (one_of_two t u few a.0 a.1 a.2 a.3 a.4) [
   | inl e ↦ two_force t u a.1 few (λ k. a.2 (e ∙ sym k)) (rw e at a.3) a.4
   | inr e ↦ two_force t u a.0 few (λ k. a.2 (k ∙ sym e)) (rw e at a.4) a.3

@@ -6,7 +6,7 @@ use Rattle.vic_verdict.proofs.FirstLines.{first_entries, possible_first, possibl
 use Rattle.vic_verdict.proofs.Listing.{number_above}
 use Rattle.vic_verdict.proofs.Search.{Either, test_either, false_either, not_either, and_either, least_by, least_of, least_or_none}
 use Rattle.vic_verdict.proofs.Populations.{uid_end, uid_below}
-use Rattle.vic_verdict.proofs.Possibility.{Heard-certain}
+use Rattle.vic_verdict.proofs.Possibility.{heard_certain}
 use Rattle.vic_verdict.proofs.Decide.{IsPossible-either, IsPossibleUid-either, IsCertainUid-either}
 use Rattle.vic_verdict.proofs.Masks.{mask_of, mask_of-alone, mask_of-value, uid_in, IsUid-in, lies_in-uid_in}
 
@@ -170,4 +170,4 @@ whole_complete lines h = let p = h.0 in grind (arith, nat_tests, h.1 p.0 p.1 p.2
 
 -- a log that is reached is complete
 pub reached_complete : (lines : List LogLine) → IsReached (entries lines) → IsVerdict lines (Complete (length (listed (entries lines))))
-reached_complete lines h = whole_complete lines (h.0, λ p i g u. grind (arith, nat_tests, h.1 u, h.2 u, Heard-certain (entries lines)))
+reached_complete lines h = whole_complete lines (h.0, λ p i g u. grind (arith, nat_tests, h.1 u, h.2 u, heard_certain (entries lines)))

@@ -1,5 +1,5 @@
 -- What a walk over a log tells: how far the log is possible, and what meets its unread slots.
-use Rattle.vic_verdict.proofs.Words.{◌≡◌, ◌≢◌, ℕ, zero, suc, ◌+◌, ◌<◌, ◌≤◌, ◌∙◌, List, [], ◌∷◌, length, take, drop, Bool, true, false, Option, Some, None, refl, sym, ap, subst, arith, inl, inr, ⊎_elim, common_steps, gets, length-take-le, slice_get, slice_get_past, sum_by, sum_by-cons, All, Any, cases_eq, cases_lt, and_from, and_parts, or_cases, or_left, or_right, eq-eqb, eqb-true, false_from_ne_true, false≢true, has, has_cases, AreDifferent, IsWithin, Reply, Entry, Heard, Collision, Garbled, AgreeBefore, answers_agree, answers_at, reading_of, slots_before, slots_of, is_open, with_entry, SuppliesAll, Answering, HasEnough, LacksSome, answering, IsPossible, IsFirstImpossible, AreFound, AreAnswering, IsAnsweringAt, is_unread, AreBorneOut, was_heard, hears, needs, needs_at, needs_of, all_needs}
+use Rattle.vic_verdict.proofs.Words.{◌≡◌, ◌≢◌, ℕ, zero, suc, ◌+◌, ◌<◌, ◌≤◌, ◌∙◌, List, [], ◌∷◌, length, take, drop, Bool, true, false, Option, Some, None, refl, sym, ap, subst, arith, inl, inr, ⊎_elim, common_steps, gets, length-take-le, slice_get, slice_get_past, sum_by, sum_by-cons, All, Any, cases_eq, cases_lt, and_from, and_parts, or_cases, or_left, or_right, eq-eqb, eqb-true, false_from_ne_true, false≢true, has, has_cases, AreDifferent, IsWithin, Reply, Entry, Heard, Captured, ◌&&◌, Collision, Garbled, AgreeBefore, answers_agree, answers_at, reading_of, slots_before, slots_of, is_open, with_entry, SuppliesAll, Answering, HasEnough, LacksSome, answering, IsPossible, IsFirstImpossible, AreFound, AreAnswering, IsAnsweringAt, is_unread, AreBorneOut, was_heard, hears, needs, needs_at, needs_of, all_needs}
 use Rattle.std.specs.List.{AllPairs}
 use Rattle.vic_walk.specs.Met.{AreMetBefore, HasEndsPast, IsMetAt, answers_open}
 use Rattle.vic_walk.specs.Walk.{IsEndOfWalk, IsWalkAt}
@@ -32,27 +32,32 @@ front_iff es n le = (
 
 -- ---- who was heard
 
-hears_reply : (o : Option Entry) (u : ℕ) → hears o u ≡ true → (r : Reply) × (o ≡ Some (Heard r)) × (r.uid ≡ u)
-hears_reply (Some (Heard r)) u h = (r, refl, eqb-true r.uid u h)
-hears_reply (Some e) u h = absurd (false≢true h)
-hears_reply None u h = absurd (false≢true h)
-
-heard_place : (es : List Entry) (n u : ℕ) → was_heard es n u ≡ true → (j : ℕ) × (r : Reply) × (j < n) × (slice_get es j ≡ Some (Heard r)) × (r.uid ≡ u)
+heard_place : (es : List Entry) (n u : ℕ) → was_heard es n u ≡ true → (j : ℕ) × (j < n) × (hears (slice_get es j) u ≡ true)
 heard_place es zero u h = absurd (false≢true h)
 heard_place es (suc n) u h = elim (or_cases _ _ h) [
-  | inl here ↦ let w = hears_reply (slice_get es n) u here in (n, w.0, omega arith, w.1, w.2)
-  | inr before ↦ let w = heard_place es n u before in (w.0, w.1, omega (arith, w.2), w.3, w.4)
+  | inl here ↦ (n, omega arith, here)
+  | inr before ↦ let w = heard_place es n u before in (w.0, omega (arith, w.1), w.2)
 ]
 
-hears_own : (o : Option Entry) (r : Reply) → o ≡ Some (Heard r) → hears o r.uid ≡ true
-hears_own o r k = rw k (eq-eqb r.uid r.uid refl)
+pub heard_own : (o : Option Entry) (r : Reply) → o ≡ Some (Heard r) → hears o r.uid ≡ true
+heard_own o r k = rw k (eq-eqb r.uid r.uid refl)
 
-heard_at : (es : List Entry) (n j : ℕ) (r : Reply) → j < n → slice_get es j ≡ Some (Heard r) → was_heard es n r.uid ≡ true
-heard_at es zero j r lt k = absurd (omega (arith, lt))
-heard_at es (suc n) j r lt k = elim (cases_eq j n) [
-  | inl here ↦ or_left _ _ (hears_own (slice_get es n) r (rw here at k))
-  | inr ne ↦ or_right _ _ (heard_at es n j r (omega (arith, lt, ne)) k)
+pub captured_own : (o : Option Entry) (r : Reply) → o ≡ Some (Captured r) → hears o r.uid ≡ true
+captured_own o r k = rw k (eq-eqb r.uid r.uid refl)
+
+heard_at : (es : List Entry) (n j u : ℕ) → j < n → hears (slice_get es j) u ≡ true → was_heard es n u ≡ true
+heard_at es zero j u lt k = absurd (omega (arith, lt))
+heard_at es (suc n) j u lt k = elim (cases_eq j n) [
+  | inl here ↦ or_left _ _ (rw here at k)
+  | inr ne ↦ or_right _ _ (heard_at es n j u (omega (arith, lt, ne)) k)
 ]
+
+-- an entry that hears a UID asks for it
+hears_asks : (o : Option Entry) (u : ℕ) (t : ℕ → Bool) → hears o u ≡ true → ((e : Entry) → o ≡ Some e → EntryAsks (reading_of e) t) → t u ≡ true
+hears_asks None u t h a = absurd (false≢true h)
+hears_asks (Some (Heard r)) u t h a = subst (λ v. t v ≡ true) (eqb-true r.uid u h) (a (Heard r) refl)
+hears_asks (Some (Captured r)) u t h a = subst (λ v. t v ≡ true) (eqb-true r.uid u h) (a (Captured r) refl)
+hears_asks (Some e) u t h a = absurd (false≢true h)
 
 -- ---- where the replies are borne out
 
@@ -61,17 +66,17 @@ borne_earlier es m n le h = record {
   answer = λ j u below heard. h.answer j u (omega (arith, below, le)) heard;
   openness = λ u heard.
       let w = heard_place es m u heard in
-      open_earlier es u m n le (h.openness u (subst (λ v. was_heard es n v ≡ true) w.4 (heard_at es n w.0 w.1 (omega (arith, w.2, le)) w.3)));
+      open_earlier es u m n le (h.openness u (heard_at es n w.0 u (omega (arith, w.1, le)) w.2));
 }
 
 -- in possible entries they are
-borne_out : (es : List Entry) (n : ℕ) → n ≤ length es → IsPossible (take n es) → AreBorneOut es n
+pub borne_out : (es : List Entry) (n : ℕ) → n ≤ length es → IsPossible (take n es) → AreBorneOut es n
 borne_out es n le possible = record {
-  answer = λ j u below h. let w = hears_reply (slice_get es j) u h in subst (λ v. answers_at es j v ≡ true) w.2 (both j w.0 below w.1).1;
-  openness = λ u h. let w = heard_place es n u h in subst (λ v. is_open (slots_before es n) v ≡ true) w.4 (both w.0 w.1 w.2 w.3).0;
+  answer = λ j u below h. (both j u below h).1;
+  openness = λ u h. let w = heard_place es n u h in (both w.0 u w.1 w.2).0;
 } where
-  both : (j : ℕ) (r : Reply) → j < n → slice_get es j ≡ Some (Heard r) → (is_open (slots_before es n) r.uid ≡ true) × (answers_at es j r.uid ≡ true)
-  both j r below k = and_parts (is_open (slots_before es n) r.uid) (answers_at es j r.uid) ((front_iff es n le).0 possible j (Heard r) below k)
+  both : (j u : ℕ) → j < n → hears (slice_get es j) u ≡ true → (is_open (slots_before es n) u ≡ true) × (answers_at es j u ≡ true)
+  both j u below h = and_parts (is_open (slots_before es n) u) (answers_at es j u) (hears_asks (slice_get es j) u (λ v. is_open (slots_before es n) v && answers_at es j v) h (λ e k. (front_iff es n le).0 possible j e below k))
 
 -- at the end of a log that isn't broken they are
 pub walked : (bs : List ℕ) (es : List Entry) (broken : Option ℕ) (w : Walk) → IsEndOfWalk bs es broken w → ((i : ℕ) → broken ≡ Some i → ⊥) → IsWalkAt bs es (length es) w × AreBorneOut es (length es)
@@ -112,7 +117,8 @@ met_front es n le possible j below = met_place es n j (slice_get es j) refl (λ 
 
 -- the replies are borne out, and the unread slots are met
 pub supplied_met : (es : List Entry) (n i : ℕ) (e : Entry) → AreBorneOut es n → AreMetBefore es n → i < n → slice_get es i ≡ Some e → EntryAsks (reading_of e) (answering (is_open (slots_before es n)) es i)
-supplied_met es n i (Heard r) borne met below k = and_from _ _ (borne.openness r.uid (heard_at es n i r below k)) (borne.answer i r.uid below (hears_own (slice_get es i) r k))
+supplied_met es n i (Heard r) borne met below k = let own = heard_own (slice_get es i) r k in and_from _ _ (borne.openness r.uid (heard_at es n i r.uid below own)) (borne.answer i r.uid below own)
+supplied_met es n i (Captured r) borne met below k = let own = captured_own (slice_get es i) r k in and_from _ _ (borne.openness r.uid (heard_at es n i r.uid below own)) (borne.answer i r.uid below own)
 supplied_met es n i Collision borne met below k = let m = met i below in enough_needed Collision _ m.uids (omega arith) m.different (rw k at m.enough) m.answer
 supplied_met es n i Garbled borne met below k = let m = met i below in enough_needed Garbled _ m.uids (omega arith) m.different (rw k at m.enough) m.answer
 supplied_met es n i e borne met below k = tt

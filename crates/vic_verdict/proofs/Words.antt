@@ -33,14 +33,15 @@ pub use Rattle.vic_log.proofs.Push.{entries_next, listed-append}
 pub use Rattle.vic_log.proofs.Quiet.{quiet-silenced}
 pub use Rattle.vic_log.proofs.Sets.{AreDifferent-filter, AreDifferent-population, IsPopulation-with_member, IsUid-member, IsWithin, filter_has, has_at, has_cases, has_filter, has_here, has_there, has_with_member, insert_if, with_member, with_member_cases, with_member_keeps}
 pub use Rattle.vic_log.proofs.Supply.{IsUid-from, MeetsAll-iff, SuppliesAll-within, asks_within, fits_asks, is_uid_from}
-pub use Rattle.vic_log.specs.FirstVersion.{AreOfFirstVersion, CouldHaveGivenFirst}
+pub use Rattle.vic_log.specs.FirstVersion.{AreOfFirstVersion, CouldHaveGivenFirst, IsOfFirstVersion}
+pub use Rattle.vic_log.specs.SecondVersion.{AreOfSecondVersion, IsOfSecondVersion}
 pub use Rattle.vic_log.specs.Log.{IsLog}
 pub use Rattle.vic_log.specs.Order.{IsRisingFrom, entries, listed}
-pub use Rattle.vic_log.specs.Populations.{CouldHaveGiven, Fits, IsPopulation, Lone, Nobody, Outcome, Several, answers_at, outcome_at, outcome_of}
+pub use Rattle.vic_log.specs.Populations.{CouldHaveGiven, Fits, IsPopulation, Lone, Nobody, Outcome, Several, answerers_at, answers_at, outcome_of}
 pub use Rattle.vic_log.specs.Quiet.{is_quiet}
-pub use Rattle.vic_log.specs.Slots.{Asks, Forces, IsForcedBy, ManyReplies, NoReply, OneReply, Reading, Slot, SomeReply, SuppliesAll, is_open, may_be, reading_of, slots_before, slots_of, with_entry}
+pub use Rattle.vic_log.specs.Slots.{Asks, Forces, IsForcedBy, ManyReplies, NoReply, OneReply, Reading, ReplyAmong, Slot, SomeReply, hears, SuppliesAll, is_open, may_be, reading_of, slots_before, slots_of, with_entry}
 pub use Rattle.vic_log.specs.declared.entry.Entry.{Entry}
-pub use Rattle.vic_log.specs.declared.entry.Entry.TheVariants.{Collision, Garbled, Heard, Listed}
+pub use Rattle.vic_log.specs.declared.entry.Entry.TheVariants.{Captured, Collision, Garbled, Heard, Listed}
 pub use Rattle.vic_log.specs.declared.entry.LogLine.{LogLine}
 pub use Rattle.vic_log.specs.declared.entry.Version.{Version}
 pub use Rattle.vic_tree.proofs.BoolLaws.{and_thrice, or_false, same_tests}
@@ -62,6 +63,5 @@ pub use Rattle.vic_verdict.specs.inner.Chosen.{all_chosen, chosen, chosen_popula
 pub use Rattle.vic_verdict.specs.inner.Merging.{AreBelow}
 pub use Rattle.vic_verdict.specs.inner.Enough.{HasEnough, LacksSome}
 pub use Rattle.vic_walk.specs.Answers.{AreAnswering, IsAnsweringAt, is_unread}
-pub use Rattle.vic_walk.specs.Cuts.{hears}
 pub use Rattle.vic_walk.specs.Needs.{needs, needs_at, needs_of}
 pub use Rattle.vic_walk.specs.Walk.{AreBorneOut, was_heard}

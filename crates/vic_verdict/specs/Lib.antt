@@ -1,7 +1,7 @@
 pub mod LogLines
 pub mod Possible
 pub mod Verdict
-pub mod TwoVersions
+pub mod Versions
 pub mod Places
 pub mod Rising
 pub mod Differences

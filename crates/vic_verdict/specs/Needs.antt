@@ -2,11 +2,9 @@
 use Rattle.std.specs.Prelude.{◌≡◌, ◌↔◌, ◌⊎◌, ℕ, ◌<◌, ◌≤◌, true, Some, List, length, slice_get}
 use Rattle.std.specs.List.{All, Any, sum_by}
 use Rattle.vic_frame.specs.Uids.{has}
-use Rattle.vic_frame.specs.Replies.{Reply}
 use Rattle.vic_tree.specs.OpenSet.{UpToThree}
 use Rattle.vic_log.specs.declared.entry.Entry.{Entry}
-use Rattle.vic_log.specs.declared.entry.Entry.TheVariants.{Heard}
-use Rattle.vic_log.specs.Slots.{slots_of, is_open}
+use Rattle.vic_log.specs.Slots.{hears, slots_of, is_open}
 use Rattle.vic_walk.specs.Needs.{needs, needs_at}
 use Rattle.vic_walk.specs.declared.answers.Answering.{Answering}
 use Rattle.vic_verdict.specs.declared.facts.Met.{Met}
@@ -20,8 +18,7 @@ all_needs es = sum_by needs es
 -- the list has the UIDs that were heard before position i
 abbrev pub HasHeard : List Entry → ℕ → List ℕ → Type 0
 HasHeard es i us = (u : ℕ) → (has us u ≡ true)
-    ↔ ((j : ℕ) × (r : Reply) × (j < i)
-    × (slice_get es j ≡ Some (Heard r)) × (r.uid ≡ u))
+    ↔ ((j : ℕ) × (j < i) × (hears (slice_get es j) u ≡ true))
 
 -- the UIDs are open and answer at position i, and there are as many as needed
 pub record IsFoundAt (es : List Entry) (i : ℕ) (f : Answering) : Type 0 where

@@ -4,11 +4,10 @@ use Rattle.std.specs.List.{filter}
 use Rattle.vic_frame.specs.declared.uid.TheConstants.{UID_BITS}
 use Rattle.vic_frame.specs.Uids.{IsUid, has}
 use Rattle.vic_frame.specs.Masks.{BitMask, lies_in}
-use Rattle.vic_frame.specs.Replies.{Reply}
 use Rattle.vic_log.specs.declared.entry.Entry.{Entry}
-use Rattle.vic_log.specs.declared.entry.Entry.TheVariants.{Heard}
 use Rattle.vic_log.specs.declared.entry.LogLine.{LogLine}
 use Rattle.vic_log.specs.Populations.{IsPopulation, CouldHaveGiven}
+use Rattle.vic_log.specs.Slots.{hears}
 use Rattle.vic_log.specs.Order.{entries, listed}
 use Rattle.vic_tree.specs.OpenSet.{IsAtMost}
 use Rattle.vic_verdict.specs.declared.judging.Verdict.{Verdict}
@@ -79,9 +78,9 @@ IsWhole es =
     × ((p : List ℕ) → IsPopulation p → CouldHaveGiven p es
     → (u : ℕ) → (has p u ≡ true) ↔ (has (listed es) u ≡ true))
 
--- the UID was heard in some slot line
+-- some slot line is a reply of the UID
 abbrev pub IsHeard : List Entry → ℕ → Type 0
-IsHeard es u = (i : ℕ) × (r : Reply) × (slice_get es i ≡ Some (Heard r)) × (r.uid ≡ u)
+IsHeard es u = (i : ℕ) × (hears (slice_get es i) u ≡ true)
 
 -- the reader is done: its log is possible, each UID that it lists was heard, and no other is
 -- possible

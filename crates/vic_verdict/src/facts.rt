@@ -145,8 +145,8 @@ fn heard_uids(alloc: Global, lines: &[PackedLine]) -> Result<Vec<Uid>, AllocErro
 {
     let mut heard = Vec::new(alloc);
     for line in lines {
-        if let Entry::Heard(response) = line.item() {
-            heard.push(response.uid())?;
+        if let Some(uid) = line.item().heard() {
+            heard.push(uid)?;
         }
     }
     Ok(heard)

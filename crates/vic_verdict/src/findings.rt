@@ -182,6 +182,8 @@ fn count_one(line: PackedLine) -> u32
         | Entry::Collision
         | Entry::Heard(_)
         | Entry::Garbled
-        | Entry::FieldCycle => 0,
+        | Entry::FieldCycle
+        | Entry::Captured(_)
+        | Entry::Unknown => 0,
     }
 }

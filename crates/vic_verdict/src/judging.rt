@@ -2,10 +2,11 @@
 
 ghost use Rattle.std.specs.Prelude.{◌≡◌, ℕ, IfOk, length, slice_get};
 ghost use Rattle.vic_log.specs.Order.{entries, listed};
+ghost use Rattle.vic_log.specs.SecondVersion.{AreOfSecondVersion};
 ghost use Rattle.vic_verdict.specs.LogLines.{AreLogLines};
 ghost use Rattle.vic_verdict.specs.Facts.{IsTold};
 ghost use Rattle.vic_verdict.specs.Verdict.{IsVerdict, IsWhole, IsReached};
-ghost use Rattle.vic_verdict.specs.TwoVersions.{IsWholeSecond};
+ghost use Rattle.vic_verdict.specs.Versions.{IsWholeSecond, IsWholeThird};
 ghost use Rattle.vic_verdict.specs.declared.judging.Verdict.TheVariants.{Complete};
 
 use crate::facts::{Facts, facts_of, keys_in_order};
@@ -38,7 +39,8 @@ pub enum Verdict {
 ///
 /// If it is `Complete`, some population could have produced the log, and every population that
 /// could has exactly the listed UIDs (clause `whole`; clause `second` says the same in the words of
-/// version 2, whose logs have field cycles and garbled slots). If a possible log heard each UID
+/// version 2, whose logs have field cycles and garbled slots, clause `third` in those of version
+/// 3, whose logs have captured replies and unknown slots besides). If a possible log heard each UID
 /// that it lists, and leaves no other UID open, the verdict is `Complete` (clause `reached`).
 pub fn judge(alloc: Global, log: &Log) -> Result<Verdict, AllocError>
     ensures verdict { IfOk result (λ v. IsVerdict log.now.lines v) }
@@ -46,7 +48,10 @@ pub fn judge(alloc: Global, log: &Log) -> Result<Verdict, AllocError>
         → IsWhole (entries log.now.lines)
         × (count ≡ length (listed (entries log.now.lines)))) }
     ensures second { IfOk result (λ v. (count : ℕ) → v ≡ Complete count
+        → AreOfSecondVersion (entries log.now.lines)
         → IsWholeSecond (entries log.now.lines)) }
+    ensures third { IfOk result (λ v. (count : ℕ) → v ≡ Complete count
+        → IsWholeThird (entries log.now.lines)) }
     ensures reached { IfOk result (λ v. IsReached (entries log.now.lines)
         → v ≡ Complete (length (listed (entries log.now.lines)))) }
 {
@@ -61,7 +66,10 @@ pub fn judge_with<S: OpenSet>(alloc: Global, log: &Log) -> Result<Verdict, Alloc
         → IsWhole (entries log.now.lines)
         × (count ≡ length (listed (entries log.now.lines)))) }
     ensures second { IfOk result (λ v. (count : ℕ) → v ≡ Complete count
+        → AreOfSecondVersion (entries log.now.lines)
         → IsWholeSecond (entries log.now.lines)) }
+    ensures third { IfOk result (λ v. (count : ℕ) → v ≡ Complete count
+        → IsWholeThird (entries log.now.lines)) }
     ensures reached { IfOk result (λ v. IsReached (entries log.now.lines)
         → v ≡ Complete (length (listed (entries log.now.lines)))) }
 {

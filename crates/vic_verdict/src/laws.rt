@@ -1,16 +1,19 @@
 //! Laws about the definitions. The functions do nothing: each stands for what its clauses say.
 
-#![tactic(auto, using(crate::proofs::TwoVersions::law_lemmas))]
+#![tactic(auto, using(crate::proofs::Versions::law_lemmas))]
 
 ghost use Rattle.std.specs.Prelude.{◌≡◌, ◌↔◌, ℕ, List, ◌∷◌, ◌++◌, true, false, length};
-ghost use Rattle.vic_frame.specs.Uids.{has};
+ghost use Rattle.vic_frame.specs.Uids.{IsUid, has};
 ghost use Rattle.vic_log.specs.Populations.{IsPopulation, CouldHaveGiven};
 ghost use Rattle.vic_verdict.specs.Possible.{IsPossible, IsPossibleUid, IsCertainUid};
 ghost use Rattle.vic_log.specs.Slots.{slots_of, is_open, IsForcedBy, SuppliesAll};
 ghost use Rattle.vic_log.specs.Order.{entries, listed, IsRisingFrom};
 ghost use Rattle.vic_verdict.specs.Verdict.{IsVerdict, IsUnsettled, IsWhole};
-ghost use Rattle.vic_verdict.specs.TwoVersions.{IsWholeFirst, IsWholeSecond};
+ghost use Rattle.vic_verdict.specs.Versions.{IsWholeFirst, IsWholeSecond, IsWholeThird};
 ghost use Rattle.vic_log.specs.FirstVersion.{AreOfFirstVersion};
+ghost use Rattle.vic_log.specs.Overlooked.{IsNeverOverlooked};
+ghost use Rattle.vic_log.specs.SecondVersion.{AreOfSecondVersion};
+ghost use Rattle.vic_log.specs.Weaker.{AreWeaker};
 ghost use Rattle.vic_log.specs.declared.entry.Entry.{Entry};
 ghost use Rattle.vic_log.specs.declared.entry.LogLine.{LogLine};
 ghost use Rattle.vic_frame.specs.Masks.{BitMask};
@@ -66,10 +69,27 @@ pub fn complete_is_whole()
         → IsVerdict lines (Complete (length (listed (entries lines)))) }
 {}
 
-/// The main theorem says the same in the words of each version: in those of version 2 for all
-/// entries, in those of version 1 for entries of that version.
+/// The main theorem says the same in the words of each version: in those of version 3 for all
+/// entries, in those of versions 1 and 2 for entries of that version.
 pub fn one_headline()
-    ensures second { (es : List Entry) → IsWhole es ↔ IsWholeSecond es }
+    ensures third { (es : List Entry) → IsWhole es ↔ IsWholeThird es }
+    ensures second { (es : List Entry) → AreOfSecondVersion es
+        → IsWholeSecond es ↔ IsWholeThird es }
     ensures first { (es : List Entry) → AreOfFirstVersion es
         → IsWholeFirst es ↔ IsWholeSecond es }
+{}
+
+/// Entries that are weaker are possible where the stronger ones are. Where the list of the weaker
+/// ones is complete and the stronger ones are possible, the list of these is complete too.
+pub fn weaker_is_complete()
+    ensures possible { (ds es : List Entry) → AreWeaker ds es → IsPossible es → IsPossible ds }
+    ensures whole { (ds es : List Entry) → AreWeaker ds es → IsPossible es → IsWhole ds
+        → IsWhole es }
+{}
+
+/// Where the verdict is `Complete`, each UID that was overlooked nowhere is listed. It takes
+/// nothing for granted of any other tag.
+pub fn never_overlooked_is_listed()
+    ensures { (lines : List LogLine) (count u : ℕ) → IsVerdict lines (Complete count) → IsUid u
+        → IsNeverOverlooked (entries lines) u → has (listed (entries lines)) u ≡ true }
 {}

@@ -18,7 +18,7 @@ use Rattle.vic_walk.proofs.Ending.{open_earlier}
 use Rattle.vic_walk.proofs.OpenAnswers.{open_by_parts}
 use Rattle.vic_walk.proofs.Ruling.{marked_at, marked_else}
 use Rattle.vic_walk.proofs.Steps.{DoesNothing, ready_still}
-use Rattle.vic_walk.proofs.Words.{◌-◌, get_or, length-set, list_any_more, inl, inr, cases_eq, cases_lt, ◌++◌, slice_set, ◌≡◌, ◌==◌, ℕ, ◌+◌, ◌<◌, ◌≤◌, ◌∷◌, ◌∙◌, ◌&&◌, ◌||◌, not, Bool, true, false, Option, Some, None, List, [], length, refl, sym, ap, and_parts, and_from, or_cases, false≢true, arith, eqb-true, nat_tests, nat_lt, nat_eq, slice_index, slice_get, Entry, Collision, Garbled, IsPartOf, IsReadyAt, IsUid, IsUid-from, has, is_marked, is_open, is_quiet, mirror, part_count, slots_before}
+use Rattle.vic_walk.proofs.Words.{silences, wakes, ◌-◌, get_or, length-set, list_any_more, inl, inr, cases_eq, cases_lt, ◌++◌, slice_set, ◌≡◌, ◌==◌, ℕ, ◌+◌, ◌<◌, ◌≤◌, ◌∷◌, ◌∙◌, ◌&&◌, ◌||◌, not, Bool, true, false, Option, Some, None, List, [], length, refl, sym, ap, and_parts, and_from, or_cases, false≢true, arith, eqb-true, nat_tests, nat_lt, nat_eq, slice_index, slice_get, Entry, Collision, Garbled, IsPartOf, IsReadyAt, IsUid, IsUid-from, has, is_marked, is_open, is_quiet, mirror, part_count, slots_before}
 
 -- ---- which slots are met
 
@@ -226,12 +226,16 @@ has_reach bs es ends i r count ruled h = record {
 }
 
 -- an entry that does nothing to UIDs
-pub reach_still : (bs : List ℕ) (es : List Entry) (ends : List ℕ) (i : ℕ) (e : Entry) (r : Reach) → slice_get es i ≡ Some e → DoesNothing e → IsReachAt bs es ends i r → IsReachAt bs es ends (i + 1) r
-reach_still bs es ends i e r here nothing h = record {
+-- an entry that silences no UID, and wakes none
+pub reach_past : (bs : List ℕ) (es : List Entry) (ends : List ℕ) (i : ℕ) (e : Entry) (r : Reach) → slice_get es i ≡ Some e → ((u : ℕ) → silences (Some e) u ≡ false) → wakes (Some e) ≡ false → IsReachAt bs es ends i r → IsReachAt bs es ends (i + 1) r
+reach_past bs es ends i e r here silent awake h = record {
   known = h.known;
-  kept = ready_still bs es _ i e r.kept here (λ u is. nothing.silent u) nothing.awake h.kept;
-  all = ready_still bs es _ i e r.all here (λ u is. nothing.silent u) nothing.awake h.all;
+  kept = ready_still bs es _ i e r.kept here (λ u is. silent u) awake h.kept;
+  all = ready_still bs es _ i e r.all here (λ u is. silent u) awake h.all;
 }
+
+pub reach_still : (bs : List ℕ) (es : List Entry) (ends : List ℕ) (i : ℕ) (e : Entry) (r : Reach) → slice_get es i ≡ Some e → DoesNothing e → IsReachAt bs es ends i r → IsReachAt bs es ends (i + 1) r
+reach_still bs es ends i e r here nothing h = reach_past bs es ends i e r here nothing.silent nothing.awake h
 
 -- ---- before the first entry
 

@@ -1,5 +1,5 @@
 -- What each kind of entry makes of what a walk knows.
-use Rattle.vic_walk.proofs.Words.{◌≡◌, ◌==◌, IsReadyAt, Sent, FieldCycle, Silent, silences, wakes, names, AreCut, has, arith, nat_tests, or_left, or_right, cases_lt, [], replicate, length-replicate, get_or-replicate, is_uid_from, Collision, Garbled, Listed, StayQuiet, Request, and-false, eqb-true, eq_swapped, uid_of, is_uid, mirror_of_uid, mirror_below, IsUid-from, ltb-true, false_from_ne_true, ◌↔◌, ℕ, zero, suc, ◌+◌, ◌<◌, ◌≤◌, Bool, true, false, ◌&&◌, ◌||◌, not, Some, List, sym, refl, subst, ◌∙◌, inl, inr, add-one, if◌then◌else◌, slice_get, slice_index, length, cases_Bool, and_parts, and_from, or_cases, false≢true, and-true, Entry, Reply, Heard, IsUid, mirror, answers_at, is_quiet, is_open, reading_of, slots_before, AreBorders, AreBorneOut, IsEnd, IsPartOf, IsWalkAt, hears, is_marked, part_count, was_heard}
+use Rattle.vic_walk.proofs.Words.{◌≡◌, ◌==◌, IsReadyAt, Sent, FieldCycle, Silent, silences, wakes, names, AreCut, has, arith, nat_tests, or_left, or_right, cases_lt, [], replicate, length-replicate, get_or-replicate, is_uid_from, Captured, Collision, Garbled, Listed, Unknown, StayQuiet, Request, and-false, eqb-true, eq_swapped, uid_of, is_uid, mirror_of_uid, mirror_below, IsUid-from, ltb-true, false_from_ne_true, ◌↔◌, ℕ, zero, suc, ◌+◌, ◌<◌, ◌≤◌, Bool, true, false, ◌&&◌, ◌||◌, not, Option, Some, List, sym, refl, subst, ◌∙◌, inl, inr, add-one, if◌then◌else◌, slice_get, slice_index, length, cases_Bool, and_parts, and_from, or_cases, false≢true, and-true, Entry, Reply, Heard, IsUid, mirror, answers_at, is_quiet, is_open, reading_of, slots_before, AreBorders, AreBorneOut, IsEnd, IsPartOf, IsWalkAt, hears, is_marked, part_count, was_heard}
 use Rattle.vic_walk.specs.declared.walk.Walk.{Walk}
 use Rattle.vic_walk.specs.declared.parts.Span.{Span}
 use Rattle.vic_walk.specs.inner.Spans.{HasLost, IsRuledOut, IsSpanAt, is_other, is_within}
@@ -168,6 +168,9 @@ nothing_collision = record { reads = λ a u. (refl, refl); silent = λ u. refl; 
 pub nothing_garbled : DoesNothing Garbled
 nothing_garbled = record { reads = λ a u. (refl, refl); silent = λ u. refl; awake = refl }
 
+pub nothing_unknown : DoesNothing Unknown
+nothing_unknown = record { reads = λ a u. (refl, refl); silent = λ u. refl; awake = refl }
+
 pub nothing_listed : (v : ℕ) → DoesNothing (Listed v)
 nothing_listed v = record { reads = λ a u. (refl, refl); silent = λ u. refl; awake = refl }
 
@@ -285,10 +288,47 @@ heard_rules_out bs es i own r s k is_too at_too borders cut span = record {
   quietness = λ u. quiet_same es i (Heard r) u k refl refl;
 }
 
+kept_rule : (o q : Bool) → (o && true) ≡ (o && not (false && not q))
+kept_rule o q = refl
+
+-- a captured reply rules out none
+pub captured_rules_out : (bs : List ℕ) (es : List Entry) (i : ℕ) (r : Reply) → slice_get es i ≡ Some (Captured r) → RulesOut bs es i (λ p. false)
+captured_rules_out bs es i r k = record {
+  openness = λ u p is at. open_step es i (Captured r) u k ∙ kept_rule (is_open (slots_before es i) u) (is_quiet es i u);
+  quietness = λ u. quiet_same es i (Captured r) u k refl refl;
+}
+
+none_out : (marked : Bool) → marked ≡ (marked && not false)
+none_out true = refl
+none_out false = refl
+
+none_ended : (marked : Bool) (at n : ℕ) → n ≡ (if marked && false then at + 1 else n)
+none_ended true at n = refl
+none_ended false at n = refl
+
+pub nothing_ruled_out : (old new : Walk) (at : ℕ) → new.lasting ≡ old.lasting → new.ends.items ≡ old.ends.items → new.quiet.items ≡ old.quiet.items → IsRuledOut old new (λ p. false) at
+nothing_ruled_out old new at lasting ends quiet = record {
+  lasting = λ p. rw lasting (none_out (is_marked old.lasting p));
+  ends = λ p. rw ends (none_ended (is_marked old.lasting p) at (slice_index old.ends.items p));
+  room = rw lasting refl;
+  places = rw ends refl;
+  quiet = quiet;
+}
+
+-- the entry is a reply of this UID, and of no other
+abbrev pub HearsOnly : Option Entry → ℕ → Type 0
+HearsOnly o v = (u : ℕ) → hears o u ≡ (v == u)
+
+pub heard_only : (es : List Entry) (i : ℕ) (r : Reply) → slice_get es i ≡ Some (Heard r) → HearsOnly (slice_get es i) r.uid
+heard_only es i r k u = rw k refl
+
+pub captured_only : (es : List Entry) (i : ℕ) (r : Reply) → slice_get es i ≡ Some (Captured r) → HearsOnly (slice_get es i) r.uid
+captured_only es i r k u = rw k refl
+
 -- a UID is heard exactly where it lies in the part of the one that is
-pub heard_part : (bs : List ℕ) (es : List Entry) (i u p own : ℕ) (r : Reply) → slice_get es i ≡ Some (Heard r) → AreBorders bs → AreCut bs es → IsUid r.uid → IsUid u → IsPartOf bs (mirror r.uid) own → IsPartOf bs (mirror u) p → (r.uid == u) ≡ (p == own)
-heard_part bs es i u p own r k borders cut is_too is at_too at =
-    own_part bs es i u r.uid p own borders cut (rw k (eqb-same r.uid)) is is_too at at_too
+pub heard_part : (bs : List ℕ) (es : List Entry) (i u p v own : ℕ) → HearsOnly (slice_get es i) v → AreBorders bs → AreCut bs es → IsUid v → IsUid u → IsPartOf bs (mirror v) own → IsPartOf bs (mirror u) p → hears (slice_get es i) u ≡ (p == own)
+heard_part bs es i u p v own only borders cut is_too is at_too at =
+    only u ∙ own_part bs es i u v p own borders cut (or_right _ _ (only v ∙ eqb-same v)) is is_too at at_too
 
 -- ---- whether the replies are borne out
 
@@ -342,38 +382,49 @@ borne_silent bs es i s w lost k span within borders h iff b =
 not_own : (s : Span) (own : ℕ) → is_other s own own ≡ false
 not_own s own = grind (arith, nat_tests, eqb-same)
 
-pub borne_heard : (bs : List ℕ) (es : List Entry) (i own : ℕ) (r : Reply) (s : Span) (w : Walk) (fine : Bool) → slice_get es i ≡ Some (Heard r) → IsUid r.uid → IsPartOf bs (mirror r.uid) own → IsSpanAt bs es i s → s.to ≤ part_count bs → AreBorders bs → AreCut bs es → IsWalkAt bs es i w → (fine ≡ true) ↔ ((is_within s own ≡ true) × (is_marked w.lasting own ≡ true) × (HasLost w (is_other s own) → ⊥)) → AreBorneOut es i → (fine ≡ true) ↔ AreBorneOut es (i + 1)
-borne_heard bs es i own r s w fine k is at span within borders cut h iff b =
-    let rules = heard_rules_out bs es i own r s k is at borders cut span in
-    let known = h.known r.uid own is at in
-    let lies = span r.uid own is at in
+within_count : (bs : List ℕ) (s : Span) (p : ℕ) → s.to ≤ part_count bs → is_within s p ≡ true → p < part_count bs
+within_count bs s p within in_span = omega (arith, ltb-true p s.to (and_parts _ _ in_span).1)
+
+-- a UID was read, and the parts for which the test holds are ruled out, of which its own is none
+borne_reply : (bs : List ℕ) (es : List Entry) (i v own : ℕ) (s : Span) (out : ℕ → Bool) (w : Walk) (fine : Bool) → HearsOnly (slice_get es i) v → RulesOut bs es i out → out own ≡ false → ((p : ℕ) → out p ≡ true → is_within s p ≡ true) → IsUid v → IsPartOf bs (mirror v) own → IsSpanAt bs es i s → s.to ≤ part_count bs → AreBorders bs → IsWalkAt bs es i w → (fine ≡ true) ↔ ((is_within s own ≡ true) × (is_marked w.lasting own ≡ true) × (HasLost w out → ⊥)) → AreBorneOut es i → (fine ≡ true) ↔ AreBorneOut es (i + 1)
+borne_reply bs es i v own s out w fine only rules mine inside is at span within borders h iff b =
+    let known = h.known v own is at in
+    let lies = span v own is at in
     rw add-one (
       (λ it.
           let f = iff.0 it in
-          let lasts = and_parts (is_open (slots_before es i) r.uid) (not (is_quiet es i r.uid)) (sym known.lasting ∙ f.1) in
+          let lasts = and_parts (is_open (slots_before es i) v) (not (is_quiet es i v)) (sym known.lasting ∙ f.1) in
           record {
             answer = λ j u below hear. elim (cases_lt j i) [
               | inl before ↦ b.answer j u before hear
               | inr not_before ↦
                   let here : j ≡ i = omega (arith, below, not_before) in
-                  let same : r.uid ≡ u = eqb-true _ _ (rw (here, k) at hear) in
+                  let same : v ≡ u = eqb-true _ _ (sym (only u) ∙ (rw here at hear)) in
                   rw (here, ← same) (and_from _ _ (lies ∙ f.0) lasts.1)
             ];
             openness = λ u heard. elim (or_cases (hears (slice_get es i) u) (was_heard es i u) heard) [
               | inl now ↦
-                  let same : r.uid ≡ u = eqb-true _ _ (rw k at now) in
-                  rw (← same, rules.openness r.uid own is at, lasts.0) (rw (not_own s own) refl)
-              | inr before ↦ heard_still_open bs es i u (is_other s own) w rules borders h f.2 b before
+                  let same : v ≡ u = eqb-true _ _ (sym (only u) ∙ now) in
+                  rw (← same, rules.openness v own is at, lasts.0) (rw mine refl)
+              | inr before ↦ heard_still_open bs es i u out w rules borders h f.2 b before
             ];
           }),
       (λ b'.
-          let heard : hears (slice_get es i) r.uid ≡ true = rw k (eqb-same r.uid) in
-          let answers = and_parts _ _ (b'.answer i r.uid (omega arith) heard) in
-          let open_after = b'.openness r.uid (or_left _ _ heard) in
-          let open_before = (and_parts _ _ (sym (rules.openness r.uid own is at) ∙ open_after)).0 in
+          let heard : hears (slice_get es i) v ≡ true = only v ∙ eqb-same v in
+          let answers = and_parts _ _ (b'.answer i v (omega arith) heard) in
+          let open_after = b'.openness v (or_left _ _ heard) in
+          let open_before = (and_parts _ _ (sym (rules.openness v own is at) ∙ open_after)).0 in
           iff.1 (
             sym lies ∙ answers.0,
             known.lasting ∙ and_from _ _ open_before answers.1,
-            λ lost. lost_not_borne bs es i (is_other s own) w rules borders h (λ p other. omega (arith, within, ltb-true p s.to (and_parts _ _ (and_parts _ _ other).0).1)) lost b',
+            λ lost. lost_not_borne bs es i out w rules borders h (λ p gone. within_count bs s p within (inside p gone)) lost b',
           )),
     )
+
+pub borne_heard : (bs : List ℕ) (es : List Entry) (i own : ℕ) (r : Reply) (s : Span) (w : Walk) (fine : Bool) → slice_get es i ≡ Some (Heard r) → IsUid r.uid → IsPartOf bs (mirror r.uid) own → IsSpanAt bs es i s → s.to ≤ part_count bs → AreBorders bs → AreCut bs es → IsWalkAt bs es i w → (fine ≡ true) ↔ ((is_within s own ≡ true) × (is_marked w.lasting own ≡ true) × (HasLost w (is_other s own) → ⊥)) → AreBorneOut es i → (fine ≡ true) ↔ AreBorneOut es (i + 1)
+borne_heard bs es i own r s w fine k is at span within borders cut h iff b =
+    borne_reply bs es i r.uid own s (is_other s own) w fine (heard_only es i r k) (heard_rules_out bs es i own r s k is at borders cut span) (not_own s own) (λ p other. (and_parts _ _ other).0) is at span within borders h iff b
+
+pub borne_captured : (bs : List ℕ) (es : List Entry) (i own : ℕ) (r : Reply) (s : Span) (w : Walk) (fine : Bool) → slice_get es i ≡ Some (Captured r) → IsUid r.uid → IsPartOf bs (mirror r.uid) own → IsSpanAt bs es i s → s.to ≤ part_count bs → AreBorders bs → IsWalkAt bs es i w → (fine ≡ true) ↔ ((is_within s own ≡ true) × (is_marked w.lasting own ≡ true)) → AreBorneOut es i → (fine ≡ true) ↔ AreBorneOut es (i + 1)
+borne_captured bs es i own r s w fine k is at span within borders h iff b =
+    borne_reply bs es i r.uid own s (λ p. false) w fine (captured_only es i r k) (captured_rules_out bs es i r k) refl (λ p gone. absurd (false≢true gone)) is at span within borders h ((λ it. let f = iff.0 it in (f.0, f.1, λ lost. false≢true lost.1)), (λ f. iff.1 (f.0, f.1))) b

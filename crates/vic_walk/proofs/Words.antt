@@ -21,11 +21,11 @@ pub use Rattle.vic_log.proofs.Supply.{IsUid-from, is_uid_from}
 pub use Rattle.vic_log.specs.Populations.{answers_at}
 pub use Rattle.vic_log.specs.Quiet.{is_quiet, silences, wakes}
 pub use Rattle.vic_log.specs.Rounds.{is_slot, lies_in_some, mask_at}
-pub use Rattle.vic_log.specs.Slots.{Reading, Slot, is_open, may_be, reading_of, slots_before, with_entry}
+pub use Rattle.vic_log.specs.Slots.{Reading, Slot, hears, is_open, may_be, reading_of, slots_before, with_entry}
 pub use Rattle.vic_log.specs.declared.entry.Entry.{Entry}
-pub use Rattle.vic_log.specs.declared.entry.Entry.TheVariants.{Collision, FieldCycle, Garbled, Heard, Listed, Sent, Silent}
+pub use Rattle.vic_log.specs.declared.entry.Entry.TheVariants.{Captured, Collision, FieldCycle, Garbled, Heard, Listed, Sent, Silent, Unknown}
 pub use Rattle.vic_walk.specs.Borders.{AreBorders, IsByParts, IsPartOf, part_count}
-pub use Rattle.vic_walk.specs.Cuts.{AreAlikeAt, AreCut, AreTogether, hears, names}
+pub use Rattle.vic_walk.specs.Cuts.{AreAlikeAt, AreCut, AreTogether, names}
 pub use Rattle.vic_walk.specs.Marked.{IsFirst, NoneBetween, is_marked}
 pub use Rattle.vic_walk.specs.Walk.{AreBorneOut, HasRoom, IsEnd, IsEndOfWalk, IsKnown, IsWalkAt, was_heard}
 pub use Rattle.vic_walk.specs.inner.Ready.{IsReadyAt}

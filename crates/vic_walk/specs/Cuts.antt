@@ -1,19 +1,12 @@
 -- Which borders a log needs, so that it treats the UIDs of each part alike.
-use Rattle.std.specs.Prelude.{◌≡◌, ℕ, ◌==◌, Bool, true, false, ◌||◌, Option, Some, None, List, slice_get}
+use Rattle.std.specs.Prelude.{◌≡◌, ℕ, Bool, true, ◌||◌, Option, Some, List, slice_get}
 use Rattle.vic_frame.specs.Uids.{IsUid}
 use Rattle.vic_frame.specs.LowBitsFirst.{mirror}
 use Rattle.vic_log.specs.declared.entry.Entry.{Entry}
-use Rattle.vic_log.specs.declared.entry.Entry.TheVariants.{Heard}
 use Rattle.vic_log.specs.Rounds.{is_slot, mask_at, lies_in_some}
 use Rattle.vic_log.specs.Quiet.{silences, is_quiet}
-use Rattle.vic_log.specs.Slots.{slots_before, is_open}
+use Rattle.vic_log.specs.Slots.{hears, slots_before, is_open}
 use Rattle.vic_walk.specs.Borders.{IsPartOf}
-
--- the entry hears the UID
-abbrev pub hears : Option Entry → ℕ → Bool
-hears (Some (Heard r)) u = r.uid == u
-hears (Some e) u = false
-hears None u = false
 
 -- the entry names the UID: it silences it, or hears it
 abbrev pub names : Option Entry → ℕ → Bool

@@ -1,7 +1,7 @@
 -- How many tags, at least, the slot lines of a log require without naming them.
 use Rattle.std.specs.Prelude.{ℕ, Option, Some, None, List, slice_get}
 use Rattle.vic_log.specs.declared.entry.Entry.{Entry}
-use Rattle.vic_log.specs.declared.entry.Entry.TheVariants.{Sent, Silent, Collision, Heard, Listed, Garbled, FieldCycle}
+use Rattle.vic_log.specs.declared.entry.Entry.TheVariants.{Sent, Silent, Collision, Heard, Listed, Garbled, FieldCycle, Captured, Unknown}
 
 -- how many tags, at least, answered in a slot without being named by its line
 abbrev pub needs : Entry → ℕ
@@ -9,6 +9,8 @@ needs Collision = 2
 needs Garbled = 1
 needs Silent = 0
 needs (Heard r) = 0
+needs (Captured r) = 0
+needs Unknown = 0
 needs (Sent q) = 0
 needs (Listed u) = 0
 needs FieldCycle = 0

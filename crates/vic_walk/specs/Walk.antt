@@ -5,11 +5,11 @@ use Rattle.vic_frame.specs.LowBitsFirst.{mirror}
 use Rattle.vic_log.specs.declared.entry.Entry.{Entry}
 use Rattle.vic_log.specs.Populations.{answers_at}
 use Rattle.vic_log.specs.Quiet.{is_quiet}
-use Rattle.vic_log.specs.Slots.{slots_before, slots_of, is_open}
+use Rattle.vic_log.specs.Slots.{hears, slots_before, slots_of, is_open}
 use Rattle.vic_walk.specs.declared.walk.LogWalk.{LogWalk}
 use Rattle.vic_walk.specs.declared.walk.Walk.{Walk}
 use Rattle.vic_walk.specs.Borders.{AreBorders, IsPartOf, part_count}
-use Rattle.vic_walk.specs.Cuts.{AreCut, hears}
+use Rattle.vic_walk.specs.Cuts.{AreCut}
 use Rattle.vic_walk.specs.Marked.{is_marked}
 
 -- the UID was heard before position i

@@ -41,8 +41,13 @@ fn needs(entry: &Entry) -> usize
     match *entry {
         Entry::Collision => 2,
         Entry::Garbled => 1,
-        Entry::Sent(_) | Entry::Silent | Entry::Heard(_) | Entry::Listed(_) | Entry::FieldCycle =>
-            0,
+        Entry::Sent(_)
+        | Entry::Silent
+        | Entry::Heard(_)
+        | Entry::Captured(_)
+        | Entry::Unknown
+        | Entry::Listed(_)
+        | Entry::FieldCycle => 0,
     }
 }
 
@@ -88,7 +93,8 @@ fn pass_again(
             })?;
             Ok(())
         }
-        Entry::Silent | Entry::Heard(_) | Entry::Listed(_) => Ok(()),
+        Entry::Silent | Entry::Heard(_) | Entry::Captured(_) | Entry::Unknown | Entry::Listed(_) =>
+            Ok(()),
     }
 }
 
@@ -98,9 +104,13 @@ fn is_unread(entry: &Entry) -> bool
 {
     match *entry {
         Entry::Collision | Entry::Garbled => true,
-        Entry::Sent(_) | Entry::Silent | Entry::Heard(_) | Entry::Listed(_) | Entry::FieldCycle => {
-            false
-        }
+        Entry::Sent(_)
+        | Entry::Silent
+        | Entry::Heard(_)
+        | Entry::Captured(_)
+        | Entry::Unknown
+        | Entry::Listed(_)
+        | Entry::FieldCycle => { false }
     }
 }
 

@@ -92,7 +92,11 @@ impl Reach {
                 self.meet(parts, ends, span_of(parts, rounds), at, 1)?;
                 Ok(())
             }
-            Entry::Silent | Entry::Heard(_) | Entry::Listed(_) => Ok(()),
+            Entry::Silent
+            | Entry::Heard(_)
+            | Entry::Captured(_)
+            | Entry::Unknown
+            | Entry::Listed(_) => Ok(()),
         }
     }
 

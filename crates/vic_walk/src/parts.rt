@@ -192,9 +192,12 @@ fn push_mask(borders: &mut Gathered, cursor: &RoundCursor, entry: &Entry) -> Res
         → HasMask es i borders.new) }
 {
     match *entry {
-        Entry::Silent | Entry::Collision | Entry::Heard(_) | Entry::Garbled => {
-            push_block(borders, cursor.keys())
-        }
+        Entry::Silent
+        | Entry::Collision
+        | Entry::Heard(_)
+        | Entry::Garbled
+        | Entry::Captured(_)
+        | Entry::Unknown => push_block(borders, cursor.keys()),
         Entry::Sent(_) | Entry::Listed(_) | Entry::FieldCycle => Ok(()),
     }
 }
@@ -213,9 +216,13 @@ fn push_named(borders: &mut Gathered, entry: &Entry) -> Result<(), AllocError>
             },
             Request::Inventory { .. } => Ok(()),
         },
-        Entry::Heard(response) => push_uid(borders, response.uid()),
-        Entry::Silent | Entry::Collision | Entry::Garbled | Entry::Listed(_) | Entry::FieldCycle =>
-            { Ok(()) }
+        Entry::Heard(response) | Entry::Captured(response) => push_uid(borders, response.uid()),
+        Entry::Silent
+        | Entry::Collision
+        | Entry::Garbled
+        | Entry::Unknown
+        | Entry::Listed(_)
+        | Entry::FieldCycle => Ok(()),
     }
 }
 

@@ -143,6 +143,25 @@ impl Walk {
         lasts && span.from <= own && own < span.to && !lost
     }
 
+    /// Hears the UID of part `own`, alone or among others, in a slot whose mask has the UIDs of a
+    /// span: rules out none. Returns whether the reply is borne out: `own` is in the span and
+    /// lasts.
+    fn hear_among(&mut self, span: Span, own: usize) -> bool
+        requires own { own < length self.old.lasting }
+        requires heard { length self.old.heard ≡ length self.old.lasting }
+        ensures lasting { self.new.lasting ≡ self.old.lasting }
+        ensures quiet { self.new.quiet.items ≡ self.old.quiet.items }
+        ensures ends { self.new.ends.items ≡ self.old.ends.items }
+        ensures heard { (p : ℕ) → is_marked self.new.heard p
+            ≡ (p == own || is_marked self.old.heard p) }
+        ensures room { length self.new.heard ≡ length self.old.heard }
+        ensures fine { (result ≡ true) ↔ ((is_within span own ≡ true)
+            × (is_marked self.old.lasting own ≡ true)) }
+    {
+        self.heard.put(own);
+        self.lasting.has(own) && span.from <= own && own < span.to
+    }
+
     /// Makes the part of the UID Quiet that a request silences, if it silences one and the part
     /// lasts. `set` is any set of UIDs, of whose parts it is known which are Ready.
     pub(crate) fn pass_request(
@@ -205,8 +224,13 @@ impl Walk {
                 let own = parts.at_or_after(span.from, key(response.uid()));
                 Ok(self.hear(span, own, at))
             }
+            Entry::Captured(response) => {
+                let span = span_of(parts, rounds);
+                let own = parts.at_or_after(span.from, key(response.uid()));
+                Ok(self.hear_among(span, own))
+            }
             // these rule out no UID
-            Entry::Collision | Entry::Garbled | Entry::Listed(_) => Ok(true),
+            Entry::Collision | Entry::Garbled | Entry::Unknown | Entry::Listed(_) => Ok(true),
         }
     }
 }

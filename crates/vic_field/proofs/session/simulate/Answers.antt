@@ -31,6 +31,9 @@ play_entry-requires-clause-follows c =
 pub play_entry-requires-clause-valid : goal.play_entry-requires-clause-valid
 play_entry-requires-clause-valid c = valid_entry c.item.result (λ q e. c.lines-lines.ensures.log.valid c.loop-line.line-index q (here c ∙ ap (λ (x : Entry). Some x) e))
 
+pub play_entry-requires-clause-second_version : goal.play_entry-requires-clause-second_version
+play_entry-requires-clause-second_version c v = c.lines-lines.ensures.log.second_version (sym c.loop-line.invariant.version ∙ v) c.loop-line.line-index c.item.result (here c)
+
 pub play_entry-requires-clause-first_version : goal.play_entry-requires-clause-first_version
 play_entry-requires-clause-first_version c v = c.lines-lines.ensures.log.first_version (sym c.loop-line.invariant.version ∙ v) c.loop-line.line-index c.item.result (here c)
 

@@ -34,6 +34,12 @@ pub returns-in-Silent-clause-found : goal.returns-in-Silent-clause-found
 returns-in-Silent-clause-found c es place h found =
     let read : is_unread (Some c.args.entry.now) ≡ false = elim c.in-Silent.is [
       | inl e ↦ rw e refl
-      | inr w ↦ elim w [ inl r ↦ rw r.1 refl | inr l ↦ rw l.1 refl ]
+      | inr w ↦ elim w [
+        | inl r ↦ rw r.1 refl
+        | inr x ↦ elim x [
+          | inl r ↦ rw r.1 refl
+          | inr y ↦ elim y [ inl e ↦ rw e refl | inr l ↦ rw l.1 refl ]
+        ]
+      ]
     ] in
     answering_kept es c.args.at _ (rw place.here read) found

@@ -1,4 +1,4 @@
-use Rattle.vic_log.proofs.Words.{rules, ◌≡◌, ap, sym, subst, ◌∙◌, ◌∷◌, [], ◌++◌, ◌||◌, List, ℕ, None, ◌<◌, refl, append-nil, not, has, IsIndex, entries, listed, is_empty, refusal, LogValue, last_from, IsTyped, LogLine, V1, IsOfFirstVersion, left_after}
+use Rattle.vic_log.proofs.Words.{rules, ◌≡◌, ap, sym, subst, ◌∙◌, ◌∷◌, [], ◌++◌, ◌||◌, List, ℕ, None, ◌<◌, refl, append-nil, not, has, IsIndex, entries, listed, is_empty, refusal, LogValue, last_from, IsTyped, LogLine, V1, V2, IsOfFirstVersion, IsOfSecondVersion, left_after}
 use Rattle.vic_log.proofs.Push.{Keeps-push, refusal_listed, lists_none, listed-append, entries-push}
 use Rattle.vic_log.proofs.log.Log.push.Goals as goal
 use Rattle.vic_log.proofs.log.Log.push.Goals.{in-Listed+in_ok-index_uid, in_default+in_default-refusal}
@@ -11,6 +11,7 @@ invariant_of-self-2 c =
     let items : List LogLine = old.lines.items in
     let above : last_from 1 items < l.number = subst (λ (v : LogValue). last_from 1 v.lines < l.number) (sym c.self.view_is) c.requires.above in
     let typed : IsTyped l.item = search rules in
+    let second : old.version ≡ V2 → IsOfSecondVersion l.item = λ h. c.requires.second_version (ap (λ (v : LogValue). v.version) (sym c.self.view_is) ∙ h) in
     let first : old.version ≡ V1 → IsOfFirstVersion l.item = λ h. c.requires.first_version (ap (λ (v : LogValue). v.version) (sym c.self.view_is) ∙ h) in
     let free : refusal (entries items) l.item ≡ None = elim c.match-item.branch [
       | in-Listed+in_ok-index_uid w ↦ rw w.in-Listed.is (refusal_listed (entries items) w.in-Listed.uid (ap (λ (xs : List LogLine). has (listed (entries xs)) w.in-Listed.uid) (sym (w.deref.ensures.value ∙ c.reserve.ensures.items)) ∙ w.in_ok-index_uid.ensures.answer))
@@ -33,4 +34,4 @@ invariant_of-self-2 c =
     let listing : c.listing_after-self-inside.result ≡ (old.listing || not (is_empty (listed (l.item ∷ [])))) = c.listing_after-self-inside.ensures ∙ rw (kept.2, same) refl in
     let left : c.slots_after-self-inside.result ≡ left_after old.slots_left l.item = c.slots_after-self-inside.ensures ∙ rw (kept.3, same) refl in
     let uids : listed (entries (items ++ l ∷ [])) ≡ listed (entries items) ++ listed (l.item ∷ []) = ap listed (entries-push items l) ∙ listed-append (entries items) (l.item ∷ []) in
-    rw (items_is, kept.0) (Keeps-push old.version items l _ _ _ _ c.self.invariant.0 free above c.requires.limit c.requires.valid typed first listing left, rw uids index)
+    rw (items_is, kept.0) (Keeps-push old.version items l _ _ _ _ c.self.invariant.0 free above c.requires.limit c.requires.valid typed first second listing left, rw uids index)

@@ -1,5 +1,5 @@
 use Rattle.vic_walk.proofs.Words.{◌+◌, inl, inr, IsUid, IsPartOf, mirror, refl}
-use Rattle.vic_walk.proofs.Steps.{borne_heard, borne_idle, borne_silent, DoesNothing, heard_part, heard_rules_out, nothing_collision, nothing_garbled, nothing_listed, silent_rules_out, cycle_none, cycle_wakes, ready_of, ready_woken, sent_none, walk_idle, walk_read, walk_unread}
+use Rattle.vic_walk.proofs.Steps.{borne_captured, borne_heard, borne_idle, borne_silent, captured_only, captured_rules_out, DoesNothing, heard_only, heard_part, heard_rules_out, nothing_ruled_out, nothing_unknown, nothing_collision, nothing_garbled, nothing_listed, silent_rules_out, cycle_none, cycle_wakes, ready_of, ready_woken, sent_none, walk_idle, walk_read, walk_unread}
 use Rattle.vic_walk.proofs.walk.Walk.pass.Goals as goal
 
 pub returns-in_ok-pass_request-in-Sent-clause-walk : goal.returns-in_ok-pass_request-in-Sent-clause-walk
@@ -35,7 +35,7 @@ returns-in-Heard-clause-walk c es place h =
     let is : IsUid r.uid = rw c.uid.ensures.value at c.key.ensures.is_uid in
     let own : IsPartOf c.args.parts.now (mirror r.uid) c.at_or_after-own.result = rw (c.key.ensures.value, c.uid.ensures.value) at c.at_or_after-own.ensures in
     let w = c.hear.ensures in
-    walk_read _ es c.args.at _ c.args.self.now _ (heard_rules_out _ es c.args.at c.at_or_after-own.result r c.span_of-span.result k is own place.borders place.cut span) w.ruled_out (λ u p is_u at. rw (w.heard p, k, heard_part _ es c.args.at u p c.at_or_after-own.result r k place.borders place.cut is is_u own at) refl) w.room h
+    walk_read _ es c.args.at _ c.args.self.now _ (heard_rules_out _ es c.args.at c.at_or_after-own.result r c.span_of-span.result k is own place.borders place.cut span) w.ruled_out (λ u p is_u at. rw (w.heard p, heard_part _ es c.args.at u p r.uid c.at_or_after-own.result (heard_only es c.args.at r k) place.borders place.cut is is_u own at) refl) w.room h
 
 pub returns-in-Heard-clause-fine : goal.returns-in-Heard-clause-fine
 returns-in-Heard-clause-fine c es place h b =
@@ -46,12 +46,33 @@ returns-in-Heard-clause-fine c es place h b =
     let own : IsPartOf c.args.parts.now (mirror r.uid) c.at_or_after-own.result = rw (c.key.ensures.value, c.uid.ensures.value) at c.at_or_after-own.ensures in
     borne_heard _ es c.args.at c.at_or_after-own.result r c.span_of-span.result c.args.self.now c.hear.result k is own span c.span_of-span.ensures.within place.borders place.cut h c.hear.ensures.fine b
 
+pub returns-in-Captured-clause-walk : goal.returns-in-Captured-clause-walk
+returns-in-Captured-clause-walk c es place h =
+    let r = c.in-Captured.response in
+    let k = rw c.in-Captured.is at place.here in
+    let is : IsUid r.uid = rw c.uid-in-Captured.ensures.value at c.key-in-Captured.ensures.is_uid in
+    let own : IsPartOf c.args.parts.now (mirror r.uid) c.at_or_after-own-in-Captured.result = rw (c.key-in-Captured.ensures.value, c.uid-in-Captured.ensures.value) at c.at_or_after-own-in-Captured.ensures in
+    let w = c.hear_among.ensures in
+    walk_read _ es c.args.at _ c.args.self.now _ (captured_rules_out _ es c.args.at r k) (nothing_ruled_out _ _ c.args.at w.lasting w.ends w.quiet) (λ u p is_u at. rw (w.heard p, heard_part _ es c.args.at u p r.uid c.at_or_after-own-in-Captured.result (captured_only es c.args.at r k) place.borders place.cut is is_u own at) refl) w.room h
+
+pub returns-in-Captured-clause-fine : goal.returns-in-Captured-clause-fine
+returns-in-Captured-clause-fine c es place h b =
+    let r = c.in-Captured.response in
+    let k = rw c.in-Captured.is at place.here in
+    let span = c.span_of-span-in-Captured.ensures.inside es c.args.at _ place (rw c.in-Captured.is refl) in
+    let is : IsUid r.uid = rw c.uid-in-Captured.ensures.value at c.key-in-Captured.ensures.is_uid in
+    let own : IsPartOf c.args.parts.now (mirror r.uid) c.at_or_after-own-in-Captured.result = rw (c.key-in-Captured.ensures.value, c.uid-in-Captured.ensures.value) at c.at_or_after-own-in-Captured.ensures in
+    borne_captured _ es c.args.at c.at_or_after-own-in-Captured.result r c.span_of-span-in-Captured.result c.args.self.now c.hear_among.result k is own span c.span_of-span-in-Captured.ensures.within place.borders h c.hear_among.ensures.fine b
+
 nothing : (c : goal.In-Collision) → DoesNothing c.args.entry.now
 nothing c = elim c.in-Collision.is [
   | inl e ↦ rw e nothing_collision
   | inr w ↦ elim w [
     | inl e ↦ rw e nothing_garbled
-    | inr l ↦ rw l.1 (nothing_listed l.0)
+    | inr x ↦ elim x [
+      | inl e ↦ rw e nothing_unknown
+      | inr l ↦ rw l.1 (nothing_listed l.0)
+    ]
   ]
 ]
 
