@@ -6,3 +6,6 @@ pub mod Places
 pub mod Lowest
 pub mod Kept
 pub mod Telling
+pub mod Counting
+pub mod Differing
+pub mod LawLemmas

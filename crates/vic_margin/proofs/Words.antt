@@ -15,12 +15,13 @@ pub use Rattle.vic_log.specs.Populations.{answers_at}
 pub use Rattle.vic_log.specs.Quiet.{is_quiet, silences, wakes}
 pub use Rattle.vic_log.specs.Rounds.{is_slot, lies_in_some, mask_at}
 pub use Rattle.vic_log.specs.declared.entry.Entry.{Entry}
-pub use Rattle.vic_log.specs.declared.entry.Entry.TheVariants.{Collision, FieldCycle, Garbled, Heard, Listed, Sent, Silent}
+pub use Rattle.vic_log.specs.declared.entry.Entry.TheVariants.{Captured, Collision, FieldCycle, Garbled, Heard, Listed, Sent, Silent, Unknown}
 pub use Rattle.vic_walk.specs.Borders.{AreBorders, IsByParts, IsPartOf, part_count}
 pub use Rattle.vic_walk.specs.Cuts.{AreCut, AreTogether, names}
 pub use Rattle.vic_walk.specs.Marked.{IsFirst, NoneBetween, is_marked}
 pub use Rattle.vic_walk.specs.declared.parts.Span.{Span}
-pub use Rattle.vic_margin.specs.Overlooked.{is_overlooked, lacks_reply_of, margin_before, margin_of, one_if}
+pub use Rattle.vic_log.specs.Overlooked.{is_overlooked, lacks_reply_of, some_lacks_reply_of}
+pub use Rattle.vic_margin.specs.UidMargins.{margin_before, margin_of, one_if}
 pub use Rattle.vic_margin.specs.declared.tally.Tally.{Tally}
 pub use Rattle.vic_margin.specs.inner.Counts.{count_at}
 pub use Rattle.vic_margin.specs.inner.Tallies.{AreMargins, HasRoom, IsCounted, IsPlace, IsSpanAt, IsTallyAt, IsTallyOf, IsTurned}

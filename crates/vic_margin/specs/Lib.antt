@@ -1,3 +1,4 @@
-pub mod Overlooked
+pub mod UidMargins
 pub mod Margins
+pub mod Differing
 pub mod inner

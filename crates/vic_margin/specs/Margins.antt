@@ -8,7 +8,7 @@ use Rattle.vic_log.specs.declared.entry.Entry.{Entry}
 use Rattle.vic_log.specs.Order.{listed}
 use Rattle.vic_verdict.specs.Verdict.{IsFirstMask, IsLeast}
 use Rattle.vic_margin.specs.declared.answer.Weakest.{Weakest}
-use Rattle.vic_margin.specs.Overlooked.{margin_of}
+use Rattle.vic_margin.specs.UidMargins.{margin_of}
 
 -- a UID that isn't listed has this margin
 pub record IsMarginOfSome (es : List Entry) (n : ℕ) : Type 0 where

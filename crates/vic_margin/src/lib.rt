@@ -9,6 +9,7 @@
 
 mod answer;
 mod counts;
+pub mod laws;
 mod least;
 mod margins;
 mod others;

@@ -5,7 +5,7 @@ ghost use Rattle.vic_log.specs.Order.{entries};
 ghost use Rattle.vic_verdict.specs.LogLines.{AreLogLines};
 ghost use Rattle.vic_walk.specs.Borders.{AreBorders};
 ghost use Rattle.vic_walk.specs.Cuts.{AreCut};
-ghost use Rattle.vic_margin.specs.Overlooked.{margin_of};
+ghost use Rattle.vic_margin.specs.UidMargins.{margin_of};
 ghost use Rattle.vic_margin.specs.inner.Tallies.{AreMargins};
 
 use crate::tally::Tally;

@@ -7,7 +7,7 @@ ghost use Rattle.vic_log.specs.Rounds.{is_slot};
 ghost use Rattle.vic_walk.specs.Borders.{AreBorders, part_count};
 ghost use Rattle.vic_walk.specs.Cuts.{AreCut};
 ghost use Rattle.vic_walk.specs.Marked.{is_marked};
-ghost use Rattle.vic_margin.specs.Overlooked.{one_if};
+ghost use Rattle.vic_margin.specs.UidMargins.{one_if};
 ghost use Rattle.vic_margin.specs.inner.Counts.{count_at};
 ghost use Rattle.vic_margin.specs.inner.Trees.{within};
 ghost use Rattle.vic_margin.specs.inner.Tallies.{AreMargins, HasRoom, IsCounted, IsPlace, IsSpanAt, IsTallyAt, IsTurned};
@@ -149,7 +149,11 @@ impl Tally {
                 self.hear(span_of(parts, rounds), own);
             }
             // in these no UID is overlooked
-            Entry::Collision | Entry::Garbled | Entry::Listed(_) => {}
+            Entry::Collision
+            | Entry::Garbled
+            | Entry::Captured(_)
+            | Entry::Unknown
+            | Entry::Listed(_) => {}
         }
     }
 

@@ -13,7 +13,7 @@ use Rattle.vic_walk.specs.Borders.{AreBorders, IsPartOf, part_count}
 use Rattle.vic_walk.specs.Cuts.{AreCut}
 use Rattle.vic_walk.specs.Marked.{is_marked}
 use Rattle.vic_margin.specs.declared.tally.Tally.{Tally}
-use Rattle.vic_margin.specs.Overlooked.{margin_before, margin_of, one_if}
+use Rattle.vic_margin.specs.UidMargins.{margin_before, margin_of, one_if}
 use Rattle.vic_margin.specs.inner.Counts.{count_at}
 use Rattle.vic_margin.specs.inner.Trees.{within}
 

@@ -1,6 +1,6 @@
 -- A row of counts as a complete binary tree of numbers.
 use Rattle.std.specs.Prelude.{◌≡◌, ℕ, zero, suc, ◌+◌, ◌*◌, ◌/◌, ◌%◌, ◌^◌, ◌==◌, ◌<◌, ◌≤◌, Bool, ◌&&◌, ◌||◌, List, nat_le, nat_lt, slice_index}
-use Rattle.vic_margin.specs.Overlooked.{one_if}
+use Rattle.vic_margin.specs.UidMargins.{one_if}
 
 -- the numbers of node n and of those above it, added up: d of them
 abbrev pub sum_up : List ℕ → ℕ → ℕ → ℕ

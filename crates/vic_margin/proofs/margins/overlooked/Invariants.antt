@@ -1,7 +1,7 @@
 use Rattle.vic_margin.proofs.Words.{◌≡◌}
 use Rattle.std.proofs.Common.{map, take}
 use Rattle.vic_log.specs.Order.{entries}
-use Rattle.vic_margin.specs.Overlooked.{margin_of}
+use Rattle.vic_margin.specs.UidMargins.{margin_of}
 use Rattle.vic_margin.proofs.margins.overlooked.Given as goal
 
 abbrev pub invariant-loop-uid : goal.invariant-loop-uid

@@ -1,5 +1,5 @@
 use Rattle.vic_margin.proofs.Words.{◌≡◌, ◌∙◌, inl, inr, refl, sym, IsUid, IsPartOf, mirror}
-use Rattle.vic_margin.proofs.Steps.{DoesNothing, nothing_collision, nothing_garbled, nothing_listed, tally_heard, tally_idle, tally_silent}
+use Rattle.vic_margin.proofs.Steps.{DoesNothing, nothing_captured, nothing_collision, nothing_garbled, nothing_listed, nothing_unknown, tally_heard, tally_idle, tally_silent}
 use Rattle.vic_margin.proofs.tally.Tally.pass.Goals as goal
 
 pub returns-in-Silent : goal.returns-in-Silent
@@ -18,7 +18,13 @@ nothing c = elim c.in-Collision.is [
   | inl e ↦ rw e nothing_collision
   | inr w ↦ elim w [
     | inl e ↦ rw e nothing_garbled
-    | inr l ↦ rw l.1 (nothing_listed l.0)
+    | inr v ↦ elim v [
+      | inl r ↦ rw r.1 (nothing_captured r.0)
+      | inr z ↦ elim z [
+        | inl e ↦ rw e nothing_unknown
+        | inr l ↦ rw l.1 (nothing_listed l.0)
+      ]
+    ]
   ]
 ]
 
