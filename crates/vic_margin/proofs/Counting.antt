@@ -1,5 +1,5 @@
 -- How many positions pass a test.
-use Rattle.vic_margin.proofs.Words.{◌≡◌, ℕ, zero, suc, ◌+◌, ◌<◌, ◌≤◌, ◌||◌, Bool, true, false, List, [], ◌∷◌, length, nat_eq, nat_lt, if◌then◌else◌, ◌&&◌, inl, inr, refl, sym, ap, ◌∙◌, arith, nat_tests, cases_Bool, cases_eq, cases_lt, has, Entry, is_overlooked, margin_before, margin_of, one_if}
+use Rattle.vic_margin.proofs.Words.{◌≡◌, ℕ, zero, suc, ◌+◌, ◌<◌, ◌≤◌, ◌||◌, Bool, true, false, List, [], ◌∷◌, length, nat_eq, nat_lt, if◌then◌else◌, ◌&&◌, inl, inr, refl, ap, ◌∙◌, arith, nat_tests, cases_Bool, cases_eq, cases_lt, has, Entry, is_overlooked, margin_before, one_if}
 
 -- how many of the first n
 abbrev pub count_to : (ℕ → Bool) → ℕ → ℕ

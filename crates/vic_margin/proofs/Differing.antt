@@ -1,14 +1,11 @@
 -- Entries that differ in some slot lines, and entries of which less is known.
-use Rattle.vic_margin.proofs.Words.{◌≡◌, ◌↔◌, ◌⊎◌, ℕ, zero, suc, ◌+◌, ◌<◌, ◌≤◌, ◌&&◌, Bool, true, false, Option, Some, None, List, [], ◌∷◌, length, nat_lt, if◌then◌else◌, inl, inr, refl, sym, ap, subst, ◌∙◌, arith, nat_tests, add-one, both_ways, cases_Bool, cases_lt, cases_eq, and_parts, false_from_ne_true, slice_get, has, IsUid, Entry, Unknown, Silent, Heard, is_slot, answers_at, is_overlooked, lacks_reply_of, some_lacks_reply_of, margin_before, margin_of, one_if}
+use Rattle.vic_margin.proofs.Words.{◌≡◌, ◌↔◌, ℕ, zero, suc, ◌+◌, ◌≤◌, ◌&&◌, true, false, Option, Some, List, [], ◌∷◌, length, nat_lt, if◌then◌else◌, inl, inr, refl, sym, ap, subst, ◌∙◌, arith, nat_tests, both_ways, cases_Bool, cases_lt, and_parts, slice_get, has, IsUid, Entry, Unknown, Silent, Heard, is_slot, answers_at, is_overlooked, lacks_reply_of, some_lacks_reply_of, margin_of}
 use Rattle.std.proofs.Common.{option_map}
 use Rattle.std.proofs.lemmas.Option.{slice_get-get_or, slice_get_past, slice_get_within}
 use Rattle.std.proofs.Common.{get_or}
 use Rattle.vic_log.proofs.Overlooked.{never_overlooked}
-use Rattle.vic_log.proofs.Sets.{IsUid-member}
 use Rattle.vic_log.proofs.Weaker.{weaker-iff, weaker_answers, weaker_given}
-use Rattle.vic_log.specs.Order.{listed}
 use Rattle.vic_log.specs.Overlooked.{IsNeverOverlooked}
-use Rattle.vic_log.specs.Slots.{is_open, slots_of}
 use Rattle.vic_log.specs.Weaker.{AreWeaker, IsWeaker, is_weaker}
 use Rattle.vic_verdict.proofs.Decide.{IsPossibleUid-iff}
 use Rattle.vic_verdict.specs.Possible.{IsPossible, IsPossibleUid}

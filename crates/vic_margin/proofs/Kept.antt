@@ -1,5 +1,5 @@
 -- The keys of the parts that a test passes, found part by part.
-use Rattle.vic_margin.proofs.Words.{◌≡◌, ◌∙◌, ℕ, zero, suc, ◌+◌, ◌-◌, ◌^◌, ◌<◌, ◌≤◌, ◌&&◌, ◌||◌, not, [], Bool, true, false, List, length, arith, nat_tests, refl, sym, ap, subst, cases_lt, inl, inr, nat_eq, nat_le, nat_lt, slice_index, AreBorders, IsPartOf, part_count, within}
+use Rattle.vic_margin.proofs.Words.{◌≡◌, ℕ, ◌+◌, ◌^◌, ◌<◌, ◌≤◌, ◌||◌, [], Bool, true, false, List, arith, nat_tests, refl, subst, cases_lt, inl, inr, slice_index, AreBorders, IsPartOf, part_count, within}
 use Rattle.vic_tree.specs.Ranges.{in_ranges}
 use Rattle.vic_walk.proofs.PartLaws.{end_of_part, up_to}
 

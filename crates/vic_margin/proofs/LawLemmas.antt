@@ -1,6 +1,6 @@
 -- What the laws say of the margin of a log.
-use Rattle.vic_margin.proofs.Words.{◌≡◌, ◌↔◌, ℕ, ◌+◌, ◌<◌, ◌≤◌, true, false, List, length, inl, inr, refl, sym, ap, subst, ◌∙◌, arith, nat_tests, cases_Bool, cases_lt, has, IsUid, Entry, margin_of}
-use Rattle.vic_frame.specs.Masks.{BitMask, lies_in}
+use Rattle.vic_margin.proofs.Words.{◌≡◌, ◌↔◌, ℕ, ◌<◌, ◌≤◌, true, false, List, length, inl, inr, refl, ap, subst, ◌∙◌, arith, cases_Bool, cases_lt, has, IsUid, Entry, margin_of}
+use Rattle.vic_frame.specs.Masks.{BitMask}
 use Rattle.vic_log.proofs.Sets.{IsUid-member}
 use Rattle.vic_log.proofs.Weaker.{weaker_listed}
 use Rattle.vic_log.specs.Order.{entries, listed}

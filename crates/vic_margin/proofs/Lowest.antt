@@ -1,6 +1,6 @@
 -- The least margin of some keys, found part by part.
-use Rattle.vic_margin.proofs.Words.{◌≡◌, ◌↔◌, ℕ, zero, suc, ◌+◌, ◌-◌, ◌^◌, ◌<◌, ◌≤◌, ◌≢◌, both_ways, ◌⊎◌, Bool, true, false, not, ◌&&◌, ◌||◌, List, Option, Some, None, length, get_or, nat_eq, nat_lt, slice_index, if◌then◌else◌, inl, inr, refl, sym, ap, subst, ◌∙◌, arith, nat_tests, cases_lt, cases_Bool, or_cases, or_left, or_right, and_parts, false_from_ne_true, has, IsKey, AreBorders, IsPartOf, part_count, within}
-use Rattle.vic_walk.proofs.PartLaws.{key_of_part, one_part, parts_rise, part_of_key}
+use Rattle.vic_margin.proofs.Words.{◌≡◌, ℕ, ◌+◌, ◌-◌, ◌^◌, ◌<◌, ◌≤◌, ◌≢◌, both_ways, Bool, true, false, ◌||◌, List, Option, Some, None, length, nat_lt, slice_index, inl, inr, sym, ap, subst, ◌∙◌, arith, nat_tests, cases_lt, cases_Bool, or_cases, or_left, or_right, and_parts, has, IsKey, AreBorders, IsPartOf, within}
+use Rattle.vic_walk.proofs.PartLaws.{key_of_part, one_part, parts_rise}
 use Rattle.std.proofs.Common.{IfSome}
 use Rattle.std.specs.List.Sorted.{IsNonDecreasing}
 use Rattle.vic_verdict.proofs.Failing.{member_at, place_of}

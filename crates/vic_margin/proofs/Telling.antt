@@ -1,17 +1,17 @@
 -- The margin of a log, and its first mask, by the parts.
-use Rattle.vic_margin.proofs.Words.{◌≡◌, ◌==◌, ℕ, ◌+◌, ◌^◌, ◌<◌, ◌≤◌, ◌∙◌, Bool, true, false, not, ◌&&◌, List, [], ◌∷◌, Option, Some, None, length, nat_eq, nat_lt, slice_index, inl, inr, refl, sym, ap, subst, arith, nat_tests, cases_Bool, both_ways, or_cases, or_left, or_right, and_parts, eqb-true, eq-eqb, length-map, has, IsUid, IsKey, mirror, uid_of, mirror_below, mirror_of_uid, uid_of_mirror, is_uid, Entry, Listed, AreBorders, IsPartOf, AreMargins, margin_of}
+use Rattle.vic_margin.proofs.Words.{◌≡◌, ◌==◌, ℕ, ◌^◌, ◌<◌, ◌≤◌, ◌∙◌, Bool, true, false, not, ◌&&◌, List, [], ◌∷◌, Some, None, length, nat_eq, slice_index, inl, inr, refl, sym, ap, arith, nat_tests, cases_Bool, both_ways, or_cases, or_left, or_right, and_parts, eqb-true, eq-eqb, length-map, has, IsUid, mirror, uid_of, mirror_below, mirror_of_uid, is_uid, Entry, Listed, AreBorders, IsPartOf, AreMargins, margin_of}
 use Rattle.std.proofs.Common.{map}
 use Rattle.std.proofs.lemmas.Map.Steps.{le-length_from_below}
-use Rattle.vic_frame.specs.Masks.{BitMask, lies_in}
+use Rattle.vic_frame.specs.Masks.{BitMask}
 use Rattle.vic_log.specs.Order.{listed}
-use Rattle.vic_tree.specs.OpenSet.{AllOpen, IsAtMost, IsWidest, SameUids, has_key, without_keys}
+use Rattle.vic_tree.specs.OpenSet.{IsWidest, SameUids, has_key, without_keys}
 use Rattle.vic_tree.specs.Ranges.{in_ranges, is_outside}
 use Rattle.vic_verdict.specs.Keys.{AreKeysOf}
 use Rattle.vic_verdict.specs.Rising.{SameMembers}
-use Rattle.vic_verdict.specs.Verdict.{IsFirstMask, IsLeast}
-use Rattle.vic_walk.proofs.PartLaws.{one_part, part_of_key}
-use Rattle.vic_margin.specs.Margins.{IsMargin, IsMarginOfSome, IsOfMargin, IsWeakest}
-use Rattle.vic_margin.specs.inner.Least.{HasMargin, IsLeastOf, IsUpTo, is_free}
+use Rattle.vic_verdict.specs.Verdict.{IsFirstMask}
+use Rattle.vic_walk.proofs.PartLaws.{part_of_key}
+use Rattle.vic_margin.specs.Margins.{IsMargin, IsMarginOfSome, IsOfMargin}
+use Rattle.vic_margin.specs.inner.Least.{HasMargin, IsLeastOf, is_free}
 
 -- ---- not all UIDs are listed
 
@@ -38,9 +38,9 @@ some_free : (es : List Entry) (keys : List ℕ) → AreListedKeys es keys → le
 some_free es keys named short all =
     let xs = map mirror (listed es) in
     let each : (q : ℕ) → q < 2 ^ 56 → has xs q ≡ true = λ q lt.
-        let back = mirror_of_uid q lt in
-        let it : has (listed es) (uid_of q) ≡ true = sym (named (uid_of q) (is_uid q)) ∙ (ap (has keys) back ∙ all q lt) in
-        ap (has xs) (sym back) ∙ has_map mirror (listed es) (uid_of q) it in
+    let back = mirror_of_uid q lt in
+    let it : has (listed es) (uid_of q) ≡ true = sym (named (uid_of q) (is_uid q)) ∙ (ap (has keys) back ∙ all q lt) in
+    ap (has xs) (sym back) ∙ has_map mirror (listed es) (uid_of q) it in
     let long = le-length_from_below xs (2 ^ 56) each in
     let same = length-map (listed es) mirror in
     let few = listed_short es in
@@ -78,12 +78,12 @@ pub is_margin : (bs ms keys : List ℕ) (es : List Entry) (m : ℕ) → AreBorde
 is_margin bs ms keys es m borders margins named h = (
   some_of_margin bs ms keys es m margins named h.found,
   λ n some.
-    let own = part_of_key bs (mirror some.uid) borders (mirror_below 56 some.uid) in
-    let free : is_free keys (2 ^ 56) (mirror some.uid) ≡ true = free_is es keys some.uid named some.is_uid ∙ ap not some.unlisted in
-    let up = h.least (mirror some.uid) own.0 free own.1 in
-    let e = margins.margin some.uid own.0 some.is_uid own.1 in
-    let f = some.margin in
-    omega (arith, up, e, f),
+      let own = part_of_key bs (mirror some.uid) borders (mirror_below 56 some.uid) in
+      let free : is_free keys (2 ^ 56) (mirror some.uid) ≡ true = free_is es keys some.uid named some.is_uid ∙ ap not some.unlisted in
+      let up = h.least (mirror some.uid) own.0 free own.1 in
+      let e = margins.margin some.uid own.0 some.is_uid own.1 in
+      let f = some.margin in
+      omega (arith, up, e, f),
 )
 
 -- ---- the set of UIDs that have it

@@ -1,7 +1,7 @@
 -- A complete binary tree of numbers, in which spans of leaves are raised by one.
-use Rattle.vic_margin.proofs.Words.{◌≡◌, ℕ, zero, suc, ◌+◌, ◌-◌, ◌*◌, ◌/◌, ◌%◌, ◌^◌, ◌<◌, ◌≤◌, Bool, true, false, List, length, slice_index, inl, inr, refl, sym, ap, ◌∙◌, arith, nat_tests, cases_lt, get_or, get_or-replicate, get_or_past, length-replicate, replicate, ⊎_elim}
+use Rattle.vic_margin.proofs.Words.{◌≡◌, ℕ, zero, suc, ◌+◌, ◌*◌, ◌/◌, ◌%◌, ◌^◌, ◌<◌, ◌≤◌, Bool, true, false, List, length, slice_index, inl, inr, refl, ap, ◌∙◌, arith, nat_tests, cases_lt, get_or, get_or-replicate, get_or_past, length-replicate, replicate, ⊎_elim}
 use Rattle.vic_margin.specs.UidMargins.{one_if}
-use Rattle.vic_margin.specs.inner.Trees.{Adds, AreAtMost, count_in, ends, sum_up, within}
+use Rattle.vic_margin.specs.inner.Trees.{Adds, count_in, ends, sum_up, within}
 
 -- ---- sums
 

@@ -1,6 +1,6 @@
 -- Parts of a tally that are turned: from what isn't counted to what is, and back.
-use Rattle.vic_margin.proofs.Words.{◌≡◌, ◌≢◌, ◌==◌, ℕ, ◌+◌, ◌-◌, ◌<◌, ◌≤◌, Bool, true, false, not, ◌&&◌, ◌||◌, List, length, nat_lt, slice_index, slice_set, inl, inr, refl, sym, ap, ◌∙◌, arith, nat_tests, cases_Bool, cases_eq, cases_lt, and_parts, false_from_ne_true, get_or-set_same, get_or-set_other, get_or_past, length-set}
-use Rattle.vic_walk.specs.Marked.{IsFirst, NoneBetween, is_marked}
+use Rattle.vic_margin.proofs.Words.{◌≡◌, ◌≢◌, ℕ, ◌+◌, ◌-◌, ◌<◌, ◌≤◌, Bool, true, false, not, ◌&&◌, length, nat_lt, slice_index, slice_set, inl, inr, refl, sym, ◌∙◌, arith, nat_tests, cases_Bool, cases_eq, get_or-set_same, get_or-set_other, length-set}
+use Rattle.vic_walk.specs.Marked.{is_marked}
 use Rattle.vic_margin.specs.declared.tally.Tally.{Tally}
 use Rattle.vic_margin.specs.inner.Counts.{count_at}
 use Rattle.vic_margin.specs.inner.Tallies.{HasRoom, IsTurned}

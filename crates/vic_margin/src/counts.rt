@@ -105,7 +105,7 @@ impl Counts {
         requires few { self.old.raised + 1 < 2 ^ 32 }
         ensures room { self.new.leaves ≡ self.old.leaves }
         ensures raised { self.new.raised ≡ self.old.raised + 1 }
-        ensures counts { (p : ℕ) → p < self.old.leaves → 
+        ensures counts { (p : ℕ) → p < self.old.leaves →
             count_in self.new.nodes.items self.new.levels self.new.leaves p
             ≡ count_in self.old.nodes.items self.old.levels self.old.leaves p
             + one_if (within from to p) }

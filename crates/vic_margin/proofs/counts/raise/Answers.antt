@@ -1,5 +1,4 @@
-use Rattle.vic_margin.proofs.Words.{arith}
-use Rattle.vic_margin.proofs.Trees.{raised_start, raised_step, way_end, way_start, way_step}
+use Rattle.vic_margin.proofs.Trees.{raised_start, raised_step, way_start, way_step}
 use Rattle.vic_margin.proofs.counts.raise.Goals as goal
 
 pub loop-low-init : goal.loop-low-init

@@ -1,4 +1,4 @@
-use Rattle.vic_margin.proofs.Words.{ℕ, ◌-◌, ◌*◌, ◌^◌, ◌≤◌, ◌≡◌, length}
+use Rattle.vic_margin.proofs.Words.{ℕ, ◌-◌, ◌*◌, ◌^◌, ◌≤◌}
 use Rattle.vic_margin.proofs.Trees.{IsRaisedTo, IsOnWay}
 use Rattle.vic_margin.proofs.counts.raise.Given as goal
 

@@ -1,5 +1,4 @@
-use Rattle.vic_margin.proofs.Words.{arith, refl, ◌≡◌, ◌<◌, ◌∙◌, slice_index, IsKey, subst}
-use Rattle.std.proofs.lemmas.List.{get_or_default}
+use Rattle.vic_margin.proofs.Words.{arith, refl, slice_index, IsKey}
 use Rattle.vic_margin.proofs.Lowest.{free_end, free_next, least_same, none_free, past_next, past_none}
 use Rattle.vic_margin.proofs.least.least_besides.Goals as goal
 

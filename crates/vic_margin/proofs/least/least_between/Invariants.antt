@@ -1,4 +1,4 @@
-use Rattle.vic_margin.proofs.Words.{◌≡◌, ◌≤◌, Bool, ℕ}
+use Rattle.vic_margin.proofs.Words.{Bool, ℕ}
 use Rattle.vic_margin.proofs.Lowest.{IsLeastTo}
 use Rattle.vic_margin.specs.inner.Least.{IsLeastOf}
 use Rattle.vic_margin.proofs.least.least_between.Given as goal

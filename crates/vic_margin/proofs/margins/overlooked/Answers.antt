@@ -1,4 +1,4 @@
-use Rattle.vic_margin.proofs.Words.{arith, ap, length, refl, sym, subst, ◌≡◌, ◌+◌, ◌<◌, ◌∙◌, ◌++◌, ◌∷◌, [], List, ℕ, get_or, slice_index, IsPartOf, IsUid, mirror, margin_of, AreMargins}
+use Rattle.vic_margin.proofs.Words.{arith, ap, length, subst, ◌≡◌, ◌<◌, ◌∙◌, ◌++◌, ◌∷◌, [], List, IsPartOf, mirror, margin_of, AreMargins}
 use Rattle.std.proofs.lemmas.List.{get_or_default}
 use Rattle.vic_log.specs.Order.{entries}
 use Rattle.vic_log.specs.declared.entry.LogLine.{LogLine}

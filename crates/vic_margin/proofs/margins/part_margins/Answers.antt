@@ -1,4 +1,4 @@
-use Rattle.vic_margin.proofs.Words.{arith, ap, refl, sym, length, ◌≡◌, ◌+◌, ◌<◌, ◌∙◌, Some, slice_get, Entry, IsPlace}
+use Rattle.vic_margin.proofs.Words.{arith, ap, refl, sym, length, ◌≡◌, ◌∙◌, Some, Entry, IsPlace}
 use Rattle.std.proofs.lemmas.Option.{slice_get_read}
 use Rattle.vic_log.specs.Order.{entries}
 use Rattle.vic_verdict.proofs.Listing.{number_above}

@@ -1,4 +1,4 @@
-use Rattle.vic_margin.proofs.Words.{arith, nat_tests, refl, ◌≡◌, ◌==◌, ◌<◌, ◌+◌, not, true, false, slice_index, part_count}
+use Rattle.vic_margin.proofs.Words.{arith, nat_tests, ◌≡◌, ◌==◌, ◌<◌, not, true, false, slice_index, part_count}
 use Rattle.vic_walk.proofs.PartLaws.{end_of_part}
 use Rattle.vic_margin.proofs.Kept.{all_kept, one_fails, one_passes}
 use Rattle.vic_margin.proofs.others.other_keys.Goals as goal

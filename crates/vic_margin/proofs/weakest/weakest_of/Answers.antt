@@ -1,7 +1,7 @@
-use Rattle.vic_margin.proofs.Words.{arith, false, refl, sym, subst, ◌≡◌, ◌<◌, ◌^◌, ◌∙◌, List, ℕ, Some, None, length, has, not, ◌==◌, slice_index, IsUid, IsPartOf, AreBorders, AreMargins}
-use Rattle.vic_tree.specs.OpenSet.{IsWidest, SameUids, has_key, without_keys}
-use Rattle.vic_tree.specs.Ranges.{in_ranges, is_open_in, is_outside}
-use Rattle.vic_log.specs.Order.{entries, listed}
+use Rattle.vic_margin.proofs.Words.{arith, false, ◌≡◌, ◌<◌, ◌^◌, ℕ, Some, None, not, ◌==◌, slice_index, IsUid, IsPartOf}
+use Rattle.vic_tree.specs.OpenSet.{IsWidest, SameUids, without_keys}
+use Rattle.vic_tree.specs.Ranges.{in_ranges, is_open_in}
+use Rattle.vic_log.specs.Order.{entries}
 use Rattle.vic_margin.specs.inner.Least.{IsLeastOf, is_free}
 use Rattle.vic_margin.proofs.Places.{entries_long}
 use Rattle.vic_margin.proofs.Telling.{AreListedKeys, first_of_margin, has_it, is_margin, least_is_there, listed_keys, set_has_some, set_is}

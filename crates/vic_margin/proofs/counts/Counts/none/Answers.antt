@@ -1,4 +1,4 @@
-use Rattle.vic_margin.proofs.Words.{arith, ap, length, length-replicate, ℕ, ◌+◌, ◌∙◌, ◌≡◌}
+use Rattle.vic_margin.proofs.Words.{arith, ap, length, length-replicate, ℕ, ◌+◌, ◌∙◌}
 use Rattle.vic_margin.proofs.Trees.{below_pow, sum_none, zero_at}
 use Rattle.vic_margin.proofs.counts.Counts.none.Goals as goal
 

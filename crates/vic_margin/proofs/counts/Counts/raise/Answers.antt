@@ -1,4 +1,4 @@
-use Rattle.vic_margin.proofs.Words.{arith, refl, ◌≡◌, ◌+◌, ◌<◌, ◌∙◌, ℕ}
+use Rattle.vic_margin.proofs.Words.{arith, ◌∙◌}
 use Rattle.vic_margin.proofs.Trees.{count_kept, count_raised, few_raised}
 use Rattle.vic_margin.proofs.counts.Counts.raise.Goals as goal
 use Rattle.vic_margin.proofs.counts.Counts.raise.Goals.{then-from-to, else-from-to}

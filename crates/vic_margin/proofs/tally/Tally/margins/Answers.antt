@@ -1,4 +1,4 @@
-use Rattle.vic_margin.proofs.Words.{arith, nat_tests, refl, ◌≡◌, ◌≢◌, ◌&&◌, ◌+◌, ◌<◌, ◌∙◌, ap, sym, ℕ, Bool, true, false, not, length, nat_lt, is_marked}
+use Rattle.vic_margin.proofs.Words.{arith, nat_tests, ◌≡◌, ◌<◌, ◌∙◌, ap, sym, true, false, length, is_marked}
 use Rattle.vic_margin.proofs.Steps.{margins_at_end}
 use Rattle.vic_margin.proofs.Turning.{turned_more, turned_past}
 use Rattle.vic_margin.proofs.tally.Tally.margins.Goals as goal

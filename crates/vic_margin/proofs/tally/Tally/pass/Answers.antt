@@ -1,4 +1,4 @@
-use Rattle.vic_margin.proofs.Words.{◌≡◌, ◌∙◌, inl, inr, refl, sym, IsUid, IsPartOf, mirror}
+use Rattle.vic_margin.proofs.Words.{inl, inr, refl, IsUid, IsPartOf, mirror}
 use Rattle.vic_margin.proofs.Steps.{DoesNothing, nothing_captured, nothing_collision, nothing_garbled, nothing_listed, nothing_unknown, tally_heard, tally_idle, tally_silent}
 use Rattle.vic_margin.proofs.tally.Tally.pass.Goals as goal
 
