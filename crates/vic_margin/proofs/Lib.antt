@@ -1,0 +1,11 @@
+mod Words
+pub mod Trees
+pub mod Turning
+pub mod Steps
+pub mod Places
+pub mod Lowest
+pub mod Kept
+pub mod Telling
+pub mod Counting
+pub mod Differing
+pub mod LawLemmas

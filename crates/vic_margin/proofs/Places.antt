@@ -1,0 +1,36 @@
+-- Lines of a log, and how many parts there are.
+use Rattle.vic_margin.proofs.Words.{◌≡◌, ℕ, zero, suc, ◌+◌, ◌-◌, ◌^◌, ◌<◌, ◌≤◌, ◌∙◌, List, Some, length, get_or, refl, ap, arith, slice_get, slice_index, length-map, cases_lt, inl, inr, AreBorders, part_count}
+use Rattle.std.proofs.Common.{map, option_map, sym, take, [], ◌++◌, ◌∷◌}
+use Rattle.std.proofs.lemmas.List.{map-append, take_more}
+use Rattle.std.proofs.lemmas.Map.Keys.{below_from_sorted, sorted_from_strictly_increasing}
+use Rattle.std.proofs.lemmas.Option.{slice_get-map, slice_get_read}
+use Rattle.std.specs.List.Sorted.{IsStrictlyIncreasing}
+use Rattle.vic_log.specs.Order.{entries}
+use Rattle.vic_log.specs.declared.entry.LogLine.{LogLine}
+
+pub entry_at : (lines : List LogLine) (i : ℕ) (l : LogLine) → i < length lines → l ≡ get_or lines i l → slice_get (entries lines) i ≡ Some l.item
+entry_at lines i l h e =
+    slice_get-map (λ (x : LogLine). x.item) lines i ∙ ap (option_map (λ (x : LogLine). x.item)) (slice_get_read lines (length lines) i l refl h e)
+
+pub entries_long : (lines : List LogLine) → length (entries lines) ≡ length lines
+entries_long lines = length-map lines (λ (l : LogLine). l.item)
+
+-- numbers that rise are at least their places
+at_least : (bs : List ℕ) (i : ℕ) → IsStrictlyIncreasing bs → i < length bs → i ≤ slice_index bs i
+at_least bs zero rising lt = omega arith
+at_least bs (suc i) rising lt =
+    let h = at_least bs i rising (omega (arith, lt)) in
+    let next = below_from_sorted bs i (suc i) 0 (sorted_from_strictly_increasing bs rising) (omega arith) lt in
+    omega (arith, h, next)
+
+pub few_parts : (bs : List ℕ) → AreBorders bs → part_count bs ≤ 2 ^ 56
+few_parts bs borders =
+    let last = borders.last in
+    elim (cases_lt 0 (length bs)) [
+      | inl some ↦ let h = at_least bs (length bs - 1) borders.rising (omega (arith, some)) in omega (arith, h, last)
+      | inr none ↦ omega (arith, none)
+    ]
+
+-- what a function makes of one element more
+pub map_taken : (f : ℕ → ℕ) (xs : List ℕ) (i x y : ℕ) → i < length xs → x ≡ get_or xs i x → y ≡ f x → map f (take i xs) ++ y ∷ [] ≡ map f (take (i + 1) xs)
+map_taken f xs i x y lt is e = sym (ap (map f) (take_more xs i x lt) ∙ (map-append f (take i xs) (get_or xs i x ∷ []) ∙ ap (λ z. map f (take i xs) ++ z ∷ []) (sym (e ∙ ap f is))))

@@ -1,0 +1,17 @@
+use Rattle.vic_margin.proofs.Words.{arith, refl}
+use Rattle.vic_margin.proofs.Lowest.{least_end, least_kept, least_next, least_start}
+use Rattle.vic_margin.proofs.least.least_between.Goals as goal
+
+pub returns-then-end-from : goal.returns-then-end-from
+returns-then-end-from c wanted h = least_kept _ _ wanted _ _ _ c.if-end-from.true h
+
+pub loop-part-init : goal.loop-part-init
+loop-part-init c wanted h = least_start _ _ wanted _ _ _ _ c.requires.borders c.at-part.ensures h
+
+pub loop-part-preserved : goal.loop-part-preserved
+loop-part-preserved c wanted h =
+    let low = c.loop-part.auto.part in
+    rw c.lesser.ensures (least_next _ _ wanted c.args.from c.args.end c.at-part.result c.at-part-end.result c.loop-part.part _ c.loop-part.found c.requires.borders c.if-end-from.false c.at-part.ensures c.at-part-end.ensures low (omega (arith, c.loop-part-test.true)) refl (c.loop-part.invariant wanted h))
+
+pub returns : goal.returns
+returns c wanted h = least_end _ _ wanted _ _ c.at-part-end.result c.loop-part.part _ c.requires.borders c.at-part-end.ensures (omega (arith, c.loop-part-test.false)) (c.loop-part.invariant wanted h)

@@ -1,0 +1,4 @@
+pub mod UidMargins
+pub mod Margins
+pub mod Differing
+pub mod inner

@@ -1,0 +1,5 @@
+-- Definitions that private contracts alone cite.
+pub mod Trees
+pub mod Counts
+pub mod Tallies
+pub mod Least

@@ -1,0 +1,79 @@
+-- What a tally knows of the parts of a log.
+use Rattle.std.specs.Prelude.{◌≡◌, ℕ, ◌+◌, ◌<◌, ◌≤◌, Bool, true, false, List, Some, length, slice_get, slice_index}
+use Rattle.vic_frame.specs.LowBitsFirst.{mirror}
+use Rattle.vic_frame.specs.Uids.{IsUid}
+use Rattle.vic_log.specs.declared.entry.Entry.{Entry}
+use Rattle.vic_log.specs.declared.rounds.RoundCursor.{RoundCursor}
+use Rattle.vic_log.specs.OpenRounds.{IsCursorAt}
+use Rattle.vic_log.specs.Order.{AreValid}
+use Rattle.vic_log.specs.Quiet.{is_quiet}
+use Rattle.vic_log.specs.Rounds.{mask_at, lies_in_some}
+use Rattle.vic_walk.specs.declared.parts.Span.{Span}
+use Rattle.vic_walk.specs.Borders.{AreBorders, IsPartOf, part_count}
+use Rattle.vic_walk.specs.Cuts.{AreCut}
+use Rattle.vic_walk.specs.Marked.{is_marked}
+use Rattle.vic_margin.specs.declared.tally.Tally.{Tally}
+use Rattle.vic_margin.specs.UidMargins.{margin_before, margin_of, one_if}
+use Rattle.vic_margin.specs.inner.Counts.{count_at}
+use Rattle.vic_margin.specs.inner.Trees.{within}
+
+-- there is room for that many parts
+pub record HasRoom (count : ℕ) (t : Tally) : Type 0 where
+  pub leaves : count ≤ t.counts.leaves
+  pub rest : length t.rest.items ≡ count
+  pub marks : length t.quiet ≡ count
+  pub least : (p : ℕ) → p < count → slice_index t.rest.items p ≤ count_at t.counts p
+
+-- before position i, what the tally says of a part is so of a UID in it
+pub record IsTallyOf (es : List Entry) (i u p : ℕ) (t : Tally) : Type 0 where
+  pub quiet : is_marked t.quiet p ≡ is_quiet es i u
+  pub ready : is_quiet es i u ≡ false
+      → count_at t.counts p ≡ margin_before es i u + slice_index t.rest.items p
+  pub kept : is_quiet es i u ≡ true → slice_index t.rest.items p ≡ margin_before es i u
+
+-- the tally is before position i
+pub record IsTallyAt (bs : List ℕ) (es : List Entry) (i : ℕ) (t : Tally) : Type 0 where
+  pub room : HasRoom (part_count bs) t
+  pub few : t.counts.raised ≤ i
+  pub known : (u p : ℕ) → IsUid u → IsPartOf bs (mirror u) p → IsTallyOf es i u p t
+
+-- of the parts for which a test holds, the rest is now what was left of their counts
+pub record IsTurned (which : ℕ → Bool) (old new : Tally) : Type 0 where
+  pub turned : (p : ℕ) → p < length old.rest.items → which p ≡ true
+      → slice_index new.rest.items p + slice_index old.rest.items p ≡ count_at old.counts p
+  pub same : (p : ℕ) → which p ≡ false
+      → slice_index new.rest.items p ≡ slice_index old.rest.items p
+  pub counts : new.counts ≡ old.counts
+  pub places : length new.rest.items ≡ length old.rest.items
+
+-- one more is counted in the parts of a span, and of those for which a test holds taken back
+pub record IsCounted (s : Span) (back : ℕ → Bool) (old new : Tally) : Type 0 where
+  pub counts : (p : ℕ) → p < old.counts.leaves
+      → count_at new.counts p ≡ count_at old.counts p + one_if (within s.from s.to p)
+  pub rest : (p : ℕ) → slice_index new.rest.items p
+      ≡ slice_index old.rest.items p + one_if (back p)
+  pub quiet : new.quiet ≡ old.quiet
+  pub leaves : new.counts.leaves ≡ old.counts.leaves
+  pub raised : new.counts.raised ≡ old.counts.raised + 1
+  pub places : length new.rest.items ≡ length old.rest.items
+
+-- the parts of the span are those whose UIDs lie in the mask at position i
+abbrev pub IsSpanAt : List ℕ → List Entry → ℕ → Span → Type 0
+IsSpanAt bs es i s =
+    (u p : ℕ) → IsUid u → IsPartOf bs (mirror u) p
+    → lies_in_some (mask_at es i) u ≡ within s.from s.to p
+
+-- the entry at position i of a log, for which the borders are cut, with the rounds up to there
+pub record IsPlace (bs : List ℕ) (es : List Entry) (i : ℕ) (e : Entry) (rounds : RoundCursor)
+    : Type 0 where
+  pub here : slice_get es i ≡ Some e
+  pub valid : AreValid es
+  pub rounds_here : IsCursorAt es i rounds
+  pub borders : AreBorders bs
+  pub cut : AreCut bs es
+
+-- the margin of the UIDs of each part
+pub record AreMargins (bs : List ℕ) (es : List Entry) (margins : List ℕ) : Type 0 where
+  pub room : length margins ≡ part_count bs
+  pub margin : (u p : ℕ) → IsUid u → IsPartOf bs (mirror u) p
+      → slice_index margins p ≡ margin_of es u

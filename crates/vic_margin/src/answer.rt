@@ -1,0 +1,23 @@
+//! What is said of the margin of a log.
+
+use vic_frame::Mask;
+use vic_verdict::Verdict;
+
+/// How many misses it would take to make a complete list wrong, and where.
+#[derive(Clone, Copy, Debug, PartialEq, Eq)]
+pub struct Margin {
+    /// The verdict on the log.
+    pub verdict: Verdict,
+    /// The margin of the log; `None` if the log is impossible.
+    pub weakest: Option<Weakest>,
+}
+
+/// The margin of a log.
+#[derive(Clone, Copy, Debug, PartialEq, Eq)]
+pub struct Weakest {
+    /// The least margin of the UIDs that aren't listed.
+    pub margin: u32,
+    /// The first mask by length, then by value, of at most 56 bits, all of whose UIDs have it and
+    /// aren't listed.
+    pub mask: Mask,
+}

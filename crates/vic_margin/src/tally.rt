@@ -1,0 +1,187 @@
+//! In how many slots the UIDs of each part were overlooked.
+
+ghost use Rattle.std.specs.Prelude.{◌≡◌, ◌==◌, ◌+◌, ◌-◌, ◌^◌, ◌<◌, ◌≤◌, ◌&&◌, ◌||◌, not, true, false, ℕ, List, IfOk, Some, length, nat_lt, slice_get, slice_index, slice_set};
+ghost use Rattle.vic_log.specs.declared.entry.Entry.{Entry as EntryValue};
+ghost use Rattle.vic_log.specs.declared.entry.Entry.TheVariants.{Sent};
+ghost use Rattle.vic_log.specs.Rounds.{is_slot};
+ghost use Rattle.vic_walk.specs.Borders.{AreBorders, part_count};
+ghost use Rattle.vic_walk.specs.Cuts.{AreCut};
+ghost use Rattle.vic_walk.specs.Marked.{is_marked};
+ghost use Rattle.vic_margin.specs.UidMargins.{one_if};
+ghost use Rattle.vic_margin.specs.inner.Counts.{count_at};
+ghost use Rattle.vic_margin.specs.inner.Trees.{within};
+ghost use Rattle.vic_margin.specs.inner.Tallies.{AreMargins, HasRoom, IsCounted, IsPlace, IsSpanAt, IsTallyAt, IsTurned};
+
+use crate::counts::Counts;
+use std::alloc::{AllocError, Global};
+use vic_frame::low_bits_first::key;
+use vic_frame::{Request, Uid};
+use vic_log::{Entry, RoundCursor};
+use vic_walk::{Marks, Parts, Span};
+
+/// What is known of each part before a position of a log.
+#[derive(Drop)]
+pub(crate) struct Tally {
+    /// In how many slots that were silent, or in which a tag was heard, its UIDs lie in the mask.
+    pub counts: Counts,
+    /// While its UIDs are Ready, in how many of these they weren't overlooked, since they were
+    /// Quiet there, or it was their reply. While they are Quiet, in how many they were.
+    pub rest: Vec<u32>,
+    /// Whether they are Quiet.
+    pub quiet: Marks,
+}
+
+impl Tally {
+    /// The tally before the first entry, of so many parts.
+    pub(crate) fn start(alloc: Global, count: usize) -> Result<Tally, AllocError>
+        requires { count ≤ 2 ^ 56 }
+        ensures { IfOk result (λ t. (bs : List ℕ) (es : List EntryValue) → part_count bs ≡ count
+            → IsTallyAt bs es 0 t) }
+    {
+        Ok(Tally {
+            counts: Counts::none(alloc, count)?,
+            rest: vec![in alloc; 0; count]?,
+            quiet: Marks::none(alloc, count)?,
+        })
+    }
+
+    /// Takes what is left of the count of a part.
+    fn turn(&mut self, part: usize)
+        requires room { HasRoom (length self.old.rest.items) self.old }
+        requires within { part < length self.old.rest.items }
+        ensures rest { self.new.rest.items ≡ slice_set self.old.rest.items part
+            (count_at self.old.counts part - slice_index self.old.rest.items part) }
+        ensures counts { self.new.counts ≡ self.old.counts }
+        ensures quiet { self.new.quiet ≡ self.old.quiet }
+    {
+        let left = self.counts.at(part) - self.rest[part];
+        self.rest[part] = left;
+    }
+
+    /// Makes a part Quiet.
+    fn silence(&mut self, part: usize)
+        requires room { HasRoom (length self.old.rest.items) self.old }
+        requires within { part < length self.old.rest.items }
+        ensures turned { IsTurned (λ p. p == part && not (is_marked self.old.quiet part))
+            self.old self.new }
+        ensures quiet { (p : ℕ) → is_marked self.new.quiet p
+            ≡ (p == part || is_marked self.old.quiet p) }
+        ensures marks { length self.new.quiet ≡ length self.old.quiet }
+    {
+        if !self.quiet.has(part) {
+            self.turn(part);
+            self.quiet.put(part);
+        }
+    }
+
+    /// Makes all parts Ready.
+    fn wake(&mut self)
+        requires room { HasRoom (length self.old.rest.items) self.old }
+        ensures turned { IsTurned (is_marked self.old.quiet) self.old self.new }
+        ensures quiet { (p : ℕ) → is_marked self.new.quiet p ≡ false }
+        ensures marks { length self.new.quiet ≡ length self.old.quiet }
+    {
+        let mut from = 0;
+        while let Some(part) = self.quiet.first(from, self.rest.len()) {
+            self.turn(part);
+            self.quiet.take(part);
+            from = part + 1;
+        }
+    }
+
+    /// Counts a slot, in whose mask the UIDs of a span lie.
+    fn count(&mut self, span: Span)
+        requires within { span.to ≤ self.old.counts.leaves }
+        requires few { self.old.counts.raised + 1 < 2 ^ 32 }
+        ensures { IsCounted span (λ p. false) self.old self.new }
+    {
+        self.counts.raise(span.from, span.to);
+    }
+
+    /// Counts a slot in which the UID of part `own` was heard, but not for that UID.
+    fn hear(&mut self, span: Span, own: usize)
+        requires room { HasRoom (length self.old.rest.items) self.old }
+        requires within { span.to ≤ self.old.counts.leaves }
+        requires own { own < length self.old.rest.items }
+        requires few { self.old.counts.raised + 1 < 2 ^ 32 }
+        ensures { IsCounted span (λ p. p == own && (within span.from span.to own
+            && not (is_marked self.old.quiet own))) self.old self.new }
+    {
+        self.counts.raise(span.from, span.to);
+        if span.from <= own && own < span.to && !self.quiet.has(own) {
+            self.rest[own] += 1;
+        }
+    }
+
+    /// Makes the part of the UID Quiet that a request silences, if it silences one.
+    fn pass_request(&mut self, parts: &Parts, request: &Request)
+        requires borders { AreBorders parts.now }
+        requires room { HasRoom (part_count parts.now) self.old }
+        ensures { (es : List EntryValue) (i : ℕ) → slice_get es i ≡ Some (Sent request.now)
+            → AreCut parts.now es → IsTallyAt parts.now es i self.old
+            → IsTallyAt parts.now es (i + 1) self.new }
+    {
+        match *request {
+            Request::StayQuiet { uid, .. } => {
+                // no tag has another number
+                if let Some(uid) = Uid::new(uid) {
+                    self.silence(parts.at(key(uid)));
+                }
+            }
+            Request::Inventory { .. } => {}
+        }
+    }
+
+    /// Takes the tally past an entry.
+    pub(crate) fn pass(&mut self, parts: &Parts, rounds: &RoundCursor, entry: &Entry)
+        requires borders { AreBorders parts.now }
+        requires room { HasRoom (part_count parts.now) self.old }
+        requires few { self.old.counts.raised + 1 < 2 ^ 32 }
+        ensures { (es : List EntryValue) (i : ℕ) → IsPlace parts.now es i entry.now rounds.now
+            → IsTallyAt parts.now es i self.old → IsTallyAt parts.now es (i + 1) self.new }
+    {
+        match *entry {
+            Entry::Sent(request) => self.pass_request(parts, &request),
+            Entry::FieldCycle => self.wake(),
+            Entry::Silent => self.count(span_of(parts, rounds)),
+            Entry::Heard(response) => {
+                let own = parts.at(key(response.uid()));
+                self.hear(span_of(parts, rounds), own);
+            }
+            // in these no UID is overlooked
+            Entry::Collision
+            | Entry::Garbled
+            | Entry::Captured(_)
+            | Entry::Unknown
+            | Entry::Listed(_) => {}
+        }
+    }
+
+    /// The margin of each part, after the last entry.
+    pub(crate) fn margins(self) -> Vec<u32>
+        requires { HasRoom (length self.rest.items) self }
+        ensures { (bs : List ℕ) (es : List EntryValue) → IsTallyAt bs es (length es) self
+            → AreMargins bs es result.items }
+    {
+        let mut tally = self;
+        for part in 0..tally.rest.len() {
+            if !tally.quiet.has(part) {
+                tally.turn(part);
+            }
+        }
+        tally.rest
+    }
+}
+
+/// The parts whose UIDs lie in the mask of the next slot.
+fn span_of(parts: &Parts, rounds: &RoundCursor) -> Span
+    ensures within { result.to ≤ part_count parts.now }
+    ensures inside { (es : List EntryValue) (i : ℕ) (e : EntryValue)
+        → IsPlace parts.now es i e rounds.now → is_slot e ≡ true
+        → IsSpanAt parts.now es i result }
+{
+    match rounds.keys() {
+        Some(block) => parts.span(&block),
+        None => Span { from: 0, to: 0 },
+    }
+}

@@ -1,0 +1,62 @@
+//! The margin of a log, and the first mask of UIDs that have it.
+
+ghost use Rattle.std.specs.Prelude.{◌≤◌, IfOk, MatchOption, length};
+ghost use Rattle.vic_log.specs.Order.{entries};
+ghost use Rattle.vic_verdict.specs.LogLines.{AreLogLines};
+ghost use Rattle.vic_verdict.specs.Possible.{IsPossible};
+ghost use Rattle.vic_verdict.specs.Verdict.{IsVerdict};
+ghost use Rattle.vic_margin.specs.Margins.{IsWeakest};
+
+use crate::answer::{Margin, Weakest};
+use crate::least::least_besides;
+use crate::margins::part_margins;
+use crate::others::other_keys;
+use std::alloc::{AllocError, Global};
+use vic_log::{Log, MAX_LINES, PackedLine};
+use vic_tree::{OpenSet, RangeSet};
+use vic_verdict::{Verdict, judge, keys_in_order, listed_uids};
+use vic_walk::Parts;
+
+/// The verdict on a log, and its margin, if it is possible. It fails only if memory is refused.
+pub fn margin(alloc: Global, log: &Log) -> Result<Margin, AllocError>
+    ensures verdict { IfOk result (λ m. IsVerdict log.now.lines m.verdict) }
+    ensures weakest { IfOk result (λ m. MatchOption m.weakest
+        (IsPossible (entries log.now.lines) → ⊥)
+        (λ w. IsPossible (entries log.now.lines) × IsWeakest (entries log.now.lines) w)) }
+{
+    let lines = log.lines();
+    let verdict = judge(alloc, log)?;
+    let weakest = match verdict {
+        Verdict::Impossible { .. } => None,
+        Verdict::Absent(_)
+        | Verdict::Unlisted(_)
+        | Verdict::Unsettled(_)
+        | Verdict::Doubtful(_)
+        | Verdict::Complete { .. } => Some(weakest_of(alloc, lines)?),
+    };
+    Ok(Margin { verdict, weakest })
+}
+
+/// The margin of the lines of a log, and the first mask of UIDs that have it.
+fn weakest_of(alloc: Global, lines: &[PackedLine]) -> Result<Weakest, AllocError>
+    requires lines { AreLogLines lines.now }
+    requires limit { length lines.now ≤ MAX_LINES }
+    ensures { IfOk result (IsWeakest (entries lines.now)) }
+{
+    let parts = Parts::of(alloc, lines)?;
+    let margins = part_margins(alloc, lines, &parts)?;
+    let listed = listed_uids(alloc, lines)?;
+    let keys = keys_in_order(alloc, &listed)?;
+    let Some(least) = least_besides(&parts, &margins, &keys) else {
+        unreachable!()
+    };
+    let others = other_keys(alloc, &parts, &margins, least)?;
+    let set = RangeSet::without(alloc, others)?;
+    let Some(mask) = set.widest_besides(&keys)? else {
+        unreachable!()
+    };
+    Ok(Weakest {
+        margin: least,
+        mask,
+    })
+}
