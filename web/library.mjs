@@ -32,8 +32,11 @@ const ANSWER = 104, TEXT = 40, FINDING = 32, MASK = 16, UID = 8, REQUEST = 32, R
 const DECODER = new TextDecoder();
 const ENCODER = new TextEncoder();
 
-/** A log with so many bytes for each of the elements that a call lists is judged once: the first buffer has room for these. */
-const BYTES_FOR_EACH = 32;
+/**
+ * A log with so many bytes for each of the elements that a call lists is judged once: the first buffer has room for these. It is
+ * the length of a U line, so that one finding for each fits.
+ */
+const BYTES_FOR_EACH = 19;
 
 /** @param {Uint8Array | string} text */
 const roomFor = (text) => FIRST_ROOM + Math.floor(text.length / BYTES_FOR_EACH);
@@ -152,9 +155,9 @@ export class Library {
    * @param {string} name
    * @param {(take: Take) => number[]} given what is passed before the answer
    * @param {number} size
-   * @param {(view: DataView, at: number) => T} read
+   * @param {(view: DataView, at: number) => T} read null of what isn't listed
    * @param {number} room how many elements the first buffer has
-   * @returns {{answer: Answer, list: T[]}}
+   * @returns {{answer: Answer, list: NonNullable<T>[]}}
    */
   #listed(name, given, size, read, room = FIRST_ROOM) {
     return this.#within((take) => {
@@ -165,9 +168,12 @@ export class Library {
         const view = this.#view, count = Number(view.getBigUint64(needed, true));
         const told = this.#answer(answer);
         if (count <= room) {
-          /** @type {T[]} */
-          const list = new Array(count);
-          for (let i = 0; i < count; i++) list[i] = read(view, at + i * size);
+          /** @type {NonNullable<T>[]} */
+          const list = [];
+          for (let i = 0; i < count; i++) {
+            const one = read(view, at + i * size);
+            if (one !== null && one !== undefined) list.push(one);
+          }
           return { answer: told, list };
         }
         room = count;
@@ -204,7 +210,7 @@ export class Library {
       if (found === FOUND.CONFLICT) conflict.push(view.getUint32(at + 4, true));
       return counts[found]++ < most ? findingAt(view, at) : null;
     }, roomFor(text));
-    return { answer, counts, conflict, list: /** @type {Finding[]} */ (list.filter((it) => it)) };
+    return { answer, counts, conflict, list };
   }
 
   /** @param {Uint8Array | string} text */

@@ -25,8 +25,10 @@ export function view(told, heading = "h1", names = new Map()) {
   const said = say(told), what = [printable(told.object.file), " · ", el("code", {}, told.object.answer)];
   // what is only tried is never green
   const trial = TRIAL.test(told.object.file) ? { look: /** @type {const} */ ("read"), sign: "?", headline: `A trial: ${said.headline}` } : {};
-  return [banner({ ...said, ...trial }, what, heading), ...conditions(told), shelf(said),
-    ...findings(told, names), ...tags(told, names), ...conflict(told), ...rounds(told, names), ...maintainer(told, said), ...notes(told), ...granted(told.object.status), record(told)];
+  const rests = conditions(told), isWhole = told.object.kind === KIND.COMPLETE;
+  return [banner({ ...said, ...trial }, what, heading), ...isWhole ? [...rests, shelf(said)] : [shelf(said), ...rests],
+    ...findings(told, names), ...tags(told, names), ...conflict(told), ...rounds(told, names),
+    ...maintainer(told, said), ...notes(told), ...granted(told.object.status), record(told)];
 }
 
 /** @param {Told} told */
