@@ -11,7 +11,7 @@ sum_up nodes (suc d) n = slice_index nodes n + sum_up nodes d (n / 2)
 abbrev pub within : ℕ → ℕ → ℕ → Bool
 within from to n = nat_le from n && nat_lt n to
 
--- node n is the first one of a row and has a sister before it, or the last one and has one behind it
+-- node n is the first one of a row and has a sister before it, or the last one with one behind it
 abbrev pub ends : ℕ → ℕ → ℕ → Bool
 ends low high n = (n == low && low % 2 == 1) || (n + 1 == high && high % 2 == 1)
 
