@@ -9,6 +9,7 @@
 mod found;
 mod judgings;
 mod logs;
+mod margins;
 mod planted;
 mod sets;
 mod tags;
@@ -62,6 +63,12 @@ fn say_logs(rt: &HostRuntime) -> io::Result<()> {
     say(rt, "add", tags::add(rt.alloc()))
 }
 
+/// Makes the calls that count in how many slots UIDs were overlooked.
+fn say_margins(rt: &HostRuntime) -> io::Result<()> {
+    say_again(rt, "margin", margins::margin_row)?;
+    say_again(rt, "overlooked", margins::overlooked_row)
+}
+
 /// Makes the calls on sets of open UIDs.
 fn say_sets(rt: &HostRuntime) -> io::Result<()> {
     say_again(rt, "settle CellList", sets::settle_masks::<CellList>)?;
@@ -79,6 +86,7 @@ fn main(rt: HostRuntime) -> io::Result<()> {
         say_planted(&rt, alloc)
     } else if input.is_empty() {
         say_logs(&rt)?;
+        say_margins(&rt)?;
         say_sets(&rt)
     } else {
         judge_counted(&rt, alloc, &input)

@@ -13,6 +13,8 @@ mod log;
 #[cfg(test)]
 mod logs;
 #[cfg(test)]
+mod margin;
+#[cfg(test)]
 mod sources_and_sinks;
 #[cfg(test)]
 mod tree;

@@ -7,6 +7,8 @@ use vic_frame::{Mask, Uid};
 
 pub const A: u64 = 0xE004_0100_0000_00A1;
 
+pub const B: u64 = 0xE004_0100_0000_00B2;
+
 /// The first UID in the order of low bits.
 pub const Z: u64 = 0xE000_0000_0000_0000;
 

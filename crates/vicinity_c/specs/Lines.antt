@@ -32,6 +32,6 @@ line_of letter bytes uid =
     else no_line TOO_LONG)
     else if letter == byte "U" then lined (bytes_line letter (to_be_bytes w64 uid))
     else if letter == byte "S" || letter == byte "C" || letter == byte "D" || letter == byte "F"
-        || letter == byte "N"
+    || letter == byte "N"
     then lined (letter ∷ codes "\n")
     else no_line WRONG_LETTER
