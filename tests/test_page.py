@@ -55,7 +55,7 @@ SAID = (
     ("I1 RA I1 S", "if always, its reply was lost, or a Stay Quiet isn't in the log", "it came"),
     ("I1 S I1 RA", "if always, it came later", "a Stay Quiet isn't in the log; if never"),
     ("I1 RA I1 S", "A Stay Quiet or another request was sent", "One of these may have happened"),
-    ("V2 I1 D I1 S", "a slot that may have been noise gets no line", "write D"),
+    ("V2 I1 D I1 S", "a slot that may have been noise gets the line N", "write D"),
     ("I1 QA I1 S UA", "Line 3 silenced ..00A1 before it was heard.", "no slot was logged"),
     ("QA QB I1 S UA UB", "Lines 2 and 3 silenced 2 tags before they were heard.", "not proved"),
     ("I16 S14", "ended before slots E and F.", "E to F"),

@@ -5,8 +5,8 @@ import { count, short } from "./words.mjs";
 /** @typedef {import("./log.mjs").Slot} Slot */
 /** @typedef {{sentence: string, causes: string[], test: string}} Contradiction */
 
-const NOISE = "Noise was logged as an answer: a slot that may have been noise gets no line, nor does the rest of its round; in a log " +
-  "of version 3 it gets the line N.";
+const NOISE = "Noise was logged as an answer: a slot that may have been noise gets the line N; in a log of version 1 or 2 it gets no " +
+  "line, nor does the rest of its round.";
 const ONE_DAMAGED = "One damaged reply was logged as a collision: if the chip can't tell these apart, write D, in a log of version 2 or 3.";
 const HIDDEN = "A strong reply hid a weaker one: if the chip can't rule that out, write H for R, in a log of version 3.";
 const SECOND_READER = "A second reader kept tags powered and silent, or silenced some.";
@@ -43,7 +43,7 @@ function woke(slot, silencer) {
   return { sentence: `tag ${name(slot)} was silenced in line ${silencer}, but answered in line ${slot.line}.`,
     causes: ["The tag lost power for a moment, at the edge of the field or behind another tag, and woke up.",
       `The tag didn't receive the Stay Quiet of line ${silencer}.`,
-      "The field was switched off and on in between: then the log needs a line F there, and the header 'vicinity-log 2'.",
+      "The field was switched off and on in between: then the log needs a line F there, and the header 'vicinity-log 3'.",
       "A second reader woke it."],
     test: "Move the tag further into the field and away from others, and count again, in a new log." };
 }

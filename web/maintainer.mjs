@@ -9,7 +9,7 @@ const INSERT = "If a slot has a collision, ask its mask in sixteen slots. In the
 const ASK_UNDER = "What is left to ask where a reply may have hidden others: silence the tags that were read there, and ask again.";
 const SILENCED = "tags that were silenced before they were heard: only then do they answer";
 const NEW_VERSION = "Tags that were silenced before they were heard answer only after the field was switched off and on, and a log of " +
-  "version 1 has no line for that. Begin a new log, of version 2, and ask for the whole field again.";
+  "version 1 has no line for that. Begin a new log, of version 3, and ask for the whole field again.";
 
 /**
  * @param {Told} told
