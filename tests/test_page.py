@@ -59,7 +59,7 @@ SAID = (
     ("I1 QA I1 S UA", "Line 3 silenced ..00A1 before it was heard.", "no slot was logged"),
     ("QA QB I1 S UA UB", "Lines 2 and 3 silenced 2 tags before they were heard.", "not proved"),
     ("I16 S14", "ended before slots E and F.", "E to F"),
-    ("I1 QA I1 S UA", "Begin a new log, of version 2", "What is left to ask"),
+    ("I1 QA I1 S UA", "Begin a new log, of version 3", "What is left to ask"),
     ("V2 I1 QA I1 S UA", "write F, and ask for the tags that were silenced", "Begin a new log"),
     ("I1 C", "in sixteen slots, or in one", "one request for each"),
     ("I1 S QA UA", "its reply may have been lost in line 3", "stronger replies"),
