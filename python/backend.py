@@ -84,8 +84,8 @@ def build_wheel(wheel_directory, config_settings=None, metadata_directory=None):
 
 
 def build_wheel_with(wheel_directory, library, tag):
-    """A wheel with the library in it, for the machines of a tag such as manylinux2014_x86_64
-    or win_amd64."""
+    """A wheel with the library in it,
+    for the machines of a tag such as manylinux2014_x86_64 or win_amd64."""
     member = DLL if tag.startswith("win") else LIBRARY
     with open(library, "rb") as file:
         return _wheel(wheel_directory, {**_package(), member: file.read()}, tag)

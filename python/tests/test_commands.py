@@ -1,5 +1,5 @@
-"""What `python3 -m vicinity` writes, and its status, also where memory,
-streams and names are hostile."""
+"""What `python3 -m vicinity` writes, and its status,
+also where memory, streams and names are hostile."""
 import json
 import os
 import signal

@@ -15,8 +15,8 @@ from vicinity import Fault, Kind, _calls, _native
 
 
 class Frames(unittest.TestCase):
-    """What frames say, with the values of docs/FRAMES.md and of the table of masks
-    in docs/AIR.md."""
+    """What frames say, with the values of docs/FRAMES.md
+    and of the table of masks in docs/AIR.md."""
 
     def test_any_bytes_are_a_frame(self):
         for kind in (bytearray, memoryview):

@@ -79,15 +79,7 @@ def words() -> tuple[Words, Mapping[str, Words]]:
     for name, what in (("explain", "the answer to a log, and tags that show it"),
                        ("simulate", "the log that listed tags would produce for given requests")):
         commands.add(name, f"{what}, as the program does", f"answers.{name}_one", "LOG", 1, 1)
-    misread = commands.add(
-        "misread",
-        "a true log as a reader would have written it that misses, hides or mistakes replies",
-        "misread.misread", "LOG", 1, 1)
-    for chance, what in (("capture", "one reply is read over the others of its slot"),
-                         ("miss", "a reply isn't noticed"), ("noise", "noise covers a slot")):
-        misread.add_argument(f"--{chance}", metavar="P", type=_chance, default=0.0,
-                             help=f"the probability that {what}")
-    misread.add_argument("--seed", metavar="N", type=int, default=0, help="of the random numbers")
+    _misread(commands)
     commands.add("frame", "a frame in words, as the program does", "frames.frame", "HEX", 1, 1)
     commands.add("spell", "words as a frame, as the program does", "frames.spell", "WORD", 1, ANY)
     return top, commands.all.choices
@@ -132,6 +124,19 @@ def _of_collections(commands: _Commands) -> None:
     compare = commands.add("compare", "what has changed between two answers of reconcile --json",
                            "compare.compare", "OLD NEW", 2, 2)
     _forms(compare, lines="a line for each item that has changed", json="one object")
+
+
+def _misread(commands: _Commands) -> None:
+    """The command that writes a log as another reader would have written it."""
+    misread = commands.add(
+        "misread",
+        "a true log as a reader would have written it that misses, hides or mistakes replies",
+        "misread.misread", "LOG", 1, 1)
+    for chance, what in (("capture", "one reply is read over the others of its slot"),
+                         ("miss", "a reply isn't noticed"), ("noise", "noise covers a slot")):
+        misread.add_argument(f"--{chance}", metavar="P", type=_chance, default=0.0,
+                             help=f"the probability that {what}")
+    misread.add_argument("--seed", metavar="N", type=int, default=0, help="of the random numbers")
 
 
 def _jobs(word: str) -> int:

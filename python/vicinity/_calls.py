@@ -66,8 +66,9 @@ def check(text: BytesLike) -> Answer:
 
 
 def explain_into(text: BytesLike, room: ctypes.Array[ctypes.c_uint64]) -> tuple[Answer, int]:
-    """The answer to a text, and the number of UIDs in the counterexample. They are put at the start
-    of the buffer `room` if they fit; otherwise it stays as it is. Raises what `check` raises."""
+    """The answer to a text, and the number of UIDs in the counterexample.
+    They are put at the start of the buffer `room` if they fit; otherwise it stays as it is.
+    Raises what `check` raises."""
     text = bytes_of(text)
     told, needed = AnswerStruct(), ctypes.c_size_t()
     library().vicinity_explain(text, len(text), ctypes.byref(told), room, len(room),

@@ -134,8 +134,8 @@ CALLS = {
 
 
 def bytes_of(text: BytesLike) -> bytes:
-    """The bytes of a text or a frame. Other threads run during a call,
-    so anything that can change is copied."""
+    """The bytes of a text or a frame.
+    Other threads run during a call, so anything that can change is copied."""
     if isinstance(text, bytes):
         return text
     try:

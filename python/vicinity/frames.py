@@ -47,8 +47,9 @@ def uid_text(uid: int) -> str:
 
 
 def parse_uid(text: str) -> int:
-    """The UID in a text: 16 hex digits in either case, E0 first. Colons, dashes and spaces may be
-    among them, 0x or an apostrophe before them. Raises ValueError if it isn't one."""
+    """The UID in a text: 16 hex digits in either case, E0 first.
+    Colons, dashes and spaces may be among them, 0x or an apostrophe before them.
+    Raises ValueError if it isn't one."""
     digits = "".join(it for it in text if not (it.isspace() or it in BETWEEN_DIGITS))
     digits = digits.removeprefix("'")
     digits = digits[2:] if digits[:2] in ("0x", "0X") else digits
@@ -138,8 +139,8 @@ def write_line(letter: str, frame: BytesLike = b"", uid: int = 0) -> bytes:
 
 
 def slot_mask(slots: int, mask: Mask, slot: int) -> Mask:
-    """Which UIDs answer in a slot, counted from 0, of an Inventory request with 1 or 16 slots
-    and a mask.
+    """Which UIDs answer in a slot, counted from 0,
+    of an Inventory request with 1 or 16 slots and a mask.
 
     Raises ValueError if there is no such request or slot."""
     told = MaskStruct()

@@ -27,8 +27,8 @@ class State(Enum):
     NO_TAG = "no tag"
 
 
-#: The states of the items that a finding is about. An expected item without a finding is there,
-#: or misplaced.
+#: The states of the items that a finding is about.
+#: An expected item without a finding is there, or misplaced.
 STATES = {FindingKind.ABSENT: State.MISSING, FindingKind.DOUBTFUL: State.NOT_PROVABLE,
           FindingKind.UNLISTED: State.UNEXPECTED}
 
