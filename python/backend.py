@@ -1,5 +1,5 @@
-"""What pip calls to build the package (PEP 517). It needs only Python: nothing is downloaded, and nothing is left here. The
-same files make the same bytes."""
+"""What pip calls to build the package (PEP 517). It needs only Python: nothing is downloaded,
+and nothing is left here. The same files make the same bytes."""
 import base64
 import gzip
 import hashlib
@@ -23,14 +23,16 @@ EXECUTABLE, PLAIN = 0o755, 0o644
 
 def _project():
     """The strings of pyproject.toml, which Python can read itself from 3.11 on."""
-    return dict(re.findall(r'^([a-z-]+) = "(.*)"$', _content("pyproject.toml").decode(), re.MULTILINE))
+    return dict(re.findall(r'^([a-z-]+) = "(.*)"$', _content("pyproject.toml").decode(),
+                           re.MULTILINE))
 
 
 def _metadata():
     fields = ("Metadata-Version: 2.1\nName: {name}\nVersion: {version}\nSummary: {description}\n"
               "License: {license}\nRequires-Python: {requires-python}\n").format(**_project())
     files = "".join(f"License-File: {name}\n" for name in LICENSES)
-    return f"{fields}{files}Description-Content-Type: text/markdown\n\n".encode() + _content("README.md")
+    fields += f"{files}Description-Content-Type: text/markdown\n\n"
+    return fields.encode() + _content("README.md")
 
 
 def _modules():
@@ -41,7 +43,8 @@ def _modules():
 
 def _package():
     """The files of the package."""
-    page = _content(PAGE) if os.path.exists(os.path.join(HERE, PAGE)) else runpy.run_path(BUILD)["record"]().encode()
+    is_made = os.path.exists(os.path.join(HERE, PAGE))
+    page = _content(PAGE) if is_made else runpy.run_path(BUILD)["record"]().encode()
     return {**{name: _content(name) for name in _modules()}, PAGE: page}
 
 
@@ -50,11 +53,13 @@ def _wheel(folder, files, tag="any"):
     full = "{name}-{version}".format(**_project())
     about = f"{full}.dist-info"
     is_pure = "true" if tag == "any" else "false"
-    said = f"Wheel-Version: 1.0\nGenerator: backend.py\nRoot-Is-Purelib: {is_pure}\nTag: py3-none-{tag}\n"
+    said = ("Wheel-Version: 1.0\nGenerator: backend.py\n"
+            f"Root-Is-Purelib: {is_pure}\nTag: py3-none-{tag}\n")
     files = {**files, **{f"{about}/{name}": _content(name) for name in LICENSES},
              f"{about}/METADATA": _metadata(), f"{about}/WHEEL": said.encode(),
              f"{about}/entry_points.txt": SCRIPTS.encode()}
-    record = "".join(f"{name},sha256={_sum(content)},{len(content)}\n" for name, content in files.items())
+    record = "".join(f"{name},sha256={_sum(content)},{len(content)}\n"
+                     for name, content in files.items())
     files[f"{about}/RECORD"] = f"{record}{about}/RECORD,,\n".encode()
     name = f"{full}-py3-none-{tag}.whl"
     with zipfile.ZipFile(os.path.join(folder, name), "w", zipfile.ZIP_DEFLATED) as wheel:
@@ -79,9 +84,11 @@ def build_wheel(wheel_directory, config_settings=None, metadata_directory=None):
 
 
 def build_wheel_with(wheel_directory, library, tag):
-    """A wheel with the library in it, for the machines of a tag such as manylinux2014_x86_64 or win_amd64."""
+    """A wheel with the library in it,
+    for the machines of a tag such as manylinux2014_x86_64 or win_amd64."""
+    member = DLL if tag.startswith("win") else LIBRARY
     with open(library, "rb") as file:
-        return _wheel(wheel_directory, {**_package(), DLL if tag.startswith("win") else LIBRARY: file.read()}, tag)
+        return _wheel(wheel_directory, {**_package(), member: file.read()}, tag)
 
 
 def build_editable(wheel_directory, config_settings=None, metadata_directory=None):
@@ -90,12 +97,14 @@ def build_editable(wheel_directory, config_settings=None, metadata_directory=Non
 
 def build_sdist(sdist_directory, config_settings=None):
     full = "{name}-{version}".format(**_project())
-    files = {**{name: _content(name) for name in ["pyproject.toml", "backend.py", *ABOUT]}, **_package()}
+    files = {**{name: _content(name) for name in ["pyproject.toml", "backend.py", *ABOUT]},
+             **_package()}
     name = f"{full}.tar.gz"
-    with open(os.path.join(sdist_directory, name), "wb") as out, gzip.GzipFile("", "wb", fileobj=out, mtime=0) as packed:
-        with tarfile.open(fileobj=packed, mode="w", format=tarfile.PAX_FORMAT) as archive:
-            for member, content in {**files, "PKG-INFO": _metadata()}.items():
-                information = tarfile.TarInfo(f"{full}/{member}")
-                information.size, information.mode = len(content), PLAIN
-                archive.addfile(information, io.BytesIO(content))
+    with open(os.path.join(sdist_directory, name), "wb") as out:
+        with gzip.GzipFile("", "wb", fileobj=out, mtime=0) as packed:
+            with tarfile.open(fileobj=packed, mode="w", format=tarfile.PAX_FORMAT) as archive:
+                for member, content in {**files, "PKG-INFO": _metadata()}.items():
+                    information = tarfile.TarInfo(f"{full}/{member}")
+                    information.size, information.mode = len(content), PLAIN
+                    archive.addfile(information, io.BytesIO(content))
     return name

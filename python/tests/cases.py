@@ -1,4 +1,5 @@
-"""What the tests of the package share: lines of logs, their answers, and the commands of the package."""
+"""What the tests of the package share: lines of logs, their answers,
+and the commands of the package."""
 import contextlib
 import os
 import pty
@@ -33,7 +34,8 @@ NAMES = {
     b"a\tb\\c.log": r"a\tb\\c.log",
     b"\33]0;owned\7\33[2J\r.log": r"\x1b]0;owned\x07\x1b[2J\x0d.log",
     b"\xff.log": r"\xff.log",
-    "\u00e9\u6f22\u202e\u0085\u2028.log".encode(): "\u00e9\u6f22" r"\xe2\x80\xae\xc2\x85\xe2\x80\xa8.log",
+    "\u00e9\u6f22\u202e\u0085\u2028.log".encode():
+        "\u00e9\u6f22" r"\xe2\x80\xae\xc2\x85\xe2\x80\xa8.log",
 }
 
 # what is after the header, the answer, and the tags that show it
@@ -42,13 +44,17 @@ ANSWERS = [
     (ALL + HEARD_A + LIST_A, dict(kind=Kind.COMPLETE, status=0, count=1), "complete 1", []),
     (ALL + b"S\n" + LIST_A, dict(kind=Kind.ABSENT, status=1, uid=A), "absent E0040100000000A1", []),
     (ALL + HEARD_A, dict(kind=Kind.UNLISTED, status=1, uid=A), "unlisted E0040100000000A1", [A]),
-    (SILENCE_A + ALL + b"S\n", dict(kind=Kind.UNSETTLED, status=1, mask_len=56, mask_value=0x040100000000A1),
+    (SILENCE_A + ALL + b"S\n",
+     dict(kind=Kind.UNSETTLED, status=1, mask_len=56, mask_value=0x040100000000A1),
      "unsettled 56 040100000000A1", [A]),
-    (SILENCE_A + ALL + b"S\n" + LIST_A, dict(kind=Kind.DOUBTFUL, status=1, uid=A), "doubtful E0040100000000A1", []),
-    (ALL + b"S\n" + ALL + b"C\n", dict(kind=Kind.IMPOSSIBLE, status=2, line=5), "impossible at line 5", []),
+    (SILENCE_A + ALL + b"S\n" + LIST_A, dict(kind=Kind.DOUBTFUL, status=1, uid=A),
+     "doubtful E0040100000000A1", []),
+    (ALL + b"S\n" + ALL + b"C\n", dict(kind=Kind.IMPOSSIBLE, status=2, line=5),
+     "impossible at line 5", []),
     (ALL + b"S\nS\n", dict(kind=Kind.REFUSED, status=3, line=4, fault=Fault.SLOT_OUTSIDE_ROUND),
      "refused at line 4: SlotOutsideRound", []),
-    (b"T 260100F60B\n", dict(kind=Kind.REFUSED, status=3, line=2, fault=Fault.FRAME_CRC), "refused at line 2: Crc", []),
+    (b"T 260100F60B\n", dict(kind=Kind.REFUSED, status=3, line=2, fault=Fault.FRAME_CRC),
+     "refused at line 2: Crc", []),
 ]
 
 
@@ -70,11 +76,11 @@ def frame(content):
 
 
 def command(*words, given=b"", redirected="", limit="unlimited", **env):
-    """What `python3 -m vicinity` writes, and its status; with its streams redirected as a shell does it, and with at most
-    so many KiB of address space."""
+    """What `python3 -m vicinity` writes, and its status; with its streams redirected
+    as a shell does it, and with at most so many KiB of address space."""
     script = f'ulimit -v {limit}; exec "$@" {redirected}'
-    ran = subprocess.run(["sh", "-c", script, "sh", sys.executable, "-m", "vicinity", *words], input=given,
-                         capture_output=True, env={**os.environ, **env})
+    ran = subprocess.run(["sh", "-c", script, "sh", sys.executable, "-m", "vicinity", *words],
+                         input=given, capture_output=True, env={**os.environ, **env})
     return ran.stdout, ran.stderr, ran.returncode
 
 
@@ -86,21 +92,22 @@ def within(*given):
         said.extend(waiting)
         waiting.clear()
 
-    with mock.patch.multiple(_process, _write_out=take, _note=lambda *of: errors.extend(of)), \
-            mock.patch.object(sys, "argv", ["__main__.py", *map(os.fsdecode, given)]):
-        try:
-            status = main()
-        except _process.NoAnswer as why:
-            status = _process.complain(str(why))
-        except SystemExit as ended:  # after help
-            status = ended.code
+    with mock.patch.multiple(_process, _write_out=take, _note=lambda *of: errors.extend(of)):
+        with mock.patch.object(sys, "argv", ["__main__.py", *map(os.fsdecode, given)]):
+            try:
+                status = main()
+            except _process.NoAnswer as why:
+                status = _process.complain(str(why))
+            except SystemExit as ended:  # after help
+                status = ended.code
     return bytes(said), "".join(errors).encode(), status
 
 
 def on_a_terminal(*words, **env):
     """What a terminal gets."""
     ours, theirs = pty.openpty()
-    subprocess.run([sys.executable, "-m", "vicinity", *words], stdin=theirs, stdout=theirs, env={**os.environ, **env})
+    subprocess.run([sys.executable, "-m", "vicinity", *words], stdin=theirs, stdout=theirs,
+                   env={**os.environ, **env})
     os.close(theirs)
     told = b""
     with open(ours, "rb", buffering=0) as file, contextlib.suppress(OSError):
@@ -111,19 +118,24 @@ def on_a_terminal(*words, **env):
 
 def least():
     """How many KiB of address space the commands take by themselves."""
-    code = ("import vicinity.__main__, vicinity.commands.draw, vicinity.commands.reconcile; vicinity.check(b'')\n"
-            "with open('/proc/self/status') as file: print(*(it.split()[1] for it in file if it.startswith('VmPeak')))")
+    code = ("import vicinity.__main__, vicinity.commands.draw, vicinity.commands.reconcile; "
+            "vicinity.check(b'')\n"
+            "with open('/proc/self/status') as file: "
+            "print(*(it.split()[1] for it in file if it.startswith('VmPeak')))")
     return int(subprocess.run([sys.executable, "-c", code], capture_output=True).stdout)
 
 
 def here(form, expected, *logs, options=()):
-    """What the command writes, also to standard error, and its status, without a process of its own."""
-    asked = words()[1]["reconcile"].parse(["--expected", expected, f"--{form}", *options, "--", *logs])
-    with mock.patch.object(reconcile, "write") as write, mock.patch.object(reconcile, "complain") as complain:
+    """What the command writes, also to standard error, and its status,
+    without a process of its own."""
+    given = ["--expected", expected, f"--{form}", *options, "--", *logs]
+    asked = words()[1]["reconcile"].parse(given)
+    with mock.patch.multiple(reconcile, write=mock.DEFAULT, complain=mock.DEFAULT) as calls:
         status = reconcile.reconcile(asked)
-        said = [piece for call in write.call_args_list for piece in call[0][0]]
+        said = [piece for call in calls["write"].call_args_list for piece in call[0][0]]
         said = b"".join(piece if isinstance(piece, bytes) else piece.encode() for piece in said)
-        return said.decode("utf-8", "surrogateescape"), "".join(call[0][0] for call in complain.call_args_list), status
+        errors = "".join(call[0][0] for call in calls["complain"].call_args_list)
+        return said.decode("utf-8", "surrogateescape"), errors, status
 
 
 class Command(unittest.TestCase):
@@ -131,7 +143,8 @@ class Command(unittest.TestCase):
         folder = tempfile.TemporaryDirectory()
         self.addCleanup(folder.cleanup)
         self.folder = folder.name
-        self.names = [self.write(f"{number}.log", log(lines)) for number, (lines, *_) in enumerate(ANSWERS)]
+        self.names = [self.write(f"{number}.log", log(lines))
+                      for number, (lines, *_) in enumerate(ANSWERS)]
 
     def write(self, name, text):
         name = os.path.join(self.folder, name)
@@ -140,7 +153,8 @@ class Command(unittest.TestCase):
         return name
 
     def catalogue(self, content):
-        return self.write("catalogue.csv", content if isinstance(content, bytes) else content.encode())
+        return self.write("catalogue.csv",
+                          content if isinstance(content, bytes) else content.encode())
 
     def ask(self, *words, **more):
         return command("reconcile", *words, **more) if more else within("reconcile", *words)

@@ -1,4 +1,5 @@
-"""The package is tested over the library that LIBVICINITY names, or that of this clone, which is built first."""
+"""The package is tested over the library that LIBVICINITY names, or that of this clone,
+which is built first."""
 import os
 import subprocess
 from pathlib import Path

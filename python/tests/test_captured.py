@@ -1,5 +1,5 @@
-"""Whether an answer also holds if strong replies hid weaker ones: the text that is read again for it, and who says so. The
-answers are the worked ones of version 3."""
+"""Whether an answer also holds if strong replies hid weaker ones: the text that is read again
+for it, and who says so. The answers are the worked ones of version 3."""
 import json
 import os
 import pty
@@ -7,13 +7,14 @@ import subprocess
 import sys
 
 import vicinity
-from cases import (ALL, ANSWERS, COLLECTION, HEARD_A, HEARD_B, LIST_A, LIST_B, SHELVES, SILENCE_A, SIXTEEN,
-                   Command, frame, log, within)
+from cases import (ALL, ANSWERS, COLLECTION, HEARD_A, HEARD_B, LIST_A, LIST_B, SHELVES,
+                   SILENCE_A, SIXTEEN, Command, frame, log, within)
 
 CAPTURED_A, CAPTURED_B = (line.replace(b"R", b"H") for line in (HEARD_A, HEARD_B))
 SILENCE_B = b"T %s\n" % frame(bytes.fromhex("2202B2000000000104E0"))
 HIDDEN = {"holds": False, "status": 1, "kind": "unsettled", "mask_len": 1, "mask_value": "00"}
-#: By their places in ANSWERS, what also holds: all but the one in which a reply alone rules out all others.
+#: By their places in ANSWERS, what also holds:
+#: all but the one in which a reply alone rules out all others.
 CAPTURED = [{"holds": True}, HIDDEN, *[{"holds": True}] * 5, None, None]
 #: Two tags, the first of which was read over the second: with R a contradiction, with H all tags.
 OVER = ALL + HEARD_A + SILENCE_A + ALL + HEARD_B + SILENCE_B + ALL + b"S\n" + LIST_A + LIST_B
@@ -30,20 +31,26 @@ class Texts(Command):
         for text, wanted in (
                 (log(ALL + HEARD_A + LIST_A), third(ALL + HEARD_A.replace(b"R", b"H") + LIST_A)),
                 (b"vicinity-log 2\r\n# R 00\r\n\r\n" + ALL + lower + b"F\nU E0040100000000A1",
-                 b"vicinity-log 3\r\n# R 00\r\n\r\n" + ALL + b"H" + lower[1:] + b"F\nU E0040100000000A1"),
-                (b"vicinity-log 1\n# a\rR b\n" + ALL, third(b"# a\rR b\n" + ALL)), (b"vicinity-log 1", b"vicinity-log 3"),
-                (third(ALL + b"N\n" + ALL + HEARD_A), third(ALL + b"N\n" + ALL + HEARD_A.replace(b"R", b"H")))):
+                 b"vicinity-log 3\r\n# R 00\r\n\r\n" + ALL + b"H" + lower[1:]
+                 + b"F\nU E0040100000000A1"),
+                (b"vicinity-log 1\n# a\rR b\n" + ALL, third(b"# a\rR b\n" + ALL)),
+                (b"vicinity-log 1", b"vicinity-log 3"),
+                (third(ALL + b"N\n" + ALL + HEARD_A),
+                 third(ALL + b"N\n" + ALL + HEARD_A.replace(b"R", b"H")))):
             self.assertEqual(vicinity.captured(text), wanted)
             self.assertEqual(vicinity.captured(bytearray(text)), wanted)
             self.assertEqual(vicinity.captured(wanted), wanted)
 
     def test_a_text_that_is_refused_stays(self):
-        for text in (b"", b"vicinity-log 4\n", log(HEARD_A), log(ALL + HEARD_A + HEARD_A), log(ALL + b"N\n")):
+        for text in (b"", b"vicinity-log 4\n", log(HEARD_A), log(ALL + HEARD_A + HEARD_A),
+                     log(ALL + b"N\n")):
             self.assertEqual(vicinity.captured(text), text)
 
     def test_answers_to_it(self):
-        for lines, wanted in ((ALL + HEARD_A + LIST_A, "unsettled 1 00"), (ALL + HEARD_A, "unlisted E0040100000000A1"),
-                              (ALONE, "complete 1"), (OVER, "complete 2"), (ALL + HEARD_A + ALL + b"S\n", "impossible at line 5")):
+        for lines, wanted in ((ALL + HEARD_A + LIST_A, "unsettled 1 00"),
+                              (ALL + HEARD_A, "unlisted E0040100000000A1"),
+                              (ALONE, "complete 1"), (OVER, "complete 2"),
+                              (ALL + HEARD_A + ALL + b"S\n", "impossible at line 5")):
             self.assertEqual(str(vicinity.check(vicinity.captured(log(lines)))), wanted)
         self.assertEqual(str(vicinity.check(log(OVER))), "impossible at line 6")
 
@@ -55,7 +62,8 @@ class Said(Command):
             found = [json.loads(line) for line in said.splitlines()]
             self.assertEqual([it.get("captured") for it in found], CAPTURED)
             self.assertEqual(status, 3)
-        for lines, wanted in ((OVER, {"holds": False, "status": 0, "kind": "complete", "count": 2}), (ALONE, {"holds": True}),
+        for lines, wanted in ((OVER, {"holds": False, "status": 0, "kind": "complete", "count": 2}),
+                              (ALONE, {"holds": True}),
                               (SILENCE_B + ALL + HEARD_A + LIST_A, HIDDEN)):
             name = self.write("one.log", log(lines))
             self.assertEqual(json.loads(within("--json", name)[0])["captured"], wanted)
@@ -76,9 +84,12 @@ class Said(Command):
         for lines, wanted in (
                 (ALONE, f"{also} yes."), (ALL + HEARD_A, f"{also} yes."),
                 (ALL + HEARD_A + LIST_A, f"{also} no, 'unsettled 1 00'. {ask} (T 260100F60A)."),
-                (other + HEARD_A + LIST_A, f"{also} no, 'unsettled 1 00'. {ask} ({other.decode().strip()})."),
-                (SILENCE_B + ALL + HEARD_A + LIST_A, f"{also} no, 'unsettled 1 00'. {ask} (T 260100F60A)."),
-                (OVER, f"{also} no, 'complete 2'. If replies may hide others, write H in place of R, in a log of version 3.")):
+                (other + HEARD_A + LIST_A,
+                 f"{also} no, 'unsettled 1 00'. {ask} ({other.decode().strip()})."),
+                (SILENCE_B + ALL + HEARD_A + LIST_A,
+                 f"{also} no, 'unsettled 1 00'. {ask} (T 260100F60A)."),
+                (OVER, f"{also} no, 'complete 2'. "
+                 "If replies may hide others, write H in place of R, in a log of version 3.")):
             name = self.write("one.log", log(lines))
             *_, said, answer = within("show", name)[0].decode().strip("\n").split("\n\n")
             self.assertEqual(" ".join(said.split("\n"))[-len(wanted):], wanted)
@@ -88,7 +99,8 @@ class Said(Command):
 
 class Collections(Command):
     def test_each_log_of_a_collection(self):
-        """A log says the same of its field, or names a mask; one that contradicts itself gives the other answer."""
+        """A log says the same of its field, or names a mask;
+        one that contradicts itself gives the other answer."""
         logs = [self.write(f"{name}.log", log(lines)) for name, lines in (
             ("alone", ALONE), ("heard", ALL + HEARD_A), ("over", OVER), ("refused", b"X\n"),
             ("part", SIXTEEN + b"S\n" + HEARD_A + b"S\n" * 12))]
@@ -99,21 +111,24 @@ class Collections(Command):
         said = json.loads(within("reconcile", "--json", "--expected", listed, *logs)[0])
         self.assertEqual([it.get("captured") for it in said["logs"]], wanted)
         records = self.write("records", within("survey", *logs[:3], logs[4])[0])
-        again = json.loads(within("reconcile", "--json", "--expected", listed, "--surveys", records)[0])
+        again = json.loads(
+            within("reconcile", "--json", "--expected", listed, "--surveys", records)[0])
         self.assertEqual([it["captured"] for it in again["logs"]], [*wanted[:3], wanted[4]])
 
     def test_records_that_say_it_wrongly(self):
         record = json.loads(within("survey", self.write("a.log", log(ALL + HEARD_A)))[0])
         listed = self.write("expected.log", log(LIST_A))
-        for captured in ({}, {"holds": False}, {"holds": False, "mask_len": 1, "mask_value": "2"}, None):
+        for captured in ({}, {"holds": False},
+                         {"holds": False, "mask_len": 1, "mask_value": "2"}, None):
             name = self.write("records", json.dumps({**record, "captured": captured}).encode())
-            self.assertEqual(within("reconcile", "--expected", listed, "--surveys", name)[::2], (b"", 3), captured)
+            self.assertEqual(within("reconcile", "--expected", listed, "--surveys", name)[::2],
+                             (b"", 3), captured)
 
     def on_a_terminal(self, *words):
         """What is written on standard output, and on standard error if that is a terminal."""
         ours, theirs = pty.openpty()
-        ran = subprocess.run([sys.executable, "-m", "vicinity", "reconcile", "--expected", *words], stdout=subprocess.PIPE,
-                             stderr=theirs, check=False)
+        ran = subprocess.run([sys.executable, "-m", "vicinity", "reconcile", "--expected", *words],
+                             stdout=subprocess.PIPE, stderr=theirs, check=False)
         os.write(theirs, b".\n")
         told = os.read(ours, 4096).decode().replace("\r\n", "\n")
         os.close(ours)
@@ -122,17 +137,22 @@ class Collections(Command):
 
     def test_sentences_in_a_terminal(self):
         """They stand beside the lines, which are those of the program."""
-        one, other = (self.write(name, log(lines)) for name, lines in (("alone.log", ALONE), ("heard.log", ALL + HEARD_A)))
+        one, other = (self.write(name, log(lines))
+                      for name, lines in (("alone.log", ALONE), ("heard.log", ALL + HEARD_A)))
         listed = self.write("expected.log", log(LIST_A))
-        power, also = "This is said of tags that had power", "Would also hold if a strong reply hid a weaker one:"
+        power = "This is said of tags that had power"
+        also = "Would also hold if a strong reply hid a weaker one:"
         said, told = self.on_a_terminal(listed, one)
-        self.assertEqual((said, told.startswith(power), told.endswith(f"\n{also} yes.\n")), ("complete 1\n", True, True))
+        self.assertEqual((said, told.startswith(power), told.endswith(f"\n{also} yes.\n")),
+                         ("complete 1\n", True, True))
         said, told = self.on_a_terminal(listed, one, other)
         self.assertEqual(said, "complete 1\n")
-        self.assertTrue(told.endswith(f"\n{also} no. Silence each tag that was heard, and ask all in one slot, until none "
-                                      f"answers, in {other}.\n"), told)
+        self.assertTrue(told.endswith(
+            f"\n{also} no. Silence each tag that was heard, and ask all in one slot, "
+            f"until none answers, in {other}.\n"), told)
         logs = [self.write(f"{number}.log", log(ALL + HEARD_A)) for number in range(22)]
-        self.assertIn(f", in {', '.join(logs[:20])} and 2 other logs.\n", self.on_a_terminal(listed, *logs)[1])
+        self.assertIn(f", in {', '.join(logs[:20])} and 2 other logs.\n",
+                      self.on_a_terminal(listed, *logs)[1])
         catalogue = os.path.join(COLLECTION, "catalogue.csv")
         self.assertNotIn(power, self.on_a_terminal(catalogue, *SHELVES)[1])
         self.assertEqual(within("reconcile", "--expected", listed, one), (b"complete 1\n", b"", 0))
@@ -145,39 +165,49 @@ class Sessions(Command):
         return within("show", "--ascii", *words, self.write("one.log", third(lines)))[0].decode()
 
     def test_they_are_drawn(self):
-        """A silenced tag has a q, another that may not have been alone a +, and - is a slot of which nothing is known."""
+        """A silenced tag has a q, another that may not have been alone a +,
+        and - is a slot of which nothing is known."""
         asked = b"T 26010400AB05\n"
-        lines = SIXTEEN + b"N\n" + CAPTURED_A + CAPTURED_B + b"S\n" * 13 + SILENCE_A + asked + b"S\n" + LIST_A + LIST_B
+        heard = CAPTURED_A + CAPTURED_B + b"S\n" * 13 + SILENCE_A
+        lines = SIXTEEN + b"N\n" + heard + asked + b"S\n" + LIST_A + LIST_B
         self.assertEqual(self.shown(lines).splitlines()[2:5], [
             "", "   lines  asked 0  1  2  3  4  5  6  7  8  9  A  B  C  D  E  F",
             " 2 to 19  ..    - A1qB2+ .  .  .  .  .  .  .  .  .  .  .  .  ."])
 
     def test_they_are_quoted(self):
         said = self.shown(ALL + CAPTURED_A)
-        self.assertIn("by line 3: E0040100000000A1 answered, perhaps with others; asked: all UIDs\n", said)
+        self.assertIn("by line 3: E0040100000000A1 answered, perhaps with others; "
+                      "asked: all UIDs\n", said)
 
     def test_contradictions(self):
         short = vicinity.write_line("T", vicinity.write_inventory(2, 1, vicinity.Mask(8, 0xB2)))
         hid = "- A strong reply hid a weaker one: the stronger of the two was read over the other."
         for lines, sentence, cause in (
-                (ALL + CAPTURED_A + ALL + HEARD_B, "tags ..00A1 (line 3) and ..00B2 (line 5) were read, one of them alone, but "
-                 "both should have answered.", hid),
-                (ALL + HEARD_B + ALL + CAPTURED_A, "tags ..00B2 (line 3) and ..00A1 (line 5) were read, one of them alone, but "
-                 "both should have answered.", hid),
-                (ALL + b"S\n" + ALL + CAPTURED_A, "tag ..00A1 answered in line 5, but not in line 3, where it was also asked.",
+                (ALL + CAPTURED_A + ALL + HEARD_B,
+                 "tags ..00A1 (line 3) and ..00B2 (line 5) were read, one of them alone, "
+                 "but both should have answered.", hid),
+                (ALL + HEARD_B + ALL + CAPTURED_A,
+                 "tags ..00B2 (line 3) and ..00A1 (line 5) were read, one of them alone, "
+                 "but both should have answered.", hid),
+                (ALL + b"S\n" + ALL + CAPTURED_A,
+                 "tag ..00A1 answered in line 5, but not in line 3, where it was also asked.",
                  "- Its reply in line 3 was lost"),
-                (ALL + CAPTURED_A + SILENCE_A + ALL + CAPTURED_A, "tag ..00A1 was silenced in line 4, but answered in line 6.",
+                (ALL + CAPTURED_A + SILENCE_A + ALL + CAPTURED_A,
+                 "tag ..00A1 was silenced in line 4, but answered in line 6.",
                  "- The tag lost power for a moment"),
-                (short + CAPTURED_A, "line 3 is a reply of ..00A1, a tag that the request in line 2 didn't ask.",
+                (short + CAPTURED_A,
+                 "line 3 is a reply of ..00A1, a tag that the request in line 2 didn't ask.",
                  "- Line 3 was logged under the wrong request")):
             said = " ".join(self.shown(lines).split("\n"))
             self.assertIn(f"The log contradicts itself: {sentence}", said)
             self.assertIn(f"These causes fit: {cause}", said.replace("   ", " "))
 
     def test_a_reply_that_several_lines_may_have_hidden(self):
-        """In line 3 two or more answered; A and B were heard, each where it may have hidden another."""
+        """In line 3 two or more answered; A and B were heard,
+        each where it may have hidden another."""
         even, odd = b"T 26010100137B\n", b"T 260101019A6A\n"
-        said = within("show", self.write("one.log", log(ALL + b"C\n" + even + b"S\n" + odd + HEARD_A + SILENCE_A)))[0].decode()
+        lines = ALL + b"C\n" + even + b"S\n" + odd + HEARD_A + SILENCE_A
+        said = within("show", self.write("one.log", log(lines)))[0].decode()
         self.assertIn("- A strong reply in line 7 hid a weaker one.", said)
 
     def test_a_silenced_tag_that_was_heard_is_not_noted(self):
@@ -185,5 +215,6 @@ class Sessions(Command):
 
     def test_a_round_with_a_slot_of_which_nothing_is_known_did_not_ask_all(self):
         for last, noted in ((b"N\n", True), (b"S\n", False)):
-            said = self.shown(SIXTEEN + b"S\n" * 15 + last)
-            self.assertEqual("the last round didn't ask all tags: one that no earlier round asked" in said.replace("\n  ", " "), noted)
+            said = self.shown(SIXTEEN + b"S\n" * 15 + last).replace("\n  ", " ")
+            note = "the last round didn't ask all tags: one that no earlier round asked"
+            self.assertEqual(note in said, noted)

@@ -1,4 +1,5 @@
-"""Catalogues as people have them: UIDs, tags, places, separators, encodings; and what is written of them."""
+"""Catalogues as people have them: UIDs, tags, places, separators, encodings;
+and what is written of them."""
 import csv
 import io
 import json
@@ -14,7 +15,8 @@ from vicinity.collections.tables import Wrong
 
 class Catalogues(Command):
     def test_a_list(self):
-        for lines, text in ((b"", "complete 0"), (b"# text\n\nU E0040100000000A1\r\n", "absent E0040100000000A1"),
+        for lines, text in ((b"", "complete 0"),
+                            (b"# text\n\nU E0040100000000A1\r\n", "absent E0040100000000A1"),
                             (LIST_A + LIST_A, "refused at line 3 of {}: DuplicateListed"),
                             (b"U 010401000000A1E0\n", "refused at line 2 of {}: NotVicinity"),
                             (ALL + LIST_A, "refused at line 2 of {}: NotListed"),
@@ -22,11 +24,13 @@ class Catalogues(Command):
                             (b"F\n", "refused at line 2 of {}: UnknownEntry")):
             listed = self.write("listed", log(lines))
             status = 3 if text.startswith("refused") else int(not text.startswith("complete"))
-            self.assertEqual(here("lines", listed, self.names[0]), (f"{text.format(listed)}\n", "", status))
+            self.assertEqual(here("lines", listed, self.names[0]),
+                             (f"{text.format(listed)}\n", "", status))
             if status == 3:
                 self.assertEqual(here("json", listed, self.names[0]), ("", text.format(listed), 3))
         listed = self.write("listed", b"vicinity-log 2\n\nF\n" + LIST_A)
-        self.assertEqual(here("lines", listed, "x"), (f"refused at line 3 of {listed}: NotListed\n", "", 3))
+        self.assertEqual(here("lines", listed, "x"),
+                         (f"refused at line 3 of {listed}: NotListed\n", "", 3))
         listed = self.write("listed", log(LIST_A))
         for options in (["--column", "uid"], ["--place", "shelf"], ["--tags", listed]):
             said = here("lines", listed, "x", options=options)
@@ -34,30 +38,38 @@ class Catalogues(Command):
 
     def test_catalogues(self):
         for content, column in (
-                ("uid\nE0040100000000A1\n", None), ("Title, UID \r\n\"a\r\nb, c\",e0 04 01 00 00 00 00 a1\r\n", None),
-                ("\ufeffUid,x\nE0:04:01:00:00:00:00:A1,1\n\n,\n", None), ("tag;uid\nE0040100000000A1;1\n", "tag"),
+                ("uid\nE0040100000000A1\n", None),
+                ("Title, UID \r\n\"a\r\nb, c\",e0 04 01 00 00 00 00 a1\r\n", None),
+                ("\ufeffUid,x\nE0:04:01:00:00:00:00:A1,1\n\n,\n", None),
+                ("tag;uid\nE0040100000000A1;1\n", "tag"),
                 ("x\tuid\n\tE0040100000000A1", None), ("uid,,\n E0040100000000A1 ,,\n", None)):
             options = ["--column", column] if column else []
             said = here("lines", self.catalogue(content), self.names[1], options=options)
             self.assertEqual(said, ("complete 1\n", "", 0), content)
 
     def test_uids_as_people_write_them(self):
-        for cell in ("e0-04-01-00-00-00-00-a1", "0xE0040100000000A1", "'E0040100000000A1", "E004 0100\u00a00000 00A1",
-                     "0XE0:04:01:00:00:00:00:A1", "E004\u20130100\u20130000\u201300A1"):
+        for cell in ("e0-04-01-00-00-00-00-a1", "0xE0040100000000A1", "'E0040100000000A1",
+                     "E004 0100\u00a00000 00A1", "0XE0:04:01:00:00:00:00:A1",
+                     "E004\u20130100\u20130000\u201300A1"):
             self.assertEqual(vicinity.parse_uid(cell), A)
             said = here("csv", self.catalogue(f"uid,title\n{cell},a\n"), self.names[1])
-            self.assertEqual(said[0], f"uid,title,state,certain in,may be in\n{cell},a,there,{self.names[1]},\n")
-        for cell in ("", "E0040100000000A", "E0040100000000A1A", "x0E0040100000000A1", "00E0040100000000A1",
-                     "A1000000000104E0", "E0_040100000000A1", "E0040100000000\uff211"):
+            self.assertEqual(said[0], "uid,title,state,certain in,may be in\n"
+                             f"{cell},a,there,{self.names[1]},\n")
+        for cell in ("", "E0040100000000A", "E0040100000000A1A", "x0E0040100000000A1",
+                     "00E0040100000000A1", "A1000000000104E0", "E0_040100000000A1",
+                     "E0040100000000\uff211"):
             with self.assertRaisesRegex(ValueError, "isn't a UID"):
                 vicinity.parse_uid(cell)
 
     def test_the_form_of_a_catalogue_is_kept(self):
         added = ("state", "certain in", "may be in")
         for before, separator, end, encoding, options in (
-                (b"", ",", "\n", "utf-8", []), (b"\xef\xbb\xbf", ";", "\r\n", "utf-8", []), (b"", ";", "\r", "utf-8", []),
+                (b"", ",", "\n", "utf-8", []),
+                (b"\xef\xbb\xbf", ";", "\r\n", "utf-8", []),
+                (b"", ";", "\r", "utf-8", []),
                 (b"", "\t", "\r\n", "windows-1252", ["--encoding", "windows-1252"]),
-                (b"\xff\xfe", ";", "\r\n", "utf-16-le", []), (b"\xfe\xff", ",", "\n", "utf-16-be", []),
+                (b"\xff\xfe", ";", "\r\n", "utf-16-le", []),
+                (b"\xfe\xff", ",", "\n", "utf-16-be", []),
                 (b"", "|", "\n", "utf-16-le", ["--encoding", "utf-16"])):
             for first in ("", f"sep={separator}{end}"):
                 for quote in ("", '"'):
@@ -69,14 +81,18 @@ class Catalogues(Command):
                     name = self.write("catalogue.csv", given)
                     wanted = first + line(*head, *added) + line(*row, "there", self.names[1], "")
                     for _ in range(2):
-                        said, errors, status = here("csv", name, self.names[1], options=["--column", "TAG ID", *options])
+                        said, errors, status = here("csv", name, self.names[1],
+                                                    options=["--column", "TAG ID", *options])
                         said = said.encode("utf-8", "surrogateescape")
-                        self.assertEqual((said, errors, status), (before + wanted.encode(encoding), "", 0), (given, options))
+                        self.assertEqual((said, errors, status),
+                                         (before + wanted.encode(encoding), "", 0),
+                                         (given, options))
                         self.write("catalogue.csv", said)
 
     def test_names_that_another_encoding_lacks(self):
         name = self.write("\u6f22.log", log(ALL + HEARD_A))
-        words = ["--expected", self.catalogue("uid\nE0040100000000A1\n"), "--encoding", "windows-1252", "--csv"]
+        words = ["--expected", self.catalogue("uid\nE0040100000000A1\n"),
+                 "--encoding", "windows-1252", "--csv"]
         self.assertIn(b"/\\u6f22.log,\n", self.ask(*words, name)[0])
 
     def test_an_unexpected_tag_is_not_expected_the_next_time(self):
@@ -89,10 +105,13 @@ class Catalogues(Command):
             self.catalogue(said)
 
     def test_columns_of_an_earlier_run_that_were_moved(self):
-        name = self.catalogue("May be in,uid,STATE,shelf,certain in\n,E0040100000000A1,unexpected,a,x\n"
+        name = self.catalogue("May be in,uid,STATE,shelf,certain in\n"
+                              ",E0040100000000A1,unexpected,a,x\n"
                               ",E0040100000000B2,there,b,x\n")
-        self.assertEqual(here("csv", name, self.names[1])[0], "uid,shelf,state,certain in,may be in\n"
-                         f"E0040100000000B2,b,missing,,\nE0040100000000A1,,unexpected,{self.names[1]},\n")
+        self.assertEqual(here("csv", name, self.names[1])[0],
+                         "uid,shelf,state,certain in,may be in\n"
+                         "E0040100000000B2,b,missing,,\n"
+                         f"E0040100000000A1,,unexpected,{self.names[1]},\n")
 
     def test_a_column_of_the_catalogue_that_is_named_like_ours(self):
         name = self.catalogue("uid,State\nE0040100000000A1,worn\n")
@@ -104,18 +123,22 @@ class Catalogues(Command):
 
     def test_rows_without_a_tag(self):
         name = self.catalogue("title,uid\na,\nb,E0040100000000A1\nc, \n")
-        self.assertEqual(here("lines", name, self.names[1]), ("no tag in row 2\nno tag in row 4\ncomplete 1\n", "", 0))
-        self.assertEqual(here("csv", name, self.names[1])[0], "title,uid,state,certain in,may be in\na,,no tag,,\n"
+        self.assertEqual(here("lines", name, self.names[1]),
+                         ("no tag in row 2\nno tag in row 4\ncomplete 1\n", "", 0))
+        self.assertEqual(here("csv", name, self.names[1])[0],
+                         "title,uid,state,certain in,may be in\na,,no tag,,\n"
                          f"b,E0040100000000A1,there,{self.names[1]},\nc, ,no tag,,\n")
         told = json.loads(here("json", name, self.names[1])[0])
         self.assertEqual([(it["uid"], it["state"]) for it in told["items"]],
                          [(None, "no tag"), ("E0040100000000A1", "there"), (None, "no tag")])
         self.assertEqual(told["counts"]["no tag"], 2)
         told, plain = drawn_in(here("page", name, self.names[1])[0])
-        self.assertEqual((told["counts"]["no tag"], plain), (2, here("lines", name, self.names[1])[0]))
+        self.assertEqual((told["counts"]["no tag"], plain),
+                         (2, here("lines", name, self.names[1])[0]))
 
     def test_names_of_logs_in_a_cell(self):
-        one, other = self.write("a; b.log", log(ALL + HEARD_A)), self.write("c.log", log(ALL + HEARD_A))
+        one = self.write("a; b.log", log(ALL + HEARD_A))
+        other = self.write("c.log", log(ALL + HEARD_A))
         said = here("csv", self.catalogue("uid\nE0040100000000A1\n"), one, other)[0]
         cell = next(csv.reader(io.StringIO(said.splitlines()[1])))[2]
         self.assertEqual([it.replace("\\x3b", ";") for it in cell.split("; ")], [one, other])
@@ -123,25 +146,32 @@ class Catalogues(Command):
     def test_wrong_tags(self):
         catalogue = self.catalogue("barcode,title\n17,a\n18,b\n")
         for tags, options, why in (
-                ("uid,barcode\nE0040100000000A1,17\nE0040100000000A1,18\n", [], "row 3: E0040100000000A1 is also the tag of 17"),
-                ("uid,title,barcode\n", [], "row 1: several columns are also in"), ("uid,x,y\n", [], "no column is also in"),
-                ("uid\n", [], "row 1: no column is also in"), ("barcode,tag\n", [], "row 1: no column is named uid"),
+                ("uid,barcode\nE0040100000000A1,17\nE0040100000000A1,18\n", [],
+                 "row 3: E0040100000000A1 is also the tag of 17"),
+                ("uid,title,barcode\n", [], "row 1: several columns are also in"),
+                ("uid,x,y\n", [], "no column is also in"),
+                ("uid\n", [], "row 1: no column is also in"),
+                ("barcode,tag\n", [], "row 1: no column is named uid"),
                 ("uid,barcode\nx,17\n", [], "row 2: 'x' isn't a UID"),
                 ("uid,barcode\n", ["--column", "shelf"], "row 1: no column is named shelf")):
             name = self.write("tags.csv", tags.encode())
-            said, errors, status = here("lines", catalogue, self.names[1], options=["--tags", name, *options])
+            said, errors, status = here("lines", catalogue, self.names[1],
+                                        options=["--tags", name, *options])
             self.assertEqual((said, status), ("", 3))
             self.assertIn(why, errors)
         catalogue = self.catalogue("barcode,uid\n17,\n")
-        self.assertIn("it has a column uid itself", here("lines", catalogue, "x", options=["--tags", name])[1])
+        self.assertIn("it has a column uid itself",
+                      here("lines", catalogue, "x", options=["--tags", name])[1])
 
     def test_tags(self):
         catalogue = self.catalogue("Barcode;title\nx17;a\nx18;b\n;c\n")
-        tags = self.write("tags.csv", b"uid,BARCODE\nE0040100000000A1,X17\nE0040100000000B2,x19\n,x18\n")
+        tags = self.write("tags.csv",
+                          b"uid,BARCODE\nE0040100000000A1,X17\nE0040100000000B2,x19\n,x18\n")
         both = self.write("both.log", log(SIXTEEN + b"S\n" + HEARD_A + HEARD_B + b"S\n" * 13))
         said, _, status = here("csv", catalogue, both, options=["--tags", tags])
         self.assertEqual((said, status), (
-            "Barcode;title;uid;state;certain in;may be in\n" + f"x17;a;E0040100000000A1;there;{both};\n"
+            "Barcode;title;uid;state;certain in;may be in\n"
+            f"x17;a;E0040100000000A1;there;{both};\n"
             f"x18;b;;no tag;;\n;c;;no tag;;\nx19;;E0040100000000B2;unexpected;{both};\n", 1))
         tags = self.write("tags.csv", b"uid,code\nE0040100000000A1,x17\nE0040100000000B2,x17\n")
         said = here("csv", catalogue, both, options=["--tags", tags, "--column", "Barcode"])
@@ -149,25 +179,30 @@ class Catalogues(Command):
 
     def test_places(self):
         catalogue = self.catalogue("uid,shelf\nE0040100000000A1,North\nE0040100000000B2,South\n")
-        north, south = self.write("north.log", log(ALL + HEARD_A)), self.write("SOUTH.log", log(ALL + HEARD_B))
+        north = self.write("north.log", log(ALL + HEARD_A))
+        south = self.write("SOUTH.log", log(ALL + HEARD_B))
         place = ["--place", "shelf"]
-        self.assertEqual(here("lines", catalogue, north, south, options=place), ("complete 2\n", "", 0))
+        self.assertEqual(here("lines", catalogue, north, south, options=place),
+                         ("complete 2\n", "", 0))
         both = self.write("south.log", log(SIXTEEN + b"S\n" + HEARD_A + HEARD_B + b"S\n" * 13))
         empty = self.write("north.log", NOTHING)
         said = f"misplaced E0040100000000A1 in {both}, belongs to North\n"
         self.assertEqual(here("lines", catalogue, empty, both, options=place), (said, "", 1))
         told = json.loads(here("json", catalogue, empty, both, options=place)[0])
-        self.assertEqual((told["status"], told["kind"], told["uid"]), (1, "misplaced", "E0040100000000A1"))
+        self.assertEqual((told["status"], told["kind"], told["uid"]),
+                         (1, "misplaced", "E0040100000000A1"))
         told, plain = drawn_in(here("page", catalogue, empty, both, options=place)[0])
         self.assertEqual((told["status"], told["kind"], plain), (1, "misplaced", said))
         rows = [("North", both), ("North", empty), ("South", both), ("East", "/nowhere.log")]
-        places = self.write("places.csv", "".join(f"{a};{b}\n" for a, b in [("Place", "Log"), *rows]).encode())
+        places = self.write("places.csv",
+                            "".join(f"{a};{b}\n" for a, b in [("Place", "Log"), *rows]).encode())
         said = here("lines", catalogue, empty, both, options=[*place, "--places", places])
         self.assertEqual(said, ("complete 2\n", "", 0))
 
     def test_an_item_whose_own_log_is_set_aside(self):
         catalogue = self.catalogue("uid,shelf\nE0040100000000A1,a\nE0040100000000B2,b\n")
-        there, broken = self.write("a.log", log(ALL + HEARD_A)), self.write("b.log", log(ALL + b"S\n" + ALL + HEARD_B))
+        there = self.write("a.log", log(ALL + HEARD_A))
+        broken = self.write("b.log", log(ALL + b"S\n" + ALL + HEARD_B))
         both = self.write("c.log", log(SIXTEEN + b"S\n" + HEARD_A + HEARD_B + b"S\n" * 13))
         said, _, status = here("csv", catalogue, there, broken, both, options=["--place", "shelf"])
         self.assertEqual((said.splitlines()[1:], status), (
@@ -179,13 +214,16 @@ class Catalogues(Command):
         one, other = self.write("a.log", NOTHING), self.write("a.txt", NOTHING)
         for logs, options, why in (
                 ([one, other], ["--place", "shelf"], "two logs are of the place a, by their names"),
-                ([self.names[0]], ["--place", "shelf"], "no log is of any place of the catalogue, such as a"),
+                ([self.names[0]], ["--place", "shelf"],
+                 "no log is of any place of the catalogue, such as a"),
                 ([one], ["--place", "room"], "row 1: no column is named room"),
-                ([one], ["--place", "shelf", "--places", catalogue], "row 1: no column is named place")):
+                ([one], ["--place", "shelf", "--places", catalogue],
+                 "row 1: no column is named place")):
             said, errors, status = here("lines", catalogue, *logs, options=options)
             self.assertEqual((said, status), ("", 3))
             self.assertIn(why, errors)
-        listed = self.ask("--expected", catalogue, "--place", "shelf", one, other, self.write("a", NOTHING))
+        listed = self.ask("--expected", catalogue, "--place", "shelf", one, other,
+                          self.write("a", NOTHING))
         self.assertEqual(listed[2], 3)
 
     def test_wrong_catalogues(self):
@@ -197,22 +235,28 @@ class Catalogues(Command):
                 (first + "E0040100000000AG,b", None, 3, "isn't a UID"),
                 (first + "E0040100000000\ufb00,b", None, 3, "isn't a UID"),
                 (first + "\"x\ny\",b\ne0040100000000a1,c\n", None, 3, r"'x\\ny' isn't a UID"),
-                (first + "e0:04:01:00:00:00:00:a1,b\n", None, 3, "E0040100000000A1 is also in row 2"),
+                (first + "e0:04:01:00:00:00:00:a1,b\n", None, 3,
+                 "E0040100000000A1 is also in row 2"),
                 (first + "E0040100000000B2,b,c\n", None, 3, "it has 3 cells"),
                 (first, "shelf", 1, "no column is named shelf"),
                 (first, "tag", 1, "no column is named tag; the columns are: uid, title;"),
                 ("tag,title\nE0040100000000A1,a\n", None, 1, "no column is named uid"),
-                ("", None, 1, "the columns are: none"), ("uid,UID\n", None, 1, "two columns are named uid"),
+                ("", None, 1, "the columns are: none"),
+                ("uid,UID\n", None, 1, "two columns are named uid"),
                 ("uid,x,x\n", None, 1, "two columns are named x"),
-                (first.encode() + b"E0040100000000B2,\xff\n", None, 3, "it isn't UTF-8; .*--encoding .*windows-1252"),
+                (first.encode() + b"E0040100000000B2,\xff\n", None, 3,
+                 "it isn't UTF-8; .*--encoding .*windows-1252"),
                 (first.encode("utf-16-le"), None, 1, "utf-16-le is UTF-16"),
                 (b"uid,\xff\n", None, 1, "it isn't UTF-8"),
-                (first + "E0040100000000B2,\"b\nE0040100000000B3,c\n", None, 3, "unexpected end of data"),
+                (first + "E0040100000000B2,\"b\nE0040100000000B3,c\n", None, 3,
+                 "unexpected end of data"),
                 (first + "E0040100000000B2,\"b\"c\n", None, 3, "expected after"),
-                (first + "E0040100000000B2," + "b" * 200_000, None, 3, "field larger than field limit"),
+                (first + "E0040100000000B2," + "b" * 200_000, None, 3,
+                 "field larger than field limit"),
                 ("u" * 200_000 + "\n", None, 1, "field larger than field limit")):
             with self.assertRaisesRegex(Wrong, rf"\Aa\.csv, row {row}: .*{why}.*\Z", msg=content):
-                catalogue("a.csv", content if isinstance(content, bytes) else content.encode(), How(column))
+                text = content if isinstance(content, bytes) else content.encode()
+                catalogue("a.csv", text, How(column))
         for encoding in ("x", "base64", "idna", "undefined"):
             with self.assertRaisesRegex(Wrong, rf"\Ano encoding is named {encoding}\Z"):
                 catalogue("a.csv", first.encode(), How(encoding=encoding))
@@ -220,4 +264,5 @@ class Catalogues(Command):
         for form in FORMS_OF_RECONCILE:
             said, errors, status = self.ask("--expected", wrong, *form, self.names[1], "/nowhere")
             self.assertEqual((said, status, errors.count(b"\n")), (b"", 3, 1))
-            self.assertRegex(errors.decode(), rf"\Avicinity: {re.escape(wrong)}, row 3: '-' isn't a UID")
+            self.assertRegex(errors.decode(),
+                             rf"\Avicinity: {re.escape(wrong)}, row 3: '-' isn't a UID")

@@ -1,12 +1,13 @@
-"""What `python3 -m vicinity` writes, and its status, also where memory, streams and names are hostile."""
+"""What `python3 -m vicinity` writes, and its status,
+also where memory, streams and names are hostile."""
 import json
 import os
 import signal
 import subprocess
 import sys
 
-from cases import (ALL, ANSWERS, FULL, HEARD_A, LIST_A, NAMES, SILENCE_A, SIXTEEN, Command, command, least, log,
-                   on_a_terminal, within)
+from cases import (ALL, ANSWERS, FULL, HEARD_A, LIST_A, NAMES, SILENCE_A, SIXTEEN, Command,
+                   command, least, log, on_a_terminal, within)
 import vicinity.__main__
 
 COMPLETE = log(ALL + b"S\n")
@@ -52,9 +53,11 @@ class Answers(Command):
             {"status": 2, "kind": "impossible", "line": 5},
             {"status": 3, "kind": "refused", "line": 4, "fault": "SlotOutsideRound"},
             {"status": 3, "kind": "refused", "line": 2, "fault": "Crc"},
-            {"status": 4, "kind": "no answer", "error": "cannot read /nowhere.log: No such file or directory"},
+            {"status": 4, "kind": "no answer",
+             "error": "cannot read /nowhere.log: No such file or directory"},
         ]
-        self.assertEqual([{key: it[key] for key in it if key not in ("file", "schema", "captured")} for it in found], wanted)
+        self.assertEqual([{key: it[key] for key in it if key not in ("file", "schema", "captured")}
+                          for it in found], wanted)
         self.assertEqual({it["schema"] for it in found}, {1})
         self.assertEqual(status, 4)
 
@@ -64,16 +67,20 @@ class Answers(Command):
         self.assertTrue(errors.startswith(b"vicinity: the library /nowhere.so can't be loaded"))
 
     def test_a_text_without_end_is_read_as_far_as_it_matters(self):
-        self.assertEqual(within("/dev/zero")[::2], (b"/dev/zero: refused at line 1: LineTooLong\n", 3))
+        self.assertEqual(within("/dev/zero")[::2],
+                         (b"/dev/zero: refused at line 1: LineTooLong\n", 3))
 
 
 class Words(Command):
     def test_words_that_are_no_command(self):
         name = self.names[0]
-        for words in ([], ["--tabs", "--json", name], ["--other", name], ["show"], ["page", name, name], ["--ascii", name],
-                      ["page", "--ascii", name], ["show", "--json", name]):
+        for words in ([], ["--tabs", "--json", name], ["--other", name], ["show"],
+                      ["page", name, name], ["--ascii", name], ["page", "--ascii", name],
+                      ["show", "--json", name]):
             said, errors, status = within(*words)
-            self.assertEqual((said, errors.startswith(b"vicinity: "), b"\nusage: " in errors, status), (b"", True, True, 4))
+            self.assertEqual((said, status), (b"", 4))
+            self.assertTrue(errors.startswith(b"vicinity: "))
+            self.assertIn(b"\nusage: ", errors)
 
     def test_options_stand_anywhere(self):
         shown = within("show", "--ascii", self.names[0])
@@ -86,7 +93,8 @@ class Words(Command):
 
     def test_a_name_that_begins_with_a_dash(self):
         self.write("--tabs", COMPLETE)
-        ran = subprocess.run([sys.executable, "-m", "vicinity", "--", "--tabs"], cwd=self.folder, capture_output=True)
+        ran = subprocess.run([sys.executable, "-m", "vicinity", "--", "--tabs"], cwd=self.folder,
+                             capture_output=True)
         self.assertEqual((ran.stdout, ran.returncode), (b"--tabs: complete 0\n", 0))
 
     def test_help_and_version(self):
@@ -109,25 +117,32 @@ class Words(Command):
         for locale, is_ascii in (("C", True), ("POSIX", True), ("C.UTF-8", False)):
             said = command("show", self.names[6], LC_ALL=locale)[0]
             self.assertEqual(said.isascii(), is_ascii, locale)
-        self.assertEqual(command("show", self.names[6], LC_ALL="C")[0], command("show", "--ascii", self.names[6])[0])
+        self.assertEqual(command("show", self.names[6], LC_ALL="C")[0],
+                         command("show", "--ascii", self.names[6])[0])
 
     def test_a_text_that_ends_in_the_middle_of_a_line(self):
         for lines, is_cut in ((ALL + HEARD_A[:-5], True), (ALL + HEARD_A[:-5] + b"\n", False),
                               (ALL + b"X\n" + ALL, False), (b"T 26010", True)):
             told = json.loads(within("report", "--json", self.write("cut.log", log(lines)))[0])
-            self.assertEqual((told["kind"], "was it cut?" in told["sentence"]), ("refused", is_cut), lines)
-        self.assertNotIn(b"was it cut?", within("report", "--json", self.write("empty.log", b""))[0])
+            self.assertEqual((told["kind"], "was it cut?" in told["sentence"]),
+                             ("refused", is_cut), lines)
+        self.assertNotIn(b"was it cut?",
+                         within("report", "--json", self.write("empty.log", b""))[0])
 
     def test_a_last_round_that_does_not_ask_all(self):
-        last = vicinity.write_line("T", vicinity.write_inventory(2, 1, vicinity.Mask(8, 0xB2))) + b"S\n"
-        for before, missed in ((ALL + HEARD_A, "stronger replies hid"), (b"", "no earlier round asked"),
+        request = vicinity.write_inventory(2, 1, vicinity.Mask(8, 0xB2))
+        last = vicinity.write_line("T", request) + b"S\n"
+        for before, missed in ((ALL + HEARD_A, "stronger replies hid"),
+                               (b"", "no earlier round asked"),
                                (SIXTEEN + b"S\n" * 15, "no earlier round asked"),
                                (SIXTEEN + b"S\n" + HEARD_A + b"S\n" * 14, "stronger")):
             said = within("report", self.write("some.log", log(before + last)))[0].decode()
             self.assertIn(f"the last round didn't ask all tags: one that {missed}", said)
         alone = ALL + HEARD_A + SILENCE_A + ALL + b"S\n" + last + LIST_A
-        for lines in (last + ALL + b"S\n", ALL + b"S\n" + last, alone):  # in the others no reply can have hidden a tag
-            self.assertNotIn("last round", within("report", self.write("some.log", log(lines)))[0].decode())
+        # in the others no reply can have hidden a tag
+        for lines in (last + ALL + b"S\n", ALL + b"S\n" + last, alone):
+            self.assertNotIn("last round",
+                             within("report", self.write("some.log", log(lines)))[0].decode())
 
     def test_options_are_not_abbreviated(self):
         self.assertEqual(within("check", "--tab", self.names[0])[::2], (b"", 4))
@@ -138,7 +153,8 @@ class Words(Command):
         for listed in ("\0".join(self.names), "\n".join(self.names)):
             for words in ([], ["check"]):
                 self.assertEqual(command(*words, "--logs-from", "-", given=listed.encode()), wanted)
-        said = within("report", self.names[0], "--logs-from", self.write("names", os.fsencode(self.names[2])))
+        said = within("report", self.names[0], "--logs-from",
+                      self.write("names", os.fsencode(self.names[2])))
         self.assertEqual(said, within("report", self.names[0], self.names[2]))
 
 
@@ -155,14 +171,16 @@ class Memory(Command):
         self.assertEqual(said.decode(), f"{first}: complete 0\n{last}: complete 1\n")
         self.assertEqual((errors.decode(), status), (f"vicinity: out of memory: {large}\n", 4))
         for form in ("show", "page"):
-            self.assertEqual(command(form, large, limit=self.least + 100_000), (b"", b"vicinity: out of memory\n", 4))
+            self.assertEqual(command(form, large, limit=self.least + 100_000),
+                             (b"", b"vicinity: out of memory\n", 4))
 
     def test_it_is_refused_while_a_file_is_judged_or_drawn(self):
         for form, rounds in (([], 400_000), (["show"], 30_000), (["page"], 30_000)):
             large = self.write("large.log", log((ALL + b"S\n") * rounds))
             statuses = []
             for more in (2_000, 4_000, 6_000, 8_000, 10_000, 30_000):
-                said, errors, status = command(*form, large, *([] if form else self.names[:1]), limit=self.least + more)
+                said, errors, status = command(*form, large, *([] if form else self.names[:1]),
+                                               limit=self.least + more)
                 self.assertRegex(errors, rb"\A(vicinity: out of memory.*\n)?\Z")
                 self.assertEqual(status, 4 if errors else 0)
                 if not form:
@@ -177,36 +195,43 @@ class Streams(Command):
         for redirected, why in ((">&-", "Bad file descriptor"), (">/dev/full", FULL)):
             for these in words:
                 ended = command(*these, redirected=redirected)
-                self.assertEqual(ended, (b"", f"vicinity: write failed: {why}\n".encode(), 4), these)
+                self.assertEqual(ended,
+                                 (b"", f"vicinity: write failed: {why}\n".encode(), 4), these)
 
     def test_a_pipe_that_nobody_reads(self):
         for form in FORMS:
             read, write = os.pipe()
             os.close(read)
             with open(write, "wb") as pipe:
-                ran = subprocess.run([sys.executable, "-m", "vicinity", *form, self.names[0]], stdout=pipe,
-                                     stderr=subprocess.PIPE)
-            self.assertEqual((ran.stderr, ran.returncode), (b"vicinity: write failed: Broken pipe\n", 4))
+                ran = subprocess.run([sys.executable, "-m", "vicinity", *form, self.names[0]],
+                                     stdout=pipe, stderr=subprocess.PIPE)
+            self.assertEqual((ran.stderr, ran.returncode),
+                             (b"vicinity: write failed: Broken pipe\n", 4))
 
     def test_standard_error_that_takes_nothing(self):
         first, last = self.names[0], self.names[2]
         wanted = f"{first}: complete 0\n{last}: absent E0040100000000A1\n".encode()
         for redirected in ("2>&-", "2>/dev/full"):
-            self.assertEqual(command(first, "/nowhere.log", last, redirected=redirected), (wanted, b"", 4))
+            self.assertEqual(command(first, "/nowhere.log", last, redirected=redirected),
+                             (wanted, b"", 4))
             for form in FORMS:
                 self.assertEqual(command(*form, last, redirected=redirected)[1:], (b"", 1))
-                self.assertEqual(command(*form, "/nowhere.log", redirected=redirected)[1:], (b"", 4))
-                self.assertEqual(command(*form, last, redirected=f">&- {redirected}"), (b"", b"", 4))
+                self.assertEqual(command(*form, "/nowhere.log", redirected=redirected)[1:],
+                                 (b"", 4))
+                self.assertEqual(command(*form, last, redirected=f">&- {redirected}"),
+                                 (b"", b"", 4))
             self.assertEqual(command("--other", redirected=redirected), (b"", b"", 4))
 
     def test_standard_input_that_is_closed(self):
         for form in FORMS:
             said, errors, status = command(*form, "-", redirected="<&-")
-            self.assertEqual((errors, status), (b"vicinity: cannot read -: Bad file descriptor\n", 4))
+            self.assertEqual((errors, status),
+                             (b"vicinity: cannot read -: Bad file descriptor\n", 4))
 
     def test_an_interrupt_is_no_traceback(self):
-        ran = subprocess.Popen([sys.executable, "-m", "vicinity", self.names[0], "-"], stdin=subprocess.PIPE,
-                               stdout=subprocess.PIPE, stderr=subprocess.PIPE)
+        ran = subprocess.Popen([sys.executable, "-m", "vicinity", self.names[0], "-"],
+                               stdin=subprocess.PIPE, stdout=subprocess.PIPE,
+                               stderr=subprocess.PIPE)
         self.assertEqual(ran.stdout.readline(), f"{self.names[0]}: complete 0\n".encode())
         ran.send_signal(signal.SIGINT)
         self.assertEqual((*ran.communicate(), ran.returncode), (b"", b"", -signal.SIGINT))
@@ -214,14 +239,15 @@ class Streams(Command):
     def test_a_defect_is_no_answer(self):
         code = "import sys; from vicinity._process import run; sys.exit(run(lambda: 1 // 0))"
         ran = subprocess.run([sys.executable, "-c", code], capture_output=True)
-        self.assertEqual((ran.stdout, ran.stderr, ran.returncode),
-                         (b"", b"vicinity: ZeroDivisionError: integer division or modulo by zero\n", 4))
+        said = b"vicinity: ZeroDivisionError: integer division or modulo by zero\n"
+        self.assertEqual((ran.stdout, ran.stderr, ran.returncode), (b"", said, 4))
 
 
 class Names(Command):
     def test_they_stay_in_their_line(self):
         for name, shown in NAMES.items():
-            path, where = os.path.join(os.fsencode(self.folder), name), os.path.join(self.folder, shown)
+            path = os.path.join(os.fsencode(self.folder), name)
+            where = os.path.join(self.folder, shown)
             missing = f"cannot read {where}: No such file or directory"
             self.assertEqual(within(path), (b"", f"vicinity: {missing}\n".encode(), 4))
             self.assertEqual(json.loads(within("--json", path)[0])["error"], missing)
@@ -233,13 +259,15 @@ class Names(Command):
             for form in ("show", "page"):
                 said, errors, status = within(form, path)
                 self.assertEqual((errors, status), (b"", 0))
-                self.assertNotRegex(said.decode(), "[\0-\x08\x0b-\x1f\x7f-\x9f\u2028\u202e]|&#5[5-7][0-9]{3};")
+                self.assertNotRegex(said.decode(),
+                                    "[\0-\x08\x0b-\x1f\x7f-\x9f\u2028\u202e]|&#5[5-7][0-9]{3};")
 
     def test_printf_gives_them_back(self):
         for name in NAMES:
             path = os.path.join(os.fsencode(self.folder), name)
             shown = within("--tabs", path)[0].split(b"\t")[0]
-            given = subprocess.run(["bash", "-c", 'printf %b "$1"', "bash", shown], capture_output=True).stdout
+            given = subprocess.run(["bash", "-c", 'printf %b "$1"', "bash", shown],
+                                   capture_output=True).stdout
             self.assertEqual(given, path)
 
     def test_words_that_are_refused(self):

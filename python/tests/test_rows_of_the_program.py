@@ -1,5 +1,5 @@
-"""`explain`, `simulate`, `frame` and `spell` write what the program writes: they are asked for its rows in
-tests/data/rows, without a process for each."""
+"""`explain`, `simulate`, `frame` and `spell` write what the program writes:
+they are asked for its rows in tests/data/rows, without a process for each."""
 from unittest import mock
 
 import pytest
@@ -26,9 +26,11 @@ class Package:
             return Said(f"{answer}\n".encode(), b"", answer.status)
         module, written = MODULES[asks], []
         asked = words()[1][asks].parse(operands or ["-"])
-        with mock.patch.object(module, "write", written.extend), mock.patch.object(answers, "read", lambda _: given):
-            status = getattr(module, asked.does.partition(".")[2])(asked)
-        return Said(b"".join(it if isinstance(it, bytes) else it.encode() for it in written), b"", status)
+        with mock.patch.object(module, "write", written.extend):
+            with mock.patch.object(answers, "read", lambda _: given):
+                status = getattr(module, asked.does.partition(".")[2])(asked)
+        said = b"".join(it if isinstance(it, bytes) else it.encode() for it in written)
+        return Said(said, b"", status)
 
 
 @pytest.mark.parametrize(("command", "given", "answers", "status"),
@@ -42,7 +44,8 @@ def test_rows_of_each_command_are_there():
 
 
 @pytest.mark.parametrize(("name", "operand", "why"), (
-    ("frame", "26 01", "Hex"), ("frame", "\uff12\uff16", "Hex"), ("frame", "x" * 130, "LineTooLong"),
+    ("frame", "26 01", "Hex"), ("frame", "\uff12\uff16", "Hex"),
+    ("frame", "x" * 130, "LineTooLong"),
     ("spell", "request inventory link \uff12 slots 1 mask 0 -", "Words"),
     (("spell", "request inventory link " + "1" * 5000 + " slots 1 mask 0 -", "Words"))))
 def test_what_is_refused(name, operand, why):

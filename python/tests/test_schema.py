@@ -1,4 +1,5 @@
-"""What the commands write as JSON is as docs/answers.schema.json says, and what isn't is refused by it."""
+"""What the commands write as JSON is as docs/answers.schema.json says,
+and what isn't is refused by it."""
 import copy
 import json
 import os
@@ -31,14 +32,16 @@ class Schema(Command):
         for line in within("survey", *names)[0].splitlines():
             told = json.loads(line)
             yield told, "check" if told["status"] > 1 else "survey"
-        yield from ((drawn_in(command("page", name)[0].decode())[0], "log") for name in names if name != "/nowhere")
+        yield from ((drawn_in(command("page", name)[0].decode())[0], "log")
+                    for name in names if name != "/nowhere")
         catalogue = os.path.join(COLLECTION, "catalogue.csv")
         place = ["--place", "shelf", "--places", os.path.join(COLLECTION, "places.csv")]
         answers = [here("json", catalogue, *logs, options=place)[0]
                    for logs in (SHELVES, [*SHELVES[:2], *self.names], [*SHELVES, self.names[7]])]
         yield from ((json.loads(answer), "collection") for answer in answers)
         yield drawn_in(here("page", catalogue, *SHELVES, options=place)[0])[0], "collection"
-        old, *others = [self.write(f"{index}.json", answer.encode()) for index, answer in enumerate(answers)]
+        old, *others = [self.write(f"{index}.json", answer.encode())
+                        for index, answer in enumerate(answers)]
         for new in others:
             yield json.loads(within("compare", "--json", old, new)[0]), "comparison"
 
@@ -51,13 +54,15 @@ class Schema(Command):
 
     def test_each_field_is_needed(self):
         for told, kind in {kind: (told, kind) for told, kind in self.objects()}.values():
-            for field in self.schema["$defs"][kind]["required"] if kind in ("collection", "log") else told:
+            has_more = kind in ("collection", "log")
+            for field in self.schema["$defs"][kind]["required"] if has_more else told:
                 left = {key: value for key, value in told.items() if key != field}
                 self.assertFalse(self.fits(left, kind)[1], (kind, field))
             self.assertFalse(self.fits({**told, "schema": 2}, kind)[1])
 
     def test_masks_that_are_not_padded_do_not_fit(self):
-        told = next(told for told, kind in self.objects() if told.get("kind") == "unsettled" and kind == "check")
+        told = next(told for told, kind in self.objects()
+                    if told.get("kind") == "unsettled" and kind == "check")
         for value in ("E", "", "0e", "-0"):
             changed = copy.deepcopy(told)
             changed["mask_value"] = value

@@ -1,10 +1,11 @@
-"""A collection of 40 shelves and 2,000 items, of which it is known what was planted in it: a log that
-contradicts itself, misplaced and missing items, tags that aren't in the catalogue, rows without a tag.
+"""A collection of 40 shelves and 2,000 items, of which it is known what was planted in it:
+a log that contradicts itself, misplaced and missing items, tags that aren't in the catalogue,
+rows without a tag.
 
-The logs are made here: a field of tags is asked, and each answer noted, without the package. What is
-wanted was worked out by hand, once with the log that contradicts itself and once with another in its
-place: in data/shelves, the lines, the rows of all items that aren't just there, and the answer in JSON.
-The UID of an item ends in its number.
+The logs are made here: a field of tags is asked, and each answer noted, without the package.
+What is wanted was worked out by hand, once with the log that contradicts itself and once
+with another in its place: in data/shelves, the lines, the rows of all items that aren't just there,
+and the answer in JSON. The UID of an item ends in its number.
 """
 import csv
 import io
@@ -39,7 +40,8 @@ def round_over(field, length, value, lines):
     for slot in range(16):
         ending = value | slot << length
         answering = [uid for uid in field if uid % (1 << length + SPLIT) == ending]
-        lines.append(b"S\n" if not answering else reply(answering[0]) if len(answering) == 1 else b"C\n")
+        lines.append(b"S\n" if not answering else
+                     reply(answering[0]) if len(answering) == 1 else b"C\n")
         if len(answering) > 1:
             collided.append((answering, length + SPLIT, ending))
     for there, longer, ending in collided:
@@ -54,8 +56,10 @@ class Shelves:
     """The UIDs of the tags of items, and the tags on each shelf."""
 
     def __init__(self):
-        self.uids = {item: int(f"E00401500000{item:04}", 16) for item in range(ITEMS) if item not in UNTAGGED}
-        self.fields = {shelf: [uid for uid, where in UNEXPECTED.items() if where == shelf] for shelf in SHELVES}
+        self.uids = {item: int(f"E00401500000{item:04}", 16)
+                     for item in range(ITEMS) if item not in UNTAGGED}
+        self.fields = {shelf: [uid for uid, where in UNEXPECTED.items() if where == shelf]
+                       for shelf in SHELVES}
         for item in self.uids.keys() - set(MISSING):
             self.fields[MISPLACED.get(item, belongs(item))].append(self.uids[item])
 
@@ -112,7 +116,8 @@ class Collection(Command):
         planted = list(csv.reader(io.StringIO(wanted(f"{state}.csv"))))
         by_code = {row[0]: row for row in planted if row[0]}
         yield [*self.rows[0], "state", "certain in", "may be in"]
-        yield from (by_code.get(row[0], [*row, "there", f"{row[3]}.log", ""]) for row in self.rows[1:])
+        yield from (by_code.get(row[0], [*row, "there", f"{row[3]}.log", ""])
+                    for row in self.rows[1:])
         yield from (row for row in planted if not row[0])
 
     def wanted_object(self, state):
@@ -121,14 +126,16 @@ class Collection(Command):
         rows = list(self.wanted_rows(state))[1:]
         told["items"] = [{"uid": uid or None, "state": known,
                           "columns": {"Barcode": barcode, "Title": title, "Shelf": shelf},
-                          "certain_in": [certain] * bool(certain), "may_be_in": [may_be] * bool(may_be),
+                          "certain_in": [certain] * bool(certain),
+                          "may_be_in": [may_be] * bool(may_be),
                           **({"belongs": shelf} if shelf else {})}
                          for barcode, title, uid, shelf, known, certain, may_be in rows]
         told["logs"] = []
         for log in self.logs:
             uids = [row[2] for row in rows if row[5] == log]
             said = {"status": 1, "kind": "unlisted", "uid": min(uids, default="")}
-            told["logs"].append({"file": log, "certain": len(uids), "open": [], "more_open": False, "list": said})
+            told["logs"].append({"file": log, "certain": len(uids), "open": [], "more_open": False,
+                                 "list": said})
         for aside in told["set_aside"]:
             said = {key: aside[key] for key in ("status", "kind", "line")}
             told["logs"][self.logs.index(aside["file"])].update(
@@ -136,13 +143,16 @@ class Collection(Command):
         return told
 
     def test_what_is_planted(self):
-        self.assertEqual((len(UNTAGGED), len(MISSING), len(MISPLACED), len(self.logs)), (20, 3, 5, 40))
-        self.assertEqual((len(self.shelves.uids), sum(map(len, self.shelves.fields.values()))), (1980, 1979))
+        self.assertEqual((len(UNTAGGED), len(MISSING), len(MISPLACED), len(self.logs)),
+                         (20, 3, 5, 40))
+        self.assertEqual((len(self.shelves.uids), sum(map(len, self.shelves.fields.values()))),
+                         (1980, 1979))
 
     def test_lines(self):
         for state, status in self.states():
             for jobs in "13":
-                self.assertEqual(self.ask("lines", "--jobs", jobs), (wanted(f"{state}.lines"), "", status))
+                self.assertEqual(self.ask("lines", "--jobs", jobs),
+                                 (wanted(f"{state}.lines"), "", status))
 
     def test_csv(self):
         for state, status in self.states():
@@ -150,14 +160,16 @@ class Collection(Command):
             for _ in range(2):
                 said = self.ask("csv")
                 self.assertEqual(said, (as_csv(self.wanted_rows(state)), why, status))
-                self.write("catalogue.csv", said[0].encode())  # which is the catalogue of the next time
+                # which is the catalogue of the next time
+                self.write("catalogue.csv", said[0].encode())
 
     def test_json(self):
         for state, status in self.states():
             said, errors, ended = self.ask("json")
             told = json.loads(said)
             holds = [it.pop("captured")["holds"] for it in told["logs"]]  # no log asks again
-            self.assertEqual(holds, [state == "broken" and log == f"{BROKEN}.log" for log in self.logs])
+            self.assertEqual(holds,
+                             [state == "broken" and log == f"{BROKEN}.log" for log in self.logs])
             self.assertEqual((told, errors, ended), (self.wanted_object(state), "", status))
 
     def test_page(self):
@@ -167,38 +179,44 @@ class Collection(Command):
         self.assertEqual(plain, wanted("broken.lines"))
         broken = [log for log in told["logs"] if log["list"]["status"] > 1]
         self.assertEqual([log["object"]["answer"] for log in broken], ["impossible at line 190"])
-        for part in told.pop("version"), told.pop("name"), *(log.pop("object") for log in told["logs"]):
-            self.assertTrue(part)
+        self.assertTrue(told.pop("version") and told.pop("name"))
         for log in told["logs"]:
+            self.assertTrue(log.pop("object"))
             self.assertIn("captured", log)
             del log["captured"]
         self.assertEqual(told, self.wanted_object("broken"))
 
     def test_strict_ends_as_the_program_does(self):
-        self.assertEqual(self.ask("lines", "--strict"), ("impossible at line 190 of S17.log\n", "", 2))
+        self.assertEqual(self.ask("lines", "--strict"),
+                         ("impossible at line 190 of S17.log\n", "", 2))
 
     def test_surveys_of_other_machines(self):
         for state, _ in self.states():
             for name, some in (("one.jsonl", self.logs[:25]), ("two.jsonl", self.logs[25:])):
                 said, errors, ended = within("survey", *some)
-                self.assertEqual((errors, ended), (b"", 2 * (state == "broken" and name == "one.jsonl")))
+                self.assertEqual((errors, ended),
+                                 (b"", 2 * (state == "broken" and name == "one.jsonl")))
                 self.write(name, said)
             options = [*self.OPTIONS, "--surveys", "one.jsonl", "two.jsonl"]
             for form in ("lines", "csv", "json"):
                 self.assertEqual(here(form, "catalogue.csv", options=options), self.ask(form), form)
             told, plain = drawn_in(here("page", "catalogue.csv", options=options)[0])
-            self.assertEqual(([log.get("object") for log in told["logs"]], plain), ([None] * len(self.logs), wanted(f"{state}.lines")))
+            self.assertEqual(([log.get("object") for log in told["logs"]], plain),
+                             ([None] * len(self.logs), wanted(f"{state}.lines")))
 
     def test_some_logs_and_the_surveys_of_others(self):
         self.write("one.jsonl", within("survey", *self.logs[:25])[0])
-        said = here("lines", "catalogue.csv", *self.logs[25:], options=[*self.OPTIONS, "--surveys", "one.jsonl"])
+        said = here("lines", "catalogue.csv", *self.logs[25:],
+                    options=[*self.OPTIONS, "--surveys", "one.jsonl"])
         self.assertEqual(said, (wanted("broken.lines"), "", 2))
 
     def test_tags_in_a_file_of_their_own(self):
         titles = [[barcode, title, shelf] for barcode, title, _, shelf in self.rows]
         self.write("titles.csv", as_csv(titles).encode())
-        tags = [[uid, barcode] for barcode, _, uid, _ in self.rows[1:] if uid] + [["E0040188000000A1", "B90001"]]
-        self.write("tags.csv", as_csv([["uid", "barcode"], *tags]).encode())
+        tags = [["uid", "barcode"],
+                *([uid, barcode] for barcode, _, uid, _ in self.rows[1:] if uid),
+                ["E0040188000000A1", "B90001"]]
+        self.write("tags.csv", as_csv(tags).encode())
         options = ["--tags", "tags.csv", "--place", "Shelf"]
         said, _, status = here("csv", "titles.csv", *self.logs, options=options)
         rows = as_csv([[barcode, title, shelf, uid if barcode != "Barcode" else "uid", *rest]
@@ -209,12 +227,13 @@ class Collection(Command):
 
     def test_logs_that_are_named_in_a_file(self):
         lines = wanted("broken.lines")
-        for listed in ("\0".join(self.logs), "\n".join(self.logs) + "\n", "\0".join(self.logs) + "\0"):
+        for listed in ("\0".join(self.logs), "\n".join(self.logs) + "\n",
+                       "\0".join(self.logs) + "\0"):
             name = self.write("names", listed.encode())
             said = here("lines", "catalogue.csv", options=[*self.OPTIONS, "--logs-from", name])
             self.assertEqual(said, (lines, "", 2))
-        said = command("reconcile", "--expected", "catalogue.csv", *self.OPTIONS, "--logs-from", "-",
-                       given="\n".join(self.logs).encode())
+        said = command("reconcile", "--expected", "catalogue.csv", *self.OPTIONS,
+                       "--logs-from", "-", given="\n".join(self.logs).encode())
         self.assertEqual(said, (lines.encode(), b"", 2))
 
     def test_what_has_changed_since(self):

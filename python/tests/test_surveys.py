@@ -9,8 +9,10 @@ class Surveys(Command):
         listed = self.write("listed", log(LIST_A))
         good = within("survey", self.names[1])[0]
         told = json.loads(good)
-        changed = [{**told, "schema": 2}, {**told, "status": 1}, {**told, "kind": "absent"}, {**told, "count": "x"}, [],
-                   {**told, "certain": [{"uid": "E0040100000000A", "line": 3}]}, {**told, "open": [{"mask_len": 1}]},
+        changed = [{**told, "schema": 2}, {**told, "status": 1}, {**told, "kind": "absent"},
+                   {**told, "count": "x"}, [],
+                   {**told, "certain": [{"uid": "E0040100000000A", "line": 3}]},
+                   {**told, "open": [{"mask_len": 1}]},
                    {**told, "open": [{"mask_len": 4, "mask_value": "1F"}]}, {**told, "file": 3},
                    {**told, "open": [{"mask_len": 64, "mask_value": "0" * 16}]},
                    *[{**told, "certain": [{"uid": "E0040100000000A1", "line": line}]}
@@ -22,37 +24,47 @@ class Surveys(Command):
             self.assertEqual((said, status), (b"", 3), content)
             self.assertIn(b"surveys, line 2: it isn't a survey", errors)
         name = self.write("surveys", good + good)
-        self.assertIn(b"line 2: there is another survey of", within("reconcile", "--expected", listed, "--surveys", name)[1])
+        self.assertIn(b"line 2: there is another survey of",
+                      within("reconcile", "--expected", listed, "--surveys", name)[1])
 
     def test_surveys(self):
         listed = self.write("listed", log(LIST_A))
         said, errors, status = within("survey", *self.names[:7], "/nowhere")
         found = [json.loads(line) for line in said.splitlines()]
-        self.assertEqual((errors, status), (b"vicinity: cannot read /nowhere: No such file or directory\n", 4))
+        self.assertEqual((errors, status),
+                         (b"vicinity: cannot read /nowhere: No such file or directory\n", 4))
         self.assertEqual(found[3], {
-            "schema": 1, "file": self.names[3], "status": 1, "kind": "unlisted", "uid": "E0040100000000A1",
+            "schema": 1, "file": self.names[3],
+            "status": 1, "kind": "unlisted", "uid": "E0040100000000A1",
             "certain": [{"uid": "E0040100000000A1", "line": 3}], "open": [],
             "captured": {"holds": False, "mask_len": 1, "mask_value": "00"}})
         self.assertEqual(found[4]["open"], [{"mask_len": 56, "mask_value": "040100000000A1"}])
-        self.assertEqual(found[6], {"schema": 1, "file": self.names[6], "status": 2, "kind": "impossible", "line": 5,
-                                    "captured": {"holds": True}})
-        self.assertEqual(found[7], {"schema": 1, "file": "/nowhere", "status": 4, "kind": "no answer",
-                                    "error": "cannot read /nowhere: No such file or directory"})
+        self.assertEqual(found[6], {
+            "schema": 1, "file": self.names[6], "status": 2, "kind": "impossible", "line": 5,
+            "captured": {"holds": True}})
+        self.assertEqual(found[7], {
+            "schema": 1, "file": "/nowhere", "status": 4, "kind": "no answer",
+            "error": "cannot read /nowhere: No such file or directory"})
         listed = self.write("listed", log(LIST_A + LIST_B))
-        for logs in ([*self.names[:7], "/nowhere"], self.names[1:2], *([self.names[1], it] for it in (
-                self.names[6], self.names[7], "/nowhere"))):
+        broken = self.names[6], self.names[7], "/nowhere"
+        for logs in ([*self.names[:7], "/nowhere"], self.names[1:2],
+                     *([self.names[1], it] for it in broken)):
             name = self.write("surveys", within("survey", *logs)[0])
             for form in ("lines", "csv", "json"):
                 ended = here(form, listed, options=["--surveys", name])
                 self.assertEqual(ended, here(form, listed, *logs), logs)
 
     def test_answers_that_cannot_be_compared(self):
-        good = self.write("good", here("json", self.write("listed", log(LIST_A)), self.names[1])[0].encode())
-        item = {"uid": "E0040100000000A1", "state": "there", "columns": {}, "certain_in": [], "may_be_in": []}
+        listed = self.write("listed", log(LIST_A))
+        good = self.write("good", here("json", listed, self.names[1])[0].encode())
+        item = {"uid": "E0040100000000A1", "state": "there", "columns": {}, "certain_in": [],
+                "may_be_in": []}
         told = {"schema": 1, "items": [item], "logs": [], "set_aside": []}
-        changed = [{**told, "schema": 2}, {**told, "logs": [{"file": 1}]}, {**told, "items": [{"uid": "x"}]},
+        changed = [{**told, "schema": 2}, {**told, "logs": [{"file": 1}]},
+                   {**told, "items": [{"uid": "x"}]},
                    *({**told, "items": [{**item, **of}]} for of in (
-                       {"uid": "x"}, {"state": "lost"}, {"columns": 1}, {"certain_in": [1]}, {"certain_in": "a"}))]
+                       {"uid": "x"}, {"state": "lost"}, {"columns": 1}, {"certain_in": [1]},
+                       {"certain_in": "a"}))]
         for content in (b"", b"[]", b"{}", *(json.dumps(it).encode() for it in changed)):
             for names in ([good, self.write("bad", content)], [self.write("bad", content), good]):
                 said, errors, status = within("compare", *names)
@@ -64,42 +76,51 @@ class Surveys(Command):
 
     def test_what_has_moved(self):
         def answer(name, folder, logs, all_logs=("a", "b")):
-            item = {"uid": "E0040100000000A1", "state": "there", "columns": {}, "certain_in": [f"{folder}/{log}" for log in logs],
-                    "may_be_in": []}
+            item = {"uid": "E0040100000000A1", "state": "there", "columns": {},
+                    "certain_in": [f"{folder}/{log}" for log in logs], "may_be_in": []}
             told = {"schema": 1, "items": [item], "set_aside": [],
                     "logs": [{"file": f"{folder}/{log}"} for log in all_logs]}
             return self.write(name, json.dumps(told).encode())
 
         for old, new, folder, is_moved in (("a", "b", "monday", True), ("a", "a", "tuesday", False),
-                                           ("ab", "b", "monday", False), ("a", "ab", "monday", False)):
+                                           ("ab", "b", "monday", False),
+                                           ("a", "ab", "monday", False)):
             words = ["compare", "--json", answer("old", "monday", old), answer("new", folder, new)]
             told = json.loads(within(*words)[0])
-            self.assertEqual((len(told["changes"]), told["logs"]), (int(is_moved), []), (old, new, folder))
+            self.assertEqual((len(told["changes"]), told["logs"]), (int(is_moved), []),
+                             (old, new, folder))
         words = ["compare", answer("old", "monday", "a"), answer("new", "tuesday", "a", "a")]
         self.assertEqual(within(*words), (b"no longer counted monday/b\n", b"", 1))
         both = ("x/a", "y/a")  # which only their folders tell apart
-        words = ["compare", answer("old", "monday", ["x/a"], both), answer("new", "monday", ["y/a"], both)]
-        self.assertEqual(within(*words), (b"moved E0040100000000A1 from monday/x/a to monday/y/a\n", b"", 1))
+        words = ["compare", answer("old", "monday", ["x/a"], both),
+                 answer("new", "monday", ["y/a"], both)]
+        self.assertEqual(within(*words),
+                         (b"moved E0040100000000A1 from monday/x/a to monday/y/a\n", b"", 1))
 
     def test_changes(self):
         def answer(name, *items):
             states = {"there": ["a.log"], "misplaced": ["b.log"], "unexpected": ["a.log"]}
-            told = [{"uid": uid, "state": state, "columns": {}, "certain_in": states.get(state, []), "may_be_in": []}
-                    for uid, state in items if state]
-            return self.write(name, json.dumps({"schema": 1, "items": told, "logs": [], "set_aside": []}).encode())
+            items = [{"uid": uid, "state": state, "columns": {},
+                      "certain_in": states.get(state, []), "may_be_in": []}
+                     for uid, state in items if state]
+            told = {"schema": 1, "items": items, "logs": [], "set_aside": []}
+            return self.write(name, json.dumps(told).encode())
 
         for old, new, what in (
                 ("there", "missing", "newly missing"), ("not provable", "missing", "newly missing"),
                 ("", "missing", "newly missing"), ("unexpected", "missing", "newly missing"),
                 ("missing", "there", "back again"), ("missing", "misplaced", "back again"),
-                ("not provable", "there", "provable again"), ("there", "not provable", "no longer provable"),
+                ("not provable", "there", "provable again"),
+                ("there", "not provable", "no longer provable"),
                 ("missing", "not provable", "no longer provable"), ("there", "misplaced", "moved"),
                 ("", "unexpected", "newly unexpected"), ("there", "unexpected", "newly unexpected"),
                 ("unexpected", "", "no longer unexpected"), ("", "there", "newly expected"),
                 ("", "not provable", "newly expected"), ("unexpected", "there", "newly expected"),
                 ("there", "", "no longer expected"), ("missing", "", "no longer expected"),
                 *[(it, it, "") for it in ("there", "missing", "not provable", "unexpected")]):
-            words = ["compare", "--json", answer("old", ("E0040100000000A1", old)), answer("new", ("E0040100000000A1", new))]
+            words = ["compare", "--json", answer("old", ("E0040100000000A1", old)),
+                     answer("new", ("E0040100000000A1", new))]
             told = json.loads(within(*words)[0])
-            self.assertEqual([it["change"] for it in told["changes"]], [what] * bool(what), (old, new))
+            self.assertEqual([it["change"] for it in told["changes"]],
+                             [what] * bool(what), (old, new))
             self.assertEqual(told["status"], int(bool(what)))

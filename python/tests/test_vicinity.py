@@ -15,23 +15,28 @@ from vicinity import Fault, Kind, _calls, _native
 
 
 class Frames(unittest.TestCase):
-    """What frames say, with the values of docs/FRAMES.md and of the table of masks in docs/AIR.md."""
+    """What frames say, with the values of docs/FRAMES.md
+    and of the table of masks in docs/AIR.md."""
 
     def test_any_bytes_are_a_frame(self):
         for kind in (bytearray, memoryview):
             self.assertEqual(vicinity.read_request(kind(bytes.fromhex("260100F60A"))).link, 2)
-            self.assertEqual(vicinity.read_response(kind(bytes.fromhex("0000A1000000000104E06745"))).uid, A)
-            self.assertEqual(vicinity.add_crc(kind(bytes.fromhex("260100"))).hex().upper(), "260100F60A")
+            reply = kind(bytes.fromhex("0000A1000000000104E06745"))
+            self.assertEqual(vicinity.read_response(reply).uid, A)
+            self.assertEqual(vicinity.add_crc(kind(bytes.fromhex("260100"))).hex().upper(),
+                             "260100F60A")
             self.assertEqual(vicinity.write_line("T", kind(bytes.fromhex("260100F60A"))), ALL)
         for call in (vicinity.read_request, vicinity.read_response, vicinity.add_crc):
             with self.assertRaisesRegex(TypeError, "bytes, not str"):
                 call("260100F60A")
 
     def test_sentences_of_what_is_wrong(self):
-        with self.assertRaisesRegex(vicinity.FrameFault, "Crc: the CRC doesn't match the bytes before it") as raised:
+        with self.assertRaisesRegex(vicinity.FrameFault,
+                                    "Crc: the CRC doesn't match the bytes before it") as raised:
             vicinity.read_request(bytes.fromhex("260100F60B"))
         self.assertIs(raised.exception.fault, Fault.FRAME_CRC)
-        with self.assertRaisesRegex(TypeError, "'E0040100000000A1' isn't a number, but str; parse_uid reads"):
+        with self.assertRaisesRegex(TypeError,
+                                    "'E0040100000000A1' isn't a number, but str; parse_uid reads"):
             vicinity.write_line("U", uid="E0040100000000A1")
         for letter in ("", "TT", "\u00d4", None):
             with self.assertRaisesRegex(ValueError, "WrongLetter: a line begins with T, S"):
@@ -57,19 +62,25 @@ class Frames(unittest.TestCase):
                 (vicinity.write_response(0, 0, A), "0000A1000000000104E06745"),
                 (vicinity.add_crc(bytes.fromhex("260100")), "260100F60A")):
             self.assertEqual(written.hex().upper(), wanted)
-        for line, wanted in ((vicinity.write_line("T", bytes.fromhex("260100F60A")), ALL), (vicinity.write_line("S"), b"S\n"),
-                             (vicinity.write_line("U", uid=A), LIST_A), (vicinity.write_line("N"), b"N\n"),
-                             (vicinity.write_line("H", vicinity.write_response(0, 0, A)), b"H" + HEARD_A[1:])):
+        for line, wanted in ((vicinity.write_line("T", bytes.fromhex("260100F60A")), ALL),
+                             (vicinity.write_line("S"), b"S\n"),
+                             (vicinity.write_line("U", uid=A), LIST_A),
+                             (vicinity.write_line("N"), b"N\n"),
+                             (vicinity.write_line("H", vicinity.write_response(0, 0, A)),
+                              b"H" + HEARD_A[1:])):
             self.assertEqual(line, wanted)
 
     def test_what_is_not_written(self):
         of = vicinity.Mask
         for call, given, word in (
-                (vicinity.write_inventory, (4, 1), "WrongLink"), (vicinity.write_inventory, (0, 2), "WrongSlots"),
+                (vicinity.write_inventory, (4, 1), "WrongLink"),
+                (vicinity.write_inventory, (0, 2), "WrongSlots"),
                 (vicinity.write_inventory, (0, 16, of(61, 0)), "WrongMask"),
                 (vicinity.write_stay_quiet, (4, A), "WrongLink"),
-                (vicinity.write_response, (1, 0, A), "WrongReply"), (vicinity.add_crc, (bytes(15),), "TooLong"),
-                (vicinity.write_line, ("T", bytes(64)), "TooLong"), (vicinity.write_line, ("X",), "WrongLetter"),
+                (vicinity.write_response, (1, 0, A), "WrongReply"),
+                (vicinity.add_crc, (bytes(15),), "TooLong"),
+                (vicinity.write_line, ("T", bytes(64)), "TooLong"),
+                (vicinity.write_line, ("X",), "WrongLetter"),
                 (vicinity.slot_mask, (1, of(0, 0), 1), "WrongSlot"),
                 (vicinity.write_inventory, (1 << 32, 1), f"{1 << 32} isn't a number of 32 bits"),
                 (vicinity.write_stay_quiet, (0, -1), "-1 isn't a number of 64 bits")):
@@ -78,9 +89,11 @@ class Frames(unittest.TestCase):
             self.assertRegex(str(raised.exception), rf"\A{word}(: [a-z].*)?\Z")
 
     def test_digits_of_masks(self):
-        for mask, digits, value in (((0, 0), "..", "-"), ((8, 0xA1), "..A1", "A1"), ((7, 0x61), "..(110)1", "61"),
-                                    ((4, 1), "..1", "01"), ((12, 0), "..000", "0000")):
-            self.assertEqual((str(vicinity.Mask(*mask)), vicinity.Mask(*mask).digits), (digits, value))
+        for mask, digits, value in (
+                ((0, 0), "..", "-"), ((8, 0xA1), "..A1", "A1"), ((7, 0x61), "..(110)1", "61"),
+                ((4, 1), "..1", "01"), ((12, 0), "..000", "0000")):
+            self.assertEqual((str(vicinity.Mask(*mask)), vicinity.Mask(*mask).digits),
+                             (digits, value))
 
 
 class Calls(unittest.TestCase):
@@ -127,24 +140,31 @@ class Calls(unittest.TestCase):
             if lines.endswith(LIST_A):
                 given = log(lines.removesuffix(LIST_A)), [A]
                 self.assertEqual(str(vicinity.check_listed(*given)), text)
-                self.assertEqual(vicinity.explain_listed(*given), (vicinity.check_listed(*given), population))
+                self.assertEqual(vicinity.explain_listed(*given),
+                                 (vicinity.check_listed(*given), population))
         heard = log(ALL + b"C\n")
         self.assertEqual(str(vicinity.check_listed(heard, [])), "unsettled 0 -")
         self.assertEqual(str(vicinity.check_listed(heard, (B, A))), "unsettled 2 00")
-        self.assertEqual(vicinity.explain_listed(heard, [B, A]).answer, vicinity.check_listed(heard, [A, B]))
-        self.assertEqual(str(vicinity.check_listed(heard, [B, A, B])), "refused at line 6: DuplicateListed")
-        self.assertEqual(str(vicinity.check_listed(heard, [A, 0])), "refused at line 5: NotVicinity")
+        self.assertEqual(vicinity.explain_listed(heard, [B, A]).answer,
+                         vicinity.check_listed(heard, [A, B]))
+        self.assertEqual(str(vicinity.check_listed(heard, [B, A, B])),
+                         "refused at line 6: DuplicateListed")
+        self.assertEqual(str(vicinity.check_listed(heard, [A, 0])),
+                         "refused at line 5: NotVicinity")
         for wrong in (-1, 1 << 64):
             with self.assertRaises(OverflowError):
                 vicinity.check_listed(heard, [wrong])
 
     def test_report(self):
         for lines, text in (
-                (ALL + b"S\n", "complete 0"), (b"X\n", "refused at line 2: UnknownEntry"), (b"", "unsettled 0 -\nopen 0 -"),
-                (ALL + b"S\n" + LIST_A + LIST_B, "absent E0040100000000A1\nby line 3\nabsent E0040100000000B2\nby line 3"),
+                (ALL + b"S\n", "complete 0"), (b"X\n", "refused at line 2: UnknownEntry"),
+                (b"", "unsettled 0 -\nopen 0 -"),
+                (ALL + b"S\n" + LIST_A + LIST_B,
+                 "absent E0040100000000A1\nby line 3\nabsent E0040100000000B2\nby line 3"),
                 (ALL + HEARD_A, "unlisted E0040100000000A1\nby line 3"),
                 (ALL + b"C\n" + LIST_A, "unsettled 1 00\nopen 0 -\ndoubtful E0040100000000A1"),
-                (ALL + HEARD_A + SILENCE_A + ALL + HEARD_A, "impossible at line 6\nby line 6\nsilenced by line 4")):
+                (ALL + HEARD_A + SILENCE_A + ALL + HEARD_A,
+                 "impossible at line 6\nby line 6\nsilenced by line 4")):
             report = vicinity.report(log(lines))
             self.assertEqual(str(report), text)
             self.assertEqual(report.answer, vicinity.check(log(lines)))
@@ -156,16 +176,20 @@ class Calls(unittest.TestCase):
         for lines in (ALL + b"C", ALL + b"C\n", b"X", b""):
             text, whole = log(lines), log(lines.rstrip(b"\n") + b"\n" if lines else b"")
             for uids in ([], [A]):
-                self.assertEqual(vicinity.check_listed(text, uids), vicinity.check_listed(whole, uids))
-                self.assertEqual(vicinity.explain_listed(text, uids), vicinity.explain_listed(whole, uids))
-                self.assertEqual(vicinity.report_listed(text, uids), vicinity.report_listed(whole, uids))
+                self.assertEqual(vicinity.check_listed(text, uids),
+                                 vicinity.check_listed(whole, uids))
+                self.assertEqual(vicinity.explain_listed(text, uids),
+                                 vicinity.explain_listed(whole, uids))
+                self.assertEqual(vicinity.report_listed(text, uids),
+                                 vicinity.report_listed(whole, uids))
         self.assertEqual(str(vicinity.check_listed(log(ALL + HEARD_A.rstrip()), [A])), "complete 1")
         self.assertEqual(str(vicinity.check_listed(b"", [A])), "refused at line 1: Header")
 
     def test_a_report_larger_than_the_first_room(self):
         uids = [0xE0 << 56 | it for it in range(100)]
         report = vicinity.report_listed(log(ALL + b"S\n"), uids)
-        self.assertEqual(report.findings, [(vicinity.FindingKind.ABSENT, 3, 0, 0, uid) for uid in uids])
+        self.assertEqual(report.findings,
+                         [(vicinity.FindingKind.ABSENT, 3, 0, 0, uid) for uid in uids])
 
     def test_more_open_masks(self):
         report = vicinity.report(log(b"T 26013700000000000000641B\nS\n"))
@@ -174,11 +198,13 @@ class Calls(unittest.TestCase):
     def test_simulate(self):
         for lines, status, text in (
                 (ALL + LIST_A, 0, log(ALL + HEARD_A + LIST_A)),
-                (ALL + SILENCE_A + ALL + LIST_A, 0, log(ALL + HEARD_A + SILENCE_A + ALL + b"S\n" + LIST_A)),
+                (ALL + SILENCE_A + ALL + LIST_A, 0,
+                 log(ALL + HEARD_A + SILENCE_A + ALL + b"S\n" + LIST_A)),
                 (ALL + LIST_A + LIST_B, 0, log(ALL + b"C\n" + LIST_A + LIST_B)),
                 (SIXTEEN * 20 + LIST_A + LIST_B, 0,
                  log((SIXTEEN + b"S\n" + HEARD_A + HEARD_B + b"S\n" * 13) * 20 + LIST_A + LIST_B)),
-                (ALL + b"S\n", 3, b"refused at line 3: OutcomeGiven\n"), (b"X\n", 3, b"refused at line 2: UnknownEntry\n")):
+                (ALL + b"S\n", 3, b"refused at line 3: OutcomeGiven\n"),
+                (b"X\n", 3, b"refused at line 2: UnknownEntry\n")):
             self.assertEqual(vicinity.simulate(log(lines)), (status, text))
 
     def test_simulate_into_leaves_a_room_that_is_too_small(self):
@@ -186,21 +212,26 @@ class Calls(unittest.TestCase):
         for places in (0, len(text) - 1, len(text), len(text) + 1):
             room = (ctypes.c_uint8 * places)(*[7] * places)
             self.assertEqual(vicinity.simulate_into(b"", room), (3, len(text)))
-            self.assertEqual(bytes(room), (text if len(text) <= places else b"").ljust(places, b"\7"))
+            self.assertEqual(bytes(room),
+                             (text if len(text) <= places else b"").ljust(places, b"\7"))
 
     def test_words(self):
         self.assertEqual([it.word for it in Kind],
-                         ["complete", "absent", "unlisted", "unsettled", "doubtful", "impossible", "refused"])
+                         ["complete", "absent", "unlisted", "unsettled", "doubtful",
+                          "impossible", "refused"])
         for fault in Fault:
             parts = fault.name.removeprefix("FRAME_").split("_")
-            self.assertEqual(fault.word, "".join(part.capitalize() for part in parts) if fault else "")
+            self.assertEqual(fault.word,
+                             "".join(part.capitalize() for part in parts) if fault else "")
 
     def test_a_population_larger_than_the_first_room(self):
         # in each round two UIDs alone can have answered: those with these 55 low bits
-        rounds = b"".join(b"T %s\nC\n" % frame(b"\x26\x01\x37" + it.to_bytes(7, "little")) for it in range(80))
+        rounds = b"".join(b"T %s\nC\n" % frame(b"\x26\x01\x37" + it.to_bytes(7, "little"))
+                          for it in range(80))
         answer, population = vicinity.explain(log(rounds))
         self.assertEqual(answer.kind, Kind.UNLISTED)
-        self.assertEqual(population, sorted(0xE0 << 56 | high << 55 | it for it in range(80) for high in (0, 1)))
+        self.assertEqual(population, sorted(0xE0 << 56 | high << 55 | it
+                                            for it in range(80) for high in (0, 1)))
 
     def test_explain_into_leaves_a_room_that_is_too_small(self):
         room = (ctypes.c_uint64 * 1)(7)
@@ -209,7 +240,8 @@ class Calls(unittest.TestCase):
 
     def test_bytes_alone_are_taken(self):
         text = log(ALL + b"S\n")
-        for same in (bytearray(text), memoryview(text), memoryview(b"".join(bytes([it, 0]) for it in text))[::2]):
+        for same in (bytearray(text), memoryview(text),
+                     memoryview(b"".join(bytes([it, 0]) for it in text))[::2]):
             self.assertTrue(vicinity.check(same).is_complete)
             self.assertTrue(vicinity.explain(same).answer.is_complete)
         for other in (5, None, "vicinity-log 1\n", [118, 105], object()):
@@ -224,9 +256,11 @@ class Calls(unittest.TestCase):
         wrong = []
 
         calls = {
-            "report": (lambda: str(vicinity.report_listed(log(ALL + b"S\n"), [A])), "absent E0040100000000A1\nby line 3"),
+            "report": (lambda: str(vicinity.report_listed(log(ALL + b"S\n"), [A])),
+                       "absent E0040100000000A1\nby line 3"),
             "explain": (lambda: vicinity.explain_listed(log(ALL + HEARD_A), []).population, [A]),
-            "simulate": (lambda: vicinity.simulate(log(ALL + LIST_A)).text, log(ALL + HEARD_A + LIST_A)),
+            "simulate": (lambda: vicinity.simulate(log(ALL + LIST_A)).text,
+                         log(ALL + HEARD_A + LIST_A)),
             "written": (lambda: vicinity.write_line("T", vicinity.write_inventory(2, 1)), ALL),
             "read": (lambda: vicinity.read_request(bytes.fromhex("260100F60A")), (2, 1, (0, 0), 0)),
             "mask": (lambda: vicinity.slot_mask(16, vicinity.Mask(4, 1), 10), (8, 0xA1)),
@@ -249,11 +283,14 @@ class Calls(unittest.TestCase):
     def test_numbers_are_those_of_the_header(self):
         with open(os.path.join(TOP, "include/vicinity.h")) as file:
             header = file.read()
-        kinds = {name: int(it) for name, it in re.findall(r"VICINITY_(?!FINDING_)([A-Z_]+) = (\d),? /\*", header)}
-        faults = {name: int(it) for name, it in re.findall(r"VICINITY_(?:FAULT_(?=\w)|(?=WRONG_MASK))(\w+) = (\d+)", header)}
+        kinds = {name: int(it)
+                 for name, it in re.findall(r"VICINITY_(?!FINDING_)([A-Z_]+) = (\d),? /\*", header)}
+        of_faults = r"VICINITY_(?:FAULT_(?=\w)|(?=WRONG_MASK))(\w+) = (\d+)"
+        faults = {name: int(it) for name, it in re.findall(of_faults, header)}
         self.assertEqual(kinds, {"NO_ANSWER": 0, **{it.name: it.value for it in Kind}})
         self.assertEqual(faults, {it.name: it.value for it in Fault})
-        found = {name: int(it) for name, it in re.findall(r"VICINITY_FINDING_(\w+) = (\d+)", header)}
+        found = {name: int(it)
+                 for name, it in re.findall(r"VICINITY_FINDING_(\w+) = (\d+)", header)}
         self.assertEqual(found, {it.name: it.value for it in vicinity.FindingKind})
 
     def test_the_version_is_the_one_of_the_project(self):
@@ -266,11 +303,13 @@ class Calls(unittest.TestCase):
 
 class Library(unittest.TestCase):
     def run_python(self, code, **env):
-        ran = subprocess.run([sys.executable, "-c", code], capture_output=True, text=True, env={**os.environ, **env})
+        ran = subprocess.run([sys.executable, "-c", code], capture_output=True, text=True,
+                             env={**os.environ, **env})
         return ran.stdout, ran.stderr
 
     def test_it_is_not_loaded_at_import(self):
-        self.assertEqual(self.run_python("import vicinity; print('there')", LIBVICINITY="/nowhere.so"), ("there\n", ""))
+        said = self.run_python("import vicinity; print('there')", LIBVICINITY="/nowhere.so")
+        self.assertEqual(said, ("there\n", ""))
 
     def test_a_missing_library_is_told_at_the_first_call(self):
         code = "import vicinity\ntry: vicinity.check(b'')\nexcept OSError as it: print(it)"
@@ -281,25 +320,30 @@ class Library(unittest.TestCase):
 
     def test_an_empty_name_is_none(self):
         with tempfile.TemporaryDirectory() as folder:
-            os.symlink(os.path.realpath(_native.library()._name), os.path.join(folder, _native.NAME))
-            said = self.run_python("import vicinity; print(vicinity.check(b''))", LIBVICINITY="", LD_LIBRARY_PATH=folder)
+            os.symlink(os.path.realpath(_native.library()._name),
+                       os.path.join(folder, _native.NAME))
+            said = self.run_python("import vicinity; print(vicinity.check(b''))",
+                                   LIBVICINITY="", LD_LIBRARY_PATH=folder)
         self.assertEqual(said, ("refused at line 1: Header\n", ""))
 
     def test_another_library_is_no_vicinity(self):
-        said, _ = self.run_python("import vicinity\ntry: vicinity.check(b'')\nexcept (OSError, AttributeError) as it: "
-                                  "print(type(it).__name__)", LIBVICINITY="libc.so.6")
+        code = ("import vicinity\ntry: vicinity.check(b'')\n"
+                "except (OSError, AttributeError) as it: print(type(it).__name__)")
+        said, _ = self.run_python(code, LIBVICINITY="libc.so.6")
         self.assertEqual(said, "OSError\n")
 
     def test_a_processor_that_lacks_instructions(self):
         flags = list(_native.X86_64_V2)
         self.assertEqual(_native.lacking_of("x86_64", ["fpu", *flags]), [])
-        self.assertEqual(_native.lacking_of("x86_64", ["fpu", "cx16", "lahf_lm", "sse4_1", "ssse3"]), ["popcnt", "sse4_2"])
+        some = ["fpu", "cx16", "lahf_lm", "sse4_1", "ssse3"]
+        self.assertEqual(_native.lacking_of("x86_64", some), ["popcnt", "sse4_2"])
         self.assertEqual(_native.lacking_of("aarch64", ["fp"]), [])
         self.assertEqual(_native.lacking_of("x86_64", []), [])
-        code = ("from vicinity import _native\n_native._flags = lambda: ['fpu']\ntry: _native.library()\n"
-                "except OSError as it: print(it)")
+        code = ("from vicinity import _native\n_native._flags = lambda: ['fpu']\n"
+                "try: _native.library()\nexcept OSError as it: print(it)")
         if os.uname().machine == "x86_64":
-            self.assertIn("needs a processor with x86-64-v2: this one lacks cx16", self.run_python(code)[0])
+            self.assertIn("needs a processor with x86-64-v2: this one lacks cx16",
+                          self.run_python(code)[0])
 
     def test_an_older_library_is_told(self):
         code = ("import vicinity; from vicinity._native import CALLS; CALLS['later'] = []\n"
@@ -307,8 +351,9 @@ class Library(unittest.TestCase):
         self.assertIn("has no vicinity_later", self.run_python(code)[0])
 
     def test_refused_memory_is_a_memory_error(self):
-        code = ("import resource, vicinity\nvicinity.check(b'')\ntext = b'vicinity-log 1\\n' + b'T 2202A1000000000104E0662A\\n' "
-                "* 900000\nwith open('/proc/self/statm') as file: pages = int(file.read().split()[0])\n"
+        code = ("import resource, vicinity\nvicinity.check(b'')\n"
+                "text = b'vicinity-log 1\\n' + b'T 2202A1000000000104E0662A\\n' * 900000\n"
+                "with open('/proc/self/statm') as file: pages = int(file.read().split()[0])\n"
                 "resource.setrlimit(resource.RLIMIT_AS, (pages * 4096 + (4 << 20),) * 2)\n"
                 "try: vicinity.check(text)\nexcept MemoryError as it: print(it)")
         self.assertEqual(self.run_python(code), ("vicinity: out of memory\n", ""))

@@ -5,11 +5,14 @@
     >>> answer.is_complete, answer.count
     (True, 0)
 
-The log text and the answers are the same as for the program `vicinity`. The answers come from the shared library
-libvicinity.so.1: nothing is judged in Python. It is loaded on the first call; LIBVICINITY may name its file.
+The log text and the answers are the same as for the program `vicinity`.
+The answers come from the shared library libvicinity.so.1: nothing is judged in Python.
+It is loaded on the first call; LIBVICINITY may name its file.
 
-`python3 -m vicinity FILE ..` answers for many files in one process; `python3 -m vicinity show LOG` and `page LOG` draw one;
-`python3 -m vicinity reconcile --expected FILE LOG ..` compares many with one list of what should be there.
+`python3 -m vicinity FILE ..` answers for many files in one process;
+`python3 -m vicinity show LOG` and `page LOG` draw one;
+`python3 -m vicinity reconcile --expected FILE LOG ..` compares many with one list
+of what should be there.
 """
 from ._answers import (Answer, Explanation, Fault, Finding, FindingKind, Kind, ListFault, Mask,
                        Report, Simulation, Survey)
@@ -21,9 +24,10 @@ from .frames import (HEADER_LINE, FrameFault, Reply, Request, add_crc, parse_uid
                      read_response, slot_mask, uid_text, write_inventory, write_line,
                      write_response, write_stay_quiet)
 
-__all__ = ["Answer", "Explanation", "Fault", "Finding", "FindingKind", "FrameFault", "HEADER_LINE", "Kind",
-           "ListFault", "Mask", "Reply", "Report", "Request", "Simulation", "Survey", "add_crc", "captured",
-           "check", "check_listed", "explain", "explain_into", "explain_listed", "listed", "page", "parse_uid",
+__all__ = ["Answer", "Explanation", "Fault", "Finding", "FindingKind", "FrameFault", "HEADER_LINE",
+           "Kind", "ListFault", "Mask", "Reply", "Report", "Request", "Simulation", "Survey",
+           "add_crc", "captured", "check", "check_listed", "explain", "explain_into",
+           "explain_listed", "listed", "page", "parse_uid",
            "read_request", "read_response", "reconcile", "report", "report_listed", "simulate",
            "simulate_into", "slot_mask", "survey", "uid_text", "write_inventory", "write_line",
            "write_response", "write_stay_quiet"]

@@ -1,4 +1,5 @@
-"""The commands of the package:  python3 -m vicinity --help  lists them, and COMMAND --help explains one."""
+"""The commands of the package: `python3 -m vicinity --help` lists them,
+and `COMMAND --help` explains one."""
 from __future__ import annotations
 
 import argparse
@@ -29,10 +30,11 @@ class _Commands:
         self.all = top.add_subparsers(metavar="COMMAND", parser_class=Words)
 
     def add(self, name: str, what: str, does: str, names: str, least: int, most: int) -> Words:
-        """A command, with what it does for people, and the function that does it as MODULE.FUNCTION. It takes so many
-        names."""
-        command: Words = self.all.add_parser(name, help=what, description=what, epilog=STATUSES, allow_abbrev=False,
-                                             formatter_class=argparse.RawDescriptionHelpFormatter)
+        """A command, with what it does for people, and the function that does it
+        as MODULE.FUNCTION. It takes so many names."""
+        command: Words = self.all.add_parser(
+            name, help=what, description=what, epilog=STATUSES, allow_abbrev=False,
+            formatter_class=argparse.RawDescriptionHelpFormatter)
         command.set_defaults(does=does, number=(least, most))
         command.add_argument("names", metavar=names, nargs="*")
         return command
@@ -47,35 +49,37 @@ def _forms(command: Words, **forms: str) -> None:
 
 
 def _logs_from(command: Words) -> None:
-    command.add_argument("--logs-from", metavar="FILE", help="a file that lists more logs, separated by NUL or line ends")
+    command.add_argument("--logs-from", metavar="FILE",
+                         help="a file that lists more logs, separated by NUL or line ends")
 
 
 def words() -> tuple[Words, Mapping[str, Words]]:
     """The words of all commands, and of each."""
     is_module = os.path.basename(sys.argv[0]) == "__main__.py"
-    top = Words(prog="python3 -m vicinity" if is_module else None, description=ABOUT, epilog=STATUSES, allow_abbrev=False,
+    top = Words(prog="python3 -m vicinity" if is_module else None, description=ABOUT,
+                epilog=STATUSES, allow_abbrev=False,
                 formatter_class=argparse.RawDescriptionHelpFormatter)
     top.add_argument("--version", action="version", version=__version__)
     commands = _Commands(top)
-    check = commands.add("check", "whether the list of each log is complete", "answers.check_all", "LOG", 0, ANY)
-    _forms(check, lines="FILE: answer", tabs="file, status and answer, separated by tabs", json="an object a line")
+    check = commands.add("check", "whether the list of each log is complete", "answers.check_all",
+                         "LOG", 0, ANY)
+    _forms(check, lines="FILE: answer", tabs="file, status and answer, separated by tabs",
+           json="an object a line")
     _logs_from(check)
-    report = commands.add("report", "every finding of each log", "answers.report_all", "LOG", 0, ANY)
-    _forms(report, lines="FILE:LINE: text, like a compiler", json="an object a line, with the findings")
+    report = commands.add("report", "every finding of each log", "answers.report_all",
+                          "LOG", 0, ANY)
+    _forms(report, lines="FILE:LINE: text, like a compiler",
+           json="an object a line, with the findings")
     _logs_from(report)
     _of_collections(commands)
-    show = commands.add("show", "draws the rounds of a log for a terminal", "draw.draw", "LOG", 1, 1)
+    show = commands.add("show", "draws the rounds of a log for a terminal",
+                        "draw.draw", "LOG", 1, 1)
     show.add_argument("--ascii", action="store_true", help="only ASCII characters")
     commands.add("page", "the same as one HTML file", "draw.page", "LOG", 1, 1)
     for name, what in (("explain", "the answer to a log, and tags that show it"),
                        ("simulate", "the log that listed tags would produce for given requests")):
         commands.add(name, f"{what}, as the program does", f"answers.{name}_one", "LOG", 1, 1)
-    misread = commands.add("misread", "a true log as a reader would have written it that misses, hides or mistakes replies",
-                           "misread.misread", "LOG", 1, 1)
-    for chance, what in (("capture", "one reply is read over the others of its slot"), ("miss", "a reply isn't noticed"),
-                         ("noise", "noise covers a slot")):
-        misread.add_argument(f"--{chance}", metavar="P", type=_chance, default=0.0, help=f"the probability that {what}")
-    misread.add_argument("--seed", metavar="N", type=int, default=0, help="of the random numbers")
+    _misread(commands)
     commands.add("frame", "a frame in words, as the program does", "frames.frame", "HEX", 1, 1)
     commands.add("spell", "words as a frame, as the program does", "frames.spell", "WORD", 1, ANY)
     return top, commands.all.choices
@@ -83,32 +87,56 @@ def words() -> tuple[Words, Mapping[str, Words]]:
 
 def _of_collections(commands: _Commands) -> None:
     """The commands over many logs and a catalogue."""
-    reconcile = commands.add("reconcile", "compares many logs with a list or catalogue of what should be there",
-                             "reconcile.reconcile", "LOG", 0, ANY)
-    _forms(reconcile, lines="lines like those of `vicinity reconcile`", csv="the catalogue, with the state of each item",
+    reconcile = commands.add(
+        "reconcile", "compares many logs with a list or catalogue of what should be there",
+        "reconcile.reconcile", "LOG", 0, ANY)
+    _forms(reconcile, lines="lines like those of `vicinity reconcile`",
+           csv="the catalogue, with the state of each item",
            json="one object: the answer, each item and each log", page="one HTML file")
     catalogue = reconcile.add_argument_group("the catalogue")
     for option, metavar, what in (
-            ("--expected", "FILE", "a log with U lines alone, or a CSV file with a header and a column of UIDs"),
+            ("--expected", "FILE",
+             "a log with U lines alone, or a CSV file with a header and a column of UIDs"),
             ("--column", "NAME", "the column of the UIDs; without it the one that is named uid"),
-            ("--tags", "FILE", "a CSV file with the columns uid and, say, barcode, which the catalogue has as well"),
-            ("--place", "NAME", "the column that says where each item belongs: the name of its log, as far as the dot"),
-            ("--places", "FILE", "a CSV file with the columns place and log, if logs aren't named like places"),
-            ("--encoding", "NAME", "of the CSV files, if they aren't UTF-8: windows-1252, utf-16-le, ..")):
+            ("--tags", "FILE",
+             "a CSV file with the columns uid and, say, barcode, which the catalogue has as well"),
+            ("--place", "NAME",
+             "the column that says where each item belongs: the name of its log, "
+             "as far as the dot"),
+            ("--places", "FILE",
+             "a CSV file with the columns place and log, if logs aren't named like places"),
+            ("--encoding", "NAME",
+             "of the CSV files, if they aren't UTF-8: windows-1252, utf-16-le, ..")):
         catalogue.add_argument(option, metavar=metavar, help=what, required=option == "--expected")
     logs = reconcile.add_argument_group("the logs")
     _logs_from(reconcile)
     logs.add_argument("--surveys", metavar="FILE", nargs="+", default=[],
                       help="what `survey` has written of logs, here or on other machines")
     logs.add_argument("--strict", action="store_true",
-                      help="end at the first log that is impossible, refused or unreadable, as the program does")
-    logs.add_argument("--jobs", metavar="N", type=_jobs, default=1, help="how many processes read logs")
-    survey = commands.add("survey", "what each log says of its field, an object a line, for reconcile --surveys",
-                          "reconcile.survey", "LOG", 0, ANY)
+                      help="end at the first log that is impossible, refused or unreadable, "
+                           "as the program does")
+    logs.add_argument("--jobs", metavar="N", type=_jobs, default=1,
+                      help="how many processes read logs")
+    survey = commands.add(
+        "survey", "what each log says of its field, an object a line, for reconcile --surveys",
+        "reconcile.survey", "LOG", 0, ANY)
     _logs_from(survey)
-    compare = commands.add("compare", "what has changed between two answers of reconcile --json", "compare.compare",
-                           "OLD NEW", 2, 2)
+    compare = commands.add("compare", "what has changed between two answers of reconcile --json",
+                           "compare.compare", "OLD NEW", 2, 2)
     _forms(compare, lines="a line for each item that has changed", json="one object")
+
+
+def _misread(commands: _Commands) -> None:
+    """The command that writes a log as another reader would have written it."""
+    misread = commands.add(
+        "misread",
+        "a true log as a reader would have written it that misses, hides or mistakes replies",
+        "misread.misread", "LOG", 1, 1)
+    for chance, what in (("capture", "one reply is read over the others of its slot"),
+                         ("miss", "a reply isn't noticed"), ("noise", "noise covers a slot")):
+        misread.add_argument(f"--{chance}", metavar="P", type=_chance, default=0.0,
+                             help=f"the probability that {what}")
+    misread.add_argument("--seed", metavar="N", type=int, default=0, help="of the random numbers")
 
 
 def _jobs(word: str) -> int:

@@ -15,7 +15,8 @@ class Mask(NamedTuple):
 
     @property
     def digits(self) -> str:
-        """The value as `vicinity spell` takes it: two hex digits for each byte that the bits need, or - if there is none."""
+        """The value as `vicinity spell` takes it: two hex digits for each byte that the bits need,
+        or - if there is none."""
         return f"{self.value:0{2 * ((self.length + 7) // 8)}X}" if self.length else "-"
 
     def __str__(self) -> str:
@@ -44,8 +45,8 @@ class Kind(enum.IntEnum):
 
 
 class Fault(enum.IntEnum):
-    """Why a text isn't a log. Those that begin with FRAME are about the frame of a T or R line, NOT_LISTED about a log that
-    should only list UIDs, WRONG_MASK about a mask of a survey."""
+    """Why a text isn't a log. Those that begin with FRAME are about the frame of a T or R line,
+    NOT_LISTED about a log that should only list UIDs, WRONG_MASK about a mask of a survey."""
 
     NONE = 0
     TOO_MANY_LINES = 1
@@ -130,8 +131,9 @@ class Explanation(NamedTuple):
 
     answer: Answer
     population: list[int]
-    """UIDs of tags that could have produced the log but aren't exactly the listed ones, in rising order. It is empty if
-    there are none to show (COMPLETE, IMPOSSIBLE, REFUSED), and if an empty field shows the answer."""
+    """UIDs of tags that could have produced the log but aren't exactly the listed ones,
+    in rising order. It is empty if there are none to show (COMPLETE, IMPOSSIBLE, REFUSED),
+    and if an empty field shows the answer."""
 
 
 class FindingKind(enum.IntEnum):
@@ -148,11 +150,13 @@ class FindingKind(enum.IntEnum):
 
 
 class Finding(NamedTuple):
-    """One point in which a log contradicts its list or leaves it undecided. Numbers that the kind doesn't use are 0."""
+    """One point in which a log contradicts its list or leaves it undecided.
+    Numbers that the kind doesn't use are 0."""
 
     kind: FindingKind
     line: int
-    """The line that shows it (ABSENT, UNLISTED), that belongs to a conflict, or that silenced a tag."""
+    """The line that shows it (ABSENT, UNLISTED), that belongs to a conflict,
+    or that silenced a tag."""
     mask_len: int
     """How many low bits the mask has, if the kind is UNSETTLED or OPEN_MASK."""
     mask_value: int
@@ -166,8 +170,8 @@ class Finding(NamedTuple):
         return Mask(self.mask_len, self.mask_value)
 
     def __str__(self) -> str:
-        """The line that `vicinity report` writes, without its LF, and the one that names the line that shows it, if one
-        log does."""
+        """The line that `vicinity report` writes, without its LF,
+        and the one that names the line that shows it, if one log does."""
         by_line = f"\nby line {self.line}" if self.line else ""
         mask = f"{self.mask.length} {self.mask.digits}"
         return {
@@ -187,8 +191,8 @@ class Report(NamedTuple):
 
     answer: Answer
     findings: list[Finding]
-    """In the order of the lines of `vicinity report`, or for many logs in that of `vicinity reconcile`, without lines and
-    open masks; none for COMPLETE and REFUSED."""
+    """In the order of the lines of `vicinity report`, or for many logs
+    in that of `vicinity reconcile`, without lines and open masks; none for COMPLETE and REFUSED."""
 
     def __str__(self) -> str:
         """What `vicinity report` writes, without its last LF."""
@@ -197,14 +201,16 @@ class Report(NamedTuple):
 
 
 class Survey(NamedTuple):
-    """What a log says of its field, whatever it lists. A log that is refused or impossible says nothing of it."""
+    """What a log says of its field, whatever it lists.
+    A log that is refused or impossible says nothing of it."""
 
     answer: Answer
     """The answer to the log and its own list."""
     certain: list[int]
     """The UIDs that must be there, in rising order."""
     open_masks: list[Mask]
-    """The masks of the UIDs that may be there or not, by length and then by value; none if everything was asked."""
+    """The masks of the UIDs that may be there or not, by length and then by value;
+    none if everything was asked."""
 
 
 class Simulation(NamedTuple):

@@ -32,31 +32,33 @@ def _numbers(uids: Iterable[int]) -> ctypes.Array[ctypes.c_uint64]:
     """UIDs as a C array. Raises OverflowError if a number doesn't fit into 64 bits."""
     numbers = array("Q", uids)
     place = ctypes.c_uint64 * len(numbers)
-    return place.from_buffer(numbers) if numbers else place()  # what an empty array points to isn't aligned
+    # what an empty array points to isn't aligned
+    return place.from_buffer(numbers) if numbers else place()
 
 
 def _masks(masks: Iterable[Mask]) -> ctypes.Array[MaskStruct]:
-    """Masks as a C array. Raises OverflowError if a number of one doesn't fit into 32 or 64 bits."""
+    """Masks as a C array.
+    Raises OverflowError if a number of one doesn't fit into 32 or 64 bits."""
     try:
-        packed = bytearray(b"".join([PACKED_MASK.pack(0, length, value) for length, value in masks]))
+        structs = [PACKED_MASK.pack(0, length, value) for length, value in masks]
     except struct.error as error:
         raise OverflowError(str(error)) from None
-    place = MaskStruct * (len(packed) // PACKED_MASK.size)
-    return place.from_buffer(packed) if packed else place()
+    place = MaskStruct * len(structs)
+    return place.from_buffer(bytearray(b"".join(structs))) if structs else place()
 
 
 def _answer(told: AnswerStruct) -> Answer:
     if told.kind == 0:
         raise MemoryError("vicinity: out of memory")
-    return Answer(Kind(told.kind), told.status, told.count, told.line, Fault(told.fault), told.mask_len,
-                  told.mask_value, told.uid, told.text.decode("ascii").rstrip("\n"))
+    return Answer(Kind(told.kind), told.status, told.count, told.line, Fault(told.fault),
+                  told.mask_len, told.mask_value, told.uid, told.text.decode("ascii").rstrip("\n"))
 
 
 def check(text: BytesLike) -> Answer:
     """The answer to a text. Any number of threads may call at once.
 
-    Raises TypeError if the text isn't bytes or similar, MemoryError if memory is refused, and OSError if the shared
-    library can't be loaded."""
+    Raises TypeError if the text isn't bytes or similar, MemoryError if memory is refused,
+    and OSError if the shared library can't be loaded."""
     text = bytes_of(text)
     told = AnswerStruct()
     library().vicinity_check(text, len(text), ctypes.byref(told))
@@ -64,11 +66,13 @@ def check(text: BytesLike) -> Answer:
 
 
 def explain_into(text: BytesLike, room: ctypes.Array[ctypes.c_uint64]) -> tuple[Answer, int]:
-    """The answer to a text, and the number of UIDs in the counterexample. They are put at the start of the buffer `room` if
-    they fit; otherwise it stays as it is. Raises what `check` raises."""
+    """The answer to a text, and the number of UIDs in the counterexample.
+    They are put at the start of the buffer `room` if they fit; otherwise it stays as it is.
+    Raises what `check` raises."""
     text = bytes_of(text)
     told, needed = AnswerStruct(), ctypes.c_size_t()
-    library().vicinity_explain(text, len(text), ctypes.byref(told), room, len(room), ctypes.byref(needed))
+    library().vicinity_explain(text, len(text), ctypes.byref(told), room, len(room),
+                               ctypes.byref(needed))
     return _answer(told), needed.value
 
 
@@ -82,9 +86,10 @@ def _room(place: Any, places: int) -> Any:
         raise MemoryError("vicinity: out of memory") from error
 
 
-def _filled(place: Any, places: int, call: Callable[..., int], *given: Any) -> tuple[Answer, Any, int]:
-    """Makes a call that fills a buffer, first with that many elements, and again if it needs more: the answer, the buffer,
-    and how many of its elements are filled."""
+def _filled(place: Any, places: int, call: Callable[..., int],
+            *given: Any) -> tuple[Answer, Any, int]:
+    """Makes a call that fills a buffer, first with that many elements, and again if it needs more:
+    the answer, the buffer, and how many of its elements are filled."""
     while True:
         told, room, needed = AnswerStruct(), _room(place, places), ctypes.c_size_t()
         call(*given, ctypes.byref(told), room, places, ctypes.byref(needed))
@@ -100,7 +105,9 @@ def _in_room(place: Any, call: Callable[..., int], *given: Any) -> tuple[Answer,
 
 
 def _report(answer: Answer, found: list[FindingStruct]) -> Report:
-    return Report(answer, [Finding(FindingKind(it.kind), it.line, it.mask_len, it.mask_value, it.uid) for it in found])
+    return Report(answer, [
+        Finding(FindingKind(it.kind), it.line, it.mask_len, it.mask_value, it.uid)
+        for it in found])
 
 
 def explain(text: BytesLike) -> Explanation:
@@ -116,16 +123,16 @@ def report(text: BytesLike) -> Report:
 
 
 def report_records(text: bytes) -> tuple[Answer, memoryview]:
-    """What `report` returns, with the findings as the bytes of structs vicinity_finding, of which there may be two million:
-    at most two UIDs per line."""
+    """What `report` returns, with the findings as the bytes of structs vicinity_finding,
+    of which there may be two million: at most two UIDs per line."""
     places = FIRST_ROOM + 2 * text.count(b"\n")
     answer, room, count = _filled(FindingStruct, places, library().vicinity_report, text, len(text))
     return answer, memoryview(room).cast("B")[:count * ctypes.sizeof(FindingStruct)]
 
 
 def check_listed(text: BytesLike, uids: Iterable[int]) -> Answer:
-    """The answer to a text that lists nothing, with a separate list of UIDs, in any order. The last line of the text
-    may lack its LF.
+    """The answer to a text that lists nothing, with a separate list of UIDs, in any order.
+    The last line of the text may lack its LF.
 
     Raises what `check` raises, and OverflowError if a UID doesn't fit into 64 bits."""
     text, listed = _without_list(text), _numbers(uids)
@@ -135,29 +142,33 @@ def check_listed(text: BytesLike, uids: Iterable[int]) -> Answer:
 
 
 def explain_listed(text: BytesLike, uids: Iterable[int]) -> Explanation:
-    """The answer of `check_listed`, and the UIDs of tags that show it. Raises what `check_listed` raises."""
+    """The answer of `check_listed`, and the UIDs of tags that show it.
+    Raises what `check_listed` raises."""
     text, listed = _without_list(text), _numbers(uids)
-    return Explanation(*_in_room(ctypes.c_uint64, library().vicinity_explain_listed, text, len(text), listed, len(listed)))
+    return Explanation(*_in_room(ctypes.c_uint64, library().vicinity_explain_listed,
+                                 text, len(text), listed, len(listed)))
 
 
 def report_listed(text: BytesLike, uids: Iterable[int]) -> Report:
     """The answer of `check_listed`, and every finding. Raises what `check_listed` raises."""
     text, listed = _without_list(text), _numbers(uids)
-    return _report(*_in_room(FindingStruct, library().vicinity_report_listed, text, len(text), listed, len(listed)))
+    return _report(*_in_room(FindingStruct, library().vicinity_report_listed,
+                             text, len(text), listed, len(listed)))
 
 
 def survey(text: BytesLike) -> Survey:
-    """What a log says of its field: the UIDs that must be there, and all masks whose UIDs may be. Raises what `check`
-    raises."""
+    """What a log says of its field: the UIDs that must be there, and all masks whose UIDs may be.
+    Raises what `check` raises."""
     text = bytes_of(text)
     places = FIRST_ROOM + 2 * text.count(b"\n")
     uids, masks = _room(ctypes.c_uint64, places), _room(MaskStruct, places)
     while True:
         told, count, left = AnswerStruct(), ctypes.c_size_t(), ctypes.c_size_t()
-        library().vicinity_survey(text, len(text), ctypes.byref(told), uids, len(uids), ctypes.byref(count),
-                                  masks, len(masks), ctypes.byref(left))
+        library().vicinity_survey(text, len(text), ctypes.byref(told), uids, len(uids),
+                                  ctypes.byref(count), masks, len(masks), ctypes.byref(left))
         if count.value <= len(uids) and left.value <= len(masks):
-            return Survey(_answer(told), uids[:count.value], [Mask(it.len, it.value) for it in masks[:left.value]])
+            return Survey(_answer(told), uids[:count.value],
+                          [Mask(it.len, it.value) for it in masks[:left.value]])
         uids, masks = _room(ctypes.c_uint64, count.value), _room(MaskStruct, left.value)
 
 
@@ -169,7 +180,8 @@ def listed(text: BytesLike) -> list[int]:
     places = FIRST_ROOM + text.count(b"\n")
     while True:
         told, uids, needed = AnswerStruct(), _room(ctypes.c_uint64, places), ctypes.c_size_t()
-        library().vicinity_listed(text, len(text), ctypes.byref(told), uids, places, ctypes.byref(needed))
+        library().vicinity_listed(text, len(text), ctypes.byref(told), uids, places,
+                                  ctypes.byref(needed))
         if told.kind != LISTED:
             raise ListFault(_answer(told))
         if needed.value <= places:
@@ -179,12 +191,13 @@ def listed(text: BytesLike) -> list[int]:
 
 
 def reconcile(expected: Iterable[int], surveys: Iterable[Survey], *, strict: bool = True) -> Report:
-    """The answer for many logs, of which these are the surveys, and every finding; `expected` are the UIDs that should be
-    in their fields, in any order. If a log is refused or impossible, the answer is that to the first one; if it isn't
-    strict, any UID may be in the field of such a log, and the answer is never complete.
+    """The answer for many logs, of which these are the surveys, and every finding;
+    `expected` are the UIDs that should be in their fields, in any order.
+    If a log is refused or impossible, the answer is that to the first one;
+    if it isn't strict, any UID may be in the field of such a log, and the answer is never complete.
 
-    Raises ValueError if there is no survey, what `check` raises, and OverflowError if a UID or a mask doesn't fit into
-    64 bits."""
+    Raises ValueError if there is no survey, what `check` raises,
+    and OverflowError if a UID or a mask doesn't fit into 64 bits."""
     found = list(surveys)
     if not found:
         raise ValueError("no logs: there is nothing to reconcile")
@@ -192,10 +205,12 @@ def reconcile(expected: Iterable[int], surveys: Iterable[Survey], *, strict: boo
     if broken and strict:
         return Report(broken[0].answer, [])
     return reconcile_parts(expected, (uid for one in found for uid in one.certain),
-                           [*(mask for one in found for mask in one.open_masks), *[Mask(0, 0)] * bool(broken)])
+                           [*(mask for one in found for mask in one.open_masks),
+                            *[Mask(0, 0)] * bool(broken)])
 
 
-def reconcile_parts(expected: Iterable[int], certain: Iterable[int], masks: Iterable[Mask]) -> Report:
+def reconcile_parts(expected: Iterable[int], certain: Iterable[int],
+                    masks: Iterable[Mask]) -> Report:
     """What `reconcile` returns for all certain UIDs and open masks of some logs."""
     listed, known, left = _numbers(expected), _numbers(certain), _masks(masks)
     given = listed, len(listed), known, len(known), left, len(left)
@@ -203,8 +218,9 @@ def reconcile_parts(expected: Iterable[int], certain: Iterable[int], masks: Iter
 
 
 def simulate_into(text: BytesLike, room: ctypes.Array[ctypes.c_uint8]) -> tuple[int, int]:
-    """The status of `simulate` on a text, and the number of bytes that it writes. They are put at the start of the buffer
-    `room` if they fit; otherwise it stays as it is. Raises what `check` raises."""
+    """The status of `simulate` on a text, and the number of bytes that it writes.
+    They are put at the start of the buffer `room` if they fit; otherwise it stays as it is.
+    Raises what `check` raises."""
     text = bytes_of(text)
     needed = ctypes.c_size_t()
     status = library().vicinity_simulate(text, len(text), room, len(room), ctypes.byref(needed))
@@ -214,8 +230,8 @@ def simulate_into(text: BytesLike, room: ctypes.Array[ctypes.c_uint8]) -> tuple[
 
 
 def simulate(text: BytesLike) -> Simulation:
-    """The log that conforming tags would produce: the text has the requests, and lists the tags. Raises what `check`
-    raises."""
+    """The log that conforming tags would produce: the text has the requests, and lists the tags.
+    Raises what `check` raises."""
     text = bytes_of(text)
     places = FIRST_ROOM + 4 * len(text)
     while True:

@@ -1,5 +1,5 @@
-"""Whether an answer also holds if strong replies hid weaker ones (capture). The library reads the text again for this; the
-answer itself stays as it is."""
+"""Whether an answer also holds if strong replies hid weaker ones (capture).
+The library reads the text again for this; the answer itself stays as it is."""
 from __future__ import annotations
 
 import re
@@ -17,8 +17,8 @@ REPLY = re.compile(rb"^R ", re.MULTILINE)
 
 
 def captured(text: BytesLike) -> bytes:
-    """The text with each R line as an H line, under the header of version 3; a text that is refused as it is. Raises what
-    `check` raises."""
+    """The text with each R line as an H line, under the header of version 3;
+    a text that is refused as it is. Raises what `check` raises."""
     text = bytes_of(text)
     return text if check(text).kind is Kind.REFUSED else with_captures(text)
 

@@ -19,8 +19,8 @@ class Page(str):
 
 
 def page(text: BytesLike, name: str = "") -> Page:
-    """The page of a log, as `python3 -m vicinity page` writes it: the answer, what to do, what was found, and the rounds.
-    `name` is the name of the log. Raises what `check` raises."""
+    """The page of a log, as `python3 -m vicinity page` writes it: the answer, what to do,
+    what was found, and the rounds. `name` is the name of the log. Raises what `check` raises."""
     from .pages.log import of_log  # drawing is loaded only here
 
     return Page("".join(of_log(bytes_of(text), name)[1]))

@@ -29,14 +29,16 @@ def fields(answer: Answer) -> dict[str, Any]:
 
 
 def captured_fields(answer: Answer, reread: Optional[Answer]) -> dict[str, Any]:
-    """Whether an answer also holds under capture, and if not, the answer that does; nothing if the text is refused."""
+    """Whether an answer also holds under capture, and if not, the answer that does;
+    nothing if the text is refused."""
     if reread is None:
         return {}
     return {"captured": {"holds": True} if reread == answer else {"holds": False, **fields(reread)}}
 
 
 def answer_of(said: Mapping[str, Any]) -> Answer:
-    """The answer that has these fields. Raises ValueError, KeyError or TypeError if there is none."""
+    """The answer that has these fields.
+    Raises ValueError, KeyError or TypeError if there is none."""
     kind = next((it for it in Kind if it.word == said["kind"]), None)
     fault = next((it for it in Fault if it.word == said.get("fault", "")), None)
     if kind is None or fault is None:
@@ -44,7 +46,8 @@ def answer_of(said: Mapping[str, Any]) -> Answer:
     status = {Kind.COMPLETE: 0, Kind.IMPOSSIBLE: 2, Kind.REFUSED: 3}.get(kind, 1)
     mask = mask_of(said) if kind is Kind.UNSETTLED else Mask(0, 0)
     uid = parse_uid(said["uid"]) if "uid" in said else 0
-    answer = Answer(kind, status, number_of(said.get("count", 0)), number_of(said.get("line", 0)), fault, *mask, uid, "")
+    answer = Answer(kind, status, number_of(said.get("count", 0)), number_of(said.get("line", 0)),
+                    fault, *mask, uid, "")
     known = fields(answer)
     if known != {key: said[key] for key in known}:
         raise ValueError
@@ -64,13 +67,15 @@ def _text(answer: Answer) -> str:
 
 
 def mask_fields(mask: Mask) -> dict[str, Any]:
-    """A mask with its value as `spell` takes it: two hex digits for each byte, or - if there is no bit."""
+    """A mask with its value as `spell` takes it: two hex digits for each byte,
+    or - if there is no bit."""
     return {"mask_len": mask.length, "mask_value": mask.digits}
 
 
 def mask_of(said: Mapping[str, Any]) -> Mask:
     """The mask that has these fields. Raises ValueError if there is none."""
-    mask = Mask(number_of(said["mask_len"]), 0 if said["mask_value"] == "-" else int(said["mask_value"], 16))
+    mask = Mask(number_of(said["mask_len"]),
+                0 if said["mask_value"] == "-" else int(said["mask_value"], 16))
     if mask.length > UID_BITS or mask.digits != said["mask_value"] or mask.value >> mask.length:
         raise ValueError
     return mask

@@ -80,7 +80,8 @@ class MaskStruct(ctypes.Structure):
 class FrameStruct(ctypes.Structure):
     """struct vicinity_frame of vicinity.h."""
 
-    _fields_ = [("fault", ctypes.c_uint32), ("len", ctypes.c_uint32), ("bytes", ctypes.c_uint8 * 16)]
+    _fields_ = [("fault", ctypes.c_uint32), ("len", ctypes.c_uint32),
+                ("bytes", ctypes.c_uint8 * 16)]
 
 
 class LineStruct(ctypes.Structure):
@@ -133,18 +134,23 @@ CALLS = {
 
 
 def bytes_of(text: BytesLike) -> bytes:
-    """The bytes of a text or a frame. Other threads run during a call, so anything that can change is copied."""
+    """The bytes of a text or a frame.
+    Other threads run during a call, so anything that can change is copied."""
     if isinstance(text, bytes):
         return text
     try:
         return memoryview(text).tobytes()
     except TypeError:
-        raise TypeError(f"the text of a log, and a frame, are bytes, not {type(text).__name__}") from None
+        raise TypeError("the text of a log, and a frame, are bytes, "
+                        f"not {type(text).__name__}") from None
 
 
 def lacking_of(machine: str, flags: Sequence[str]) -> list[str]:
-    """What a processor with these flags lacks of x86-64-v2, without which the library would end the process."""
-    return [flag for flag in X86_64_V2 if flag not in flags] if machine == "x86_64" and flags else []
+    """What a processor with these flags lacks of x86-64-v2,
+    without which the library would end the process."""
+    if machine != "x86_64" or not flags:
+        return []
+    return [flag for flag in X86_64_V2 if flag not in flags]
 
 
 def _flags() -> list[str]:
@@ -158,17 +164,19 @@ def _flags() -> list[str]:
 
 @functools.lru_cache(maxsize=None)
 def library() -> ctypes.CDLL:
-    """The library, loaded once: the file that LIBVICINITY names, or the one that came with the package, or the installed
-    one."""
+    """The library, loaded once: the file that LIBVICINITY names,
+    or the one that came with the package, or the installed one."""
     within = os.path.join(os.path.dirname(os.path.abspath(__file__)), NAME)
     name = os.environ.get("LIBVICINITY") or (within if os.path.exists(within) else NAME)
     lacking = lacking_of(platform.machine(), _flags())
     if lacking:
-        raise OSError(f"the library {name} needs a processor with x86-64-v2: this one lacks {', '.join(lacking)}")
+        raise OSError(f"the library {name} needs a processor with x86-64-v2: "
+                      f"this one lacks {', '.join(lacking)}")
     try:
         lib = ctypes.CDLL(name)
     except OSError as error:
-        raise OSError(f"the library {name} can't be loaded ({error}): install vicinity or the package libvicinity1, or "
+        raise OSError(f"the library {name} can't be loaded ({error}): "
+                      "install vicinity or the package libvicinity1, or "
                       "name the file in the environment variable LIBVICINITY") from None
     try:
         lib.vicinity_interface.restype = ctypes.c_uint32
@@ -177,11 +185,13 @@ def library() -> ctypes.CDLL:
     except AttributeError:
         raise OSError(f"{name} isn't the library of vicinity") from None
     if interface != INTERFACE:
-        raise OSError(f"the library {name} has the interface {interface}, and this package needs {INTERFACE}")
+        raise OSError(f"the library {name} has the interface {interface}, "
+                      f"and this package needs {INTERFACE}")
     for call_name, arguments in CALLS.items():
         call = getattr(lib, f"vicinity_{call_name}", None)
         if call is None:
-            raise OSError(f"the library {name} is older than this package: it has no vicinity_{call_name}")
+            raise OSError(f"the library {name} is older than this package: "
+                          f"it has no vicinity_{call_name}")
         call.restype = ctypes.c_uint32
         call.argtypes = arguments
     return lib

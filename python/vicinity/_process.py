@@ -1,9 +1,10 @@
 """What every command shares: its arguments, how it reads and writes, and how it ends.
 
-A command is a function that returns its status, and `run` runs it. Its arguments are those of `Words`, it reads with `read`,
-writes with `write`, and shows the name of a file with `shown`. If it has no answer it raises NoAnswer, MemoryError or
-OSError: then a line is written to standard error, and the status is 4. Nothing goes through sys.stdout or sys.stderr, so a
-closed or full stream is noticed at once, and no traceback is written.
+A command is a function that returns its status, and `run` runs it.
+Its arguments are those of `Words`, it reads with `read`, writes with `write`, and shows the name
+of a file with `shown`. If it has no answer it raises NoAnswer, MemoryError or OSError:
+then a line is written to standard error, and the status is 4. Nothing goes through sys.stdout
+or sys.stderr, so a closed or full stream is noticed at once, and no traceback is written.
 """
 from __future__ import annotations
 
@@ -14,7 +15,8 @@ import signal
 import sys
 from typing import Any, Callable, Generator, Iterable, NoReturn, Sequence, TypeVar, Union
 
-# Within these bytes, a longer text has a line that is too long, or too many lines: 1,000,000 lines of 130 bytes, plus one.
+# Within these bytes, a longer text has a line that is too long, or too many lines:
+# 1,000,000 lines of 130 bytes, plus one.
 MOST_BYTES = 1_000_000 * 130 + 1
 PIECE = 1 << 16
 #: How a file is opened: read as it is, also on Windows, and not left open to other programs.
@@ -43,7 +45,8 @@ def run(command: Callable[[], int]) -> int:
         return complain("out of memory")
     except OSError as error:
         return complain(shown(str(error)))
-    except Exception as error:  # a defect: Python itself would end with 1, which means 'not complete'
+    except Exception as error:
+        # a defect: Python itself would end with 1, which means 'not complete'
         return complain(shown(f"{type(error).__name__}: {error}"))
 
 
@@ -68,7 +71,8 @@ def read(name: str) -> bytes:
         try:
             pieces, left, wanted = [], MOST_BYTES, max(PIECE, os.fstat(file).st_size)
             while left > 0:
-                piece = os.read(file, min(wanted, left))  # a file in one piece: joining pieces takes the memory twice
+                # a file in one piece: joining pieces takes the memory twice
+                piece = os.read(file, min(wanted, left))
                 wanted = PIECE
                 if not piece:
                     break
@@ -104,8 +108,9 @@ def _encoded(text: str) -> bytes:
 
 
 def shown(name: str) -> str:
-    """A name on one line, without anything that a terminal would interpret: a backslash is `\\\\`, a tab `\\t`, a line end
-    `\\n`, and each byte of another character that can't be printed, or that isn't UTF-8, `\\x` and two hex digits."""
+    """A name on one line, without anything that a terminal would interpret: a backslash is `\\\\`,
+    a tab `\\t`, a line end `\\n`, and each byte of another character that can't be printed,
+    or that isn't UTF-8, `\\x` and two hex digits."""
     text = os.fsencode(name).replace(b"\\", b"\\\\").decode("utf-8", "backslashreplace")
     return "".join(it if it.isprintable() else _escaped(it) for it in text)
 
@@ -116,7 +121,8 @@ def _escaped(character: str) -> str:
 
 
 def counted(things: Iterable[T], total: int) -> Generator[T, None, None]:
-    """The same things, one for each of many logs. Their number is shown if standard error is a terminal."""
+    """The same things, one for each of many logs.
+    Their number is shown if standard error is a terminal."""
     is_shown = total > MOST_UNCOUNTED and os.isatty(2)
     try:
         for number, thing in enumerate(things):
@@ -143,19 +149,22 @@ def _note(*pieces: str) -> None:
 
 
 def has_colours() -> bool:
-    """Whether standard output is a terminal that has colours, and they are wanted: NO_COLOR isn't set, or is empty."""
+    """Whether standard output is a terminal that has colours, and they are wanted:
+    NO_COLOR isn't set, or is empty."""
     return os.isatty(1) and not os.environ.get("NO_COLOR") and os.environ.get("TERM") != "dumb"
 
 
 def has_unicode() -> bool:
-    """Whether the text of this locale is UTF-8; on Windows, which has no such locale, that of the terminal."""
+    """Whether the text of this locale is UTF-8; on Windows, which has no such locale,
+    that of the terminal."""
     if sys.platform == "win32":
         return sys.stdout is not None and sys.stdout.encoding.upper() in ("UTF-8", "UTF8")
     return locale.nl_langinfo(locale.CODESET).upper() in ("UTF-8", "UTF8")
 
 
 class Words(argparse.ArgumentParser):
-    """The arguments of a command. Its options may be anywhere before `--`; what comes after is names."""
+    """The arguments of a command. Its options may be anywhere before `--`;
+    what comes after is names."""
 
     def parse(self, words: Sequence[str]) -> argparse.Namespace:
         at = words.index("--") if "--" in words else len(words)
@@ -163,7 +172,8 @@ class Words(argparse.ArgumentParser):
         asked.names = [*asked.names, *words[at + 1:]]
         least, most = asked.number
         if not least <= len(asked.names) <= most:
-            self.error("a word is missing" if len(asked.names) < least else f"a word too many: {asked.names[most]}")
+            self.error("a word is missing" if len(asked.names) < least
+                       else f"a word too many: {asked.names[most]}")
         return asked
 
     def error(self, message: str) -> NoReturn:

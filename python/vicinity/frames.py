@@ -1,4 +1,5 @@
-"""Frames read and written, lines of a log, and which tags answer in a slot: library calls that allocate no memory."""
+"""Frames read and written, lines of a log, and which tags answer in a slot:
+library calls that allocate no memory."""
 from __future__ import annotations
 
 import ctypes
@@ -14,15 +15,19 @@ if TYPE_CHECKING:
 HEADER_LINE = b"vicinity-log 3\n"
 """The first line of a log."""
 HEX = frozenset("0123456789ABCDEFabcdef")
-#: What may be among the digits of a UID beside spaces, as spreadsheets and library systems write it.
+#: What may be among the digits of a UID beside spaces,
+#: as spreadsheets and library systems write it.
 BETWEEN_DIGITS = "-:\u2010\u2011\u2012\u2013"
 #: What is asked of a frame or a line that can't be made, by the name of the refusal.
 WANTED = {
     "WrongLink": "a link is 0 to 3", "WrongSlots": "a round has 1 or 16 slots",
-    "WrongMask": "a mask has at most 64 bits, or 60 with sixteen slots, and its value no more bits than that",
+    "WrongMask": "a mask has at most 64 bits, or 60 with sixteen slots, "
+                 "and its value no more bits than that",
     "WrongSlot": "slots are counted from 0, and are fewer than the round has",
-    "WrongReply": "a reply has flags and a DSFID of one byte each, no error flag, and a UID that begins with E0",
-    "TooLong": "there are more bytes than fit", "WrongLetter": "a line begins with T, S, R, H, C, D, N, F or U",
+    "WrongReply": "a reply has flags and a DSFID of one byte each, no error flag, "
+                  "and a UID that begins with E0",
+    "TooLong": "there are more bytes than fit",
+    "WrongLetter": "a line begins with T, S, R, H, C, D, N, F or U",
 }
 
 
@@ -42,9 +47,11 @@ def uid_text(uid: int) -> str:
 
 
 def parse_uid(text: str) -> int:
-    """The UID in a text: 16 hex digits in either case, E0 first. Colons, dashes and spaces may be among them, 0x or an
-    apostrophe before them. Raises ValueError if it isn't one."""
-    digits = "".join(it for it in text if not (it.isspace() or it in BETWEEN_DIGITS)).removeprefix("'")
+    """The UID in a text: 16 hex digits in either case, E0 first.
+    Colons, dashes and spaces may be among them, 0x or an apostrophe before them.
+    Raises ValueError if it isn't one."""
+    digits = "".join(it for it in text if not (it.isspace() or it in BETWEEN_DIGITS))
+    digits = digits.removeprefix("'")
     digits = digits[2:] if digits[:2] in ("0x", "0X") else digits
     is_long = len(digits) == 16 and HEX.issuperset(digits)
     if is_long and digits[:2] in ("E0", "e0"):
@@ -92,45 +99,53 @@ def read_response(frame: BytesLike) -> Reply:
 def write_inventory(link: int, slots: int, mask: Mask = Mask(0, 0)) -> bytes:
     """The frame of an Inventory request, CRC included, with a link of 0 to 3 and 1 or 16 slots.
 
-    Raises ValueError, with the name of the refusal and what is asked, if there is no such request."""
-    return _frame(library().vicinity_write_inventory, _number(link), _number(slots), _number(mask.length),
-                  _number(mask.value, 64))
+    Raises ValueError, with the name of the refusal and what is asked,
+    if there is no such request."""
+    return _frame(library().vicinity_write_inventory, _number(link), _number(slots),
+                  _number(mask.length), _number(mask.value, 64))
 
 
 def write_stay_quiet(link: int, uid: int) -> bytes:
-    """The frame of a Stay Quiet request, CRC included. Raises ValueError as `write_inventory` does."""
+    """The frame of a Stay Quiet request, CRC included.
+    Raises ValueError as `write_inventory` does."""
     return _frame(library().vicinity_write_stay_quiet, _number(link), _number(uid, 64))
 
 
 def write_response(flags: int, dsfid: int, uid: int) -> bytes:
-    """The frame of a reply, CRC included, for a simulated field. Raises ValueError as `write_inventory` does."""
-    return _frame(library().vicinity_write_response, _number(flags), _number(dsfid), _number(uid, 64))
+    """The frame of a reply, CRC included, for a simulated field.
+    Raises ValueError as `write_inventory` does."""
+    return _frame(library().vicinity_write_response, _number(flags), _number(dsfid),
+                  _number(uid, 64))
 
 
 def add_crc(content: BytesLike) -> bytes:
-    """At most 14 bytes with their CRC after them: a frame whose CRC the reader's chip removed. Raises ValueError if there
-    are more."""
+    """At most 14 bytes with their CRC after them: a frame whose CRC the reader's chip removed.
+    Raises ValueError if there are more."""
     content = bytes_of(content)
     return _frame(library().vicinity_add_crc, content, len(content))
 
 
 def write_line(letter: str, frame: BytesLike = b"", uid: int = 0) -> bytes:
-    """A line of a log, with its LF: "T", "R" or "H" with a frame of at most 63 bytes, which isn't judged, "U" with a UID, or
-    only "S", "C", "D", "N" or "F". Raises ValueError, with the name of the refusal and what is asked, if there is no such line."""
+    """A line of a log, with its LF: "T", "R" or "H" with a frame of at most 63 bytes,
+    which isn't judged, "U" with a UID, or only "S", "C", "D", "N" or "F".
+    Raises ValueError, with the name of the refusal and what is asked, if there is no such line."""
     frame, told = bytes_of(frame), LineStruct()
     if not (isinstance(letter, str) and len(letter) == 1 and letter.isascii()):
         raise ValueError(f"WrongLetter: {WANTED['WrongLetter']}, not {letter!r}")
     code = ord(letter)
-    _refuse(library().vicinity_write_line(code, frame, len(frame), _number(uid, 64), ctypes.byref(told)))
+    _refuse(library().vicinity_write_line(code, frame, len(frame), _number(uid, 64),
+                                          ctypes.byref(told)))
     return bytes(told.text)
 
 
 def slot_mask(slots: int, mask: Mask, slot: int) -> Mask:
-    """Which UIDs answer in a slot, counted from 0, of an Inventory request with 1 or 16 slots and a mask.
+    """Which UIDs answer in a slot, counted from 0,
+    of an Inventory request with 1 or 16 slots and a mask.
 
     Raises ValueError if there is no such request or slot."""
     told = MaskStruct()
-    _refuse(library().vicinity_slot_mask(_number(slots), _number(mask.length), _number(mask.value, 64), _number(slot),
+    _refuse(library().vicinity_slot_mask(_number(slots), _number(mask.length),
+                                         _number(mask.value, 64), _number(slot),
                                          ctypes.byref(told)))
     return Mask(told.len, told.value)
 
@@ -151,7 +166,8 @@ def _refuse(fault: int) -> None:
 def _number(number: int, bits: int = 32) -> int:
     """A number that fits what C takes."""
     if not isinstance(number, int):
-        raise TypeError(f"{number!r} isn't a number, but {type(number).__name__}; parse_uid reads a UID from text")
+        raise TypeError(f"{number!r} isn't a number, but {type(number).__name__}; "
+                        "parse_uid reads a UID from text")
     if not 0 <= number < 1 << bits:
         raise ValueError(f"{number} isn't a number of {bits} bits")
     return number

@@ -1,5 +1,5 @@
-"""What is expected in a collection: a list, which is a log with U lines alone, or a CSV file with a column of UIDs, or of
-something by which another file has the UIDs."""
+"""What is expected in a collection: a list, which is a log with U lines alone,
+or a CSV file with a column of UIDs, or of something by which another file has the UIDs."""
 from __future__ import annotations
 
 from typing import NamedTuple, Optional, Sequence
@@ -13,8 +13,9 @@ from .tables import Form, Table, Wrong, read_table
 
 #: The column of the UIDs, if none is named.
 COLUMN = "uid"
-#: The columns that are written behind those of a catalogue, with TWIN where it has one of that name itself. Where an earlier
-#: run has written them they are replaced, and its unexpected tags left out.
+#: The columns that are written behind those of a catalogue,
+#: with TWIN where it has one of that name itself.
+#: Where an earlier run has written them they are replaced, and its unexpected tags left out.
 ADDED, TWIN, UNEXPECTED = ("state", "certain in", "may be in"), " (found)", "unexpected"
 NO_TAG: list[Optional[int]] = [None]
 NAMES_IT = "--column NAME names the one with the UIDs"
@@ -22,8 +23,8 @@ NAMES_KEY = "--column NAME names the one by which --tags has the UIDs"
 
 
 class How(NamedTuple):
-    """How a CSV file is read: which column has the UIDs, or what --tags has beside them; which one the place of each item;
-    the encoding; and the file --tags."""
+    """How a CSV file is read: which column has the UIDs, or what --tags has beside them;
+    which one the place of each item; the encoding; and the file --tags."""
 
     column: Optional[str] = None
     place: Optional[str] = None
@@ -32,7 +33,8 @@ class How(NamedTuple):
 
 
 class Entry(NamedTuple):
-    """A row of the catalogue, with the UID of its tag, if it has one, and a cell for each column."""
+    """A row of the catalogue, with the UID of its tag, if it has one,
+    and a cell for each column."""
 
     row: int
     uid: Optional[int]
@@ -40,8 +42,8 @@ class Entry(NamedTuple):
 
 
 class Catalogue(NamedTuple):
-    """What is expected, and how it was written: the columns, and which of them has the UIDs, the key of --tags, and the
-    places. `keys` has what --tags says of UIDs."""
+    """What is expected, and how it was written: the columns, and which of them has the UIDs,
+    the key of --tags, and the places. `keys` has what --tags says of UIDs."""
 
     name: str
     form: Form
@@ -100,7 +102,8 @@ def catalogue(name: str, text: bytes, how: How = How()) -> Catalogue:
         rows[entry.uid] = entry.row
     if how.place is None:
         return found_by
-    return found_by._replace(place_at=table.named(how.place, "", "--place NAME names the one with the places"))
+    place_at = table.named(how.place, "", "--place NAME names the one with the places")
+    return found_by._replace(place_at=place_at)
 
 
 def _of_list(name: str, text: bytes) -> Catalogue:
@@ -129,7 +132,8 @@ def _without(table: Table, columns: Sequence[int]) -> Table:
 
 
 def _tagged(table: Table, is_ours: bool, how: How, tags: Table) -> Catalogue:
-    """The catalogue of a table whose UIDs are in another one, found by a column that both have. A row may have several."""
+    """The catalogue of a table whose UIDs are in another one, found by a column that both have.
+    A row may have several."""
     uid_at = tags.column(COLUMN, "that of the UIDs has to be uid")
     head = tags.heads[uid_at]
     if is_ours and head in table.heads:
@@ -140,7 +144,8 @@ def _tagged(table: Table, is_ours: bool, how: How, tags: Table) -> Catalogue:
     shared = {it.casefold() for it in table.heads} & {it.casefold() for it in others}
     column = how.column or (next(iter(shared)) if len(shared) == 1 else "")
     if not column:
-        table.wrong(1, f"{'no column is' if not shared else 'several columns are'} also in {shown(tags.name)}; {NAMES_KEY}")
+        number = "several columns are" if shared else "no column is"
+        table.wrong(1, f"{number} also in {shown(tags.name)}; {NAMES_KEY}")
     key_at = table.column(column, NAMES_KEY)
     theirs = tags.column(others[0] if len(others) == 1 else column, NAMES_KEY)
     by_key: dict[str, list[Optional[int]]] = {}
@@ -153,9 +158,11 @@ def _tagged(table: Table, is_ours: bool, how: How, tags: Table) -> Catalogue:
             tags.wrong(row, f"{uid_text(uid)} is also the tag of {shown(keys[uid])}")
         keys[uid] = cells[theirs].strip()
         by_key.setdefault(keys[uid].casefold(), []).append(uid)
-    entries = [Entry(row, uid, [*cells, "" if uid is None else uid_text(uid)]) for row, cells in table.rows
+    entries = [Entry(row, uid, [*cells, "" if uid is None else uid_text(uid)])
+               for row, cells in table.rows
                for uid in by_key.get(cells[key_at].strip().casefold(), NO_TAG)]
-    return Catalogue(table.name, table.form, [*table.heads, head], entries, len(table.heads), key_at, keys=keys)
+    return Catalogue(table.name, table.form, [*table.heads, head], entries, len(table.heads),
+                     key_at, keys=keys)
 
 
 def _uid(table: Table, row: int, cell: str) -> Optional[int]:

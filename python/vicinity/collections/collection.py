@@ -27,14 +27,16 @@ class State(Enum):
     NO_TAG = "no tag"
 
 
-#: The states of the items that a finding is about. An expected item without a finding is there, or misplaced.
+#: The states of the items that a finding is about.
+#: An expected item without a finding is there, or misplaced.
 STATES = {FindingKind.ABSENT: State.MISSING, FindingKind.DOUBTFUL: State.NOT_PROVABLE,
           FindingKind.UNLISTED: State.UNEXPECTED}
 
 
 class Item(NamedTuple):
-    """A row of the catalogue or a tag that isn't in it: its UID, if it has one, its cells, its state, and in which logs it
-    is certain, and possible without being certain. Where it belongs is nothing if that isn't known."""
+    """A row of the catalogue or a tag that isn't in it: its UID, if it has one, its cells,
+    its state, and in which logs it is certain, and possible without being certain.
+    Where it belongs is nothing if that isn't known."""
 
     uid: Optional[int]
     cells: Sequence[str]
@@ -46,8 +48,8 @@ class Item(NamedTuple):
 
 
 class Left(NamedTuple):
-    """What is left to ask for in a log: the first masks, and whether there are more. If there are none, the log was read
-    completely."""
+    """What is left to ask for in a log: the first masks, and whether there are more.
+    If there are none, the log was read completely."""
 
     masks: list[Mask]
     has_more: bool
@@ -71,7 +73,8 @@ class Collection:
 
     @property
     def status(self) -> int:
-        """The highest status: that of the answer, 1 if an item is misplaced, and that of each log that is set aside."""
+        """The highest status: that of the answer, 1 if an item is misplaced,
+        and that of each log that is set aside."""
         return max([self.answer.status, bool(self.misplaced), *(log.status for log in self.aside)])
 
     def of(self, state: State) -> list[Item]:
@@ -101,18 +104,22 @@ class Collection:
         return found
 
     def left(self) -> Iterator[Left]:
-        """What is left to ask for in each log, without UIDs that another one makes certain: everything in one that is set
-        aside."""
+        """What is left to ask for in each log, without UIDs that another one makes certain:
+        everything in one that is set aside."""
         certain = Under(uid for log in self.logs for uid in log.certain)
         for log in self.logs:
-            yield Left([ALL], False) if log.status else Left(*without(log.open_masks, certain, MOST_OPEN))
+            if log.status:
+                yield Left([ALL], False)
+            else:
+                yield Left(*without(log.open_masks, certain, MOST_OPEN))
 
     def text(self, index: int) -> Optional[bytes]:
         """The text of a log, if it is still there."""
         return self._read.text(index)
 
     def shown_by(self) -> dict[int, tuple[int, int]]:
-        """For each unlisted UID the first log in which it is certain, and the line that shows it."""
+        """For each unlisted UID the first log in which it is certain,
+        and the line that shows it."""
         by_log: dict[int, list[int]] = {}
         for item in self.of(State.UNEXPECTED):
             by_log.setdefault(item.certain_in[0], []).append(item.uid or 0)
@@ -122,12 +129,14 @@ class Collection:
             for uid in uids:
                 found[uid] = index, shown_there.line_of(uid)
                 if not found[uid][1]:
-                    raise NoAnswer(f"{shown(self.logs[index].name)} has changed since it was read first")
+                    name = shown(self.logs[index].name)
+                    raise NoAnswer(f"{name} has changed since it was read first")
         return found
 
     def _items(self) -> Iterator[Item]:
-        """Each row of the catalogue, in its order, and then the unexpected UIDs. An item that is certain somewhere may also
-        be in any log that is set aside: this is said only if that is its own."""
+        """Each row of the catalogue, in its order, and then the unexpected UIDs.
+        An item that is certain somewhere may also be in any log that is set aside:
+        this is said only if that is its own."""
         unlisted = self.uids(FindingKind.UNLISTED)
         states = {it.uid: STATES[it.kind] for it in self.findings if it.kind in STATES}
         uids = [*self.expected.uids, *unlisted]
@@ -141,8 +150,10 @@ class Collection:
             its_own = set(self.places.get(belongs.casefold(), ()))
             if state is State.THERE and belongs and its_own.isdisjoint(where):
                 state = State.MISPLACED
-            may_be_in = [log for log in possible[entry.uid] if not where or log in its_own or not self.logs[log].status]
+            may_be_in = [log for log in possible[entry.uid]
+                         if not where or log in its_own or not self.logs[log].status]
             yield Item(entry.uid, entry.cells, state, where, may_be_in, belongs, entry.row)
         for uid in unlisted:
             may_be_in = [log for log in possible[uid] if not self.logs[log].status]
-            yield Item(uid, self.expected.unexpected(uid), State.UNEXPECTED, certain[uid], may_be_in)
+            cells = self.expected.unexpected(uid)
+            yield Item(uid, cells, State.UNEXPECTED, certain[uid], may_be_in)

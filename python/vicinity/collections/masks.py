@@ -10,7 +10,8 @@ from ..sessions.words import UID_BITS
 
 
 class Under:
-    """UIDs in the order of their bits, the lowest first: there, those that have a mask are consecutive."""
+    """UIDs in the order of their bits, the lowest first:
+    there, those that have a mask are consecutive."""
 
     def __init__(self, uids: Iterable[int]):
         self._pairs = sorted((_turned(uid), uid) for uid in set(uids))
@@ -21,7 +22,8 @@ class Under:
     def of(self, mask: Mask) -> list[int]:
         """Those that have a mask of at most 56 bits."""
         first = _turned(mask.value)
-        return [uid for _, uid in self._pairs[self._start(first):self._start(first + (1 << UID_BITS - mask.length))]]
+        behind = first + (1 << UID_BITS - mask.length)
+        return [uid for _, uid in self._pairs[self._start(first):self._start(behind)]]
 
     def any_of(self, mask: Mask) -> bool:
         """Whether one has it."""
@@ -35,8 +37,8 @@ def _turned(number: int) -> int:
 
 
 def without(masks: Sequence[Mask], taken: Under, most: int) -> tuple[list[Mask], bool]:
-    """The widest masks of the UIDs that have one of these masks and aren't taken: the first ones by length and then by
-    value, and whether there are more. The given masks are in this order."""
+    """The widest masks of the UIDs that have one of these masks and aren't taken: the first ones
+    by length and then by value, and whether there are more. The given masks are in this order."""
     left = list(masks)
     found: list[Mask] = []
     while left and len(found) <= most:

@@ -19,26 +19,31 @@ Places = dict[str, list[int]]
 
 def places_of(expected: Catalogue, names: Sequence[str], file: Optional[tuple[str, bytes]],
               encoding: Optional[str]) -> Places:
-    """The logs of each place of a catalogue. Raises Wrong if no item belongs to one that has a log."""
+    """The logs of each place of a catalogue.
+    Raises Wrong if no item belongs to one that has a log."""
     places = _by_names(names)
     if file is not None:
         table = read_table(*file, encoding)
         place_at, log_at = table.column(PLACE, NAMES_PLACES), table.column(LOG, NAMES_PLACES)
         by_name, places = places, {}
         for _, cells in table.rows:
-            places.setdefault(cells[place_at].strip().casefold(), []).extend(by_name.get(cells[log_at].strip().casefold(), []))
+            its_own = by_name.get(cells[log_at].strip().casefold(), [])
+            places.setdefault(cells[place_at].strip().casefold(), []).extend(its_own)
     belongs = {place.casefold(): place for place in map(expected.place, expected.entries) if place}
     for key, place in belongs.items():
         if file is None and len(places.get(key, [])) > 1:
             one, other = (shown(names[log]) for log in places[key][:2])
-            raise Wrong(f"two logs are of the place {shown(place)}, by their names: {one} and {other}; {SAYS_PLACES}")
+            raise Wrong(f"two logs are of the place {shown(place)}, by their names: "
+                        f"{one} and {other}; {SAYS_PLACES}")
     if belongs and not any(places.get(key) for key in belongs):
-        raise Wrong(f"no log is of any place of the catalogue, such as {shown(next(iter(belongs.values())))}; {SAYS_PLACES}")
+        one = shown(next(iter(belongs.values())))
+        raise Wrong(f"no log is of any place of the catalogue, such as {one}; {SAYS_PLACES}")
     return places
 
 
 def _by_names(names: Sequence[str]) -> Places:
-    """Logs by their names: as given, and if no log has exactly that, without folders, and without the ending."""
+    """Logs by their names: as given, and if no log has exactly that, without folders,
+    and without the ending."""
     given = {name.casefold(): [index] for index, name in enumerate(names)}
     found: Places = {}
     for index, name in enumerate(names):

@@ -1,5 +1,5 @@
-"""What logs say of their fields, read here or in several processes, or from the records of other machines. Surveys travel,
-logs don't; no log is kept that can be read again."""
+"""What logs say of their fields, read here or in several processes, or from the records
+of other machines. Surveys travel, logs don't; no log is kept that can be read again."""
 from __future__ import annotations
 
 import json
@@ -31,8 +31,8 @@ READABLE = "make it readable, or count it again"
 
 
 class Log(NamedTuple):
-    """What a log says of its field. One that can't be read, is refused or impossible is set aside: it says nothing, so any
-    UID may be there."""
+    """What a log says of its field. One that can't be read, is refused or impossible is set aside:
+    it says nothing, so any UID may be there."""
 
     name: str
     answer: Optional[Answer]
@@ -44,14 +44,16 @@ class Log(NamedTuple):
     lines: Optional[Sequence[int]] = None
     """The lines that show the certain UIDs, if a record has them."""
     captured: Mapping[str, Any] = {}
-    """Whether it says the same of its field if strong replies hid weaker ones, as JSON has it; nothing if that isn't known."""
+    """Whether it says the same of its field if strong replies hid weaker ones, as JSON has it;
+    nothing if that isn't known."""
 
     @classmethod
     def of(cls, name: str, text: bytes) -> Log:
         """What a text says."""
         try:
             found = survey(text)
-            captured = {} if found.answer.kind is Kind.REFUSED else _captured(found, survey(with_captures(text)))
+            is_refused = found.answer.kind is Kind.REFUSED
+            captured = {} if is_refused else _captured(found, survey(with_captures(text)))
         except MemoryError as error:
             return cls.unread(name, error)
         if found.answer.status > 1:
@@ -61,12 +63,15 @@ class Log(NamedTuple):
     @classmethod
     def unread(cls, name: str, error: Exception) -> Log:
         """A log that has no answer."""
-        return cls(name, None, [], [ALL], str(error) if isinstance(error, NoAnswer) else f"out of memory: {shown(name)}")
+        why = str(error) if isinstance(error, NoAnswer) else f"out of memory: {shown(name)}"
+        return cls(name, None, [], [ALL], why)
 
     @property
     def status(self) -> int:
         """0, or the status for which it is set aside."""
-        return NO_ANSWER if self.answer is None else self.answer.status if self.answer.status > 1 else 0
+        if self.answer is None:
+            return NO_ANSWER
+        return self.answer.status if self.answer.status > 1 else 0
 
     @property
     def why(self) -> str:
@@ -82,8 +87,8 @@ class Log(NamedTuple):
 
 
 def _captured(found: Survey, reread: Survey) -> dict[str, Any]:
-    """Whether two surveys of a log say the same; if not, the first mask that only the second leaves open, or, of an impossible
-    log, the second answer."""
+    """Whether two surveys of a log say the same; if not, the first mask
+    that only the second leaves open, or, of an impossible log, the second answer."""
     if max(found.answer.status, reread.answer.status) > 1:
         captured: dict[str, Any] = captured_fields(found.answer, reread.answer)["captured"]
         return captured
@@ -93,10 +98,11 @@ def _captured(found: Survey, reread: Survey) -> dict[str, Any]:
 
 
 class Surveys:
-    """The surveys of logs in their order. If they are strict, a log that can't be read has no answer, and the first one that
-    is refused or impossible is the last."""
+    """The surveys of logs in their order. If they are strict, a log that can't be read
+    has no answer, and the first one that is refused or impossible is the last."""
 
-    def __init__(self, names: Sequence[str], jobs: int = 1, is_strict: bool = False, records: Sequence[Log] = ()):
+    def __init__(self, names: Sequence[str], jobs: int = 1, is_strict: bool = False,
+                 records: Sequence[Log] = ()):
         self.texts: dict[int, bytes] = {}
         self.all: list[Log] = list(records)
         self.first = len(records)
@@ -109,7 +115,8 @@ class Surveys:
                     break
 
     def shown_by(self, index: int) -> Shown:
-        """The UIDs that a log makes certain, each with the line that shows it. The log is read again."""
+        """The UIDs that a log makes certain, each with the line that shows it.
+        The log is read again."""
         log = self.all[index]
         if log.lines is not None:
             return Shown(array("Q", log.certain), array("I", log.lines))
@@ -142,9 +149,11 @@ def _each(names: Sequence[str], jobs: int, texts: dict[int, bytes]) -> Iterator[
         return
     there = [name for name, is_apart in zip(names, apart) if is_apart]
     # where a process ends by an interrupt, it says nothing
-    pool = ProcessPoolExecutor(min(jobs, len(there)), initializer=signal.signal, initargs=(signal.SIGINT, signal.SIG_DFL))
+    pool = ProcessPoolExecutor(min(jobs, len(there)), initializer=signal.signal,
+                               initargs=(signal.SIGINT, signal.SIG_DFL))
     try:
-        made = pool.map(survey_file, there, chunksize=max(1, min(SHARE, len(there) // (jobs * TURNS))))
+        made = pool.map(survey_file, there,
+                        chunksize=max(1, min(SHARE, len(there) // (jobs * TURNS))))
         for index, is_apart in enumerate(apart):
             yield next(made) if is_apart else _here(names, index, texts)
     finally:
@@ -163,7 +172,8 @@ def _here(names: Sequence[str], index: int, texts: dict[int, bytes]) -> Log:
 
 
 def _is_lasting(name: str) -> bool:
-    """Whether a file can be read again, also by another process: not if it is a pipe, or one that this process has open."""
+    """Whether a file can be read again, also by another process: not if it is a pipe,
+    or one that this process has open."""
     return os.path.isfile(name) and not name.startswith(("/dev/", "/proc/"))
 
 
@@ -178,12 +188,14 @@ def record(log: Log, lines: Optional[Sequence[int]]) -> str:
     """What a log says of its field, as a line of JSON for `--surveys`."""
     said: dict[str, Any] = {"schema": SCHEMA, "file": log.name}
     if log.answer is None:
-        return json.dumps({**said, "status": NO_ANSWER, "kind": "no answer", "error": log.error}) + "\n"
+        said.update(status=NO_ANSWER, kind="no answer", error=log.error)
+        return json.dumps(said) + "\n"
     said.update(fields(log.answer))
     if log.captured:
         said["captured"] = log.captured
     if lines is not None:
-        said["certain"] = [{"uid": uid_text(uid), "line": line} for uid, line in zip(log.certain, lines)]
+        said["certain"] = [{"uid": uid_text(uid), "line": line}
+                           for uid, line in zip(log.certain, lines)]
         said["open"] = [mask_fields(mask) for mask in log.open_masks]
     return json.dumps(said) + "\n"
 
@@ -198,9 +210,11 @@ def records(files: Sequence[tuple[str, bytes]]) -> list[Log]:
             try:
                 log = _recorded(json.loads(line))
             except (ValueError, KeyError, TypeError, AttributeError):
-                raise Wrong(f"{shown(name)}, line {number}: it isn't a survey as `survey` writes it") from None
+                raise Wrong(f"{shown(name)}, line {number}: "
+                            "it isn't a survey as `survey` writes it") from None
             if log.name in found:
-                raise Wrong(f"{shown(name)}, line {number}: there is another survey of {shown(log.name)}")
+                raise Wrong(f"{shown(name)}, line {number}: "
+                            f"there is another survey of {shown(log.name)}")
             found[log.name] = log
     return list(found.values())
 
@@ -217,12 +231,13 @@ def _recorded(said: dict[str, Any]) -> Log:
     if answer.status > 1:
         return Log(name, answer, [], [ALL], captured=captured)
     pairs = sorted((parse_uid(it["uid"]), number_of(it["line"])) for it in said["certain"])
-    return Log(name, answer, [uid for uid, _ in pairs], [mask_of(it) for it in said["open"]], "", [line for _, line in pairs],
-               captured)
+    return Log(name, answer, [uid for uid, _ in pairs], [mask_of(it) for it in said["open"]], "",
+               [line for _, line in pairs], captured)
 
 
 def _captured_of(said: Mapping[str, Any]) -> dict[str, Any]:
     """What a record says of captures. Raises ValueError, KeyError or TypeError if it is wrong."""
     if said["holds"] is True:
         return {"holds": True}
-    return {"holds": False, **(fields(answer_of(said)) if "kind" in said else mask_fields(mask_of(said)))}
+    return {"holds": False,
+            **(fields(answer_of(said)) if "kind" in said else mask_fields(mask_of(said)))}

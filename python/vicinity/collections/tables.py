@@ -1,4 +1,5 @@
-"""CSV files as spreadsheets and library systems save them. What is written has the form that was read."""
+"""CSV files as spreadsheets and library systems save them.
+What is written has the form that was read."""
 from __future__ import annotations
 
 import codecs
@@ -13,15 +14,17 @@ from .._process import shown
 #: Of these the one that makes the most columns of the first row separates the cells.
 SEPARATORS = ",;\t|"
 #: With which bytes a file begins that says its encoding.
-MARKS = {codecs.BOM_UTF8: "utf-8", codecs.BOM_UTF16_LE: "utf-16-le", codecs.BOM_UTF16_BE: "utf-16-be"}
+MARKS = {codecs.BOM_UTF8: "utf-8", codecs.BOM_UTF16_LE: "utf-16-le",
+         codecs.BOM_UTF16_BE: "utf-16-be"}
 #: A first line for spreadsheets, which names the separator.
 SAYS_SEPARATOR = re.compile('"?sep=([^"\r\n])"?[ \t]*(\r\n?|\n)', re.IGNORECASE)
-OTHER_ENCODINGS = ("as --encoding names it: windows-1252 is what many spreadsheets save, utf-16-le is UTF-16 without its "
-                   "first two bytes")
+OTHER_ENCODINGS = ("as --encoding names it: windows-1252 is what many spreadsheets save, "
+                   "utf-16-le is UTF-16 without its first two bytes")
 
 
 class Wrong(Exception):
-    """Why a file isn't what it should be: of a CSV file a sentence, of a list the line of its refusal."""
+    """Why a file isn't what it should be: of a CSV file a sentence,
+    of a list the line of its refusal."""
 
     def __init__(self, why: str, is_list: bool = False):
         super().__init__(why)
@@ -29,8 +32,8 @@ class Wrong(Exception):
 
 
 class Form(NamedTuple):
-    """How a table is written: its encoding, the bytes and the line before the table, the separator, the ends of lines, and
-    whether every cell is quoted."""
+    """How a table is written: its encoding, the bytes and the line before the table, the separator,
+    the ends of lines, and whether every cell is quoted."""
 
     encoding: str = "utf-8"
     mark: bytes = b""
@@ -40,7 +43,8 @@ class Form(NamedTuple):
     quoting: int = csv.QUOTE_MINIMAL
 
     def written(self, rows: Iterable[Sequence[str]]) -> Iterator[bytes]:
-        row = csv.writer(_Line(), delimiter=self.separator, lineterminator=self.line_end, quoting=self.quoting).writerow
+        row = csv.writer(_Line(), delimiter=self.separator, lineterminator=self.line_end,
+                         quoting=self.quoting).writerow
         yield self.mark + self.first.encode(self.encoding)
         for cells in rows:
             yield str(row(cells)).encode(self.encoding, "backslashreplace")
@@ -54,8 +58,8 @@ class _Line:
 
 
 class Table(NamedTuple):
-    """The rows of a file with anything in them, each with its number: counted from 1, as in a spreadsheet, where row 1 has
-    the names of the columns."""
+    """The rows of a file with anything in them, each with its number:
+    counted from 1, as in a spreadsheet, where row 1 has the names of the columns."""
 
     name: str
     form: Form
@@ -77,7 +81,9 @@ class Table(NamedTuple):
 
     def named(self, name: Optional[str], otherwise: str, what: str) -> int:
         """The place of the column with exactly this name, or the only one with it in any case."""
-        return self.heads.index(name) if name in self.heads else self.column(name or otherwise, what)
+        if name in self.heads:
+            return self.heads.index(name)
+        return self.column(name or otherwise, what)
 
 
 def read_table(name: str, text: bytes, encoding: Optional[str]) -> Table:
@@ -94,12 +100,13 @@ def read_table(name: str, text: bytes, encoding: Optional[str]) -> Table:
     for number, row in _rows(table, content):
         if number == 1:
             table.heads.extend(head.strip() for head in row)
-            twice = next((head for head in table.heads if head and table.heads.count(head) > 1), None)
+            twice = next((it for it in table.heads if it and table.heads.count(it) > 1), None)
             if twice is not None:
                 table.wrong(1, f"two columns are named {shown(twice)}")
         elif any(cell.strip() for cell in row):
             table.rows.append((number, _fitting(table, number, row)))
-    is_quoted = line == separator.join('"{}"'.format(cell.replace('"', '""')) for cell in _cells(line, separator))
+    is_quoted = line == separator.join('"{}"'.format(cell.replace('"', '""'))
+                                       for cell in _cells(line, separator))
     return table._replace(form=form._replace(quoting=csv.QUOTE_ALL)) if is_quoted else table
 
 
@@ -122,10 +129,11 @@ def _decoded(name: str, text: bytes, encoding: Optional[str]) -> tuple[Form, str
         row = 1
         with suppress(csv.Error):
             row = sum(1 for _ in csv.reader(_lines(before + "x")))
-        raise Wrong(f"{shown(name)}, row {row}: it isn't {named.upper()}; it may be in another encoding, {OTHER_ENCODINGS}"
-                    ) from None
+        raise Wrong(f"{shown(name)}, row {row}: it isn't {named.upper()}; "
+                    f"it may be in another encoding, {OTHER_ENCODINGS}") from None
     except UnicodeError as error:
-        raise Wrong(f"{shown(name)}: it can't be read as {shown(named)}: {shown(str(error))}") from None
+        why = shown(str(error))
+        raise Wrong(f"{shown(name)}: it can't be read as {shown(named)}: {why}") from None
 
 
 def _lines(content: str) -> io.StringIO:

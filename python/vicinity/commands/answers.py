@@ -1,4 +1,5 @@
-"""`check`, `explain`, `report` and `simulate`: what the program says, of many logs in one process."""
+"""`check`, `explain`, `report` and `simulate`: what the program says,
+of many logs in one process."""
 from __future__ import annotations
 
 import argparse
@@ -18,7 +19,8 @@ Fields = Mapping[str, Any]
 
 
 def judge(name: str, is_reread: bool = False) -> tuple[Union[Answer, str], Fields]:
-    """The answer to a file, or why there is none; and if the file is read again, whether it also holds under capture."""
+    """The answer to a file, or why there is none; and if the file is read again,
+    whether it also holds under capture."""
     try:
         text = read(name)
         answer = check(text)
@@ -40,11 +42,14 @@ def as_tabs(name: str, answer: Union[Answer, str], _: Fields) -> str:
 
 
 def as_json(name: str, answer: Union[Answer, str], more: Fields = {}) -> str:
-    said = {"status": NO_ANSWER, "kind": "no answer", "error": answer} if isinstance(answer, str) else fields(answer)
+    said = ({"status": NO_ANSWER, "kind": "no answer", "error": answer}
+            if isinstance(answer, str) else fields(answer))
     return json.dumps({"schema": SCHEMA, "file": name, **said, **more}) + "\n"
 
 
-FORMS: Mapping[str, Callable[[str, Union[Answer, str], Fields], str]] = {"lines": as_lines, "tabs": as_tabs, "json": as_json}
+FORMS: Mapping[str, Callable[[str, Union[Answer, str], Fields], str]] = {
+    "lines": as_lines, "tabs": as_tabs, "json": as_json,
+}
 
 
 def check_all(asked: argparse.Namespace) -> int:
@@ -82,7 +87,8 @@ def explain_one(asked: argparse.Namespace) -> int:
     """Writes what `vicinity explain` writes, and returns the status."""
     answer, population = explain(read(asked.names[0]))
     has_one = answer.status == 1
-    write([f"{answer}\n", f"population {len(population)}\n" * has_one, *(f"U {uid_text(uid)}\n" for uid in population)])
+    write([f"{answer}\n", f"population {len(population)}\n" * has_one,
+           *(f"U {uid_text(uid)}\n" for uid in population)])
     return answer.status
 
 

@@ -14,10 +14,11 @@ from ..frames import parse_uid, uid_text
 
 REFUSED = 3
 FOUND = (State.THERE.value, State.MISPLACED.value)
-MISSING, NOT_PROVABLE, UNEXPECTED = State.MISSING.value, State.NOT_PROVABLE.value, State.UNEXPECTED.value
+MISSING, NOT_PROVABLE = State.MISSING.value, State.NOT_PROVABLE.value
+UNEXPECTED = State.UNEXPECTED.value
 #: The changes of items in the order in which they are written.
-CHANGES = ("newly missing", "no longer provable", "moved", "back again", "provable again", "newly unexpected",
-           "no longer unexpected", "newly expected", "no longer expected")
+CHANGES = ("newly missing", "no longer provable", "moved", "back again", "provable again",
+           "newly unexpected", "no longer unexpected", "newly expected", "no longer expected")
 
 #: An item of an answer, as JSON has it.
 Said = Mapping[str, Any]
@@ -33,7 +34,8 @@ class Change(NamedTuple):
 
 
 class Answer(NamedTuple):
-    """An answer of `reconcile`: its items by their UIDs, its logs, and those of them that are set aside."""
+    """An answer of `reconcile`: its items by their UIDs, its logs,
+    and those of them that are set aside."""
 
     items: Mapping[str, Said]
     logs: Sequence[str]
@@ -54,8 +56,9 @@ def compare(asked: argparse.Namespace) -> int:
     logs += [("no longer counted", log) for log in old.logs if name(log) not in counted]
     status = int(bool(changes or logs))
     if asked.form == "json":
-        write([json.dumps({"schema": SCHEMA, "status": status, "changes": list(map(_object, changes)),
-                           "logs": [{"change": what, "file": log} for what, log in logs]}) + "\n"])
+        said = {"schema": SCHEMA, "status": status, "changes": list(map(_object, changes)),
+                "logs": [{"change": what, "file": log} for what, log in logs]}
+        write([json.dumps(said) + "\n"])
     else:
         write([*(f"{what} {shown(log)}\n" for what, log in logs), *map(_line, changes)])
     return status
@@ -67,10 +70,12 @@ def _answer(name: str) -> Answer:
         said = json.loads(read(name))
         if said["schema"] != SCHEMA:
             raise ValueError
-        items = {uid_text(parse_uid(it["uid"])): it for it in said["items"] if it["uid"] is not None}
+        items = {uid_text(parse_uid(it["uid"])): it
+                 for it in said["items"] if it["uid"] is not None}
         for item in items.values():
             State(item["state"]), item["columns"].values(), _names(item["certain_in"])
-        return Answer(items, *(_names([it["file"] for it in said[key]]) for key in ("logs", "set_aside")))
+        return Answer(items, *(_names([it["file"] for it in said[key]])
+                               for key in ("logs", "set_aside")))
     except (ValueError, KeyError, TypeError, AttributeError):
         raise Wrong(f"{shown(name)} isn't an answer as `reconcile --json` writes it") from None
 
@@ -83,11 +88,12 @@ def _names(said: Any) -> list[str]:
 
 
 class _Namer:
-    """Logs by their names without folders, if that tells the logs of each answer apart: folders are often named after the
-    day."""
+    """Logs by their names without folders, if that tells the logs of each answer apart:
+    folders are often named after the day."""
 
     def __init__(self, *answers: Answer):
-        self.is_short = all(len({os.path.basename(log) for log in it.logs}) == len(set(it.logs)) for it in answers)
+        self.is_short = all(len({os.path.basename(log) for log in it.logs}) == len(set(it.logs))
+                            for it in answers)
 
     def __call__(self, log: str) -> str:
         return os.path.basename(log) if self.is_short else log
@@ -104,7 +110,8 @@ def _changes(old: Answer, new: Answer, name: _Namer) -> Iterator[Change]:
 def _change(old: Optional[Said], new: Optional[Said], name: _Namer) -> str:
     if old is None or new is None:
         state = str((new or old or {})["state"])
-        there = {UNEXPECTED: "unexpected", MISSING: "missing" if new else "expected"}.get(state, "expected")
+        of_missing = "missing" if new else "expected"
+        there = {UNEXPECTED: "unexpected", MISSING: of_missing}.get(state, "expected")
         return f"{'newly' if new else 'no longer'} {there}"
     was, now = str(old["state"]), str(new["state"])
     if now == was or now in FOUND and was in FOUND:
@@ -112,7 +119,8 @@ def _change(old: Optional[Said], new: Optional[Said], name: _Namer) -> str:
         return "moved" if before and after and before.isdisjoint(after) else ""
     if now in FOUND:
         return {MISSING: "back again", NOT_PROVABLE: "provable again"}.get(was, "newly expected")
-    return {MISSING: "newly missing", NOT_PROVABLE: "no longer provable"}.get(now, "newly unexpected")
+    gone = {MISSING: "newly missing", NOT_PROVABLE: "no longer provable"}
+    return gone.get(now, "newly unexpected")
 
 
 def _where(item: Optional[Said]) -> list[str]:
@@ -121,13 +129,17 @@ def _where(item: Optional[Said]) -> list[str]:
 
 def _line(change: Change) -> str:
     was_in, is_in = (" and ".join(map(shown, _where(item))) for item in (change.old, change.new))
-    where = f" from {was_in}" * bool(was_in and was_in != is_in) + f" {'to' if was_in else 'in'} {is_in}" * bool(
-        is_in and was_in != is_in)
+    where = ""
+    if was_in != is_in:
+        where = f" from {was_in}" * bool(was_in)
+        where += f" {'to' if was_in else 'in'} {is_in}" * bool(is_in)
     cells = ", ".join(filter(None, map(str, (change.new or change.old or {})["columns"].values())))
     return f"{change.what} {change.uid}{where}{': ' * bool(cells)}{shown(cells)}\n"
 
 
 def _object(change: Change) -> dict[str, object]:
     old, new = change.old or {}, change.new or {}
-    return {"change": change.what, "uid": change.uid, "was": old.get("state"), "is": new.get("state"),
-            "was_in": _where(change.old), "is_in": _where(change.new), "columns": (new or old)["columns"]}
+    return {"change": change.what, "uid": change.uid,
+            "was": old.get("state"), "is": new.get("state"),
+            "was_in": _where(change.old), "is_in": _where(change.new),
+            "columns": (new or old)["columns"]}

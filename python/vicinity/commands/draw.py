@@ -1,4 +1,5 @@
-"""`show` and `page`: a session drawn for a terminal, or as one HTML file, with what `vicinity report` says about it."""
+"""`show` and `page`: a session drawn for a terminal, or as one HTML file,
+with what `vicinity report` says about it."""
 from __future__ import annotations
 
 import argparse
@@ -17,7 +18,8 @@ def draw(asked: argparse.Namespace) -> int:
     text = read(asked.names[0])
     told = tell_people(text)
     session = read_session(text, told, told.lines(MOST_LINES))
-    look = Look(has_unicode() and not asked.ascii, has_colours(), shutil.get_terminal_size().columns)
+    look = Look(has_unicode() and not asked.ascii, has_colours(),
+                shutil.get_terminal_size().columns)
     write(f"{line}\n" for line in show(session, told, look))
     return told.answer.status
 
@@ -25,6 +27,7 @@ def draw(asked: argparse.Namespace) -> int:
 def page(asked: argparse.Namespace) -> int:
     """Writes the page of a log, and returns the status of its report."""
     (name,) = asked.names
-    answer, parts = of_log(read(name), "standard input" if name == "-" else shown(os.path.basename(name)))
+    answer, parts = of_log(read(name),
+                           "standard input" if name == "-" else shown(os.path.basename(name)))
     write(parts)
     return answer.status

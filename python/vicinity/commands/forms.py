@@ -1,4 +1,5 @@
-"""What many logs say of a collection: as lines like those of `vicinity reconcile`, as CSV and as JSON."""
+"""What many logs say of a collection: as lines like those of `vicinity reconcile`,
+as CSV and as JSON."""
 from __future__ import annotations
 
 import json
@@ -32,7 +33,8 @@ def set_aside(log: Log) -> str:
 
 
 def as_lines(found: Collection) -> Iterator[str]:
-    """The logs that are set aside, and the lines of the program; then the misplaced items, and the rows without a tag."""
+    """The logs that are set aside, and the lines of the program; then the misplaced items,
+    and the rows without a tag."""
     yield from (f"{set_aside(log)}\n" for log in found.aside)
     yield from _findings(found)
     for item in found.misplaced:
@@ -56,12 +58,14 @@ def _findings(found: Collection) -> Iterator[str]:
             yield f"by line {line} of {names[log]}\n"
         elif finding.kind is FindingKind.UNSETTLED:
             for name, left in zip(names, found.left()):
-                yield from (f"{Finding(FindingKind.OPEN_MASK, 0, *mask, 0)} in {name}\n" for mask in left.masks)
+                yield from (f"{Finding(FindingKind.OPEN_MASK, 0, *mask, 0)} in {name}\n"
+                            for mask in left.masks)
                 yield f"more open in {name}\n" if left.has_more else ""
 
 
 def notes(found: Collection) -> Iterator[str]:
-    """What a person has to know beside the lines: what a complete answer is said of, and which logs don't hold under capture."""
+    """What a person has to know beside the lines: what a complete answer is said of,
+    and which logs don't hold under capture."""
     if not found.findings and not found.aside:
         yield HEARD
     names = [shown(log.name) for log in found.logs if log.captured.get("holds") is False]
@@ -73,26 +77,32 @@ def notes(found: Collection) -> Iterator[str]:
 
 
 def as_csv(found: Collection) -> Iterator[bytes]:
-    """The catalogue in its own form, with the state of each item and where it is; then the unexpected tags."""
+    """The catalogue in its own form, with the state of each item and where it is;
+    then the unexpected tags."""
     names = [shown(log.name).replace(BETWEEN, WITHIN) for log in found.logs]
 
     def where(logs: Iterable[int]) -> str:
         return f"{BETWEEN} ".join(names[log] for log in logs)
 
-    rows = ([*item.cells, item.state.value, where(item.certain_in), where(item.may_be_in)] for item in found.items)
+    rows = ([*item.cells, item.state.value, where(item.certain_in), where(item.may_be_in)]
+            for item in found.items)
     head = [*found.expected.heads, *found.expected.added()]
     return found.expected.form.written(row for part in ([head], rows) for row in part)
 
 
-def as_json(found: Collection, more: Mapping[str, object] = {}, of_log: Mapping[int, object] = {}) -> Iterator[str]:
-    """One object on one line: the answer, how many items there are of each state, the widest mask of which any UID may be
-    there, each item, and each log; with more fields, and with objects of some logs."""
+def as_json(found: Collection, more: Mapping[str, object] = {},
+            of_log: Mapping[int, object] = {}) -> Iterator[str]:
+    """One object on one line: the answer, how many items there are of each state,
+    the widest mask of which any UID may be there, each item, and each log;
+    with more fields, and with objects of some logs."""
     unsettled = [mask_fields(it.mask) for it in found.findings if it.kind is FindingKind.UNSETTLED]
     counts = Counter(item.state for item in found.items)
-    yield json.dumps({
-        "schema": SCHEMA, **_answer(found), **more, "counts": {state.value: counts[state] for state in State},
+    head = json.dumps({
+        "schema": SCHEMA, **_answer(found), **more,
+        "counts": {state.value: counts[state] for state in State},
         "unsettled": unsettled[0] if unsettled else None,
-        "set_aside": [{**_of_aside(log), "do": log.advice} for log in found.aside]})[:-1] + ', "items": ['
+        "set_aside": [{**_of_aside(log), "do": log.advice} for log in found.aside]})
+    yield head[:-1] + ', "items": ['
     for index, item in enumerate(found.items):
         yield ", " * (index > 0) + json.dumps(_of_item(found, item))
     yield '], "logs": ['
@@ -103,10 +113,12 @@ def as_json(found: Collection, more: Mapping[str, object] = {}, of_log: Mapping[
 
 
 def as_page(found: Collection) -> Iterator[str]:
-    """One HTML file: what is written as JSON, drawn, with the logs in it, of many the first that have to be counted again."""
+    """One HTML file: what is written as JSON, drawn, with the logs in it,
+    of many the first that have to be counted again."""
     name = "standard input" if found.expected.name == "-" else os.path.basename(found.expected.name)
     plain = [line.rstrip("\n") for line in as_lines(found) if line]
-    return document(f"{shown(name)}: {found.answer}", as_json(found, {"version": version(), "name": name}, _objects(found)), plain)
+    return document(f"{shown(name)}: {found.answer}",
+                    as_json(found, {"version": version(), "name": name}, _objects(found)), plain)
 
 
 def _objects(found: Collection) -> dict[int, dict[str, Any]]:
@@ -125,11 +137,13 @@ def _objects(found: Collection) -> dict[int, dict[str, Any]]:
 
 
 def _answer(found: Collection) -> dict[str, object]:
-    """The answer, or the first of the worst logs that are set aside, or the first misplaced item."""
+    """The answer, or the first of the worst logs that are set aside,
+    or the first misplaced item."""
     if found.aside:
         return _of_aside(max(found.aside, key=lambda log: log.status))
     if not found.findings and found.misplaced:
-        return {"status": found.status, "kind": State.MISPLACED.value, "uid": uid_text(found.misplaced[0].uid or 0)}
+        return {"status": found.status, "kind": State.MISPLACED.value,
+                "uid": uid_text(found.misplaced[0].uid or 0)}
     return fields(found.answer)
 
 
@@ -138,7 +152,9 @@ def _of_aside(log: Log) -> dict[str, object]:
 
 
 def _of_answer(log: Log) -> dict[str, object]:
-    return fields(log.answer) if log.answer else {"status": NO_ANSWER, "kind": "no answer", "error": log.error}
+    if log.answer is None:
+        return {"status": NO_ANSWER, "kind": "no answer", "error": log.error}
+    return fields(log.answer)
 
 
 def _of_item(found: Collection, item: Item) -> dict[str, object]:
@@ -150,8 +166,10 @@ def _of_item(found: Collection, item: Item) -> dict[str, object]:
 
 
 def _of_log(log: Log, left: Left) -> dict[str, object]:
-    return {"file": log.name, "certain": len(log.certain), "open": [mask_fields(mask) for mask in left.masks],
-            "more_open": left.has_more, "list": _of_answer(log), **({"captured": log.captured} if log.captured else {})}
+    return {"file": log.name, "certain": len(log.certain),
+            "open": [mask_fields(mask) for mask in left.masks],
+            "more_open": left.has_more, "list": _of_answer(log),
+            **({"captured": log.captured} if log.captured else {})}
 
 
 def _named(found: Collection, logs: Sequence[int]) -> list[str]:

@@ -28,9 +28,11 @@ def reported(text: bytes) -> tuple[Session, Told]:
 
 
 def lines_of_report(name: str, session: Session, told: Told) -> Iterator[str]:
-    """A line for each finding and note, like a compiler's: with the number of the line of the log that shows it, or of the
-    one after which further requests go. There is no finding if the list is complete."""
-    for line, text in chain(_found(session, told), ((it.line, f"note: {it.text}") for it in notes(session, told))):
+    """A line for each finding and note, like a compiler's: with the number of the line
+    of the log that shows it, or of the one after which further requests go.
+    There is no finding if the list is complete."""
+    for line, text in chain(_found(session, told),
+                            ((it.line, f"note: {it.text}") for it in notes(session, told))):
         yield f"{name}:{line}: {text}\n"
 
 
@@ -62,7 +64,8 @@ def _shown(session: Session, word: str, shown: Shown) -> Iterator[tuple[int, str
 
 def object_of_report(name: str, session: Session, told: Told) -> Iterator[str]:
     """One object on one line: what `--json` says about a log, with all findings and notes."""
-    yield json.dumps({"schema": SCHEMA, "file": name, **fields(told.answer), **captured_fields(told.answer, told.reread),
+    yield json.dumps({"schema": SCHEMA, "file": name, **fields(told.answer),
+                      **captured_fields(told.answer, told.reread),
                       "sentence": sentence(session, told)})[:-1]
     yield ', "findings": ['
     for index, finding in enumerate(_findings(told)):
@@ -75,8 +78,10 @@ def _findings(told: Told) -> Iterator[Mapping[str, object]]:
         yield {"kind": "silenced by", "line": told.silenced}
     yield from ({"kind": "conflict", "line": line} for line in told.conflict)
     for word, shown in ("absent", told.absent), ("unlisted", told.unlisted):
-        yield from ({"kind": word, "uid": uid(number), "line": line} for number, line in zip(shown.uids, shown.lines))
-    masks = [("unsettled", mask) for mask in (told.unsettled,) if mask] + [("open", mask) for mask in told.open_masks]
+        yield from ({"kind": word, "uid": uid(number), "line": line}
+                    for number, line in zip(shown.uids, shown.lines))
+    masks = [("unsettled", mask) for mask in (told.unsettled,) if mask]
+    masks += [("open", mask) for mask in told.open_masks]
     yield from ({"kind": word, **mask_fields(mask)} for word, mask in masks)
     if told.has_more_open:
         yield {"kind": "more open"}

@@ -1,5 +1,5 @@
-"""`misread`: a true log as a reader would have written it that misses replies, reads strong ones over others, or hears noise.
-Its author's software is tested against wrong answers with it."""
+"""`misread`: a true log as a reader would have written it that misses replies, reads strong ones
+over others, or hears noise. Its author's software is tested against wrong answers with it."""
 from __future__ import annotations
 
 import argparse
@@ -20,8 +20,9 @@ Place = tuple[int, int]
 
 
 class Reader(NamedTuple):
-    """With which probabilities it reads one reply over others, misses a reply, and hears noise; and whether it says what it
-    doesn't know, in version 3, or writes R for each reply that it reads and C for noise."""
+    """With which probabilities it reads one reply over others, misses a reply, and hears noise;
+    and whether it says what it doesn't know, in version 3,
+    or writes R for each reply that it reads and C for noise."""
 
     capture: float
     miss: float
@@ -35,12 +36,14 @@ class Reader(NamedTuple):
             return write_line(("D" if answering else "N") if self.is_careful else "C")
         heard = [uid for uid in answering if self.rng.random() >= self.miss]
         if len(heard) == 1 or heard and self.rng.random() < self.capture:
-            return write_line("H" if self.is_careful else "R", write_response(0, 0, self.rng.choice(heard)))
+            return write_line("H" if self.is_careful else "R",
+                              write_response(0, 0, self.rng.choice(heard)))
         return write_line("C" if heard else "S")
 
 
 def misread(asked: argparse.Namespace) -> int:
-    """Writes what a reader would have written, and returns 0; of a text that is refused the refusal, and 3."""
+    """Writes what a reader would have written, and returns 0;
+    of a text that is refused the refusal, and 3."""
     text = read(asked.names[0])
     answer, lines = check(text), list(BytesIO(text))
     requests = b"".join(line for line in lines if line[0] not in OUTCOMES and line[:1] != b"U")
@@ -49,7 +52,8 @@ def misread(asked: argparse.Namespace) -> int:
         write([f"{answer}\n" if answer.status == REFUSED else made.text])
         return REFUSED
     uids = listed(b"".join(line for line in lines if line[:1] in b"vU"))
-    reader = Reader(asked.capture, asked.miss, asked.noise, text.startswith(HEADER), random.Random(asked.seed))
+    reader = Reader(asked.capture, asked.miss, asked.noise, text.startswith(HEADER),
+                    random.Random(asked.seed))
     write(_written(lines, _answering(requests, uids), reader))
     return 0
 
@@ -69,8 +73,10 @@ def _answering(requests: bytes, uids: Sequence[int]) -> Mapping[Place, list[int]
     return found
 
 
-def _written(lines: Sequence[bytes], answering: Mapping[Place, list[int]], reader: Reader) -> Iterator[bytes]:
-    """The lines of the log, with other slots, and with a list of the tags that are heard in them."""
+def _written(lines: Sequence[bytes], answering: Mapping[Place, list[int]],
+             reader: Reader) -> Iterator[bytes]:
+    """The lines of the log, with other slots,
+    and with a list of the tags that are heard in them."""
     heard: set[bytes] = set()
     request = slot = 0
     for line in lines:

@@ -8,7 +8,8 @@ from .._process import NoAnswer, read
 
 
 def names_of(asked: argparse.Namespace, are_needed: bool = True) -> list[str]:
-    """The names of logs among the words, and those in a file, separated by NUL if there is any, else by line ends."""
+    """The names of logs among the words, and those in a file, separated by NUL if there is any,
+    else by line ends."""
     names = list(asked.names)
     if asked.logs_from is not None:
         listed = read(asked.logs_from)

@@ -63,8 +63,8 @@ def _places(asked: argparse.Namespace, expected: Catalogue, names: list[str]) ->
 
 
 def _ended(form: str, log: Log) -> Iterator[str]:
-    """What is written where a log that is refused or impossible ends it. In CSV it has no place, and a page shows the logs as
-    far as that one, which is set aside."""
+    """What is written where a log that is refused or impossible ends it.
+    In CSV it has no place, and a page shows the logs as far as that one, which is set aside."""
     if log.answer is None:
         raise NoAnswer(log.error)
     if form == "json":
@@ -76,7 +76,8 @@ def _ended(form: str, log: Log) -> Iterator[str]:
 
 
 def survey(asked: argparse.Namespace) -> int:
-    """Writes what each log says of its field, as a line of JSON, and returns the worst status of those that say nothing."""
+    """Writes what each log says of its field, as a line of JSON,
+    and returns the worst status of those that say nothing."""
     library()
     names, worst = names_of(asked), 0
     for name in counted(names, len(names)):

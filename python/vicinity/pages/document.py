@@ -1,4 +1,5 @@
-"""A page: the one file that web/ makes, with what it draws in it, and plain text for whom no script draws it."""
+"""A page: the one file that web/ makes, with what it draws in it,
+and plain text for whom no script draws it."""
 from __future__ import annotations
 
 import os

@@ -16,7 +16,8 @@ from ..sessions.reading import read_session
 from ..sessions.show import MOST_LINES, show
 from .document import document, version
 
-#: How many findings and open masks are told, how many tags are listed, and how much of a refused line is kept.
+#: How many findings and open masks are told, how many tags are listed,
+#: and how much of a refused line is kept.
 MOST_TOLD, MOST_LISTED, MOST_QUOTED = 1000, 10_000, 160
 FIRST_REQUEST = re.compile(rb"^T ([0-9A-Fa-f]{2})", re.MULTILINE)
 LINK, ANY_LINK = 3, 2
@@ -36,13 +37,18 @@ def object_of(name: str, text: bytes, told: Told) -> dict[str, Any]:
     return {
         "schema": SCHEMA, "version": version(), "file": name, **fields(answer),
         **captured_fields(answer, told.reread), "answer": answer.text,
-        "lines": text.count(b"\n") + (not text.endswith(b"\n") and bool(text)), "ended": text.endswith(b"\n"),
+        "lines": text.count(b"\n") + (not text.endswith(b"\n") and bool(text)),
+        "ended": text.endswith(b"\n"),
         "sha256": sha256(text).hexdigest(), "findings": list(_findings(told)),
-        "found": {"absent": len(told.absent.uids), "unlisted": len(told.unlisted.uids), "doubtful": len(told.doubtful)},
-        "certain": {"count": len(left.certain), "uids": list(map(uid_text, left.certain[:MOST_LISTED]))},
-        "open": {"count": len(left.open_masks), "share": sum(2.0 ** -mask.length for mask in left.open_masks),
+        "found": {"absent": len(told.absent.uids), "unlisted": len(told.unlisted.uids),
+                  "doubtful": len(told.doubtful)},
+        "certain": {"count": len(left.certain),
+                    "uids": list(map(uid_text, left.certain[:MOST_LISTED]))},
+        "open": {"count": len(left.open_masks),
+                 "share": sum(2.0 ** -mask.length for mask in left.open_masks),
                  "masks": _open_masks(text, left)},
-        "unnoticed": _unnoticed(text, answer), "text": _until_refused(text, answer).decode("utf-8", "replace")}
+        "unnoticed": _unnoticed(text, answer),
+        "text": _until_refused(text, answer).decode("utf-8", "replace")}
 
 
 def _findings(told: Told) -> Iterator[Mapping[str, object]]:
@@ -62,7 +68,8 @@ def _shown(kind: str, shown: Shown) -> Iterator[Mapping[str, object]]:
 def _open_masks(text: bytes, left: Survey) -> list[dict[str, object]]:
     first = FIRST_REQUEST.search(text)
     link = int(first[1], 16) & LINK if first else ANY_LINK
-    return [{**mask_fields(mask), "ask": _requests(link, mask)} for mask in left.open_masks[:MOST_TOLD]]
+    return [{**mask_fields(mask), "ask": _requests(link, mask)}
+            for mask in left.open_masks[:MOST_TOLD]]
 
 
 def _requests(link: int, mask: Mask) -> list[str]:

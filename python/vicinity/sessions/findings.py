@@ -1,4 +1,5 @@
-"""A report as columns of numbers: as small in memory as in the library, since a log may have a million findings."""
+"""A report as columns of numbers: as small in memory as in the library,
+since a log may have a million findings."""
 from __future__ import annotations
 
 from array import array
@@ -12,7 +13,8 @@ from .._captured import if_captured
 
 
 class _Records:
-    """Structs vicinity_finding of vicinity.h, whose fields are kind, line, mask_len, zero, mask_value, uid, as columns."""
+    """Structs vicinity_finding of vicinity.h, whose fields are kind, line, mask_len, zero,
+    mask_value, uid, as columns."""
 
     def __init__(self, records: memoryview):
         short, long = records.cast("I"), records.cast("Q")

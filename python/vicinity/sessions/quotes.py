@@ -1,5 +1,5 @@
-"""Quoted lines of a log: their numbers, their texts, and what they mean. Consecutive lines of one round are described in
-one sentence."""
+"""Quoted lines of a log: their numbers, their texts, and what they mean.
+Consecutive lines of one round are described in one sentence."""
 from __future__ import annotations
 
 from itertools import groupby
@@ -23,7 +23,8 @@ class Quote(NamedTuple):
 
 
 def quotes(session: Session, numbers: Iterable[int]) -> Iterator[Quote]:
-    """The named lines among these, in their order. Consecutive slots of a round are described as one."""
+    """The named lines among these, in their order.
+    Consecutive slots of a round are described as one."""
     known = [number for number in numbers if number in session.texts]
 
     def run(pair: tuple[int, int]) -> tuple[int, int]:
@@ -42,12 +43,16 @@ def quotes(session: Session, numbers: Iterable[int]) -> Iterator[Quote]:
 
 
 def _of_row(row: "StayQuiet | FieldCycle") -> str:
-    return f"Stay Quiet to {uid(row.uid)}" if isinstance(row, StayQuiet) else "the field was switched off and on"
+    if isinstance(row, StayQuiet):
+        return f"Stay Quiet to {uid(row.uid)}"
+    return "the field was switched off and on"
 
 
 def _of_round(session: Session, row: Round, slots: Sequence[Slot]) -> Iterator[Quote]:
-    """Consecutive silent slots and replies in one sentence, any other slot in a sentence of its own."""
-    for is_plain, group in groupby(slots, lambda slot: slot.reading in (Reading.SILENT, Reading.HEARD)):
+    """Consecutive silent slots and replies in one sentence,
+    any other slot in a sentence of its own."""
+    for is_plain, group in groupby(slots,
+                                   lambda slot: slot.reading in (Reading.SILENT, Reading.HEARD)):
         found = list(group)
         for part in [found] if is_plain else [[slot] for slot in found]:
             yield Quote(part[0].line, part[-1].line, _texts(session, part), _meaning(row, part))
@@ -55,7 +60,8 @@ def _of_round(session: Session, row: Round, slots: Sequence[Slot]) -> Iterator[Q
 
 def _texts(session: Session, slots: Sequence[Slot]) -> str:
     """The texts of lines, each once, with the number of times it is repeated."""
-    runs = [(text, len(list(same))) for text, same in groupby(session.texts[slot.line].decode() for slot in slots)]
+    runs = [(text, len(list(same)))
+            for text, same in groupby(session.texts[slot.line].decode() for slot in slots)]
     return ", ".join(text + (f" ×{times}" if times > 1 else "") for text, times in runs)
 
 
@@ -65,5 +71,6 @@ def _meaning(row: Round, slots: Sequence[Slot]) -> str:
         said = READ[slots[0].reading].format(uid(heard[0]) if heard else "")
         return f"{said}; asked: {ending(slots[0].mask)}"
     who = f"only {listing([short(number, heard) for number in heard])}" if heard else "none"
-    where = "" if len(slots) == row.places else f" in slots {slots[0].place:X} to {slots[-1].place:X}"
+    places = f" in slots {slots[0].place:X} to {slots[-1].place:X}"
+    where = "" if len(slots) == row.places else places
     return f"of {ending(row.mask)}, {who} answered{where}"

@@ -1,4 +1,5 @@
-"""The one pass over the text of a log, which keeps the rows of its session that matter, and counts the others.
+"""The one pass over the text of a log, which keeps the rows of its session that matter,
+and counts the others.
 
 Nothing is judged here: a refused text is read up to the refused line.
 """
@@ -13,7 +14,8 @@ from typing import Iterator, Optional
 from .findings import Told
 from .session import FieldCycle, Round, Row, Session, StayQuiet
 
-#: How many rows are kept at the beginning, at the end, and on each side of one that has a named line.
+#: How many rows are kept at the beginning, at the end,
+#: and on each side of one that has a named line.
 ENDS, AROUND = 20, 1
 #: How many of the lines that notes are about are kept.
 MOST_NOTED = 2000
@@ -22,7 +24,8 @@ MOST_QUOTED = 160
 
 
 def read_session(text: bytes, told: Told, quoted: set[int]) -> Session:
-    """The session of a text, up to the refused line, if there is one. The lines in `quoted` are kept as text."""
+    """The session of a text, up to the refused line, if there is one.
+    The lines in `quoted` are kept as text."""
     return _Pass(told, quoted).read(text, told.refused_line)
 
 
@@ -88,7 +91,8 @@ class _Pass:
         uid = int(digits, 16)
         self.silenced.append(uid)
         self.silenced_lines.append(number)
-        if isinstance(self.row, Round) and number not in self.quoted and self.row.has_heard(digits.upper()):
+        if (isinstance(self.row, Round) and number not in self.quoted
+                and self.row.has_heard(digits.upper())):
             self.row.quiets[_turned(uid)] = number
             self.row.end = number
         else:

@@ -5,8 +5,9 @@ from typing import NamedTuple, Union
 
 from .session import Row, Session, lines_of
 
-#: A session of at most `ALL` rows is drawn completely. Of a longer one: how many rows are drawn at each end, and how many
-#: if no row is named; how many on each side of a named row; and how many named rows at most.
+#: A session of at most `ALL` rows is drawn completely.
+#: Of a longer one: how many rows are drawn at each end, and how many if no row is named;
+#: how many on each side of a named row; and how many named rows at most.
 ALL, ENDS, ENDS_ALONE, AROUND, MOST = 40, 2, 8, 1, 80
 #: With more named rows than this, no rows beside them are drawn.
 MOST_WITH_NEIGHBOURS = 8

@@ -11,8 +11,8 @@ from .session import Session
 from .words import count, listing
 
 ALL = Mask(0, 0)
-HEARD = ("This is said of tags that had power, heard the reader, and were heard when they answered: one that never answers is in "
-         "no log.")
+HEARD = ("This is said of tags that had power, heard the reader, "
+         "and were heard when they answered: one that never answers is in no log.")
 ASK_AGAIN = "Silence each tag that was heard, and ask all in one slot, until none answers"
 ALSO = "Would also hold if a strong reply hid a weaker one:"
 
@@ -22,7 +22,8 @@ def sentence(session: Session, told: Told) -> str:
     kind = told.answer.kind
     if kind is Kind.REFUSED:
         cut = " The text ends in the middle of this line: was it cut?" * session.is_cut
-        return f"This text isn't a valid log. Line {told.answer.line}: {ADVICE[told.answer.fault].wrong}.{cut}"
+        wrong = ADVICE[told.answer.fault].wrong
+        return f"This text isn't a valid log. Line {told.answer.line}: {wrong}.{cut}"
     if kind is Kind.IMPOSSIBLE:
         return f"The log contradicts itself: {contradiction(session, told).sentence}"
     if kind is Kind.COMPLETE:
@@ -31,7 +32,8 @@ def sentence(session: Session, told: Told) -> str:
 
 
 def conditions(session: Session, told: Told) -> Iterator[str]:
-    """What an answer is said under: of a complete list which tags it speaks of, and whether it also holds under capture."""
+    """What an answer is said under: of a complete list which tags it speaks of,
+    and whether it also holds under capture."""
     answer, reread = told.answer, told.reread
     if answer.kind is Kind.COMPLETE:
         yield HEARD
@@ -40,7 +42,8 @@ def conditions(session: Session, told: Told) -> Iterator[str]:
     if reread == answer:
         yield f"{ALSO} yes."
     elif answer.kind is Kind.IMPOSSIBLE:
-        yield f"{ALSO} no, '{reread}'. If replies may hide others, write H in place of R, in a log of version 3."
+        yield (f"{ALSO} no, '{reread}'. "
+               "If replies may hide others, write H in place of R, in a log of version 3.")
     else:
         yield f"{ALSO} no, '{reread}'. {ASK_AGAIN} ({ask(session.link, 1, ALL)})."
 
@@ -56,13 +59,15 @@ def _missing(told: Told) -> list[str]:
     """Why a list isn't complete."""
     said = []
     if told.absent.uids:
-        said.append(count(len(told.absent.uids), "listed tag isn't there", "listed tags aren't there"))
+        said.append(count(len(told.absent.uids), "listed tag isn't there",
+                          "listed tags aren't there"))
     if told.unlisted.uids:
         said.append(count(len(told.unlisted.uids), "tag isn't listed", "tags aren't listed"))
     if told.open_masks:
         said.append(masks_left(told))
     if told.doubtful:
-        said.append(count(len(told.doubtful), "listed tag may be missing", "listed tags may be missing"))
+        said.append(count(len(told.doubtful), "listed tag may be missing",
+                          "listed tags may be missing"))
     return said
 
 

@@ -1,4 +1,5 @@
-"""A session as rows of rounds and slots, as far as it is kept. Frames and the masks of slots come from library calls."""
+"""A session as rows of rounds and slots, as far as it is kept.
+Frames and the masks of slots come from library calls."""
 from __future__ import annotations
 
 from array import array
@@ -23,7 +24,8 @@ class Reading(Enum):
 
 
 class Slot(NamedTuple):
-    """A logged slot: its line and number, which tags answer in it, what was read, and the UID that was heard."""
+    """A logged slot: its line and number, which tags answer in it, what was read,
+    and the UID that was heard."""
 
     line: int
     place: int
@@ -33,7 +35,8 @@ class Slot(NamedTuple):
 
 
 class Round:
-    """An Inventory request, the lines of its slots, and the Stay Quiets after it to tags that were heard in it."""
+    """An Inventory request, the lines of its slots,
+    and the Stay Quiets after it to tags that were heard in it."""
 
     def __init__(self, line: int, frame: bytes):
         self.line = self.end = line
@@ -49,7 +52,8 @@ class Round:
     @property
     def is_over_all(self) -> bool:
         """Whether it asked all tags, to its end, and something is known of each slot."""
-        return self.frame[4:6] == b"00" and len([text for _, text in self.outcomes if text != b"N"]) == self.places
+        known = [text for _, text in self.outcomes if text != b"N"]
+        return self.frame[4:6] == b"00" and len(known) == self.places
 
     @cached_property
     def request(self) -> Request:
@@ -76,7 +80,8 @@ class Round:
 
 @dataclass
 class StayQuiet:
-    """A Stay Quiet request that isn't shown with a round: its line, and the digits of its UID, as they were sent."""
+    """A Stay Quiet request that isn't shown with a round: its line, and the digits of its UID,
+    as they were sent."""
 
     line: int
     digits: bytes
@@ -120,8 +125,8 @@ class Session:
         self.asked_until = 1
         self.has_quiets = False
         self.cycle_lines: array[int] = array("I")
-        #: Stay Quiets to UIDs that are never heard, and rounds that end before their last slot: the first of them, and
-        #: how many there are.
+        #: Stay Quiets to UIDs that are never heard, and rounds that end before their last slot:
+        #: the first of them, and how many there are.
         self.unheard: list[tuple[int, int]] = []
         self.unheard_count = 0
         self.short: list[Round] = []
@@ -146,7 +151,8 @@ class Session:
         """The slots of the named lines."""
         rounds = {index: row for index, row in self.rows.items() if isinstance(row, Round)}
         named = {index for line, index in self.places.items() if index in rounds}
-        return {slot.line: slot for index in named for slot in rounds[index].slots if slot.line in self.texts}
+        return {slot.line: slot for index in named
+                for slot in rounds[index].slots if slot.line in self.texts}
 
 
 def lines_of(row: Row) -> Iterator[int]:

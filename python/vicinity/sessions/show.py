@@ -1,4 +1,5 @@
-"""A session drawn as text for a terminal: the answer, a row for each round with a cell for each slot, and what was found."""
+"""A session drawn as text for a terminal: the answer,
+a row for each round with a cell for each slot, and what was found."""
 from __future__ import annotations
 
 from textwrap import wrap
@@ -18,8 +19,8 @@ from .words import count, digits_heard, ending, of_uid, printable, span, uid
 SIGNS = {Reading.SILENT: "·", Reading.COLLISION: "╳", Reading.GARBLED: "?", Reading.UNKNOWN: "-"}
 #: What replaces a sign outside ASCII.
 ASCII = {ord("·"): ".", ord("╳"): "X", ord("×"): "x", ord("⋮"): ":"}
-COLOURS = {Reading.SILENT: "2", Reading.HEARD: "32", Reading.COLLISION: "33", Reading.GARBLED: "35", Reading.CAPTURED: "36",
-           Reading.UNKNOWN: "35"}
+COLOURS = {Reading.SILENT: "2", Reading.HEARD: "32", Reading.COLLISION: "33", Reading.GARBLED: "35",
+           Reading.CAPTURED: "36", Reading.UNKNOWN: "35"}
 ANSWER_COLOURS = ("1;32", "1;33", "1;31", "1;35")
 NAMED = "7"
 #: How many findings of each kind, and lines of a conflict, are written.
@@ -45,9 +46,11 @@ def show(session: Session, told: Told, look: Look = Look()) -> Iterator[str]:
     """The lines of a picture, of what was found, and of the answer, which is first and last."""
     answer = look.painted(told.answer.text, ANSWER_COLOURS[told.answer.status])
     parts: list[Iterable[str]] = [
-        [answer, *look.wrapped(sentence(session, told), "")], _picture(session, told, look), _found(session, told, look),
+        [answer, *look.wrapped(sentence(session, told), "")],
+        _picture(session, told, look), _found(session, told, look),
         _looked_for(session, told, look),
-        [line for note in notes(session, told) for line in look.wrapped(f"note: line {note.line}: {note.text}")],
+        [line for note in notes(session, told)
+         for line in look.wrapped(f"note: line {note.line}: {note.text}")],
         [line for said in conditions(session, told) for line in look.wrapped(said, "")], [answer]]
     is_first = True
     for part in parts:
@@ -67,7 +70,8 @@ def _picture(session: Session, told: Told, look: Look) -> Iterator[str]:
     masks = max([5, *(len(str(row.mask)) for row in rounds)])
     is_wide = labels + masks + 2 + 3 * SLOTS <= look.columns
     if rounds and is_wide:
-        yield f"{'lines':>{labels}}  {'asked':<{masks}}" + "".join(f"{slot:>2X} " for slot in range(SLOTS)).rstrip()
+        slots = "".join(f"{slot:>2X} " for slot in range(SLOTS)).rstrip()
+        yield f"{'lines':>{labels}}  {'asked':<{masks}}{slots}"
     for row in rows:
         if isinstance(row, Round) and not is_wide:
             yield from _narrow(row, labels, named, look)
@@ -99,16 +103,20 @@ def _sign(row: Round, slot: Slot) -> str:
 
 
 def _mark(row: Round, slot: Slot, named: set[int]) -> str:
-    """! beside a named line, q beside a tag that was silenced afterwards, + beside one that may not have been alone."""
+    """! beside a named line, q beside a tag that was silenced afterwards,
+    + beside one that may not have been alone."""
     if slot.line in named:
         return "!"
     return "q" if slot.uid in row.quiets else "+" if slot.reading is Reading.CAPTURED else " "
 
 
 def _narrow(row: Round, labels: int, named: set[int], look: Look) -> Iterator[str]:
-    """A round for a narrow terminal: the slots that are named or not silent, and how many others are silent."""
-    told = [slot for slot in row.slots if slot.uid is not None or slot.reading is not Reading.SILENT or slot.line in named]
-    signs = [f"{slot.place:X}:{_sign(row, slot)}{_mark(row, slot, named)}".rstrip() for slot in told]
+    """A round for a narrow terminal: the slots that are named or not silent,
+    and how many others are silent."""
+    told = [slot for slot in row.slots
+            if slot.uid is not None or slot.reading is not Reading.SILENT or slot.line in named]
+    signs = [f"{slot.place:X}:{_sign(row, slot)}{_mark(row, slot, named)}".rstrip()
+             for slot in told]
     silent = len(row.slots) - len(told)
     signs += [f"·×{silent}"] * bool(silent)
     yield f"{span(row.line, row.end):>{labels}}  {row.mask}"
@@ -116,7 +124,8 @@ def _narrow(row: Round, labels: int, named: set[int], look: Look) -> Iterator[st
 
 
 def _found(session: Session, told: Told, look: Look) -> Iterator[str]:
-    """What `report` says, the first of each kind, with the lines of the log and the requests to send."""
+    """What `report` says, the first of each kind, with the lines of the log
+    and the requests to send."""
     if told.refused_line is not None:
         yield f"{told.answer.line:>8} | {printable(session.refused)}"
         yield from look.wrapped(ADVICE[told.answer.fault].fix, "")
@@ -130,7 +139,8 @@ def _found(session: Session, told: Told, look: Look) -> Iterator[str]:
     if told.unsettled:
         yield _mask("unsettled", told.unsettled)
     for mask in told.open_masks:
-        yield from look.wrapped(f"{_mask('open', mask)}  {ask(session.link, 1, mask)}  {ending(mask)}")
+        asks = ask(session.link, 1, mask)
+        yield from look.wrapped(f"{_mask('open', mask)}  {asks}  {ending(mask)}")
     if told.has_more_open:
         yield "more open"
     for number in told.doubtful[:MOST_LINES]:
@@ -156,7 +166,8 @@ def _shown(session: Session, word: str, shown: Shown, look: Look) -> Iterator[st
 
 def _quoted(quote: Quote, by: str, look: Look) -> Iterator[str]:
     """What lines of the log say, and their text."""
-    yield from look.wrapped(f"{by} line{'s' * (quote.first != quote.last)} {quote.place}: {quote.meaning}")
+    lines = "line" if quote.first == quote.last else "lines"
+    yield from look.wrapped(f"{by} {lines} {quote.place}: {quote.meaning}")
     yield f"{quote.place:>8} | {quote.text}"
 
 

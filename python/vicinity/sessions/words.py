@@ -45,7 +45,8 @@ def listing(items: Sequence[str], last: str = "and") -> str:
 def short(number: int, others: Iterable[int] = ()) -> str:
     """The last digits of a UID: four, or as many as distinguish it from others."""
     digits = next(it for it in (4, 6, 8, 12, 16)
-                  if it == 16 or all((number ^ other) & (1 << 4 * it) - 1 for other in others if other != number))
+                  if it == 16 or all((number ^ other) & (1 << 4 * it) - 1
+                                     for other in others if other != number))
     return ("" if digits == 16 else "..") + uid(number)[-digits:]
 
 
@@ -58,9 +59,10 @@ def ending(mask: Mask) -> str:
         return uid(mask.value | 0xE0 << UID_BITS) if mask.length == UID_BITS else f"the UID {mask}"
     low = f"{mask.value & (1 << 4 * digits) - 1:0{digits}X}" if digits else ""
     if bits == 1:
-        return f"UIDs ending in x{low}, x {'odd' if mask.value >> 4 * digits else 'even'}" if low else (
-            f"UIDs ending in an {'odd' if mask.value else 'even'} digit")
-    heads = [head for head in range(16) if bits and (head ^ mask.value >> 4 * digits) & (1 << bits) - 1 == 0]
+        parity = "odd" if mask.value >> 4 * digits else "even"
+        return f"UIDs ending in x{low}, x {parity}" if low else f"UIDs ending in an {parity} digit"
+    heads = [head for head in range(16)
+             if bits and (head ^ mask.value >> 4 * digits) & (1 << bits) - 1 == 0]
     return f"UIDs ending in {listing([f'{head:X}{low}' for head in heads] or [low], 'or')}"
 
 
