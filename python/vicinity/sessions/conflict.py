@@ -52,7 +52,7 @@ def _woke(told: Told, slot: Slot) -> Contradiction:
          "and woke up.",
          f"The tag didn't receive the Stay Quiet of line {told.silenced}.",
          "The field was switched off and on in between. "
-         "Then the log needs a line F there, and the header 'vicinity-log 2'.",
+         "Then the log needs a line F there, and the header 'vicinity-log 3'.",
          "A second reader woke it up, with Reset to Ready or Select. Switch that reader off."))
 
 

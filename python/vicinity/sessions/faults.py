@@ -79,7 +79,7 @@ ADVICE = {
     Fault.FRAME_NOT_ADDRESSED: Advice("the Stay Quiet request has no UID", COUNT_AGAIN),
     Fault.FRAME_ERROR_FLAG: Advice(
         "the reply reports an error",
-        "In a log of version 2, write D. In version 1, end the round before this slot."),
+        "In a log of version 2 or 3, write D. In version 1, end the round before this slot."),
     Fault.FRAME_NOT_VICINITY: Advice(
         "the UID of the reply doesn't begin with E0",
         "Compare it with what was received: a UID is sent low byte first, so E0 comes last."),
