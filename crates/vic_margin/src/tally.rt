@@ -150,8 +150,8 @@ impl Tally {
                 self.hear(span_of(parts, rounds), own);
             }
             // in these no UID is overlooked
-            Entry::Collision
-            | Entry::Garbled
+            Entry::Garbled
+            | Entry::Collision
             | Entry::Captured(_)
             | Entry::Unknown
             | Entry::Listed(_) => {}

@@ -13,11 +13,11 @@ returns-in-Heard c es i place h =
     let own : IsPartOf c.args.parts.now (mirror r.uid) c.at-own.result = rw (c.key.ensures.value, c.uid.ensures.value) at c.at-own.ensures in
     tally_heard _ es i c.at-own.result r c.span_of-in-Heard.result _ _ (rw c.in-Heard.is at place.here) place.borders place.cut is own (c.span_of-in-Heard.ensures.inside es i _ place (rw c.in-Heard.is refl)) c.hear.ensures h
 
-nothing : (c : goal.In-Collision) → DoesNothing c.args.entry.now
-nothing c = elim c.in-Collision.is [
-  | inl e ↦ rw e nothing_collision
+nothing : (c : goal.In-Garbled) → DoesNothing c.args.entry.now
+nothing c = elim c.in-Garbled.is [
+  | inl e ↦ rw e nothing_garbled
   | inr w ↦ elim w [
-    | inl e ↦ rw e nothing_garbled
+    | inl e ↦ rw e nothing_collision
     | inr v ↦ elim v [
       | inl r ↦ rw r.1 (nothing_captured r.0)
       | inr z ↦ elim z [
@@ -28,5 +28,5 @@ nothing c = elim c.in-Collision.is [
   ]
 ]
 
-pub returns-in-Collision : goal.returns-in-Collision
-returns-in-Collision c es i place h = tally_idle _ es i c.args.entry.now _ place.here (nothing c) h
+pub returns-in-Garbled : goal.returns-in-Garbled
+returns-in-Garbled c es i place h = tally_idle _ es i c.args.entry.now _ place.here (nothing c) h
