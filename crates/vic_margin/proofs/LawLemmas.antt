@@ -18,7 +18,7 @@ use Rattle.vic_margin.specs.declared.answer.Weakest.{Weakest}
 use Rattle.vic_margin.proofs.Differing.{margin_few, no_margin, possible_never, weaker_margin}
 
 -- an unlisted UID is overlooked at least as often as the margin
-unlisted_often : (es : List Entry) (n u : ℕ) → IsMargin es n → IsUid u → has (listed es) u ≡ false → n ≤ margin_of es u
+pub unlisted_often : (es : List Entry) (n u : ℕ) → IsMargin es n → IsUid u → has (listed es) u ≡ false → n ≤ margin_of es u
 unlisted_often es n u m is isnt = m.1 (margin_of es u) (record { uid = u; is_uid = is; unlisted = isnt; margin = refl })
 
 pub seldom_listed : (es : List Entry) (n u : ℕ) → IsMargin es n → IsUid u → margin_of es u < n → has (listed es) u ≡ true

@@ -9,3 +9,4 @@ pub mod Telling
 pub mod Counting
 pub mod Differing
 pub mod LawLemmas
+pub mod More

@@ -136,20 +136,17 @@ tally_idle bs es i e t k none h = rw add-one (record {
       record { quiet = before.quiet ∙ sym same; ready = λ q. before.ready (sym same ∙ q) ∙ ap (λ m. m + slice_index t.rest.items p) (sym margin); kept = λ q. before.kept (sym same ∙ q) ∙ sym margin };
 })
 
-pub nothing_collision : DoesNothing Collision
-nothing_collision = record { silences = λ u is. refl; wakes = refl; lacks = λ u. refl }
+-- no request, no field cycle, and no slot that lacks a reply
+abbrev pub is_idle : Entry → Bool
+is_idle Collision = true
+is_idle Garbled = true
+is_idle (Captured r) = true
+is_idle Unknown = true
+is_idle (Listed v) = true
+is_idle e = false
 
-pub nothing_garbled : DoesNothing Garbled
-nothing_garbled = record { silences = λ u is. refl; wakes = refl; lacks = λ u. refl }
-
-pub nothing_captured : (r : Reply) → DoesNothing (Captured r)
-nothing_captured r = record { silences = λ u is. refl; wakes = refl; lacks = λ u. refl }
-
-pub nothing_unknown : DoesNothing Unknown
-nothing_unknown = record { silences = λ u is. refl; wakes = refl; lacks = λ u. refl }
-
-pub nothing_listed : (v : ℕ) → DoesNothing (Listed v)
-nothing_listed v = record { silences = λ u is. refl; wakes = refl; lacks = λ u. refl }
+pub idle_does_nothing : (e : Entry) → is_idle e ≡ true → DoesNothing e
+idle_does_nothing e idle = record { silences = λ u is. grind (arith, nat_tests, idle); wakes = grind (arith, nat_tests, idle); lacks = λ u. grind (arith, nat_tests, idle) }
 
 -- ---- Stay Quiet
 

@@ -1,4 +1,4 @@
--- The margin of a UID (profile): at how many places of a log it was overlooked.
+-- The margin of a UID (profile): in how many slots of a log it was overlooked.
 use Rattle.std.specs.Prelude.{ℕ, zero, suc, ◌+◌, Bool, List, length, if◌then◌else◌}
 use Rattle.vic_log.specs.declared.entry.Entry.{Entry}
 use Rattle.vic_log.specs.Overlooked.{is_overlooked}

@@ -3,7 +3,7 @@
 use vic_frame::Mask;
 use vic_verdict::Verdict;
 
-/// How many misses it would take to make a complete list wrong, and where.
+/// The verdict on a log, and its margin.
 #[derive(Clone, Copy, Debug, PartialEq, Eq)]
 pub struct Margin {
     /// The verdict on the log.
@@ -12,7 +12,7 @@ pub struct Margin {
     pub weakest: Option<Weakest>,
 }
 
-/// The margin of a log.
+/// The margin of a log, and where it is least.
 #[derive(Clone, Copy, Debug, PartialEq, Eq)]
 pub struct Weakest {
     /// The least margin of the UIDs that aren't listed.

@@ -1,9 +1,10 @@
 //! Laws of the definitions, proved. The functions do nothing: each stands for what its clauses say.
 
-ghost use Rattle.std.specs.Prelude.{◌≡◌, ◌↔◌, ◌<◌, ◌≤◌, ℕ, true, false, List, length};
+ghost use Rattle.std.specs.Prelude.{◌≡◌, ◌↔◌, ◌<◌, ◌≤◌, ℕ, true, false, List, ◌++◌, length, map};
 ghost use Rattle.vic_frame.specs.Masks.{BitMask};
 ghost use Rattle.vic_frame.specs.Uids.{IsUid, has};
 ghost use Rattle.vic_log.specs.declared.entry.Entry.{Entry};
+ghost use Rattle.vic_log.specs.declared.entry.Entry.TheVariants.{Listed};
 ghost use Rattle.vic_log.specs.declared.entry.LogLine.{LogLine};
 ghost use Rattle.vic_log.specs.Order.{entries, listed};
 ghost use Rattle.vic_log.specs.Overlooked.{IsNeverOverlooked};
@@ -69,4 +70,16 @@ pub fn weaker_has_no_greater_margin()
         → margin_of ds u ≤ margin_of es u }
     ensures log { (ds es : List Entry) (m n : ℕ) → AreWeaker ds es → IsMargin ds m
         → IsMargin es n → m ≤ n }
+{}
+
+/// Entries behind all others, and before the list, never lower a margin, nor do more listed UIDs:
+/// these leave the margin of each UID as it is.
+pub fn more_never_lowers_the_margin()
+    ensures uid { (es more : List Entry) (u : ℕ) → margin_of es u ≤ margin_of (es ++ more) u }
+    ensures uid_listed { (es : List Entry) (us : List ℕ) (u : ℕ)
+        → margin_of (es ++ map Listed us) u ≡ margin_of es u }
+    ensures entries { (es more : List Entry) (us : List ℕ) (m n : ℕ)
+        → IsMargin (es ++ map Listed us) m → IsMargin (es ++ more ++ map Listed us) n → m ≤ n }
+    ensures listed { (es : List Entry) (us : List ℕ) (m n : ℕ) → IsMargin es m
+        → IsMargin (es ++ map Listed us) n → m ≤ n }
 {}

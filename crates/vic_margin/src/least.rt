@@ -12,13 +12,14 @@ ghost use Rattle.vic_margin.specs.inner.Trees.{within};
 use vic_frame::UID_BITS;
 use vic_walk::Parts;
 
-/// The least margin of the UIDs without those with some keys, which come in order.
+/// The least margin of the UIDs without those with some keys, which come in order; `None` if there
+/// is no other key.
 pub(crate) fn least_besides(parts: &Parts, margins: &[u32], keys: &[u64]) -> Option<u32>
     requires borders { AreBorders parts.now }
     requires room { length margins.now ≡ part_count parts.now }
     requires order { IsNonDecreasing keys.now }
     requires keys { AreKeys keys.now }
-    ensures { IsLeastOf parts.now margins.now (is_free keys.now (2 ^ 56)) result }
+    ensures { IsLeastOf parts.now margins.now (is_free keys.now (2 ^ UID_BITS)) result }
 {
     let mut least = None;
     let mut from = 0;
@@ -29,7 +30,8 @@ pub(crate) fn least_besides(parts: &Parts, margins: &[u32], keys: &[u64]) -> Opt
     least_between(parts, margins, from, 1 << UID_BITS, least)
 }
 
-/// The least margin of those up to now and of the UIDs with keys from `from` on and before `end`.
+/// The least margin of those up to now and of the UIDs with keys from `from` on and before `end`;
+/// `None` if there is neither.
 fn least_between(
     parts: &Parts,
     margins: &[u32],
@@ -39,7 +41,7 @@ fn least_between(
 ) -> Option<u32>
     requires borders { AreBorders parts.now }
     requires room { length margins.now ≡ part_count parts.now }
-    requires end { end ≤ 2 ^ 56 }
+    requires end { end ≤ 2 ^ UID_BITS }
     ensures { (wanted : ℕ → Bool) → IsLeastOf parts.now margins.now wanted least
         → IsLeastOf parts.now margins.now (λ k. wanted k || within from end k) result }
 {

@@ -1,10 +1,10 @@
 //! How many misses it would take to make a complete list wrong.
 //!
-//! A UID is overlooked at a place of a log where a tag with it would have answered, and the slot
-//! was silent, or another tag's reply was read alone. At how many places that is so is its margin;
-//! that of a log is the least margin of the UIDs that it doesn't list. `margin` returns it, with the
-//! first mask of UIDs that have it; `overlooked` returns the margin of each of some UIDs. `laws`
-//! states what follows from the definitions.
+//! A UID is overlooked in a slot in which, by the log, a tag with it should have answered, if the
+//! slot was silent, or another tag's reply was read alone. In how many slots that is so is its
+//! margin; that of a log is the least margin of the UIDs that it doesn't list. `margin` returns it,
+//! with the first mask of UIDs that have it; `overlooked` returns the margin of each of some UIDs.
+//! `laws` states what follows from the definitions.
 #![tactic(auto)]
 
 mod answer;

@@ -15,8 +15,8 @@ use vic_frame::low_bits_first::key;
 use vic_log::{Entry, Log, PackedLine, RoundCursor};
 use vic_walk::Parts;
 
-/// The margin of each UID that is handed in: at how many places of a log it was overlooked. It
-/// fails only if memory is refused.
+/// The margin of each UID that is handed in: in how many slots of a log it was overlooked. It fails
+/// only if memory is refused.
 pub fn overlooked(alloc: Global, log: &Log, uids: &[Uid]) -> Result<Vec<u32>, AllocError>
     ensures { IfOk result (λ v. v.items ≡ map (margin_of (entries log.now.lines)) uids.now) }
 {

@@ -22,7 +22,8 @@ use vic_walk::{Marks, Parts, Span};
 /// What is known of each part before a position of a log.
 #[derive(Drop)]
 pub(crate) struct Tally {
-    /// In how many slots that were silent, or in which a tag was heard, its UIDs lie in the mask.
+    /// In how many slots that were silent, or in which a tag was heard alone, its UIDs lie in the
+    /// mask.
     pub counts: Counts,
     /// While its UIDs are Ready, in how many of these they weren't overlooked, since they were
     /// Quiet there, or it was their reply. While they are Quiet, in how many they were.
@@ -98,7 +99,7 @@ impl Tally {
         self.counts.raise(span.from, span.to);
     }
 
-    /// Counts a slot in which the UID of part `own` was heard, but not for that UID.
+    /// Counts a slot in which the UID of part `own` was heard alone, but not for that UID.
     fn hear(&mut self, span: Span, own: usize)
         requires room { HasRoom (length self.old.rest.items) self.old }
         requires within { span.to ≤ self.old.counts.leaves }
@@ -149,8 +150,8 @@ impl Tally {
                 self.hear(span_of(parts, rounds), own);
             }
             // in these no UID is overlooked
-            Entry::Collision
-            | Entry::Garbled
+            Entry::Garbled
+            | Entry::Collision
             | Entry::Captured(_)
             | Entry::Unknown
             | Entry::Listed(_) => {}

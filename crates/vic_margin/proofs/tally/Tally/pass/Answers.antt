@@ -1,5 +1,5 @@
-use Rattle.vic_margin.proofs.Words.{inl, inr, refl, IsUid, IsPartOf, mirror}
-use Rattle.vic_margin.proofs.Steps.{DoesNothing, nothing_captured, nothing_collision, nothing_garbled, nothing_listed, nothing_unknown, tally_heard, tally_idle, tally_silent}
+use Rattle.vic_margin.proofs.Words.{◌≡◌, true, arith, nat_tests, refl, IsUid, IsPartOf, mirror}
+use Rattle.vic_margin.proofs.Steps.{idle_does_nothing, is_idle, tally_heard, tally_idle, tally_silent}
 use Rattle.vic_margin.proofs.tally.Tally.pass.Goals as goal
 
 pub returns-in-Silent : goal.returns-in-Silent
@@ -13,20 +13,8 @@ returns-in-Heard c es i place h =
     let own : IsPartOf c.args.parts.now (mirror r.uid) c.at-own.result = rw (c.key.ensures.value, c.uid.ensures.value) at c.at-own.ensures in
     tally_heard _ es i c.at-own.result r c.span_of-in-Heard.result _ _ (rw c.in-Heard.is at place.here) place.borders place.cut is own (c.span_of-in-Heard.ensures.inside es i _ place (rw c.in-Heard.is refl)) c.hear.ensures h
 
-nothing : (c : goal.In-Collision) → DoesNothing c.args.entry.now
-nothing c = elim c.in-Collision.is [
-  | inl e ↦ rw e nothing_collision
-  | inr w ↦ elim w [
-    | inl e ↦ rw e nothing_garbled
-    | inr v ↦ elim v [
-      | inl r ↦ rw r.1 (nothing_captured r.0)
-      | inr z ↦ elim z [
-        | inl e ↦ rw e nothing_unknown
-        | inr l ↦ rw l.1 (nothing_listed l.0)
-      ]
-    ]
-  ]
-]
+idle : (c : goal.In-Garbled) → is_idle c.args.entry.now ≡ true
+idle c = grind (arith, nat_tests, c.in-Garbled.is)
 
-pub returns-in-Collision : goal.returns-in-Collision
-returns-in-Collision c es i place h = tally_idle _ es i c.args.entry.now _ place.here (nothing c) h
+pub returns-in-Garbled : goal.returns-in-Garbled
+returns-in-Garbled c es i place h = tally_idle _ es i c.args.entry.now _ place.here (idle_does_nothing _ (idle c)) h
