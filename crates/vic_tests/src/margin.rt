@@ -6,7 +6,8 @@ use std::alloc::Global;
 use std::process::Abort;
 use std::test::Fail;
 use vic_log::read_log;
-use vic_margin::{margin, overlooked};
+use vic_margin::{Margin, margin, overlooked};
+use vic_verdict::{Verdict, judge};
 
 /// Logs, each with its margin and the length and the value of its weakest mask.
 const MARGINS: [(&str, u32, u8, u64); 7] = [
@@ -22,7 +23,9 @@ const MARGINS: [(&str, u32, u8, u64); 7] = [
 /// Asks a log for its margin.
 fn has_margin(rt: &impl Abort, alloc: Global, row: &(&str, u32, u8, u64)) -> Result<(), Fail> {
     let log = read_log(alloc, text_of(alloc, row.0)?.as_bytes())?;
-    let weakest = margin(alloc, &log)?.weakest.ok_or("impossible")?;
+    let Margin { verdict, weakest } = margin(alloc, &log)?;
+    let weakest = weakest.ok_or("impossible")?;
+    assert!(rt; verdict == judge(alloc, &log)?, "{}", row.0);
     assert!(rt; weakest.margin == row.1, "{}", row.0);
     assert!(rt; weakest.mask == mask(row.2, row.3)?, "{}", row.0);
     Ok(())
@@ -40,7 +43,9 @@ fn margins_of_logs(rt: HostRuntime) -> Result<(), Fail> {
 fn no_margin_of_an_impossible_log(rt: HostRuntime) -> Result<(), Fail> {
     let text = text_of(rt.alloc(), "I1 RA QA I1 RB QB I1 S UA UB")?;
     let log = read_log(rt.alloc(), text.as_bytes())?;
-    assert!(&rt; margin(rt.alloc(), &log)?.weakest.is_none());
+    let Margin { verdict, weakest } = margin(rt.alloc(), &log)?;
+    assert!(&rt; verdict == Verdict::Impossible { line: 6 });
+    assert!(&rt; weakest.is_none());
     Ok(())
 }
 
