@@ -44,7 +44,7 @@ FRAME_FAULT = re.compile(r"\| `([0-9A-F]+)` \| (request|reply) \| `(\w+)` \|")
 FRAME = re.compile(r"\| `([0-9A-F]+)` \| "
                    r"(?:Inventory, (one|sixteen) slots?, (?:no mask|mask of (\d+) bits ([0-9A-F]+))"
                    r"|(Stay Quiet|reply of)[, ]+([0-9A-F]{16}))")
-ANSWER = re.compile(r"\|(?: \d \|)? `(\w+) [^|]*\|.*\| (\d) \|$")
+ANSWER = re.compile(r"\|(?: \d \|)? `([a-z]+) [^|]*\|.*\| (\d) \|$")
 LINK = re.compile(r"\]\(([^)#:]*)(?:#([^)]*))?\)")
 PATH = re.compile(r"`((?:crates|debian|docs|examples|include|python|release|commands|tests|tools"
                   r"|\.ci|vic\w+)/[\w./{,}-]+)`")

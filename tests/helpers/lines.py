@@ -44,7 +44,7 @@ def spelled(parts):
 def log_lines(given):
     """The lines of a log by its names, of which the first may be its version, as `V2`."""
     names = given.split()
-    version = names.pop(0)[1:] if given.startswith("V") else 1
+    version = names.pop(0)[1:] if names and names[0][0] == "V" else 1
     return [f"vicinity-log {version}"] + [line for name in names for line in lines_of(name)]
 
 
