@@ -97,6 +97,10 @@ class Said(Command):
         self.assertNotIn(also.encode(), within("show", self.names[7])[0])
 
 
+#: Written to a terminal behind all else, since a read may return a part of what was written.
+END = b"END\n"
+
+
 class Collections(Command):
     def test_each_log_of_a_collection(self):
         """A log says the same of its field, or names a mask;
@@ -129,11 +133,13 @@ class Collections(Command):
         ours, theirs = pty.openpty()
         ran = subprocess.run([sys.executable, "-m", "vicinity", "reconcile", "--expected", *words],
                              stdout=subprocess.PIPE, stderr=theirs, check=False)
-        os.write(theirs, b".\n")
-        told = os.read(ours, 4096).decode().replace("\r\n", "\n")
+        os.write(theirs, END)
+        told = b""
+        while not told.endswith(END):
+            told += os.read(ours, 4096).replace(b"\r", b"")
         os.close(ours)
         os.close(theirs)
-        return ran.stdout.decode(), told[:-2]
+        return ran.stdout.decode(), told.removesuffix(END).decode()
 
     def test_sentences_in_a_terminal(self):
         """They stand beside the lines, which are those of the program."""
