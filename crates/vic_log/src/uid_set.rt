@@ -9,6 +9,7 @@ use crate::entry::{Entry, MAX_LINES};
 use crate::packed::PackedLine;
 use std::alloc::{AllocError, Global};
 use std::collections::BTreeSet;
+use std::simd::prelude::*;
 use vic_frame::Uid;
 
 /// How many UIDs fit into a row.
@@ -40,20 +41,22 @@ fn place_of(uid: Uid, rows: usize) -> usize
     ensures value { result ≡ place_of uid rows }
     ensures there { result < rows }
 {
-    (uid.number().wrapping_mul(SPREAD) >> 32) as usize % rows
+    let spread = uid.number().wrapping_mul(SPREAD);
+    (u128::from(spread) * rows as u128 >> 64) as usize
 }
 
-/// The index of the first free element of a row.
+/// The index of the first free element of a row. No branch depends on which it is: a wrong guess by
+/// the processor takes longer than all of it.
+#[inline(always)]
 fn free_place(row: &[u64; ROW]) -> Option<usize>
     ensures full { IfNone result (has row.now 0 ≡ false) }
     ensures free { IfSome result (λ k. slice_get row.now k ≡ Some 0) }
 {
-    for k in 0..ROW {
-        if row[k] == 0 {
-            return Some(k);
-        }
+    let free = u64x8::from_slice(row).simd_eq(u64x8::splat(0)).to_bitmask();
+    if free == 0 {
+        return None;
     }
-    None
+    Some(free.trailing_zeros() as usize)
 }
 
 impl UidSet {
