@@ -11,11 +11,15 @@ use Rattle.vic_log.specs.Populations.{Outcome, Nobody, Lone, Several, outcome_of
 use Rattle.vic_log.specs.Rounds.{mask_since, lies_in_some}
 
 abbrev pub IsOfFirstVersion : Entry → Type 0
+IsOfFirstVersion (Sent q) = ⊤
+IsOfFirstVersion Silent = ⊤
+IsOfFirstVersion Collision = ⊤
+IsOfFirstVersion (Heard r) = ⊤
+IsOfFirstVersion (Listed u) = ⊤
 IsOfFirstVersion Garbled = ⊥
 IsOfFirstVersion FieldCycle = ⊥
 IsOfFirstVersion (Captured r) = ⊥
 IsOfFirstVersion Unknown = ⊥
-IsOfFirstVersion e = ⊤
 
 -- all entries are of version 1
 abbrev pub AreOfFirstVersion : List Entry → Type 0
@@ -39,7 +43,12 @@ abbrev pub FitsFirst : Entry → Outcome → Type 0
 FitsFirst Silent o = o ≡ Nobody
 FitsFirst (Heard r) o = o ≡ Lone r.uid
 FitsFirst Collision o = o ≡ Several
-FitsFirst e o = ⊤
+FitsFirst (Sent q) o = ⊤
+FitsFirst (Listed u) o = ⊤
+FitsFirst Garbled o = ⊤  -- not a line of version 1, as all below
+FitsFirst FieldCycle o = ⊤
+FitsFirst (Captured r) o = ⊤
+FitsFirst Unknown o = ⊤
 
 -- a tag with this UID answers in the slot at position i
 abbrev pub answers_first_at : List Entry → ℕ → ℕ → Bool
