@@ -20,7 +20,7 @@ ghost use Rattle.vic_log.specs.Slots.{is_open, slots_of};
 ghost use Rattle.vic_log.specs.Quiet.{is_quiet, IsSilenced};
 ghost use Rattle.vic_log.specs.Rounds.{is_slot, opener};
 ghost use Rattle.vic_log.specs.Text.{IsLogOf, IsFirstFault};
-ghost use Rattle.vic_log.specs.Weaker.{AreWeaker, FitsLess, is_weaker};
+ghost use Rattle.vic_log.specs.Weaker.{AreWeaker, FitsMore, is_weaker};
 ghost use Rattle.vic_log.specs.Writing.{text_of, renumbered};
 
 /// A line is read as an entry if and only if it spells it, and is ignored if and only if it is
@@ -75,8 +75,8 @@ pub fn quiet_since_stay_quiet()
     ensures { (es : List Entry) (i u : ℕ) → (is_quiet es i u ≡ true) ↔ IsSilenced es i u }
 {}
 
-/// For entries of version 1, the rules of later versions agree with those of version 1: on rounds, Quiet tags, outcomes, the order of entries, and what a population could have
-/// produced.
+/// For entries of version 1, the rules of later versions agree with those of version 1: on rounds,
+/// Quiet tags, outcomes, the order of entries, and what a population could have produced.
 pub fn first_version_is_kept()
     ensures opener { (es : List Entry) → AreOfFirstVersion es
         → (i : ℕ) → opener es i ≡ first_opener es i }
@@ -99,10 +99,11 @@ pub fn second_version_is_kept()
         → (p : List ℕ) → CouldHaveGiven p es ↔ CouldHaveGivenOutcomes p es }
 {}
 
-/// A slot line is weaker than another if and only if every list of UIDs that fits the other fits it.
+/// A slot line is weaker than another if and only if every list of UIDs that fits the other fits
+/// it.
 pub fn weaker_fits_more()
     ensures { (d e : Entry) → is_slot d ≡ true → is_slot e ≡ true
-        → (is_weaker d e ≡ true) ↔ FitsLess d e }
+        → (is_weaker d e ≡ true) ↔ FitsMore d e }
 {}
 
 /// A population that could have produced entries could have produced all that are weaker; these
