@@ -127,7 +127,7 @@ class Search:
             [letter] = self.ask(1, mask)
 
     def check(self) -> vicinity.Margin:
-        """The checker's answer, and in how many slots a tag that isn't listed was missed at least."""
+        """The checker's answer, and how often a tag that isn't listed would have been missed."""
         self.calls += 1
         return vicinity.margin_listed(b"".join(self.lines), self.heard)
 
