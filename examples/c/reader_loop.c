@@ -145,10 +145,10 @@ static void ask_on(const struct vicinity_mask *mask)
     }
 }
 
-/* Asks the tags of a mask until none of them answers. */
-static void find(const struct vicinity_mask *mask)
+/* Asks the tags of a mask until none of them answers: in sixteen slots first after C or D, else in one. */
+static void find(const struct vicinity_mask *mask, char letter)
 {
-    for (char letter = 'C'; letter != 'S' && rounds < MOST_ROUNDS; letter = ask(1, mask))
+    for (; letter != 'S' && rounds < MOST_ROUNDS; letter = ask(1, mask))
         if (is_unread(letter))
             ask_on(mask);
 }
@@ -158,7 +158,7 @@ static void find_all(size_t margin, struct vicinity_answer *answer)
 {
     const struct vicinity_mask all = {0};
     struct vicinity_weakest weakest;
-    find(&all);
+    find(&all, 'C');
     for (;;) {
         vicinity_margin_listed((const uint8_t *)text, len, heard, count, answer, &weakest);
         calls++;
@@ -167,10 +167,10 @@ static void find_all(size_t margin, struct vicinity_answer *answer)
         if (answer->kind == VICINITY_UNSETTLED) {
             const struct vicinity_mask named = {0, answer->mask_len, answer->mask_value};
             cycle();
-            find(&named);
+            find(&named, 'C');
         } else if (answer->kind == VICINITY_COMPLETE && weakest.margin < margin) {
             for (size_t lacking = margin - weakest.margin; lacking > 0; lacking--)
-                find(&all);
+                find(&all, 'N');
         } else {
             return;
         }

@@ -118,9 +118,8 @@ class Search:
             to_ask += [vicinity.slot_mask(16, mask, slot) for slot, letter in enumerate(letters)
                        if letter in "CD"]
 
-    def find(self, mask: vicinity.Mask) -> None:
-        """Asks the tags of a mask until none of them answers."""
-        letter = "C"
+    def find(self, mask: vicinity.Mask, letter: str = "C") -> None:
+        """Asks the tags of a mask until none of them answers: in sixteen slots first, or in one."""
         while letter != "S" and self.rounds < MOST_ROUNDS:
             if letter in "CD":
                 self.ask_on(mask)
@@ -142,7 +141,7 @@ class Search:
                 self.find(answer.mask)
             elif answer.is_complete and weakest and weakest.margin < margin:
                 for _ in range(margin - weakest.margin):
-                    self.find(ALL)
+                    self.find(ALL, "N")
             else:
                 break
             answer, weakest = self.check()
