@@ -3,8 +3,8 @@
 measure.py [--runs N] [--command NAME] SHAPE SIZE [SHAPE SIZE ..]
 
 The shapes are those of biglog.py; those that begin with `sim-` are given to `simulate`, the others
-to the command, `check` if none is named. For each it prints the number of lines, the least and the most processor seconds of N
-runs (3), the most memory, and what was answered.
+to the command, `check` if none is named. For each it prints the number of lines, the least and the
+most processor seconds of N runs (3), the most memory, and what was answered.
 """
 import os
 import subprocess
