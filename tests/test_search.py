@@ -57,6 +57,13 @@ def test_it_asks_until_the_margin_is_reached():
         assert search.check().weakest.margin == 4 and search.calls <= 3
 
 
+def test_a_greater_margin_leaves_fewer_tags_missing():
+    """In as many fields as docs/READERS.md says."""
+    missing = [sum(search.run(margin).is_complete and search.heard != search.field.uids
+                   for search in searches(Chances(miss=0.5))) for margin in (1, 2, 3, 5)]
+    assert missing == [144, 48, 20, 3]
+
+
 def test_without_its_last_rounds_it_is_not_complete():
     for search in searches(Chances(capture=0.3), 100):
         search.ask_on(reader_loop.ALL)
