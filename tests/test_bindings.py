@@ -95,10 +95,13 @@ def test_an_example_answers_as_the_program(program, example, language, by, log):
 @pytest.mark.parametrize("by", LIBRARIES)
 @pytest.mark.parametrize("language", ["c", "python"])
 def test_a_reader_loop(example, language, by):
-    """It finds a large field by a few calls of the checker alone, and takes nothing but a
-    number."""
-    loop = example(language, by, "reader_loop")
+    """It finds a large field by a few calls of the checker alone, asks on for a margin, and takes
+    nothing but numbers."""
+    loop, margin = example(language, by, "reader_loop"), ["--margin"] * (language == "python")
     assert re.fullmatch(rb"complete 4000 .* [1-9] calls of the checker\n", loop.run("4000").out)
+    rounds = [int(re.match(rb"complete 40 after (\d+) rounds", loop.run("40", *margin, k).out)[1])
+              for k in "19"]
+    assert rounds[0] < rounds[1]
     for word in "abc", "-1", "5x", "":
         assert loop.run(word)[::2] == (b"", 4)
 

@@ -51,10 +51,23 @@ def test_a_tag_that_is_missing_was_overlooked():
     assert complete > 0 and missing > 0
 
 
+def test_it_asks_until_the_margin_is_reached():
+    for search in searches(Chances(capture=0.3), 20):
+        assert search.run(4).is_complete
+        assert search.check().weakest.margin == 4 and search.calls <= 3
+
+
+def test_a_greater_margin_leaves_fewer_tags_missing():
+    """In as many fields as docs/READERS.md says."""
+    missing = [sum(search.run(margin).is_complete and search.heard != search.field.uids
+                   for search in searches(Chances(miss=0.5))) for margin in (1, 2, 3, 5)]
+    assert missing == [144, 48, 20, 3]
+
+
 def test_without_its_last_rounds_it_is_not_complete():
     for search in searches(Chances(capture=0.3), 100):
         search.ask_on(reader_loop.ALL)
-        assert not search.check().is_complete
+        assert not search.check().answer.is_complete
 
 
 def test_with_replies_noted_as_alone_it_misses_hidden_tags():
@@ -63,5 +76,5 @@ def test_with_replies_noted_as_alone_it_misses_hidden_tags():
     for search in searches(Chances(capture=0.3), 100):
         search.ask_on(reader_loop.ALL)
         search.lines = [line.replace(b"H ", b"R ") for line in search.lines]
-        missed += search.check().is_complete and search.heard != search.field.uids
+        missed += search.check().answer.is_complete and search.heard != search.field.uids
     assert missed > 50

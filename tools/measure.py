@@ -1,9 +1,10 @@
 #!/usr/bin/env python3
-"""Measures the built program on large logs:  measure.py [--runs N] SHAPE SIZE [SHAPE SIZE ..]
+"""Measures the built program on large logs:
+measure.py [--runs N] [--command NAME] SHAPE SIZE [SHAPE SIZE ..]
 
 The shapes are those of biglog.py; those that begin with `sim-` are given to `simulate`, the others
-to `check`. For each it prints the number of lines, the least and the most processor seconds of N
-runs (3), the most memory, and what was answered.
+to the command, `check` if none is named. For each it prints the number of lines, the least and the
+most processor seconds of N runs (3), the most memory, and what was answered.
 """
 import os
 import subprocess
@@ -26,9 +27,9 @@ def once(command, path):
 
 def main():
     words = sys.argv[1:]
-    runs = 3
-    if words[:1] == ["--runs"]:
-        runs, words = int(words[1]), words[2:]
+    given = {"--runs": "3", "--command": "check"}
+    while len(words) > 1 and words[0] in given:
+        given[words[0]], words = words[1], words[2:]
     if not words or len(words) % 2:
         sys.exit(__doc__)
     print("| command and log | lines | processor | memory | answer |\n|---|---|---|---|---|")
@@ -38,8 +39,8 @@ def main():
                            check=True)
             with open(log.name, "rb") as text:
                 lines = sum(1 for _ in text)
-            command = "simulate" if shape.startswith("sim-") else "check"
-            tried = [once(command, log.name) for _ in range(runs)]
+            command = "simulate" if shape.startswith("sim-") else given["--command"]
+            tried = [once(command, log.name) for _ in range(int(given["--runs"]))]
         seconds = [second for second, _, _ in tried]
         print("| `%s`, %s %s | %d | %.2f to %.2f s | %d MB | `%s` |" % (
             command, shape, size, lines, min(seconds), max(seconds), max(mb for _, mb, _ in tried),

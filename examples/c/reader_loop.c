@@ -1,11 +1,12 @@
 /* A reader's search: rounds over a field of tags, each noted in a log, until the checker calls the list complete.
  *
- *     reader_loop [TAGS]
+ *     reader_loop [TAGS [MARGIN]]
  *
  * A reply is noted as H, since a stronger one may have hidden others, and its tag is silenced. The mask of each slot in
  * which more tags answered, or a reply was damaged, is asked in sixteen slots. At the end all tags are asked in one slot,
  * until none answers. Only then is the checker asked, since each call reads the log from its beginning. At `unsettled` a
- * tag was silenced before it was heard: the field is switched off and on, and the mask of the answer is asked.
+ * tag was silenced before it was heard: the field is switched off and on, and the mask of the answer is asked. At
+ * `complete` all are asked again until a tag that isn't listed would have had to be missed in MARGIN slots.
  * `transceive` and `cycle` are the one place for a chip: here they simulate a field. */
 #include "vicinity.h"
 
@@ -144,31 +145,39 @@ static void ask_on(const struct vicinity_mask *mask)
     }
 }
 
-/* Asks the tags of a mask until none of them answers. */
-static void find(const struct vicinity_mask *mask)
+/* Asks the tags of a mask until none of them answers: in sixteen slots first after C or D, else in one. */
+static void find(const struct vicinity_mask *mask, char letter)
 {
-    for (char letter = 'C'; letter != 'S' && rounds < MOST_ROUNDS; letter = ask(1, mask))
+    for (; letter != 'S' && rounds < MOST_ROUNDS; letter = ask(1, mask))
         if (is_unread(letter))
             ask_on(mask);
 }
 
-/* The search. */
-static void find_all(struct vicinity_answer *answer)
+/* The search, until the margin is reached. */
+static void find_all(size_t margin, struct vicinity_answer *answer)
 {
     const struct vicinity_mask all = {0};
-    find(&all);
+    struct vicinity_weakest weakest;
+    find(&all, 'C');
     for (;;) {
-        vicinity_check_listed((const uint8_t *)text, len, heard, count, answer);
+        vicinity_margin_listed((const uint8_t *)text, len, heard, count, answer, &weakest);
         calls++;
-        if (answer->kind != VICINITY_UNSETTLED || rounds >= MOST_ROUNDS)
+        if (rounds >= MOST_ROUNDS)
             return;
-        const struct vicinity_mask named = {0, answer->mask_len, answer->mask_value};
-        cycle();
-        find(&named);
+        if (answer->kind == VICINITY_UNSETTLED) {
+            const struct vicinity_mask named = {0, answer->mask_len, answer->mask_value};
+            cycle();
+            find(&named, 'C');
+        } else if (answer->kind == VICINITY_COMPLETE && weakest.margin < margin) {
+            for (size_t lacking = margin - weakest.margin; lacking > 0; lacking--)
+                find(&all, 'N');
+        } else {
+            return;
+        }
     }
 }
 
-/* The number of tags that a word says; more than MOST_TAGS if it isn't a number. */
+/* The number that a word says; more than MOST_TAGS if it isn't one. */
 static size_t count_in(const char *word)
 {
     return *word && word[strspn(word, "0123456789")] == '\0' ? strtoul(word, NULL, 10) : MOST_TAGS + 1;
@@ -178,9 +187,10 @@ int main(int argc, char **argv)
 {
     struct vicinity_answer answer;
     struct vicinity_frame frame;
-    tags = argc == 2 ? count_in(argv[1]) : argc < 2 ? 40 : MOST_TAGS + 1;
-    if (vicinity_interface() != VICINITY_INTERFACE || tags > MOST_TAGS) {
-        fprintf(stderr, "reader_loop [TAGS], at most %d, over an interface %d\n", MOST_TAGS, VICINITY_INTERFACE);
+    const size_t margin = argc > 2 ? count_in(argv[2]) : 1;
+    tags = argc > 1 ? count_in(argv[1]) : 40;
+    if (vicinity_interface() != VICINITY_INTERFACE || argc > 3 || tags > MOST_TAGS || margin > MOST_TAGS) {
+        fprintf(stderr, "reader_loop [TAGS [MARGIN]], at most %d, over an interface %d\n", MOST_TAGS, VICINITY_INTERFACE);
         return 4;
     }
     for (size_t i = 0; i < tags; i++)
@@ -190,7 +200,7 @@ int main(int argc, char **argv)
         transceive(&frame, NULL);
         note('T', &frame);
     }
-    find_all(&answer);
+    find_all(margin, &answer);
     printf("%.*s after %zu rounds, %zu field cycles and %zu calls of the checker\n",
            (int)strcspn(answer.text, "\n"), answer.text, rounds, cycles, calls);
     return answer.kind == VICINITY_COMPLETE && count == tags ? 0 : 1;

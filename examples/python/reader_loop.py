@@ -1,13 +1,14 @@
 """A reader's search: rounds over a field of tags, each noted in a log, until the checker calls the
 list complete.
 
-    reader_loop.py [TAGS] [--capture P] [--miss P] [--noise P] [--seed N]
+    reader_loop.py [TAGS] [--margin K] [--capture P] [--miss P] [--noise P] [--seed N]
 
 A reply is noted as H, since a stronger one may have hidden others, and its tag is silenced. Where
 more tags answered, or a reply was damaged, the tags of the slot are asked again, by four more bits.
 At the end all are asked in one slot, until none answers. Only then is the checker asked, since each
 call reads the log from its beginning. At `unsettled` a tag was silenced before it was heard: the
-field is switched off and on, and the mask of the answer is asked.
+field is switched off and on, and the mask of the answer is asked. At `complete` all are asked again
+until a tag that isn't listed would have had to be missed in K slots.
 
 `transceive` is the one place for a chip: here it simulates a field. --capture is the probability
 that one reply hides the others of its slot, --noise that nothing can be read in a slot, and --miss
@@ -117,27 +118,33 @@ class Search:
             to_ask += [vicinity.slot_mask(16, mask, slot) for slot, letter in enumerate(letters)
                        if letter in "CD"]
 
-    def find(self, mask: vicinity.Mask) -> None:
-        """Asks the tags of a mask until none of them answers."""
-        letter = "C"
+    def find(self, mask: vicinity.Mask, letter: str = "C") -> None:
+        """Asks the tags of a mask until none of them answers: in sixteen slots first, or in one."""
         while letter != "S" and self.rounds < MOST_ROUNDS:
             if letter in "CD":
                 self.ask_on(mask)
             [letter] = self.ask(1, mask)
 
-    def check(self) -> vicinity.Answer:
+    def check(self) -> vicinity.Margin:
+        """The checker's answer, and how often a tag that isn't listed would have been missed."""
         self.calls += 1
-        return vicinity.check_listed(b"".join(self.lines), self.heard)
+        return vicinity.margin_listed(b"".join(self.lines), self.heard)
 
-    def run(self) -> vicinity.Answer:
-        """Searches, and returns the checker's answer."""
+    def run(self, margin: int = 1) -> vicinity.Answer:
+        """Searches until the margin is reached, and returns the checker's answer."""
         self.find(ALL)
-        answer = self.check()
-        while answer.kind is vicinity.Kind.UNSETTLED and self.rounds < MOST_ROUNDS:
-            self.field.cycle()
-            self.lines.append(vicinity.write_line("F"))
-            self.find(answer.mask)
-            answer = self.check()
+        answer, weakest = self.check()
+        while self.rounds < MOST_ROUNDS:
+            if answer.kind is vicinity.Kind.UNSETTLED:
+                self.field.cycle()
+                self.lines.append(vicinity.write_line("F"))
+                self.find(answer.mask)
+            elif answer.is_complete and weakest and weakest.margin < margin:
+                for _ in range(margin - weakest.margin):
+                    self.find(ALL, "N")
+            else:
+                break
+            answer, weakest = self.check()
         return answer
 
 
@@ -155,6 +162,7 @@ def count(word: str) -> int:
 def main() -> int:
     words = Words(description="A search over a simulated field, one tag of which is Quiet.")
     words.add_argument("tags", type=count, nargs="?", default=40)
+    words.add_argument("--margin", type=count, default=1, metavar="K")
     for chance in Chances._fields:
         words.add_argument(f"--{chance}", type=float, default=0.0, metavar="P")
     words.add_argument("--seed", type=int, default=7)
@@ -165,7 +173,7 @@ def main() -> int:
     if uids:
         # a tag is silenced before it was heard
         search.send(vicinity.write_stay_quiet(LINK, min(uids)))
-    answer = search.run()
+    answer = search.run(given.margin)
     print(f"{answer} after {search.rounds} rounds and {len(search.lines)} lines,"
           f" {search.calls} calls of the checker")
     return 0 if answer.is_complete and search.heard == uids else 1
