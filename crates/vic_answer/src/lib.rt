@@ -14,6 +14,7 @@ mod lines;
 mod listing;
 mod numbers;
 mod output;
+mod overlooked;
 mod pieces;
 mod population;
 mod reconcile;
@@ -38,6 +39,7 @@ pub use frame::run_frame;
 pub use lines::LINE_ROOM;
 pub use listing::{LISTED, Listing, NOT_LISTED, list_text, listed_in, listing_numbers};
 pub use numbers::{Kind, NO_ANSWER, VicinityAnswer, numbers_of};
+pub use overlooked::{Overlooked, overlooked_answer, overlooked_text};
 pub use population::{put_population, put_uids};
 pub use reconcile::{
     Reconciled, Reconciling, read_expected, read_next, reconciled_answer, write_reconciled,
