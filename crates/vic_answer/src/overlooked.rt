@@ -23,11 +23,7 @@ pub enum Overlooked {
 
 /// The answer to a complete text, with the margin of each UID that is handed in, in their order. It
 /// fails only if memory is refused.
-pub fn overlooked_text(
-    alloc: Global,
-    text: &[u8],
-    uids: &[Uid],
-) -> Result<Overlooked, AllocError>
+pub fn overlooked_text(alloc: Global, text: &[u8], uids: &[Uid]) -> Result<Overlooked, AllocError>
     ensures overlooked { IfOk result (spec.AreOverlooked text.now uids.now) }
     ensures answer { IfOk result (λ o. IsAnswer text.now (spec.answer_of o)) }
     // if it is `complete`, the list of the log is complete and has `count` UIDs
