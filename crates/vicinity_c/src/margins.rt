@@ -3,9 +3,11 @@
 ghost use Rattle.std.specs.Prelude.{◌≡◌, ◌≢◌, ◌++◌, ℕ, IfOk, List, length, map, replicate};
 ghost use Rattle.vic_log.specs.Lines.{lines_of_text};
 ghost use Rattle.vic_log.specs.Writing.{listed_text};
+ghost use Rattle.vic_verdict.specs.declared.judging.Verdict.TheVariants.{Complete};
 ghost use Rattle.vic_answer.specs.CheckText.{IsCompleteText};
 ghost use Rattle.vic_answer.specs.ExplainedNumbers.{IsPutInto};
 ghost use Rattle.vic_answer.specs.Numbers.{AreNumbersFor, no_answer};
+ghost use Rattle.vic_answer.specs.OverlookedText.{answer_of};
 ghost use Rattle.vicinity_c.specs.Arrays.{IsFirst, uid_fault};
 ghost use Rattle.vicinity_c.specs.Margins as spec;
 
@@ -13,8 +15,8 @@ use crate::arrays::{MOST, uids_in};
 use crate::lines::with_listed;
 use std::alloc::{AllocError, Global};
 use vic_answer::{
-    Measured, NO_ANSWER, Overlooked, VicinityAnswer, margin_text, measured_answer, numbers_of,
-    overlooked_answer, overlooked_text,
+    Answer, Measured, NO_ANSWER, Overlooked, VicinityAnswer, margin_text, measured_answer,
+    numbers_of, overlooked_answer, overlooked_text,
 };
 use vic_log::{LineFault, LogFault, read_log};
 use vic_margin::Weakest;
@@ -160,7 +162,9 @@ fn weakest_fields(weakest: &Option<Weakest>) -> VicinityWeakest
 
 /// The answer to a text and UIDs, with their margins. The only error is that memory was refused.
 fn overlooked_by(alloc: Global, text: &[u8], uids: &[u64]) -> Result<Overlooked, AllocError>
-    ensures { IfOk result (spec.AreOverlookedBy text.now uids.now) }
+    ensures overlooked { IfOk result (spec.AreOverlookedBy text.now uids.now) }
+    ensures whole { IfOk result (λ o. (count : ℕ)
+        → answer_of o ≡ Answer.Judged (Complete count) → IsCompleteText text.now count) }
 {
     match uids_in(alloc, uids)? {
         Ok(uids) => overlooked_text(alloc, text, uids.as_slice()),
@@ -170,8 +174,11 @@ fn overlooked_by(alloc: Global, text: &[u8], uids: &[u64]) -> Result<Overlooked,
 
 /// The answer to a text and UIDs of which this one is the first that has a fault.
 fn refusal_behind(alloc: Global, text: &[u8], index: usize) -> Result<Overlooked, AllocError>
-    ensures { (uids : List ℕ) (number : ℕ) → IsFirst (map uid_fault uids) index number
+    ensures overlooked { (uids : List ℕ) (number : ℕ)
+        → IsFirst (map uid_fault uids) index number
         → IfOk result (spec.AreOverlookedBy text.now uids) }
+    ensures refused { IfOk result (λ o. (count : ℕ)
+        → answer_of o ≡ Answer.Judged (Complete count) → ⊥) }
 {
     match read_log(alloc, text) {
         Ok(_) => Ok(Overlooked::RefusedAt {
