@@ -1,7 +1,6 @@
 mod Words
 mod CrcBytes
 mod ListedLines
-mod LineCount
 mod ArrayFaults
 mod Answered
 mod GoTogether
