@@ -11,5 +11,5 @@ of_uids text us vs (RefusedAt n fault) e none h = inl h
 
 pub returns-in-Ok-clause-overlooked : goal.returns-in-Ok-clause-overlooked
 returns-in-Ok-clause-overlooked c =
-    let read = rw c.in-Ok.is at c.in_ok-uids_in.ensures in
+    let read = rw c.in-Ok.is at c.in_ok-uids.ensures in
     IfOk-weaker c.overlooked_text.result _ _ (λ o h. of_uids c.args.text.now c.args.uids.now _ o (c.as_slice.ensures.value ∙ read.0) read.1 h) c.overlooked_text.ensures.overlooked
