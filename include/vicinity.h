@@ -345,12 +345,11 @@ uint32_t vicinity_margin_listed(const uint8_t *text, size_t text_len, const uint
                                 struct vicinity_weakest *weakest);
 
 /*
- * Judges a log and writes in how many of its slots each UID was overlooked, as with
- * vicinity_margin. The UIDs may be any, listed or not, in any order, also repeatedly; they don't
+ * Judges a log and writes in how many of its slots each UID was overlooked. vicinity_margin says
+ * what that means. The UIDs may be any, listed or not, in any order, also repeatedly; they don't
  * change the answer. The numbers are at the start of `places`, in the order of `uids`, if `room` is
- * at least `count`; otherwise nothing is written there. Of an impossible log they are the same as
- * of any other. All `count` are 0 for VICINITY_REFUSED, and nothing is written for
- * VICINITY_NO_ANSWER.
+ * at least `count`; otherwise nothing is written there. They are counted in an impossible log too.
+ * All `count` are 0 for VICINITY_REFUSED, and nothing is written for VICINITY_NO_ANSWER.
  *
  * If the text has no fault, a UID that doesn't begin E0 is VICINITY_REFUSED, with
  * VICINITY_FAULT_NOT_VICINITY: the first one, at the line that it would have if the text were

@@ -365,9 +365,9 @@ def test_nothing_at_a_pointer(native, nothing):
     room, number = (ctypes.c_char * 64)(), SIZE(9)
     assert calls.vicinity_simulate(*empty, room, SIZE(64), ctypes.byref(number)) == 3
     assert room.value == f"{WITHOUT_TEXT}\n".encode() and number.value == len(room.value)
-    silent, weakest = (SILENT, SIZE(len(SILENT))), WeakestStruct()
-    assert [calls.vicinity_margin_listed(*silent, *empty, ctypes.byref(told), ctypes.byref(weakest)),
-            calls.vicinity_overlooked(*silent, *empty, ctypes.byref(told), *empty)] == [0, 0]
+    beside, weakest = (SILENT, SIZE(len(SILENT)), *empty, ctypes.byref(told)), WeakestStruct()
+    assert calls.vicinity_margin_listed(*beside, ctypes.byref(weakest)) == 0
+    assert calls.vicinity_overlooked(*beside, *empty) == 0
     frame = ctypes.byref((U64 * 32)())
     assert [calls.vicinity_add_crc(*empty, frame), calls.vicinity_read_request(*empty, frame),
             calls.vicinity_read_response(*empty, frame),
