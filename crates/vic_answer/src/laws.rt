@@ -37,8 +37,8 @@ pub fn spell_undoes_frame()
         → words_reading words ≡ Ok what → words ≡ words_of what }
 {}
 
-/// The answers of `explain`, `report` and `margin` to a text begin with the line of `check` and have
-/// its status.
+/// The answers of `explain`, `report` and `margin` to a text begin with the line of `check` and
+/// have its status.
 pub fn answers_begin_as_check()
     ensures explain { (text answer : List ℕ) (status : Status)
         → IsExplanationOf text answer status → BeginsAsCheck text answer status }

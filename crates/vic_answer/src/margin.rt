@@ -123,7 +123,8 @@ fn measured_lines(measured: &Measured) -> Text
 /// Appends what follows the line of `check` for a log: its margin, if it is complete.
 fn put_margin(text: &mut Text, margin: &Margin)
     requires { array_vec_len text.old < LINE_ROOM }
-    ensures { text.new.items ≡ text.old.items ++ following_text margin.now.verdict margin.now.weakest }
+    ensures { text.new.items
+        ≡ text.old.items ++ following_text margin.now.verdict margin.now.weakest }
 {
     if let Verdict::Complete { .. } = margin.verdict {
         put_weakest(text, &margin.weakest);
