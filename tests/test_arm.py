@@ -70,7 +70,7 @@ def test_each_allocation_is_refused(both):
 
 
 @pytest.mark.slow
-@pytest.mark.parametrize("command", ["check", "explain", "report", "simulate"])
+@pytest.mark.parametrize("command", ["check", "explain", "report", "margin", "simulate"])
 def test_the_commands_on_a_large_log(arm, program, large, command):
     text = large.read_bytes()
     if command == "simulate":

@@ -218,10 +218,11 @@ def packaged():
 
 
 def is_released(row):
-    """Whether the last release knows the version of the row's log: version 3 came after 1.1.0."""
+    """Whether the last release knows the row's command, and the version of its log: `margin` and
+    version 3 came after 1.1.0."""
     _, command, given, *_ = row.values
-    return (not list((TOP / "dist").glob("vicinity_1.1.*"))
-            or command not in OF_LOGS or b"vicinity-log 3" not in log_of(given))
+    is_new = command == "margin" or command in OF_LOGS and b"vicinity-log 3" in log_of(given)
+    return not is_new or not list((TOP / "dist").glob("vicinity_1.1.*"))
 
 
 @pytest.mark.parametrize(("asked", "command", "given", "answers", "status"),
