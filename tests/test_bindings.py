@@ -92,6 +92,16 @@ def test_an_example_answers_as_the_program(program, example, language, by, log):
     assert (given.out, given.status) == (wanted.out, wanted.status)
 
 
+@pytest.mark.parametrize("log", sorted(TOP.glob("examples/*.log")), ids=lambda log: log.name)
+@pytest.mark.parametrize("by", LIBRARIES)
+@pytest.mark.parametrize("language", ["cpp", "go", "rust"])
+def test_an_example_shows_why(program, example, language, by, log):
+    """What it writes on standard error: the tags of `explain`, the margin of a complete list."""
+    shown = program.run("explain", log).out.splitlines()[2:]
+    shown += program.run("margin", log).out.splitlines()[1:]
+    assert example(language, by).run(log).err.splitlines() == shown
+
+
 @pytest.mark.parametrize("by", LIBRARIES)
 @pytest.mark.parametrize("language", ["c", "python"])
 def test_a_reader_loop(example, language, by):
