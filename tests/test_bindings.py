@@ -25,9 +25,7 @@ PATIENT = {f"DASK_DISTRIBUTED__COMM__TIMEOUTS__{it}": "600s" for it in ("CONNECT
 
 def made(*words, cwd=TOP, **environment):
     """What a tool writes."""
-    said = Program(*words, **TOOLS, **environment).run(cwd=cwd)
-    assert said.status == 0, said.err.decode()
-    return said.out.decode()
+    return Program(*words, **TOOLS, **environment).told(cwd=cwd)
 
 
 def go_environment(folder):

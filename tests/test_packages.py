@@ -11,8 +11,9 @@ from tempfile import TemporaryDirectory
 
 import pytest
 
-from helpers.program import TOP, Program, needs
+from helpers.library import CALLS
 from helpers.lines import log_of
+from helpers.program import TOP, Program, needs
 from helpers.rows import OfProgram, all_rows
 from helpers.trees import copy
 
@@ -23,7 +24,6 @@ KINDS = {"vicinity": "foreign", "libvicinity1": "same", "libvicinity-dev": "same
          "python3-vicinity": "no"}
 FOR_USERS = "LOG_FORMAT VERDICTS COLLECTIONS READERS COMMANDS AIR FRAMES GLOSSARY RUNNING".split()
 FOR_DEVELOPERS = "WORKING ARCHITECTURE PROOFS HEADLINE DEFINITIONS DECISIONS".split()
-CALLS = re.findall(r"\b(vicinity_\w+);", (TOP / "release/exports.map").read_text())
 LINK = re.compile(r"\]\(([^#): ]+)[#)]")
 TARGETS = ["amd64", "arm64"]
 #: What is kept of building.
@@ -83,7 +83,7 @@ def test_symbols(packages):
     deb, = packages("amd64").glob("libvicinity1_*.deb")
     symbols = say("dpkg-deb", "-I", deb, "symbols")
     listed = dict(re.findall(r"^ (vicinity_\w+)@VICINITY_\S+ (.*)$", symbols, re.M))
-    assert sorted(listed) == sorted(set(CALLS))
+    assert sorted(listed) == sorted(CALLS)
     assert [listed[f"vicinity_{call}"] for call in ("check", "certain", "listed")] == [
         "1.0.0", "1.1.0", "1.2.0~"]
 

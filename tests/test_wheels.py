@@ -4,17 +4,14 @@ import glob
 import os
 import re
 import subprocess
-import sys
 import tarfile
 import time
 import zipfile
 
+import backend
 import pytest
 
 from helpers.program import TOP, needs
-
-sys.path.append(str(TOP / "python"))
-import backend  # noqa: E402
 
 TAGS = {"amd64": "manylinux2014_x86_64", "arm64": "manylinux2014_aarch64"}
 LICENSES = ("LICENSE-APACHE", "LICENSE-MIT")

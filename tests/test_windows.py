@@ -3,16 +3,14 @@ tests/test_reconcile.py ask them for the rows of tests/data/rows. Nothing here s
 itself behaves."""
 import re
 import subprocess
-import sys
 import zipfile
 
+import backend
 import pytest
 
+from helpers.library import CALLS
 from helpers.lines import biglog, log_of
 from helpers.program import MAKE, TOP, Program
-
-sys.path.append(str(TOP / "python"))
-import backend  # noqa: E402
 
 CC = ("x86_64-w64-mingw32-gcc", "-O2", "-Wall", "-Wextra", "-Werror",
       "-D__USE_MINGW_ANSI_STDIO=1", f"-I{TOP}/include", TOP / "tests/c/binary.c")
@@ -25,8 +23,6 @@ NO_COMMANDS = ("", "frame", "spell", "check a b", "help", "check -x", "reconcile
 LARGE = 115_600
 # The table of what a DLL exports.
 EXPORTED = re.compile(r"^\t\[ *\d+\] (?:\+base\[ *\d+\] +[0-9a-f]+ )?(vicinity_\w+)", re.M)
-CALLS = re.findall(r"^[a-z][a-z0-9_ *]*[ *](vicinity_[a-z_]+)\(",
-                   (TOP / "include/vicinity.h").read_text(), re.M)
 
 
 @pytest.fixture(scope="module")
@@ -179,9 +175,3 @@ def test_another_file_is_no_library_for_windows(windows_release, tmp_path, name)
     done = subprocess.run([TOP / "release/wheel", windows_release / name, "windows", tmp_path],
                           capture_output=True, check=False)
     assert (done.returncode, list(tmp_path.iterdir())) == (1, [])
-
-
-def test_the_types_of_the_package_hold_on_windows():
-    done = subprocess.run(["/usr/bin/python3", "-m", "mypy", "--platform", "win32",
-                           TOP / "python/vicinity"], capture_output=True, text=True, cwd=TOP)
-    assert done.returncode == 0, done.stdout
