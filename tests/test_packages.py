@@ -120,10 +120,6 @@ def test_made_elsewhere_they_are_the_same(packages):
                     if deb.read_bytes() != (Path(folder) / deb.name).read_bytes()]
 
 
-def test_sums(packages):
-    say("sha256sum", "--quiet", "-c", "SHA256SUMS", cwd=packages("amd64"))
-
-
 @pytest.mark.parametrize("target", TARGETS)
 def test_lintian_has_nothing_to_say(packages, target):
     needs("lintian")
