@@ -354,7 +354,7 @@ def told_by(name):
 
 
 if __name__ == "__main__":
-    BATCH = 2
+    BATCH, SHARE = 2, 1
     sys.exit(main(*sys.argv[1:3], sys.argv[3:]))
 """
 

@@ -30,6 +30,9 @@ CHECKS = [("shellcheck", "-x", *SHELL), ("flake8", *PYTHON),
           (*MYPY, "--strict", "python/vicinity"), (*MYPY, "--platform", "win32", "python/vicinity"),
           ("tsc", "-p", "web"),
           (*MYPY, "--strict", "examples/python/check.py", "examples/python/reader_loop.py"),
+          # Dask has no types
+          (*MYPY, "--strict", "--allow-untyped-calls", "--ignore-missing-imports",
+           "examples/python/fleet.py"),
           (*MYPY, "tests", "tools/biglog.py", "tools/measure.py")]
 
 
