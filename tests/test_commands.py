@@ -93,7 +93,7 @@ def test_files_that_are_no_text(ask, tmp_path):
 
 
 @pytest.mark.parametrize("words", [
-    ["check", "LOG"], ["explain", "LOG"], ["check", "FOLDER"], ["check"], ["frame", "26"],
+    ["check", "--", "LOG"], ["explain", "LOG"], ["check", "FOLDER"], ["check"], ["frame", "26"],
     ["spell", "x"], ["x"],
     ["reconcile", "LIST", "LOG"], ["reconcile", "/dev/stdin", "LOG"]], ids=" ".join)
 def test_streams(ask, tmp_path, words):
