@@ -50,6 +50,7 @@ void put_mask(struct text *answered, const char *before, uint32_t bits, uint64_t
 void put_finding(struct text *answered, const struct vicinity_finding *finding);
 struct vicinity_finding *findings_of(const char *bytes, size_t len, struct vicinity_answer *answer, size_t *needed);
 uint32_t report(const struct text *log, struct text *answered);
+uint32_t margin(const struct text *log, struct text *answered);
 uint32_t simulate(const struct text *log, struct text *answered);
 
 /* frames.c */

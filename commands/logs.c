@@ -115,6 +115,20 @@ uint32_t report(const struct text *log, struct text *answered)
     return answer.status;
 }
 
+uint32_t margin(const struct text *log, struct text *answered)
+{
+    struct vicinity_answer answer = {0};
+    struct vicinity_weakest weakest;
+    vicinity_margin((const uint8_t *)log->bytes, log->len, &answer, &weakest);
+    put(answered, "%s", answer.text);
+    if (answer.kind == VICINITY_COMPLETE) {
+        put(answered, "margin %" PRIu32 "\n", weakest.margin);
+        put_mask(answered, "weakest", weakest.mask_len, weakest.mask_value);
+        put(answered, "\n");
+    }
+    return answer.status;
+}
+
 uint32_t simulate(const struct text *log, struct text *answered)
 {
     uint32_t status = WHOLE;

@@ -1,6 +1,6 @@
 /* The commands of vicinity, in C over the calls of its library:
  *
- *     vicinity check|explain|report|simulate [FILE]
+ *     vicinity check|explain|report|margin|simulate [FILE]
  *     vicinity reconcile EXPECTED [LOG ..]
  *     vicinity frame HEX
  *     vicinity spell WORDS..
@@ -75,7 +75,7 @@ static int run_spell(char **words, int count)
 static const struct {
     const char *name;
     uint32_t (*judge)(const struct text *log, struct text *answered);
-} OVER_TEXTS[] = {{"check", check}, {"explain", explain}, {"report", report}, {"simulate", simulate}};
+} OVER_TEXTS[] = {{"check", check}, {"explain", explain}, {"report", report}, {"margin", margin}, {"simulate", simulate}};
 
 static int run(const char *command, char **words, int count)
 {

@@ -7,10 +7,10 @@ import subprocess
 
 import pytest
 
+from helpers.library import STRICT
 from helpers.lines import biglog
 from helpers.program import TOP, Program
 
-STRICT = ("-O2", "-Wall", "-Wextra", "-Werror")
 LOGS = sorted(TOP.glob("examples/*.log"))
 # A search for so many tags has over 100,000 lines.
 TAGS, LEAST = 12_000, 100_000
@@ -26,9 +26,8 @@ def both(release, arm_release, tmp_path_factory):
         for compiler, library, name, more in (("aarch64-linux-gnu-gcc", arm_release, f"{made}-arm",
                                                ["-static"]),
                                               ("cc", release, f"{made}-here", [])):
-            subprocess.run([compiler, *more, *STRICT, "-I", TOP / "include", TOP / source, *words,
-                            library / "libvicinity.a",
-                            "-o", name], check=True)
+            subprocess.run([compiler, *more, "-O2", *STRICT, f"-I{TOP}/include", TOP / source,
+                            *words, library / "libvicinity.a", "-o", name], check=True)
         return Program("qemu-aarch64-static", f"{made}-arm"), Program(f"{made}-here")
     return build
 
@@ -70,17 +69,9 @@ def test_each_allocation_is_refused(both):
 
 
 @pytest.mark.slow
-@pytest.mark.parametrize("command", ["check", "explain", "report", "simulate"])
+@pytest.mark.parametrize("command", ["check", "explain", "report", "margin", "simulate"])
 def test_the_commands_on_a_large_log(arm, program, large, command):
     text = large.read_bytes()
     if command == "simulate":
         text = re.sub(rb"^[SCRD].*\n", b"", text, flags=re.M)
     assert arm.run(command, given=text) == program.run(command, given=text)
-
-
-def test_a_program_that_loads_the_shared_object(arm, arm_release, tmp_path):
-    subprocess.run(["aarch64-linux-gnu-gcc", f"-I{arm_release}", TOP / "examples/c/check.c",
-                    f"-L{arm_release}", "-lvicinity",
-                    "-o", tmp_path / "shared"], check=True)
-    loaded = Program(*arm.words[:-1], "-E", f"LD_LIBRARY_PATH={arm_release}", tmp_path / "shared")
-    assert loaded.run("examples/whole-shelf.log") == (b"complete 4\n", b"", 0)

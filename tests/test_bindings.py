@@ -25,9 +25,7 @@ PATIENT = {f"DASK_DISTRIBUTED__COMM__TIMEOUTS__{it}": "600s" for it in ("CONNECT
 
 def made(*words, cwd=TOP, **environment):
     """What a tool writes."""
-    said = Program(*words, **TOOLS, **environment).run(cwd=cwd)
-    assert said.status == 0, said.err.decode()
-    return said.out.decode()
+    return Program(*words, **TOOLS, **environment).told(cwd=cwd)
 
 
 def go_environment(folder):
@@ -90,6 +88,16 @@ def in_python(folder):
 def test_an_example_answers_as_the_program(program, example, language, by, log):
     given, wanted = example(language, by).run(log), program.run("check", log)
     assert (given.out, given.status) == (wanted.out, wanted.status)
+
+
+@pytest.mark.parametrize("log", sorted(TOP.glob("examples/*.log")), ids=lambda log: log.name)
+@pytest.mark.parametrize("by", LIBRARIES)
+@pytest.mark.parametrize("language", ["cpp", "go", "rust"])
+def test_an_example_shows_why(program, example, language, by, log):
+    """What it writes on standard error: the tags of `explain`, the margin of a complete list."""
+    shown = program.run("explain", log).out.splitlines()[2:]
+    shown += program.run("margin", log).out.splitlines()[1:]
+    assert example(language, by).run(log).err.splitlines() == shown
 
 
 @pytest.mark.parametrize("by", LIBRARIES)
@@ -349,7 +357,7 @@ def told_by(name):
 
 
 if __name__ == "__main__":
-    BATCH = 2
+    BATCH, SHARE = 2, 1
     sys.exit(main(*sys.argv[1:3], sys.argv[3:]))
 """
 

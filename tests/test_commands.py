@@ -23,7 +23,7 @@ PAIRS = ("commands", "arm")
 # quarter as many frames.
 CHANGED = {"commands": 1000, "arm": 200}
 PARTS = 4
-COMMANDS = "check", "explain", "report", "simulate"  # those over a text
+COMMANDS = "check", "explain", "report", "margin", "simulate"  # those over a text
 OUTCOMES = b"S", b"C", b"R", b"D"
 HEADER = b"vicinity-log 1\r\n"
 LONG_LINE = b"#" * 128 + b"\r\n"
@@ -93,7 +93,7 @@ def test_files_that_are_no_text(ask, tmp_path):
 
 
 @pytest.mark.parametrize("words", [
-    ["check", "LOG"], ["explain", "LOG"], ["check", "FOLDER"], ["check"], ["frame", "26"],
+    ["check", "--", "LOG"], ["explain", "LOG"], ["check", "FOLDER"], ["check"], ["frame", "26"],
     ["spell", "x"], ["x"],
     ["reconcile", "LIST", "LOG"], ["reconcile", "/dev/stdin", "LOG"]], ids=" ".join)
 def test_streams(ask, tmp_path, words):

@@ -7,6 +7,7 @@ import sys
 
 import pytest
 
+from helpers.library import CALLS, STRICT
 from helpers.program import TOP, Program, needs
 from helpers.trees import copy, tree
 
@@ -14,10 +15,7 @@ VERSION = (TOP / "VERSION").read_text().strip().removesuffix("~dev")
 MAJOR = VERSION.partition(".")[0]
 LOG = TOP / "examples/whole-shelf.log"
 COMPLETE = (b"complete 4\n", b"", 0)
-STRICT = ("-Wall", "-Wextra", "-Werror")
 EXAMPLES = sorted(TOP.glob("examples/c/*.c"))
-CALLS = re.findall(r"^[a-z][a-z0-9_ *]*[ *](vicinity_[a-z_]+)\(",
-                   (TOP / "include/vicinity.h").read_text(), re.M)
 COMMANDS = sorted(set(re.findall(r"^\.Cm ([a-z]+)$", (TOP / "docs/vicinity.1").read_text(), re.M)))
 
 
@@ -28,9 +26,7 @@ def install(*words):
 def tool(*words, **environment):
     """What a tool writes, which finds nothing wrong."""
     needs(words[0])
-    said = Program(*words, **environment).run()
-    assert said.status == 0, said.err.decode()
-    return said.out.decode()
+    return Program(*words, **environment).told()
 
 
 @pytest.fixture(scope="session")
@@ -229,23 +225,7 @@ def test_a_prefix_of_ones_own(release, tmp_path):
     assert not own.exists()
 
 
-def test_installed_for_arm(arm, arm_release, tmp_path):
-    words = "--target", "arm64", "--destdir", tmp_path
-    assert arm_release and install(*words) == 0
-    assert Program(*arm.words[:-1], tmp_path / "usr/bin/vicinity").run("check", LOG) == COMPLETE
-    assert install("--remove", *words) == 0
-    assert not [*tmp_path.iterdir()]
-
-
 # The Python package, over the installed library.
-
-@pytest.mark.parametrize("log", sorted(TOP.glob("examples/*.log")), ids=lambda log: log.name)
-def test_the_python_example(root, log):
-    python = Program(sys.executable, LIBVICINITY=f"{root}/usr/lib/libvicinity.so",
-                     PYTHONPATH=str(TOP / "python"))
-    assert python.run("examples/python/check.py",
-                      log) == Program(root / "usr/bin/vicinity").run("check", log)
-
 
 def test_pip_installs_the_package(root, tmp_path):
     """Without a network, and leaves nothing behind."""

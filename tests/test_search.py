@@ -1,15 +1,11 @@
 """The search of reader_loop.py in simulated fields, in which strong replies hide weaker ones, noise
 covers slots, and weak tags miss requests."""
 import random
-import sys
 
 import pytest
 
-from helpers.program import TOP
-
-sys.path.append(str(TOP / "examples/python"))
-import reader_loop  # noqa: E402
-from reader_loop import Chances, Field, Search  # noqa: E402
+import reader_loop
+from reader_loop import Chances, Field, Search
 
 pytestmark = pytest.mark.usefixtures("vicinity")
 # As many as docs/READERS.md speaks of.

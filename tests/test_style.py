@@ -1,5 +1,5 @@
-"""The style of scripts and of Python, by Debian's tools: shellcheck, flake8 and mypy, as setup.cfg
-has it."""
+"""The style of scripts and Python, and the types of Python and of the page's modules, by Debian's
+tools: shellcheck, flake8, mypy and tsc, as setup.cfg and web/ have it."""
 import os
 
 import pytest
@@ -27,8 +27,12 @@ PYTHON = [name for name, first in files()
 
 MYPY = "mypy", "--cache-dir", "/dev/null"
 CHECKS = [("shellcheck", "-x", *SHELL), ("flake8", *PYTHON),
-          (*MYPY, "--strict", "python/vicinity"),
+          (*MYPY, "--strict", "python/vicinity"), (*MYPY, "--platform", "win32", "python/vicinity"),
+          ("tsc", "-p", "web"),
           (*MYPY, "--strict", "examples/python/check.py", "examples/python/reader_loop.py"),
+          # Dask has no types
+          (*MYPY, "--strict", "--allow-untyped-calls", "--ignore-missing-imports",
+           "examples/python/fleet.py"),
           (*MYPY, "tests", "tools/biglog.py", "tools/measure.py")]
 
 

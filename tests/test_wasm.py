@@ -3,14 +3,12 @@ the library for C does. tests/test_rows.py asks it for the rows of tests/data/ro
 tests/test_calls.py makes its calls one by one."""
 import ctypes
 import json
-import re
-import shutil
 import subprocess
 
 import pytest
 from vicinity._native import AnswerStruct, FindingStruct, MaskStruct
 
-from helpers.library import U8, U32, U64, masks, uids
+from helpers.library import CALLS, U8, U32, U64, masks, uids
 from helpers.lines import biglog, log_of
 from helpers.program import MAKE, TOP
 from helpers.wasm import WasmLibrary
@@ -18,8 +16,6 @@ from helpers.wasm import WasmLibrary
 MOST_BYTES = 300_000
 # What the module exports besides the calls: the linker says where the heap begins.
 EXPORTS = "__heap_base", "memory", "vicinity_allocate", "vicinity_free"
-HEADER = (TOP / "include/vicinity.h").read_text()
-CALLS = re.findall(r"^[a-z][a-z0-9_ *]*[ *](vicinity_[a-z_]+)\(", HEADER, re.M)
 NAMES_OF = """
 const it = new WebAssembly.Module(require("fs").readFileSync(process.argv[1]));
 const exported = WebAssembly.Module.exports(it).map((one) => one.name);
@@ -45,13 +41,6 @@ def test_the_module_needs_nothing_and_exports_the_calls(wasm_module):
     assert imported == []
     assert sorted(exported) == sorted([*CALLS, *EXPORTS])
     assert wasm_module.stat().st_size < MOST_BYTES
-
-
-def test_the_types_of_its_calls_hold():
-    if not shutil.which("tsc"):
-        pytest.skip("there is no tsc: tests/setup installs it")
-    done = subprocess.run(["tsc", "-p", TOP / "web"], capture_output=True, text=True, check=False)
-    assert (done.stdout, done.returncode) == ("", 0)
 
 
 @pytest.mark.slow

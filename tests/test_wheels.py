@@ -1,25 +1,21 @@
 """Wheels of the Python package: the same bytes twice, their licences, and how they work on each
-Python of this machine, in a fresh environment without a network."""
+Python of this machine, in a fresh environment without a network. No Python for Windows is here: its
+wheel is looked into and installed, and not run."""
 import glob
 import os
 import re
 import subprocess
-import sys
 import tarfile
 import time
 import zipfile
 
+import backend
 import pytest
 
-from helpers.program import TOP, needs
+from helpers.program import TOP, Program, needs
 
-sys.path.append(str(TOP / "python"))
-import backend  # noqa: E402
-
-TAGS = {"amd64": "manylinux2014_x86_64", "arm64": "manylinux2014_aarch64"}
+TAGS = {"amd64": "manylinux2014_x86_64", "arm64": "manylinux2014_aarch64", "windows": "win_amd64"}
 LICENSES = ("LICENSE-APACHE", "LICENSE-MIT")
-NAME = "libvicinity.so.1"
-PAGE = "vicinity/pages/page.html"
 LEAST = 9
 # where tests/setup unpacks a Python for 64-bit ARM
 ARM = "/usr/local/lib/arm64"
@@ -46,6 +42,12 @@ def wheel(release, tmp_path_factory):
     return made(release / "libvicinity.so", "amd64", tmp_path_factory.mktemp("wheel") / "one")
 
 
+@pytest.fixture(scope="session")
+def wheel_for_windows(windows_release, tmp_path_factory):
+    folder = tmp_path_factory.mktemp("wheel") / "one"
+    return made(windows_release / "vicinity.dll", "windows", folder)
+
+
 @pytest.fixture
 def another_day(monkeypatch):
     """Another time, and other rights of new files."""
@@ -56,10 +58,19 @@ def another_day(monkeypatch):
     os.umask(umask)
 
 
+def is_made_again(wheel, library, tag, folder):
+    again = backend.build_wheel_with(str(folder), library, tag)
+    assert again == wheel.name and again.endswith(f"-py3-none-{tag}.whl")
+    assert (folder / again).read_bytes() == wheel.read_bytes()
+
+
 def test_the_same_bytes_twice(wheel, release, tmp_path, another_day):
-    again = backend.build_wheel_with(str(tmp_path), release / "libvicinity.so", TAGS["amd64"])
-    assert again == wheel.name and TAGS["amd64"] in again
-    assert (tmp_path / again).read_bytes() == wheel.read_bytes()
+    is_made_again(wheel, release / "libvicinity.so", TAGS["amd64"], tmp_path)
+
+
+def test_the_same_bytes_twice_for_windows(wheel_for_windows, windows_release, tmp_path,
+                                          another_day):
+    is_made_again(wheel_for_windows, windows_release / "vicinity.dll", TAGS["windows"], tmp_path)
 
 
 @pytest.fixture
@@ -73,22 +84,47 @@ def test_the_same_bytes_of_a_source_distribution(sdist, tmp_path, another_day):
     assert file.read_bytes() == sdist.read_bytes()
     with tarfile.open(file) as archive:
         names = {name.partition("/")[2] for name in archive.getnames()}
-    assert {*LICENSES, "README.md", "PKG-INFO", "vicinity/commands/reconcile.py", PAGE} <= names
+    assert {*LICENSES, "README.md", "PKG-INFO", "vicinity/commands/reconcile.py",
+            backend.PAGE} <= names
 
 
-def test_what_is_in_it(wheel, release):
+def files_in(wheel, tag):
+    """The files of a wheel, which has the modules, the page and the licences."""
     with zipfile.ZipFile(wheel) as archive:
         files = {it.filename: archive.read(it) for it in archive.infolist()}
     about = next(name for name in files if name.endswith("/RECORD")).rpartition("/")[0]
     for name in LICENSES:
         assert files[f"{about}/{name}"] == (TOP / name).read_bytes()
-    assert files[f"vicinity/{NAME}"] == (release / "libvicinity.so").read_bytes()
     listed = {line.partition(",")[0] for line in files[f"{about}/RECORD"].decode().splitlines()}
     assert listed == set(files)
+    assert f"\nTag: py3-none-{tag}\n" in files[f"{about}/WHEEL"].decode()
     sources = TOP / "python"
-    modules = {str(path.relative_to(sources)) for path in sources.glob("vicinity/**/*.py")}
-    assert {*modules, PAGE} <= set(files)
-    assert files[PAGE].startswith(b"<!doctype html>")
+    assert {str(path.relative_to(sources)) for path in sources.glob("vicinity/**/*.py")} <= listed
+    assert files[backend.PAGE].startswith(b"<!doctype html>")
+    return files
+
+
+def test_what_is_in_it(wheel, release):
+    files = files_in(wheel, TAGS["amd64"])
+    assert files[backend.LIBRARY] == (release / "libvicinity.so").read_bytes()
+    assert backend.DLL not in files
+
+
+def test_what_is_in_it_for_windows(wheel_for_windows, windows_release):
+    files = files_in(wheel_for_windows, TAGS["windows"])
+    assert files[backend.DLL] == (windows_release / "vicinity.dll").read_bytes()
+    assert backend.LIBRARY not in files
+
+
+def test_pip_installs_it_for_windows(wheel_for_windows, windows_release, tmp_path):
+    """As this machine's pip does it for another one, and for no other."""
+    words = ["/usr/bin/python3", "-m", "pip", "install", "--no-index", "--only-binary", ":all:"]
+    for platform, status in (TAGS["windows"], 0), ("win32", 1):
+        done = subprocess.run([*words, "--target", tmp_path / platform, "--platform", platform,
+                               wheel_for_windows], capture_output=True, check=False)
+        assert done.returncode == status, done.stderr
+    installed = tmp_path / TAGS["windows"] / backend.DLL
+    assert installed.read_bytes() == (windows_release / "vicinity.dll").read_bytes()
 
 
 @pytest.mark.slow
@@ -100,7 +136,8 @@ def test_it_works_on_arm(arm_release, tmp_path):
     there = tmp_path / "there"
     subprocess.run(["/usr/bin/python3", "-m", "pip", "install", "--no-index", "--target", there,
                     "--platform", TAGS["arm64"], "--only-binary", ":all:", found], check=True)
-    assert (there / "vicinity" / NAME).read_bytes() == (arm_release / "libvicinity.so").read_bytes()
+    installed = there / backend.LIBRARY
+    assert installed.read_bytes() == (arm_release / "libvicinity.so").read_bytes()
 
     def run(*words):
         return subprocess.run(["qemu-aarch64-static", "-L", ARM, f"{ARM}/usr/bin/python3", *words],
@@ -114,11 +151,16 @@ def test_it_works_on_arm(arm_release, tmp_path):
     is_answered(lambda *words: run("-m", "vicinity", *words))
 
 
-def test_a_library_for_another_machine_is_refused(release, tmp_path):
-    said = subprocess.run([TOP / "release/wheel", release / "libvicinity.so", "arm64", tmp_path],
-                          capture_output=True, text=True)
-    assert (said.returncode, "isn't for arm64" in said.stderr) == (1, True)
-    assert not list(tmp_path.iterdir())
+@pytest.mark.parametrize(("built", "name", "target", "why"), [
+    ("release", "libvicinity.so", "arm64", "isn't for arm64"),
+    ("windows_release", "vicinity.exe", "windows", "isn't a DLL"),
+    ("windows_release", "libvicinity.dll.a", "windows", "isn't a DLL")])
+def test_what_is_no_library_for_that_machine_is_refused(request, tmp_path, built, name, target,
+                                                        why):
+    """Also a program, and an import library."""
+    said = Program(TOP / "release/wheel").run(request.getfixturevalue(built) / name, target,
+                                              tmp_path)
+    assert (said.status, why in said.err.decode(), [*tmp_path.iterdir()]) == (1, True, [])
 
 
 def is_answered(run):

@@ -3,16 +3,12 @@ tests/test_reconcile.py ask them for the rows of tests/data/rows. Nothing here s
 itself behaves."""
 import re
 import subprocess
-import sys
-import zipfile
 
 import pytest
 
+from helpers.library import CALLS
 from helpers.lines import biglog, log_of
 from helpers.program import MAKE, TOP, Program
-
-sys.path.append(str(TOP / "python"))
-import backend  # noqa: E402
 
 CC = ("x86_64-w64-mingw32-gcc", "-O2", "-Wall", "-Wextra", "-Werror",
       "-D__USE_MINGW_ANSI_STDIO=1", f"-I{TOP}/include", TOP / "tests/c/binary.c")
@@ -20,13 +16,10 @@ LOGS = sorted(str(log) for log in (TOP / "examples").glob("*.log"))
 LOG, EMPTY = log_of("I1 RA UA"), log_of("")
 READ = (b"complete 1\n", b"", 0)
 NAMES = ("shelf 3.log", "Größe.log", "полка.log", "日本の棚.log", "😀.log")
-NO_COMMANDS = ("", "frame", "spell", "check a b", "help", "check -x", "reconcile")
 # A session of this many tags has a million lines.
 LARGE = 115_600
 # The table of what a DLL exports.
 EXPORTED = re.compile(r"^\t\[ *\d+\] (?:\+base\[ *\d+\] +[0-9a-f]+ )?(vicinity_\w+)", re.M)
-CALLS = re.findall(r"^[a-z][a-z0-9_ *]*[ *](vicinity_[a-z_]+)\(",
-                   (TOP / "include/vicinity.h").read_text(), re.M)
 
 
 @pytest.fixture(scope="module")
@@ -91,11 +84,6 @@ def test_bytes_are_read_as_they_are(released, tmp_path):
     assert released.run("check", given=LOG + b"\x1a\n") == refused
 
 
-@pytest.mark.parametrize("words", NO_COMMANDS)
-def test_words_that_are_no_command(released, words):
-    assert released.run(*words.split()) == (b"", b"vicinity: usage\n", 4)
-
-
 def test_a_folder_is_not_read(released):
     assert released.run("check", ".") == (b"", b"vicinity: read failed\n", 4)
 
@@ -123,65 +111,8 @@ def test_a_session_of_a_million_lines(released, program, tmp_path):
         assert released.run(command, "log", **words) == program.run(command, "log", **words)
 
 
-def wheel_in(folder, library):
-    folder.mkdir()
-    done = subprocess.run([TOP / "release/wheel", library, "windows", folder], capture_output=True,
-                          text=True)
-    assert (done.stderr, done.returncode) == ("", 0)
-    return folder / done.stdout.strip()
-
-
-@pytest.fixture(scope="module")
-def wheel(windows_release, tmp_path_factory):
-    """The wheel of the Python package for Windows. No Python for Windows is here: it is looked
-    into, and not run."""
-    return wheel_in(tmp_path_factory.mktemp("wheel") / "one", windows_release / "vicinity.dll")
-
-
-def test_what_is_in_the_wheel(wheel, windows_release):
-    assert wheel.name.endswith("-py3-none-win_amd64.whl")
-    with zipfile.ZipFile(wheel) as archive:
-        files = {it.filename: archive.read(it) for it in archive.infolist()}
-    about = next(name for name in files if name.endswith("/WHEEL")).rpartition("/")[0]
-    assert b"\nTag: py3-none-win_amd64\n" in files[f"{about}/WHEEL"]
-    assert files[backend.DLL] == (windows_release / "vicinity.dll").read_bytes()
-    assert backend.LIBRARY not in files and backend.PAGE in files
-    listed = {line.partition(",")[0] for line in files[f"{about}/RECORD"].decode().splitlines()}
-    assert listed == set(files)
-
-
-def test_pip_installs_the_wheel_for_windows(wheel, windows_release, tmp_path):
-    """As this machine's pip does it for another one, and for no other."""
-    words = ["/usr/bin/python3", "-m", "pip", "install", "--no-index", "--only-binary", ":all:"]
-    for platform, status in ("win_amd64", 0), ("win32", 1):
-        done = subprocess.run([*words, "--target", tmp_path / platform, "--platform", platform,
-                               wheel], capture_output=True, check=False)
-        assert done.returncode == status, done.stderr
-    installed = tmp_path / "win_amd64" / backend.DLL
-    assert installed.read_bytes() == (windows_release / "vicinity.dll").read_bytes()
-
-
-def test_the_same_bytes_of_the_wheel(wheel, windows_release, tmp_path):
-    again = wheel_in(tmp_path / "again", windows_release / "vicinity.dll")
-    assert again.read_bytes() == wheel.read_bytes()
-
-
 def test_the_dll_exports_each_call_and_needs_what_each_windows_has(windows_release):
     words = ["x86_64-w64-mingw32-objdump", "-p", windows_release / "vicinity.dll"]
     said = subprocess.run(words, capture_output=True, text=True, check=True).stdout
     assert sorted(EXPORTED.findall(said)) == sorted(CALLS)
     assert set(re.findall(r"DLL Name: (.*)", said)) == {"KERNEL32.dll", "msvcrt.dll"}
-
-
-@pytest.mark.parametrize("name", ["vicinity.exe", "libvicinity.dll.a"])
-def test_another_file_is_no_library_for_windows(windows_release, tmp_path, name):
-    """Neither a program nor an import library is one."""
-    done = subprocess.run([TOP / "release/wheel", windows_release / name, "windows", tmp_path],
-                          capture_output=True, check=False)
-    assert (done.returncode, list(tmp_path.iterdir())) == (1, [])
-
-
-def test_the_types_of_the_package_hold_on_windows():
-    done = subprocess.run(["/usr/bin/python3", "-m", "mypy", "--platform", "win32",
-                           TOP / "python/vicinity"], capture_output=True, text=True, cwd=TOP)
-    assert done.returncode == 0, done.stdout

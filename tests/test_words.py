@@ -1,12 +1,11 @@
-"""What the words of the command line ask for, and the ends without an answer: the program, and the
-commands in C."""
+"""What the words of the command line ask for, and the ends without an answer. The commands in C are
+asked the same as the program in test_commands.py."""
 import os
 
 import pytest
 
 from biglog import ask, at_key, claim, reply, silence
 from helpers.lines import log_of, text_of
-from helpers.rows import PROGRAMS
 
 LOG, EMPTY = log_of("V3 I1 HA I1 RA UA"), log_of("V3")
 READ = (b"complete 1\n", b"", 0)
@@ -18,10 +17,9 @@ UNREAD, UNWRITTEN = (b"", b"vicinity: read failed\n", 4), (b"", b"vicinity: writ
 TAGS = 262_144 + 4096 + 64 + 2
 
 
-@pytest.fixture(params=PROGRAMS)
-def one(request):
-    """Each program."""
-    return request.getfixturevalue(request.param)
+@pytest.fixture(scope="session")
+def one(program):
+    return program
 
 
 @pytest.fixture(scope="session")

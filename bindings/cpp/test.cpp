@@ -48,6 +48,25 @@ static void try_answers()
     }
 }
 
+static void try_margins()
+{
+    const vicinity::Margin silent = vicinity::margin(SILENT);
+    IS(silent.answer.is_complete());
+    IS(silent.weakest.margin == 1 && silent.weakest.mask.text() == "0 -");
+    // A answers and is silenced, then nobody does: B was overlooked in both slots
+    const std::string quiet =
+        ONE + vicinity::write_line('T', vicinity::write_stay_quiet(2, A)) + "T 260100F60A\nS";
+    const vicinity::Margin listed = vicinity::margin_listed(quiet, {A});
+    IS(listed.answer.line_text() == "complete 1");
+    IS(listed.weakest.margin == 2 && listed.weakest.mask.text() == "1 00");
+    IS((vicinity::overlooked(quiet, {B, A, B}) == std::vector<std::uint32_t>{2, 0, 2}));
+    IS(vicinity::overlooked(quiet, {}).empty());
+    IS(thrown<vicinity::Refused>([] { vicinity::overlooked("x", {A}); }) ==
+       "refused at line 1: Header");
+    IS(thrown<vicinity::Refused>([] { vicinity::overlooked(SILENT, {A, 1}); }) ==
+       "refused at line 5: NotVicinity");
+}
+
 static void try_many()
 {
     IS((vicinity::listed("vicinity-log 1\r\n# shelf 3\r\nU e0040100000000a1\r\n") ==
@@ -104,6 +123,7 @@ static void try_frames()
 int main()
 {
     try_answers();
+    try_margins();
     try_many();
     try_frames();
     std::cout << passed << " passed\n";

@@ -147,6 +147,18 @@ struct Report {
     std::vector<vicinity_finding> findings;
 };
 
+// Where a list is least sure: the margin of a log, and the first mask, by length and then by value,
+// whose UIDs have it and aren't listed.
+struct Weakest {
+    std::uint32_t margin; // in how many slots such a tag would have had to be missed
+    Mask mask;
+};
+
+struct Margin {
+    Answer answer;
+    Weakest weakest; // zeros if the text is refused or the log impossible
+};
+
 // What a possible log says of its field, whatever it lists.
 struct Survey {
     Answer answer;                      // which says what the list of the log is worth
@@ -185,6 +197,11 @@ template <typename Element, typename Call> Answer fill(std::vector<Element> &buf
         if (held)
             return answered(answer);
     }
+}
+
+inline Margin measured(const Answer &answer, const vicinity_weakest &told)
+{
+    return {answered(answer), {told.margin, {told.mask_len, told.mask_value}}};
 }
 
 // A text whose last line ends, so that lines can follow.
@@ -276,6 +293,39 @@ inline Report report_listed(const std::string &text, const std::vector<std::uint
                                found, room, needed);
     });
     return told;
+}
+
+// The answer to a log, and its margin, as `vicinity margin`.
+inline Margin margin(const std::string &text)
+{
+    Answer answer{};
+    vicinity_weakest told;
+    vicinity_margin(detail::bytes(text), text.size(), &answer, &told);
+    return detail::measured(answer, told);
+}
+
+inline Margin margin_listed(const std::string &text, const std::vector<std::uint64_t> &uids)
+{
+    const std::string whole = detail::ended(text);
+    Answer answer{};
+    vicinity_weakest told;
+    vicinity_margin_listed(detail::bytes(whole), whole.size(), uids.data(), uids.size(), &answer,
+                           &told);
+    return detail::measured(answer, told);
+}
+
+// In how many slots of a log each of these UIDs was overlooked. A text that is not a log is
+// Refused, and so is a UID that doesn't begin E0.
+inline std::vector<std::uint32_t> overlooked(const std::string &text,
+                                             const std::vector<std::uint64_t> &uids)
+{
+    std::vector<std::uint32_t> slots(uids.size());
+    Answer answer{};
+    vicinity_overlooked(detail::bytes(text), text.size(), uids.data(), uids.size(), &answer,
+                        slots.data(), slots.size());
+    if (detail::answered(answer).kind == VICINITY_REFUSED)
+        throw Refused(answer.line, answer.fault);
+    return slots;
 }
 
 // The UIDs, in rising order, of a text that only lists UIDs: a list of what is expected. Any other

@@ -53,6 +53,13 @@ type Finding struct {
 	UID  UID
 }
 
+// Weakest is where a list is least sure: the margin of a log, and the first mask, by length and then by value, whose UIDs have
+// it and aren't listed. It is zero if the text is refused or the log impossible.
+type Weakest struct {
+	Margin uint32 // in how many slots such a tag would have had to be missed
+	Mask   Mask
+}
+
 // Survey is what a possible log says of its field, whatever it lists.
 type Survey struct {
 	Answer    Answer // which says what the list of the log is worth
@@ -124,6 +131,39 @@ func ReportListed(text []byte, listed []UID) (Answer, []Finding, error) {
 	})
 	found, err := answer(&told)
 	return found, findings(list), err
+}
+
+// Margin returns the answer to a log, and its margin, as `vicinity margin`.
+func Margin(text []byte) (Answer, Weakest, error) {
+	var told C.struct_vicinity_answer
+	var least C.struct_vicinity_weakest
+	C.vicinity_margin(bytes(text), size(text), &told, &least)
+	return measured(&told, &least)
+}
+
+// MarginListed is Margin, for a text and a list as CheckListed takes them.
+func MarginListed(text []byte, listed []UID) (Answer, Weakest, error) {
+	text = ended(text)
+	var told C.struct_vicinity_answer
+	var least C.struct_vicinity_weakest
+	C.vicinity_margin_listed(bytes(text), size(text), numbers(listed), size(listed), &told, &least)
+	return measured(&told, &least)
+}
+
+// Overlooked returns in how many slots of a log each of these UIDs was overlooked. A text that is not a log is a
+// *RefusedError, and so is a UID that doesn't begin E0.
+func Overlooked(text []byte, uids []UID) ([]uint32, error) {
+	var told C.struct_vicinity_answer
+	slots := make([]uint32, len(uids))
+	C.vicinity_overlooked(bytes(text), size(text), numbers(uids), size(uids), &told,
+		(*C.uint32_t)(unsafe.Pointer(first(slots))), size(slots))
+	switch told.kind {
+	case C.VICINITY_NO_ANSWER:
+		return nil, ErrOutOfMemory
+	case C.VICINITY_REFUSED:
+		return nil, &RefusedError{uint32(told.line), Fault(told.fault)}
+	}
+	return slots, nil
 }
 
 // Listed returns the UIDs, in rising order, of a text that only lists UIDs: a list of what is expected. Any other text is a
@@ -272,6 +312,11 @@ func answer(told *C.struct_vicinity_answer) (Answer, error) {
 		UID:    UID(told.uid),
 		Text:   strings.TrimSuffix(C.GoString(&told.text[0]), "\n"),
 	}, nil
+}
+
+func measured(told *C.struct_vicinity_answer, least *C.struct_vicinity_weakest) (Answer, Weakest, error) {
+	found, err := answer(told)
+	return found, Weakest{uint32(least.margin), Mask{uint32(least.mask_len), uint64(least.mask_value)}}, err
 }
 
 func findings(list []C.struct_vicinity_finding) []Finding {

@@ -121,6 +121,33 @@ func TestListBesideTheText(t *testing.T) {
 	}
 }
 
+func TestMargins(t *testing.T) {
+	answer, weakest, err := Margin([]byte(silent))
+	if err != nil || answer.Text != "complete 0" || weakest != (Weakest{1, Mask{}}) {
+		t.Error(answer, weakest, err)
+	}
+	// a answers and is silenced, then nobody does: b was overlooked in both slots
+	frame, _ := WriteStayQuiet(2, a)
+	asked, _ := WriteLine('T', frame)
+	quiet := []byte(one + asked + "T 260100F60A\nS")
+	answer, weakest, err = MarginListed(quiet, []UID{a})
+	if err != nil || answer.Text != "complete 1" || weakest != (Weakest{2, Mask{1, 0}}) {
+		t.Error(answer, weakest, err)
+	}
+	slots, err := Overlooked(quiet, []UID{b, a, b})
+	if err != nil || fmt.Sprint(slots) != "[2 0 2]" {
+		t.Error(slots, err)
+	}
+	for text, wanted := range map[string]string{"x": "refused at line 1: Header", silent: "refused at line 5: NotVicinity"} {
+		if slots, err = Overlooked([]byte(text), []UID{a, 1}); err == nil || err.Error() != wanted || slots != nil {
+			t.Error(slots, err)
+		}
+	}
+	if slots, err = Overlooked(quiet, nil); err != nil || len(slots) != 0 {
+		t.Error(slots, err)
+	}
+}
+
 func TestSimulated(t *testing.T) {
 	filled, err := Simulate([]byte("vicinity-log 1\nT 260100F60A\nU E0040100000000A1\n"))
 	if err != nil || string(filled) != one+"U E0040100000000A1\n" {

@@ -1,5 +1,6 @@
-// Checks a log, FILE or standard input; if it isn't complete, shows a counterexample. If logs
-// follow, reconciles these with the list of FILE, and shows every finding:  check [FILE [LOG ..]]
+// Checks a log, FILE or standard input; shows how sure a complete list is, or a counterexample. If
+// logs follow, reconciles these with the list of FILE, and shows every finding:
+// check [FILE [LOG ..]]
 #include "vicinity.hpp"
 
 #include <fstream>
@@ -22,6 +23,10 @@ static int check(const std::string &text)
     const vicinity::Explained explained = vicinity::explain(text);
     for (std::uint64_t uid : explained.population)
         std::cerr << vicinity::write_listed(uid);
+    if (explained.answer.is_complete()) {
+        const vicinity::Weakest weakest = vicinity::margin(text).weakest;
+        std::cerr << "margin " << weakest.margin << "\nweakest " << weakest.mask.text() << '\n';
+    }
     return show(explained.answer);
 }
 

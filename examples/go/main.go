@@ -1,5 +1,5 @@
-// Checks a log, FILE or standard input; if it isn't complete, shows a counterexample. If logs follow, reconciles these with
-// the list of FILE, and shows every finding:  vicinity-check [FILE [LOG ..]]
+// Checks a log, FILE or standard input; shows how sure a complete list is, or a counterexample. If logs follow, reconciles
+// these with the list of FILE, and shows every finding:  vicinity-check [FILE [LOG ..]]
 package main
 
 import (
@@ -26,6 +26,14 @@ func check(text []byte) (int, error) {
 	fmt.Println(answer)
 	for _, uid := range population {
 		fmt.Fprintln(os.Stderr, "U", uid)
+	}
+	if answer.IsComplete() {
+		_, weakest, err := vicinity.Margin(text)
+		if err != nil {
+			return 0, err
+		}
+		fmt.Fprintln(os.Stderr, "margin", weakest.Margin)
+		fmt.Fprintln(os.Stderr, "weakest", weakest.Mask)
 	}
 	return answer.Status, nil
 }

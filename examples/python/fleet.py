@@ -10,6 +10,8 @@ together travels. The answer is the first line, and its status that of the progr
 A log that can't be read, is refused or impossible, or ends the process that reads it, is named
 after the findings. It says nothing of its field: anything may be there, and the answer isn't
 complete."""
+from __future__ import annotations
+
 import sys
 from array import array
 
@@ -17,24 +19,29 @@ from dask.distributed import Client, KilledWorker, LocalCluster, as_completed
 
 import vicinity
 
-BATCH = 250
+# How many logs a batch has at most, and how many batches there are for each worker, if there are
+# logs enough. A batch costs as much as forty logs; of a few for each worker all end at about the
+# same time.
+BATCH, SHARE = 1000, 4
 NO_ANSWER = 4
+Told = tuple["array[int]", set[vicinity.Mask], dict[str, str]]
 
 
-def told_by(name):
+def told_by(name: str) -> tuple[vicinity.Survey | None, str]:
     """What a log says of its field, and why it says nothing, if so."""
     try:
         with open(name, "rb") as file:
             text = file.read()
     except OSError as error:
-        return None, error.strerror
+        return None, str(error.strerror)
     survey = vicinity.survey(text)
-    return (None, str(survey.answer)) if survey.answer.status > 1 else (survey, None)
+    return None if survey.answer.status > 1 else survey, str(survey.answer)
 
 
-def told_together(names):
+def told_together(names: list[str]) -> Told:
     """What the logs of a batch say together: certain UIDs, open masks, and why some say nothing."""
-    certain, masks, silent = array("Q"), set(), {}
+    told: Told = (array("Q"), set(), {})
+    certain, masks, silent = told
     for name in names:
         survey, why = told_by(name)
         if survey is None:
@@ -42,22 +49,30 @@ def told_together(names):
         else:
             certain.extend(survey.certain)
             masks.update(survey.open_masks)
-    return certain, masks, silent
+    return told
 
 
-def surveyed(client, names):
+def batches(client: Client, names: list[str]) -> list[list[str]]:
+    workers = len(client.scheduler_info()["workers"]) or 1
+    size = min(BATCH, -(-len(names) // (SHARE * workers)))
+    return [names[start:start + size] for start in range(0, len(names), size)]
+
+
+def surveyed(client: Client, names: list[str]) -> Told:
     """The same of all logs. Those of a batch whose worker ended are read one by one, so that only
     a log that ends its worker by itself is blamed. Dask needn't try such a batch again, and each
     worker that it starts anew takes seconds."""
-    certain, masks, silent, suspects = array("Q"), set(), {}, []
+    told: Told = (array("Q"), set(), {})
+    certain, masks, silent = told
+    suspects: list[str] = []
 
-    def join(found):
+    def join(found: Told) -> None:
         certain.extend(found[0])
         masks.update(found[1])
         silent.update(found[2])
 
-    batches = [names[start:start + BATCH] for start in range(0, len(names), BATCH)]
-    going = {client.submit(told_together, batch, pure=False): batch for batch in batches}
+    going = {client.submit(told_together, batch, pure=False): batch
+             for batch in batches(client, names)}
     for future in as_completed(list(going)):
         try:
             join(future.result())
@@ -68,10 +83,10 @@ def surveyed(client, names):
             join(client.submit(told_together, [name], pure=False).result())
         except KilledWorker:
             silent[name] = "the process that read it was ended"
-    return certain, masks, silent
+    return told
 
 
-def client_of(scheduler):
+def client_of(scheduler: str) -> Client:
     if not scheduler.isdecimal():
         return Client(scheduler)
     here, some_port = "127.0.0.1", "127.0.0.1:0"
@@ -80,13 +95,13 @@ def client_of(scheduler):
                                scheduler_kwargs={"allowed_failures": 0}))  # see `surveyed`
 
 
-def main(scheduler, expected, names):
+def main(scheduler: str, expected: str, names: list[str]) -> int:
     with open(expected, "rb") as file:
         uids = vicinity.listed(file.read())
     with client_of(scheduler) as client:
         certain, masks, silent = surveyed(client, names)
     nothing = vicinity.survey(vicinity.HEADER_LINE)  # nobody was asked: anything may be there
-    told = vicinity.Survey(nothing.answer, certain, masks)
+    told = vicinity.Survey(nothing.answer, list(certain), list(masks))
     report = vicinity.reconcile(uids, [told, nothing] if silent else [told])
     print(report)
     for name in sorted(silent):

@@ -38,6 +38,12 @@ class Program:
                               **streams)
         return Said(done.stdout or b"", done.stderr or b"", done.returncode)
 
+    def told(self, *words, **how):
+        """The text that it writes, with status 0."""
+        said = self.run(*words, **how)
+        assert said.status == 0, said.err.decode()
+        return said.out.decode()
+
 
 def build(config, *command):
     """Runs what builds something, one at a time; what it says is shown at once."""

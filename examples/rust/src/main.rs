@@ -1,12 +1,12 @@
-//! Checks a log, FILE or standard input; if it isn't complete, shows a counterexample. If logs
-//! follow, reconciles these with the list of FILE, and shows every finding:
+//! Checks a log, FILE or standard input; shows how sure a complete list is, or a counterexample. If
+//! logs follow, reconciles these with the list of FILE, and shows every finding:
 //! vicinity-check [FILE [LOG ..]]
 
 use std::error::Error;
 use std::ffi::OsString;
 use std::io::Read;
 use std::process::ExitCode;
-use vicinity::{Answer, ListError, SurveyError};
+use vicinity::{Answer, SurveyError, TextError};
 
 fn read(file: Option<&OsString>) -> std::io::Result<Vec<u8>> {
     match file {
@@ -23,6 +23,11 @@ fn check(text: &[u8]) -> Result<Answer, Box<dyn Error>> {
     let explained = vicinity::explain(text)?;
     for uid in explained.population {
         eprintln!("U {uid}");
+    }
+    if explained.answer.is_complete() {
+        if let Some(weakest) = vicinity::margin(text)?.weakest {
+            eprintln!("margin {}\nweakest {}", weakest.margin, weakest.mask);
+        }
     }
     Ok(explained.answer)
 }
@@ -51,7 +56,7 @@ fn run(files: &[OsString]) -> Result<Answer, Box<dyn Error>> {
 
 /// The status of the program for a text that is refused or impossible.
 fn status_of(error: &(dyn Error + 'static)) -> Option<u8> {
-    if let Some(ListError::Refused { .. }) = error.downcast_ref() {
+    if let Some(TextError::Refused { .. }) = error.downcast_ref() {
         return Some(3);
     }
     match error.downcast_ref()? {

@@ -36,6 +36,14 @@ pub struct vicinity_finding {
 
 #[repr(C)]
 #[derive(Clone, Copy, Debug, Default, PartialEq, Eq)]
+pub struct vicinity_weakest {
+    pub margin: u32,
+    pub mask_len: u32,
+    pub mask_value: u64,
+}
+
+#[repr(C)]
+#[derive(Clone, Copy, Debug, Default, PartialEq, Eq)]
 pub struct vicinity_frame {
     pub fault: u32,
     pub len: u32,
@@ -131,6 +139,29 @@ extern "C" {
         findings: *mut vicinity_finding,
         room: usize,
         needed: *mut usize,
+    ) -> u32;
+    pub fn vicinity_margin(
+        text: *const u8,
+        text_len: usize,
+        answer: *mut vicinity_answer,
+        weakest: *mut vicinity_weakest,
+    ) -> u32;
+    pub fn vicinity_margin_listed(
+        text: *const u8,
+        text_len: usize,
+        uids: *const u64,
+        count: usize,
+        answer: *mut vicinity_answer,
+        weakest: *mut vicinity_weakest,
+    ) -> u32;
+    pub fn vicinity_overlooked(
+        text: *const u8,
+        text_len: usize,
+        uids: *const u64,
+        count: usize,
+        answer: *mut vicinity_answer,
+        places: *mut u32,
+        room: usize,
     ) -> u32;
     pub fn vicinity_certain(
         text: *const u8,

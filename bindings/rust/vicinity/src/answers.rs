@@ -145,6 +145,35 @@ pub struct Report {
     pub findings: Vec<Finding>,
 }
 
+/// Where a list is least sure.
+#[derive(Clone, Copy, Debug, PartialEq, Eq)]
+pub struct Weakest {
+    /// In how many slots a tag that isn't listed would have had to be missed.
+    pub margin: u32,
+    /// The first mask, by length and then by value, whose UIDs have this margin and aren't listed.
+    pub mask: Mask,
+}
+
+/// An answer, and how many misses of a tag it would take to make a complete list wrong.
+#[derive(Clone, Copy, Debug, PartialEq, Eq)]
+pub struct Margin {
+    pub answer: Answer,
+    /// None if the text is refused or the log impossible.
+    pub weakest: Option<Weakest>,
+}
+
+impl Margin {
+    pub(crate) fn of(
+        told: &sys::vicinity_answer,
+        least: &sys::vicinity_weakest,
+    ) -> Result<Margin, OutOfMemory> {
+        let answer = Answer::of(told)?;
+        let mask = mask(least.mask_len, least.mask_value);
+        let weakest = (answer.status < 2).then(|| Weakest { margin: least.margin, mask });
+        Ok(Margin { answer, weakest })
+    }
+}
+
 /// What a possible log says of its field, whatever it lists.
 #[derive(Clone, Debug, PartialEq, Eq)]
 pub struct Survey {

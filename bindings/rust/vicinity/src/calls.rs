@@ -1,7 +1,7 @@
 //! The calls that judge a text, reconcile, or fill in slots.
 
-use crate::answers::{Answer, Explained, Finding, Report, Survey, Verdict};
-use crate::error::{ListError, OutOfMemory, ReconcileError, SimulateError, SurveyError};
+use crate::answers::{Answer, Explained, Finding, Margin, Report, Survey, Verdict};
+use crate::error::{OutOfMemory, ReconcileError, SimulateError, SurveyError, TextError};
 use crate::uid::Uid;
 use std::borrow::Cow;
 use vicinity_sys as sys;
@@ -150,18 +150,72 @@ pub fn report_listed(text: &[u8], listed: &[Uid]) -> Result<Report, OutOfMemory>
     Ok(Report { answer: Answer::of(&told)?, findings })
 }
 
+/// The answer to a log, and its margin, as `vicinity margin`.
+///
+/// ```
+/// let told = vicinity::margin(b"vicinity-log 1\nT 260100F60A\nS\n")?;
+/// let weakest = told.weakest.unwrap();
+/// assert_eq!((weakest.margin, weakest.mask), (1, vicinity::Mask::ALL));
+/// assert_eq!(vicinity::margin(b"")?.weakest, None);
+/// # Ok::<(), vicinity::OutOfMemory>(())
+/// ```
+pub fn margin(text: &[u8]) -> Result<Margin, OutOfMemory> {
+    let (mut told, mut least) = (EMPTY, sys::vicinity_weakest::default());
+    // SAFETY: as above.
+    unsafe { sys::vicinity_margin(text.as_ptr(), text.len(), &mut told, &mut least) };
+    Margin::of(&told, &least)
+}
+
+/// As `margin`, for a text and a list as `check_listed` takes them.
+pub fn margin_listed(text: &[u8], listed: &[Uid]) -> Result<Margin, OutOfMemory> {
+    let text = ended(text);
+    let (bytes, list, count) = (text.as_ptr(), start(listed), listed.len());
+    let (mut told, mut least) = (EMPTY, sys::vicinity_weakest::default());
+    // SAFETY: as above.
+    unsafe { sys::vicinity_margin_listed(bytes, text.len(), list, count, &mut told, &mut least) };
+    Margin::of(&told, &least)
+}
+
+/// In how many slots of a log each of these UIDs was overlooked.
+///
+/// ```
+/// use vicinity::{margin_listed, overlooked, Mask, Uid, Weakest};
+///
+/// let [a, b] = [0xA1, 0xB2].map(|low| Uid::new(0xE0040100_00000000 + low).unwrap());
+/// // a answers and is silenced, then nobody does: b was overlooked in both slots
+/// let text = b"vicinity-log 1\nT 260100F60A\nR 0000A1000000000104E06745\n\
+///     T 2202A1000000000104E0662A\nT 260100F60A\nS";
+/// assert_eq!(overlooked(text, &[b, a, b])?, [2, 0, 2]);
+/// let told = margin_listed(text, &[a])?;
+/// assert!(told.answer.is_complete());
+/// assert_eq!(told.weakest, Some(Weakest { margin: 2, mask: Mask::new(1, 0).unwrap() }));
+/// assert_eq!(overlooked(b"x", &[a]).unwrap_err().to_string(), "refused at line 1: Header");
+/// # Ok::<(), Box<dyn std::error::Error>>(())
+/// ```
+pub fn overlooked(text: &[u8], uids: &[Uid]) -> Result<Vec<u32>, TextError> {
+    let (bytes, list, count) = (text.as_ptr(), start(uids), uids.len());
+    let (mut told, mut slots) = (EMPTY, vec![0; count]);
+    let to = slots.as_mut_ptr();
+    // SAFETY: as above.
+    unsafe { sys::vicinity_overlooked(bytes, text.len(), list, count, &mut told, to, count) };
+    match Answer::of(&told)?.verdict {
+        Verdict::Refused { line, fault } => Err(TextError::Refused { line, fault }),
+        _ => Ok(slots),
+    }
+}
+
 /// The UIDs, in rising order, of a text that only lists UIDs: a list of what is expected.
 ///
 /// ```
-/// use vicinity::{listed, Fault, ListError};
+/// use vicinity::{listed, Fault, TextError};
 ///
 /// let uids = listed(b"vicinity-log 1\r\n# shelf 3\r\nU e0040100000000a1\r\n")?;
 /// assert_eq!(uids, ["E0040100000000A1".parse()?]);
 /// let csv = listed(b"uid,title\nE0040100000000A1,Of a winter\n");
-/// assert_eq!(csv, Err(ListError::Refused { line: 1, fault: Fault::Header }));
+/// assert_eq!(csv, Err(TextError::Refused { line: 1, fault: Fault::Header }));
 /// # Ok::<(), Box<dyn std::error::Error>>(())
 /// ```
-pub fn listed(text: &[u8]) -> Result<Vec<Uid>, ListError> {
+pub fn listed(text: &[u8]) -> Result<Vec<Uid>, TextError> {
     let (told, found) = filled(|told, room: &mut [u64], needed| {
         let (to, len) = (room.as_mut_ptr(), room.len());
         // SAFETY: as above.
@@ -171,8 +225,8 @@ pub fn listed(text: &[u8]) -> Result<Vec<Uid>, ListError> {
         return Ok(uids(found));
     }
     match Answer::of(&told)?.verdict {
-        Verdict::Refused { line, fault } => Err(ListError::Refused { line, fault }),
-        _ => Err(ListError::OutOfMemory),
+        Verdict::Refused { line, fault } => Err(TextError::Refused { line, fault }),
+        _ => Err(TextError::OutOfMemory),
     }
 }
 

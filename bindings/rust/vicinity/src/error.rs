@@ -8,11 +8,11 @@ use std::fmt;
 #[derive(Clone, Copy, Debug, PartialEq, Eq)]
 pub struct OutOfMemory;
 
-/// Why a text is no list of UIDs.
+/// Why a text is no log, or no list of UIDs.
 #[derive(Clone, Copy, Debug, PartialEq, Eq)]
-pub enum ListError {
+pub enum TextError {
     OutOfMemory,
-    /// The text is not a log, or the line has an entry that lists no UID (`Fault::NotListed`).
+    /// The text is not a log, or the line of a list has another entry (`Fault::NotListed`).
     Refused {
         line: u32,
         fault: Fault,
@@ -56,9 +56,9 @@ pub enum ReconcileError {
     },
 }
 
-impl From<OutOfMemory> for ListError {
-    fn from(_: OutOfMemory) -> ListError {
-        ListError::OutOfMemory
+impl From<OutOfMemory> for TextError {
+    fn from(_: OutOfMemory) -> TextError {
+        TextError::OutOfMemory
     }
 }
 
@@ -80,11 +80,11 @@ impl fmt::Display for OutOfMemory {
     }
 }
 
-impl fmt::Display for ListError {
+impl fmt::Display for TextError {
     fn fmt(&self, f: &mut fmt::Formatter<'_>) -> fmt::Result {
         match self {
-            ListError::OutOfMemory => OutOfMemory.fmt(f),
-            ListError::Refused { line, fault } => write!(f, "refused at line {line}: {fault}"),
+            TextError::OutOfMemory => OutOfMemory.fmt(f),
+            TextError::Refused { line, fault } => write!(f, "refused at line {line}: {fault}"),
         }
     }
 }
@@ -121,7 +121,7 @@ impl fmt::Display for ReconcileError {
 }
 
 impl Error for OutOfMemory {}
-impl Error for ListError {}
+impl Error for TextError {}
 impl Error for SurveyError {}
 impl Error for SimulateError {}
 impl Error for ReconcileError {}

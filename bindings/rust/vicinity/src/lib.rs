@@ -29,12 +29,12 @@ mod fault;
 mod frames;
 mod uid;
 
-pub use answers::{Answer, Explained, Finding, Report, Survey, Verdict};
+pub use answers::{Answer, Explained, Finding, Margin, Report, Survey, Verdict, Weakest};
 pub use calls::{
-    check, check_listed, explain, explain_listed, fits, listed, reconcile, report, report_listed,
-    simulate, survey, version,
+    check, check_listed, explain, explain_listed, fits, listed, margin, margin_listed, overlooked,
+    reconcile, report, report_listed, simulate, survey, version,
 };
-pub use error::{ListError, OutOfMemory, ReconcileError, SimulateError, SurveyError};
+pub use error::{OutOfMemory, ReconcileError, SimulateError, SurveyError, TextError};
 pub use fault::{Fault, Refusal};
 pub use frames::{
     add_crc, read_request, read_response, slot_mask, write_inventory, write_line, write_response,
