@@ -77,6 +77,13 @@ class MaskStruct(ctypes.Structure):
     _fields_ = [("fault", ctypes.c_uint32), ("len", ctypes.c_uint32), ("value", ctypes.c_uint64)]
 
 
+class WeakestStruct(ctypes.Structure):
+    """struct vicinity_weakest of vicinity.h."""
+
+    _fields_ = [("margin", ctypes.c_uint32), ("mask_len", ctypes.c_uint32),
+                ("mask_value", ctypes.c_uint64)]
+
+
 class FrameStruct(ctypes.Structure):
     """struct vicinity_frame of vicinity.h."""
 
@@ -103,6 +110,7 @@ ANSWER = [ctypes.POINTER(AnswerStruct)]
 POPULATION = [*UIDS, ctypes.POINTER(SIZE)]
 FINDINGS = [ctypes.POINTER(FindingStruct), SIZE, ctypes.POINTER(SIZE)]
 MASKS = [ctypes.POINTER(MaskStruct), SIZE]
+WEAKEST = [ctypes.POINTER(WeakestStruct)]
 NUMBER, VALUE = ctypes.c_uint32, ctypes.c_uint64
 FRAME = ctypes.POINTER(FrameStruct)
 
@@ -119,6 +127,9 @@ CALLS = {
     "survey": [*TEXT, *ANSWER, *POPULATION, *MASKS, ctypes.POINTER(SIZE)],
     "listed": [*TEXT, *ANSWER, *POPULATION],
     "reconcile": [*UIDS, *UIDS, *MASKS, *ANSWER, *FINDINGS],
+    "margin": [*TEXT, *ANSWER, *WEAKEST],
+    "margin_listed": [*TEXT, *UIDS, *ANSWER, *WEAKEST],
+    "overlooked": [*TEXT, *UIDS, *ANSWER, ctypes.POINTER(ctypes.c_uint32), SIZE],
     "simulate": [*TEXT, ctypes.POINTER(ctypes.c_uint8), SIZE, ctypes.POINTER(SIZE)],
     "kind_name": [NUMBER, ctypes.POINTER(NameStruct)],
     "fault_name": [NUMBER, ctypes.POINTER(NameStruct)],
