@@ -3,7 +3,7 @@ from __future__ import annotations
 
 from typing import Any, Mapping, Optional
 
-from ._answers import Answer, Fault, Kind, Mask
+from ._answers import Answer, Fault, Kind, Mask, Weakest
 from ._process import shown
 from .frames import parse_uid, uid_text
 
@@ -34,6 +34,22 @@ def captured_fields(answer: Answer, reread: Optional[Answer]) -> dict[str, Any]:
     if reread is None:
         return {}
     return {"captured": {"holds": True} if reread == answer else {"holds": False, **fields(reread)}}
+
+
+def margin_fields(weakest: Optional[Weakest]) -> dict[str, Any]:
+    """In how many slots a tag that isn't listed would have had to be missed, and the weakest mask;
+    nothing if that isn't known."""
+    if weakest is None:
+        return {}
+    return {"margin": weakest.margin, "weakest": mask_fields(weakest.mask)}
+
+
+def weakest_of(said: Mapping[str, Any]) -> Optional[Weakest]:
+    """The margin and the mask that these fields have, if they have any.
+    Raises ValueError, KeyError or TypeError if they are wrong."""
+    if "margin" not in said:
+        return None
+    return Weakest(number_of(said["margin"]), mask_of(said["weakest"]))
 
 
 def answer_of(said: Mapping[str, Any]) -> Answer:

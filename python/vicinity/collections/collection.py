@@ -4,13 +4,14 @@ from __future__ import annotations
 from enum import Enum
 from typing import Iterable, Iterator, NamedTuple, Optional, Sequence
 
-from .._answers import FindingKind, Mask
-from .._calls import reconcile_parts
+from .._answers import FindingKind, Kind, Mask, Weakest
+from .._calls import margin_listed, overlooked, reconcile_parts
 from .._process import NoAnswer, shown
+from ..sessions.words import UID_BITS
 from .catalogue import Catalogue
 from .masks import Under, without
 from .places import Places
-from .surveys import ALL, Surveys
+from .surveys import ALL, Surveys, without_list
 
 #: How many of the open masks of a log are named.
 MOST_OPEN = 16
@@ -53,6 +54,15 @@ class Left(NamedTuple):
 
     masks: list[Mask]
     has_more: bool
+
+
+class Least(NamedTuple):
+    """The margin of a collection: in how many slots a tag that isn't expected would have had to be
+    missed in the field of one log, where it is least; the log, and its weakest mask."""
+
+    margin: int
+    log: int
+    mask: Mask
 
 
 class Collection:
@@ -112,6 +122,47 @@ class Collection:
                 yield Left([ALL], False)
             else:
                 yield Left(*without(log.open_masks, certain, MOST_OPEN))
+
+    def least(self) -> Optional[Least]:
+        """The margin of a complete collection: of its logs against what is expected, the least.
+        Nothing if the collection isn't complete, or a log of which it isn't known isn't there."""
+        known = [(log.weakest.margin, index) for index, log in enumerate(self.logs) if log.weakest]
+        if self.answer.kind is not Kind.COMPLETE or len(known) < len(self.logs):
+            return None
+        least: Optional[Least] = None
+        for margin, index in sorted(known):
+            if least and least[:2] < (margin, index):
+                break
+            weakest = self._weakest(index)
+            if weakest is None:
+                return None
+            found = Least(weakest.margin, index, weakest.mask)
+            least = min(least, found) if least else found
+        return least
+
+    def _weakest(self, index: int) -> Optional[Weakest]:
+        """The margin of a log against what is expected. If its text isn't there, or too long with
+        such a list, that against its certain UIDs, if not all UIDs of its mask are expected."""
+        text, known = self.text(index), self.logs[index].weakest
+        listed = self.expected.uids
+        found = margin_listed(without_list(text), listed).weakest if text is not None else None
+        if found is None and known is not None:
+            expected = len(Under(listed).of(known.mask))
+            found = known if expected < 1 << UID_BITS - known.mask.length else None
+        return found
+
+    def overlooked(self) -> dict[int, int]:
+        """In how many slots each missing tag was overlooked, in the field of the log in which these
+        were fewest; nothing if a log isn't there any more."""
+        missing = [item.uid for item in self.of(State.MISSING) if item.uid is not None]
+        least: list[int] = []
+        for index in range(len(self.logs) if missing else 0):
+            text = self.text(index)
+            if text is None:
+                return {}
+            found = overlooked(text, missing)
+            least = [min(pair) for pair in zip(least, found)] if least else found
+        return dict(zip(missing, least))
 
     def text(self, index: int) -> Optional[bytes]:
         """The text of a log, if it is still there."""
