@@ -7,7 +7,6 @@ from typing import Iterable, Iterator, NamedTuple, Optional, Sequence
 from .._answers import FindingKind, Kind, Mask, Weakest
 from .._calls import margin_listed, overlooked, reconcile_parts
 from .._process import NoAnswer, shown
-from ..sessions.words import UID_BITS
 from .catalogue import Catalogue
 from .masks import Under, without
 from .places import Places
@@ -125,31 +124,26 @@ class Collection:
 
     def least(self) -> Optional[Least]:
         """The margin of a complete collection: of its logs against what is expected, the least.
-        Nothing if the collection isn't complete, or a log of which it isn't known isn't there."""
-        known = [(log.weakest.margin, index) for index, log in enumerate(self.logs) if log.weakest]
+        Nothing if the collection isn't complete, or that of a log isn't known."""
+        known = [(log.weakest.margin, index, log.weakest)
+                 for index, log in enumerate(self.logs) if log.weakest]
         if self.answer.kind is not Kind.COMPLETE or len(known) < len(self.logs):
             return None
         least: Optional[Least] = None
-        for margin, index in sorted(known):
+        for margin, index, weakest in sorted(known):
             if least and least[:2] < (margin, index):
                 break
-            weakest = self._weakest(index)
-            if weakest is None:
-                return None
-            found = Least(weakest.margin, index, weakest.mask)
+            found = self._least(index, weakest)
             least = min(least, found) if least else found
         return least
 
-    def _weakest(self, index: int) -> Optional[Weakest]:
-        """The margin of a log against what is expected. If its text isn't there, or too long with
-        such a list, that against its certain UIDs, if not all UIDs of its mask are expected."""
-        text, known = self.text(index), self.logs[index].weakest
-        listed = self.expected.uids
-        found = margin_listed(without_list(text), listed).weakest if text is not None else None
-        if found is None and known is not None:
-            expected = len(Under(listed).of(known.mask))
-            found = known if expected < 1 << UID_BITS - known.mask.length else None
-        return found
+    def _least(self, index: int, known: Weakest) -> Least:
+        """The margin of a log against what is expected; if its text isn't there, or is too long
+        with such a list, that against its certain UIDs, which isn't greater."""
+        text = self.text(index)
+        found = margin_listed(without_list(text), self.expected.uids) if text is not None else None
+        weakest = found and found.weakest or known
+        return Least(weakest.margin, index, weakest.mask)
 
     def overlooked(self) -> dict[int, int]:
         """In how many slots each missing tag was overlooked, in the field of the log in which these

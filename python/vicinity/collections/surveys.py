@@ -47,8 +47,8 @@ class Log(NamedTuple):
     """Whether it says the same of its field if strong replies hid weaker ones, as JSON has it;
     nothing if that isn't known."""
     weakest: Optional[Weakest] = None
-    """The margin against its certain UIDs alone, if that is known. Against a longer list
-    it isn't less, and the same unless all UIDs of the mask are on it."""
+    """The margin against its certain UIDs alone, if that is known. With more UIDs on the list
+    it isn't less."""
 
     @classmethod
     def of(cls, name: str, text: bytes) -> Log:
