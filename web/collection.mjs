@@ -2,7 +2,7 @@
 import { el, folded } from "./elements.mjs";
 import { KIND } from "./kinds.mjs";
 import { Pane } from "./pane.mjs";
-import { ALSO, GRANTED, HOLDS, missed, TO_KNOW } from "./say.mjs";
+import { ALSO, GRANTED, HOLDS, missed, notSure, TO_KNOW } from "./say.mjs";
 import { maskOf, tell } from "./told.mjs";
 import { banner, signed, view } from "./view.mjs";
 import { count, ending, listing, printable } from "./words.mjs";
@@ -30,6 +30,7 @@ import { count, ending, listing, printable } from "./words.mjs";
  * @property {Item[]} items
  * @property {OneLog[]} logs
  * @property {number} [margin] of a complete collection
+ * @property {number} [wanted] the margin that was asked for, where its own is less or isn't known
  * @property {import("./told.mjs").Margin["weakest"]} [weakest]
  */
 
@@ -115,6 +116,7 @@ export function headlineOf(object) {
     if (tags === 1) return "The one expected item is here, and no other.";
     return `All ${count(tags, "expected item")}${which} are here, and no others.`;
   }
+  if (object.kind === KIND.SMALL) return notSure(object.margin, object.wanted ?? 0);
   const parts = /** @type {[number, string][]} */ ([[counts.missing, "missing"], [counts.misplaced, "in the wrong place"],
     [counts.unexpected, "unknown"], [counts["not provable"], "not known yet"]]);
   const said = parts.filter(([number]) => number).map(([number, words], at) => at ? `${number.toLocaleString("en")} ${words}`
@@ -144,11 +146,12 @@ function lights(object) {
 function conditionsOfAll(object) {
   const { counts } = object, all = object.logs.filter((log) => !isAside(log));
   const hidden = all.filter((log) => log.captured?.holds === false).map((log) => log.file);
-  if (!isWhole(object) && !counts.missing && !counts.unexpected) return [];
-  const known = all.every((log) => log.captured), where = hidden.length ? `no. In the field of ${namesOf(hidden)}: ${TO_KNOW}.` : "yes.";
-  const sure = isWhole(object) ? [HOLDS, ...missed(object, ` in the field of ${nameOf(object.weakest?.file ?? "")}`)] : [];
+  const isAll = isWhole(object) || object.kind === KIND.SMALL;
+  if (!isAll && !counts.missing && !counts.unexpected) return [];
+  const known = all.every((log) => log.captured), also = hidden.length ? `no. In the field of ${namesOf(hidden)}: ${TO_KNOW}.` : "yes.";
+  const sure = isAll ? [HOLDS, ...missed(object, ` in the field of ${nameOf(object.weakest?.file ?? "")}`)] : [];
   return [el("section", { class: "holds" }, ...sure.map((it) => el("p", {}, it)),
-    ...known || hidden.length ? [el("p", {}, ALSO + where)] : [])];
+    ...known || hidden.length ? [el("p", {}, ALSO + also)] : [])];
 }
 
 /**

@@ -39,8 +39,8 @@ export function withoutList(text) {
 }
 
 /**
- * The margin of a complete collection: of its logs against what is expected, the least, with the name of that log. Against that the
- * margin of a log isn't less than against the UIDs that it proves, which is taken where the log is too long with such a list.
+ * The margin of a complete collection: of its logs against what is expected, the least, with the name of that log. Of none it is less
+ * than against the UIDs that the log proves. Nothing if a log is too long with such a list.
  * @param {Library} library
  * @param {Answer} answer
  * @param {Measured[]} logs
@@ -54,8 +54,9 @@ export function leastOf(library, answer, logs, expected) {
   let least = null;
   for (const { weakest, at } of known) {
     if (least && byMargin(least, { weakest, at }) < 0) break;
-    const found = { weakest: library.marginListed(withoutList(logs[at].text), expected).weakest ?? weakest, at };
-    if (!least || byMargin(found, least) < 0) least = found;
+    const found = library.marginListed(withoutList(logs[at].text), expected).weakest;
+    if (!found) return {};
+    if (!least || byMargin({ weakest: found, at }, least) < 0) least = { weakest: found, at };
   }
   if (!least) return {};
   const { margin, weakest } = /** @type {Margin} */ (marginFields(least.weakest));

@@ -237,6 +237,16 @@ export function missed({ margin, weakest }, where = "") {
 }
 
 /**
+ * What is said of a complete answer of which a greater margin was asked for.
+ * @param {number | undefined} margin
+ * @param {number} wanted
+ */
+export function notSure(margin, wanted) {
+  const missed = margin ? `a tag would have had to be missed in ${count(margin, "slot")}` : "how often a tag would have had to be missed isn't known";
+  return `Not sure enough: ${missed}, and at least ${wanted.toLocaleString("en")} were asked for.`;
+}
+
+/**
  * How sure it is that a tag isn't here.
  * @param {number} slots
  */

@@ -55,6 +55,12 @@ def _logs_from(command: Words) -> None:
                          help="a file that lists more logs, separated by NUL or line ends")
 
 
+def _margin_of(command: Words) -> None:
+    command.add_argument("--margin", metavar="K", type=_margin, default=0,
+                         help="a list is complete only if a tag that isn't on it would have had "
+                              "to be missed in K slots or more")
+
+
 def words() -> tuple[Words, Mapping[str, Words]]:
     """The words of all commands, and of each."""
     is_module = os.path.basename(sys.argv[0]) == "__main__.py"
@@ -67,9 +73,7 @@ def words() -> tuple[Words, Mapping[str, Words]]:
                          "LOG", 0, ANY)
     _forms(check, lines="FILE: answer", tabs="file, status and answer, separated by tabs",
            json="an object a line")
-    check.add_argument("--margin", metavar="K", type=_margin, default=0,
-                       help="a list is complete only if a tag that isn't on it would have had "
-                            "to be missed in K slots or more")
+    _margin_of(check)
     _logs_from(check)
     report = commands.add("report", "every finding of each log", "answers.report_all",
                           "LOG", 0, ANY)
@@ -122,6 +126,7 @@ def _of_collections(commands: _Commands) -> None:
     logs.add_argument("--strict", action="store_true",
                       help="end at the first log that is impossible, refused or unreadable, "
                            "as the program does")
+    _margin_of(reconcile)
     logs.add_argument("--jobs", metavar="N", type=_jobs, default=1,
                       help="how many processes read logs")
     survey = commands.add(

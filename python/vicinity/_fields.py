@@ -10,6 +10,9 @@ from .frames import parse_uid, uid_text
 #: The form of the objects, which docs/answers.schema.json describes.
 SCHEMA = 1
 UID_BITS = 56
+#: The kind of the answer to a complete list of which a greater margin was asked for,
+#: and its status.
+SMALL, NOT_COMPLETE = "margin", 1
 
 
 def fields(answer: Answer) -> dict[str, Any]:
@@ -42,6 +45,19 @@ def margin_fields(weakest: Optional[Weakest]) -> dict[str, Any]:
     if weakest is None:
         return {}
     return {"margin": weakest.margin, "weakest": mask_fields(weakest.mask)}
+
+
+def small(answer: Answer, weakest: Optional[Weakest], wanted: int, where: str = "") -> str:
+    """The line of such an answer."""
+    if weakest is None:
+        return f"{SMALL} unknown, {wanted} asked for: {answer}"
+    mask = f"{weakest.mask.length} {weakest.mask.digits}"
+    return f"{SMALL} {weakest.margin} below {wanted}{where}: {answer}, weakest {mask}"
+
+
+def small_fields(answer: Answer, wanted: int) -> dict[str, Any]:
+    """Its fields, besides those of its margin."""
+    return {"status": NOT_COMPLETE, "kind": SMALL, "count": answer.count, "wanted": wanted}
 
 
 def weakest_of(said: Mapping[str, Any]) -> Optional[Weakest]:

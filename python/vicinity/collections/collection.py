@@ -2,11 +2,13 @@
 from __future__ import annotations
 
 from enum import Enum
+from functools import cached_property
 from typing import Iterable, Iterator, NamedTuple, Optional, Sequence
 
-from .._answers import FindingKind, Kind, Mask, Weakest
+from .._answers import FindingKind, Mask, Weakest
 from .._calls import margin_listed, overlooked, reconcile_parts
 from .._process import NoAnswer, shown
+from ..sessions.words import UID_BITS
 from .catalogue import Catalogue
 from .masks import Under, without
 from .places import Places
@@ -65,14 +67,15 @@ class Least(NamedTuple):
 
 
 class Collection:
-    """What many logs say together. Logs go by their positions."""
+    """What many logs say together. Logs go by their positions.
+    If it is complete with a margin below `wanted`, it counts as not complete."""
 
-    def __init__(self, expected: Catalogue, read: Surveys, places: Places):
+    def __init__(self, expected: Catalogue, read: Surveys, places: Places, wanted: int = 0):
         self.expected, self.logs, self.places = expected, read.all, places
         self.answer, self.findings = reconcile_parts(
             expected.uids, (uid for log in self.logs for uid in log.certain),
             (mask for log in self.logs for mask in log.open_masks))
-        self._read = read
+        self._read, self.wanted = read, wanted
         self.aside = [log for log in self.logs if log.status]
         self.items = list(self._items())
 
@@ -82,9 +85,15 @@ class Collection:
 
     @property
     def status(self) -> int:
-        """The highest status: that of the answer, 1 if an item is misplaced,
+        """The highest status: that of the answer, 1 if an item is misplaced or the margin small,
         and that of each log that is set aside."""
-        return max([self.answer.status, bool(self.misplaced), *(log.status for log in self.aside)])
+        return max([self.answer.status, bool(self.misplaced), self.is_small,
+                    *(log.status for log in self.aside)])
+
+    @property
+    def is_small(self) -> bool:
+        """Whether it is complete, and its margin is less than was asked for, or isn't known."""
+        return self.answer.is_complete and (self.least.margin if self.least else 0) < self.wanted
 
     def of(self, state: State) -> list[Item]:
         """The items with a state."""
@@ -122,28 +131,33 @@ class Collection:
             else:
                 yield Left(*without(log.open_masks, certain, MOST_OPEN))
 
+    @cached_property
     def least(self) -> Optional[Least]:
         """The margin of a complete collection: of its logs against what is expected, the least.
         Nothing if the collection isn't complete, or that of a log isn't known."""
-        known = [(log.weakest.margin, index, log.weakest)
-                 for index, log in enumerate(self.logs) if log.weakest]
-        if self.answer.kind is not Kind.COMPLETE or len(known) < len(self.logs):
+        known = [(log.weakest.margin, index) for index, log in enumerate(self.logs) if log.weakest]
+        if not self.answer.is_complete or len(known) < len(self.logs):
             return None
         least: Optional[Least] = None
-        for margin, index, weakest in sorted(known):
+        for margin, index in sorted(known):
             if least and least[:2] < (margin, index):
                 break
-            found = self._least(index, weakest)
+            weakest = self._weakest(index)
+            if weakest is None:
+                return None
+            found = Least(weakest.margin, index, weakest.mask)
             least = min(least, found) if least else found
         return least
 
-    def _least(self, index: int, known: Weakest) -> Least:
-        """The margin of a log against what is expected; if its text isn't there, or is too long
-        with such a list, that against its certain UIDs, which isn't greater."""
-        text = self.text(index)
-        found = margin_listed(without_list(text), self.expected.uids) if text is not None else None
-        weakest = found and found.weakest or known
-        return Least(weakest.margin, index, weakest.mask)
+    def _weakest(self, index: int) -> Optional[Weakest]:
+        """The margin of a log against what is expected. If its text isn't there, it is known
+        unless all UIDs that are weakest are expected; if the text is too long with such a list,
+        it isn't."""
+        text, known = self.text(index), self.logs[index].weakest
+        if text is not None:
+            return margin_listed(without_list(text), self.expected.uids).weakest
+        expected = len(Under(self.expected.uids).of(known.mask)) if known else 0
+        return known if known and expected < 1 << UID_BITS - known.mask.length else None
 
     def overlooked(self) -> dict[int, int]:
         """In how many slots each missing tag was overlooked, in the field of the log in which these
@@ -154,7 +168,10 @@ class Collection:
             text = self.text(index)
             if text is None:
                 return {}
-            found = overlooked(text, missing)
+            try:
+                found = overlooked(text, missing)
+            except ValueError:
+                raise self._changed(index) from None
             least = [min(pair) for pair in zip(least, found)] if least else found
         return dict(zip(missing, least))
 
@@ -174,9 +191,11 @@ class Collection:
             for uid in uids:
                 found[uid] = index, shown_there.line_of(uid)
                 if not found[uid][1]:
-                    name = shown(self.logs[index].name)
-                    raise NoAnswer(f"{name} has changed since it was read first")
+                    raise self._changed(index)
         return found
+
+    def _changed(self, index: int) -> NoAnswer:
+        return NoAnswer(f"{shown(self.logs[index].name)} has changed since it was read first")
 
     def _items(self) -> Iterator[Item]:
         """Each row of the catalogue, in its order, and then the unexpected UIDs.

@@ -9,35 +9,32 @@ from typing import Any, Callable, Mapping, Union
 from .._answers import Answer
 from .._calls import check, explain, margin, simulate
 from .._captured import if_captured
-from .._fields import SCHEMA, captured_fields, fields, margin_fields
+from .._fields import (NOT_COMPLETE, SCHEMA, captured_fields, fields, margin_fields, small,
+                       small_fields)
 from .._native import library
 from .._process import NO_ANSWER, NoAnswer, complain, read, shown, write
 from ..frames import uid_text
 from .names import names_of
 
 Fields = Mapping[str, Any]
-#: The kind of the answer to a complete list whose margin is too small, and its status.
-SMALL, NOT_COMPLETE = "margin", 1
 
 
-def judge(name: str, least: int = 0, has_more: bool = False) -> tuple[Union[Answer, str], Fields]:
+def judge(name: str, wanted: int = 0, has_more: bool = False) -> tuple[Union[Answer, str], Fields]:
     """The answer to a file, or why there is none; and if more is asked for, its margin,
     and whether it also holds under capture.
-    A complete list counts as not complete if its margin is less than `least`."""
+    A complete list counts as not complete if its margin is less than was wanted."""
     try:
         text = read(name)
-        if not least and not has_more:
+        if not wanted and not has_more:
             return check(text), {}
         answer, weakest = margin(text)
         weakest = weakest if answer.is_complete else None
         more = {**margin_fields(weakest),
                 **(captured_fields(answer, if_captured(text, answer)) if has_more else {})}
-        if weakest is None or weakest.margin >= least:
+        if weakest is None or weakest.margin >= wanted:
             return answer, more
-        said = (f"{SMALL} {weakest.margin} below {least}: {answer}, "
-                f"weakest {weakest.mask.length} {weakest.mask.digits}")
-        return (answer._replace(status=NOT_COMPLETE, text=said),
-                {**more, "kind": SMALL, "least": least})
+        return (answer._replace(status=NOT_COMPLETE, text=small(answer, weakest, wanted)),
+                {**more, **small_fields(answer, wanted)})
     except NoAnswer as why:
         return str(why), {}
     except MemoryError:

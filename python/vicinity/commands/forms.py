@@ -8,7 +8,7 @@ from collections import Counter
 from typing import Any, Callable, Iterable, Iterator, Mapping, Sequence, Union
 
 from .._answers import Finding, FindingKind, Weakest
-from .._fields import SCHEMA, fields, margin_fields, mask_fields
+from .._fields import SCHEMA, fields, margin_fields, mask_fields, small, small_fields
 from .._process import NO_ANSWER, shown
 from ..collections.collection import Collection, Item, Left, State
 from ..collections.surveys import Log
@@ -41,8 +41,19 @@ def as_lines(found: Collection) -> Iterator[str]:
         where = " and ".join(shown(found.logs[log].name) for log in item.certain_in)
         yield f"misplaced {uid_text(item.uid or 0)} in {where}, belongs to {shown(item.belongs)}\n"
     yield from (f"no tag in row {item.row}\n" for item in found.of(State.NO_TAG))
-    if not found.findings and not found.misplaced:
+    if found.is_small:
+        yield f"{small_margin(found)}\n"
+    elif not found.findings and not found.misplaced:
         yield f"{found.answer}\n"
+
+
+def small_margin(found: Collection) -> str:
+    """The line of a complete collection of which a greater margin was asked for."""
+    least = found.least
+    if least is None:
+        return small(found.answer, None, found.wanted)
+    where = f" in {shown(found.logs[least.log].name)}"
+    return small(found.answer, Weakest(least.margin, least.mask), found.wanted, where)
 
 
 def _findings(found: Collection) -> Iterator[str]:
@@ -68,7 +79,7 @@ def notes(found: Collection) -> Iterator[str]:
     how sure it is, and which logs don't hold under capture."""
     if not found.findings and not found.aside:
         yield HEARD
-    least = found.least()
+    least = found.least
     if least is not None:
         yield missed(Weakest(least.margin, least.mask),
                      f" in the field of {shown(found.logs[least.log].name)}")
@@ -148,12 +159,12 @@ def _answer(found: Collection) -> dict[str, object]:
     if not found.findings and found.misplaced:
         return {"status": found.status, "kind": State.MISPLACED.value,
                 "uid": uid_text(found.misplaced[0].uid or 0)}
-    return fields(found.answer)
+    return small_fields(found.answer, found.wanted) if found.is_small else fields(found.answer)
 
 
 def _margin(found: Collection) -> dict[str, object]:
     """The margin of a complete collection, and in which log a tag would have been missed."""
-    least = found.least()
+    least = found.least
     if least is None:
         return {}
     return {"margin": least.margin,
