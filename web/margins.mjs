@@ -39,8 +39,8 @@ export function withoutList(text) {
 }
 
 /**
- * The margin of a complete collection: of its logs against what is expected, the least, with the name of that log. Of none it is less
- * than against the UIDs that the log proves. Nothing if a log is too long with such a list.
+ * The margin of a complete collection: of its logs against what is expected, the least, with the name of that log. It is that against
+ * the UIDs that the log proves, unless all that are weakest are expected. Nothing if that of a log isn't known.
  * @param {Library} library
  * @param {Answer} answer
  * @param {Measured[]} logs
@@ -49,27 +49,25 @@ export function withoutList(text) {
  */
 export function leastOf(library, answer, logs, expected) {
   if (library.nameOf("kind", answer.kind) !== KIND.COMPLETE) return {};
-  const known = logs.flatMap(({ weakest }, at) => weakest ? [{ weakest, at }] : []).sort(byMargin);
-  /** @type {typeof known[number] | null} */
-  let least = null;
-  for (const { weakest, at } of known) {
-    if (least && byMargin(least, { weakest, at }) < 0) break;
-    const found = library.marginListed(withoutList(logs[at].text), expected).weakest;
-    if (!found) return {};
-    if (!least || byMargin({ weakest: found, at }, least) < 0) least = { weakest: found, at };
+  /** @type {Partial<Margin>} */
+  let least = {};
+  for (const { file, text, weakest: known } of logs) {
+    const weakest = known && areAll(expected, known) ? library.marginListed(withoutList(text), expected).weakest : known;
+    if (!weakest) return {};
+    const mask = maskFields(weakest.maskLen, weakest.maskValue);
+    if (weakest.margin < (least.margin ?? Infinity)) least = { margin: weakest.margin, weakest: { file, ...mask } };
   }
-  if (!least) return {};
-  const { margin, weakest } = /** @type {Margin} */ (marginFields(least.weakest));
-  return { margin, weakest: { file: logs[least.at].file, ...weakest } };
+  return least;
 }
 
 /**
- * The least margin first, and of several that of the first log.
- * @param {{weakest: Weakest, at: number}} one
- * @param {{weakest: Weakest, at: number}} other
+ * Whether UIDs, each once, have all of a mask among them.
+ * @param {bigint[]} uids
+ * @param {Weakest} mask
  */
-function byMargin(one, other) {
-  return one.weakest.margin - other.weakest.margin || one.at - other.at;
+function areAll(uids, { maskLen, maskValue }) {
+  const size = 2 ** (UID_BITS - maskLen);
+  return size <= uids.length && uids.filter((uid) => BigInt.asUintN(maskLen, uid ^ maskValue) === 0n).length === size;
 }
 
 /**

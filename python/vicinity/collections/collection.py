@@ -5,12 +5,11 @@ from enum import Enum
 from functools import cached_property
 from typing import Iterable, Iterator, NamedTuple, Optional, Sequence
 
-from .._answers import FindingKind, Mask, Weakest
+from .._answers import FindingKind, Mask
 from .._calls import margin_listed, overlooked, reconcile_parts
 from .._process import NoAnswer, shown
-from ..sessions.words import UID_BITS
 from .catalogue import Catalogue
-from .masks import Under, without
+from .masks import Under, are_all, without
 from .places import Places
 from .surveys import ALL, Surveys, without_list
 
@@ -134,30 +133,20 @@ class Collection:
     @cached_property
     def least(self) -> Optional[Least]:
         """The margin of a complete collection: of its logs against what is expected, the least.
+        It is that against the UIDs that the log proves, unless all that are weakest are expected.
         Nothing if the collection isn't complete, or that of a log isn't known."""
-        known = [(log.weakest.margin, index) for index, log in enumerate(self.logs) if log.weakest]
-        if not self.answer.is_complete or len(known) < len(self.logs):
+        if not self.answer.is_complete:
             return None
-        least: Optional[Least] = None
-        for margin, index in sorted(known):
-            if least and least[:2] < (margin, index):
-                break
-            weakest = self._weakest(index)
+        expected, found = self.expected.uids, []
+        for index, log in enumerate(self.logs):
+            weakest = log.weakest
+            if weakest and are_all(expected, weakest.mask):
+                text = self.text(index)
+                weakest = margin_listed(without_list(text), expected).weakest if text else None
             if weakest is None:
                 return None
-            found = Least(weakest.margin, index, weakest.mask)
-            least = min(least, found) if least else found
-        return least
-
-    def _weakest(self, index: int) -> Optional[Weakest]:
-        """The margin of a log against what is expected. If its text isn't there, it is known
-        unless all UIDs that are weakest are expected; if the text is too long with such a list,
-        it isn't."""
-        text, known = self.text(index), self.logs[index].weakest
-        if text is not None:
-            return margin_listed(without_list(text), self.expected.uids).weakest
-        expected = len(Under(self.expected.uids).of(known.mask)) if known else 0
-        return known if known and expected < 1 << UID_BITS - known.mask.length else None
+            found.append(Least(weakest.margin, index, weakest.mask))
+        return min(found)
 
     def overlooked(self) -> dict[int, int]:
         """In how many slots each missing tag was overlooked, in the field of the log in which these
