@@ -37,7 +37,7 @@ export async function judge(library, text, name, left) {
     ask: (len ? [1] : [16, 1]).map((slots) => `T ${hexOf(library.writeInventory(slots, len, value, link))}`) }));
   return { schema: SCHEMA, version: versionOf(library.version), file: name, ...fields(library, answer), ...marginFields(answer.status ? null : library.margin(text).weakest), ...capturedOf(library, text, answer), answer: answer.text.trim(),
     lines: linesIn(text), ended: text[text.length - 1] === LF, sha256: await sumOf(text),
-    findings: [...findingsOf(list.filter((it) => it.kind !== FOUND.CONFLICT), absent.length ? library.overlooked(text, absent) : []), ...conflict.map((line) => ({ kind: "conflict", line }))],
+    findings: [...findingsOf(list.filter((it) => it.kind !== FOUND.CONFLICT), absent.length ? library.overlooked(text, absent).list : []), ...conflict.map((line) => ({ kind: "conflict", line }))],
     found: { absent: counts[FOUND.ABSENT], unlisted: counts[FOUND.UNLISTED], doubtful: counts[FOUND.DOUBTFUL] },
     certain: { count: certain.length, uids: certain.slice(0, MOST_LISTED).map((uid) => hex(uid)) },
     open: { count: open.length, share: shareOf(open), masks },

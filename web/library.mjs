@@ -273,7 +273,7 @@ export class Library {
   }
 
   /**
-   * In how many slots of a log each of these UIDs was overlooked; 0 if the text is refused.
+   * The answer, and in how many slots of a log each of these UIDs was overlooked.
    * @param {Uint8Array | string} text
    * @param {ArrayLike<bigint>} uids
    */
@@ -281,9 +281,8 @@ export class Library {
     return this.#within((take) => {
       const words = [...this.#put(take, text), ...this.#putUids(take, uids)], answer = take(ANSWER), at = take(PLACES * uids.length);
       this.#call("overlooked", ...words, answer, at, uids.length);
-      this.#answer(answer);
-      const view = this.#view;
-      return Array.from({ length: uids.length }, (_, i) => view.getUint32(at + PLACES * i, true));
+      const told = this.#answer(answer), view = this.#view;
+      return { answer: told, list: Array.from({ length: uids.length }, (_, i) => view.getUint32(at + PLACES * i, true)) };
     });
   }
 

@@ -35,7 +35,10 @@ export function withoutList(text) {
   for (let end = text.indexOf(LF); end >= 0; end = text.indexOf(LF, end + 1)) {
     if (text[end + 1] === LISTING) return text.subarray(0, end + 1);
   }
-  return text[text.length - 1] === LF ? text : Uint8Array.from([...text, LF]);
+  if (text[text.length - 1] === LF) return text;
+  const ended = new Uint8Array(text.length + 1).fill(LF);
+  ended.set(text);
+  return ended;
 }
 
 /**
@@ -80,7 +83,7 @@ function areAll(uids, { maskLen, maskValue }) {
 export function overlookedIn(library, logs, uids) {
   const least = /** @type {Map<bigint, number>} */ (new Map());
   for (const { text } of uids.length ? logs : []) {
-    library.overlooked(text, uids).forEach((slots, at) => least.set(uids[at], Math.min(slots, least.get(uids[at]) ?? slots)));
+    library.overlooked(text, uids).list.forEach((slots, at) => least.set(uids[at], Math.min(slots, least.get(uids[at]) ?? slots)));
   }
   return least;
 }

@@ -243,7 +243,7 @@ export function missed({ margin, weakest }, where = "") {
  */
 export function notSure(margin, wanted) {
   const missed = margin ? `a tag would have had to be missed in ${count(margin, "slot")}` : "how often a tag would have had to be missed isn't known";
-  return `Not sure enough: ${missed}, and at least ${wanted.toLocaleString("en")} were asked for.`;
+  return `Not sure enough: ${missed}, and ${wanted.toLocaleString("en")} or more were asked for.`;
 }
 
 /**
