@@ -12,14 +12,14 @@ from helpers.program import TOP
 READ_FAULT, WRITE_FAULT = b"vicinity: read failed\n", b"vicinity: write failed\n"
 # Commands over a log, which stands on standard input, and over words.
 LOGS = (("check", "I1 RA UA"), ("explain", "I1 RA"), ("report", "I1 S UA"),
-        ("report", "I1 RA QA I1 RA"), ("report", "V3 I1 S I1 HA"),
+        ("report", "I1 RA QA I1 RA"), ("report", "V3 I1 S I1 HA"), ("margin", "I1 RA UA"),
         ("simulate", "V3 I1 QA I1 UA UB"), ("simulate", "I16 UA UB"))
 WORDS = ("frame 260100F60A", "frame 26", "spell request inventory link 2 slots 1 mask 0 -",
          "spell request inventory")
 # What is expected, and logs.
 RECONCILED = ("UA UB", "I1 RA", "I1 C MA RA")
 READ = text_of(log_lines("I16 S RA RB S13 UA UB"))
-COMMANDS = ("check", "explain", "report", "simulate")
+COMMANDS = ("check", "explain", "report", "margin", "simulate")
 # A text with a fault that no further byte can change, one of nothing, one that isn't a list alone,
 # and the log of a contradiction.
 FAULTY, EMPTY = "vicinity-log 9\n", "vicinity-log 1\n"

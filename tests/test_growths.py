@@ -132,7 +132,7 @@ def is_refused(program, refuse, *words, given=b""):
     assert WANT in answers
 
 
-OVER_A_LOG = [(command, log) for command in ("check", "explain", "report")
+OVER_A_LOG = [(command, log) for command in ("check", "explain", "report", "margin")
               for log in ("example", *JUDGED)]
 OVER_A_LOG += [("simulate", log) for log in ("example", *ASKED)]
 
@@ -212,7 +212,7 @@ def test_the_first_impossible_line_is_found_at_once(growths, refuse, silent, giv
     assert found == f"impossible at line {before + number}\n"
 
 
-@pytest.mark.parametrize("command", ["check", "explain", "report", "simulate"])
+@pytest.mark.parametrize("command", ["check", "explain", "report", "margin", "simulate"])
 def test_little_memory(program, tmp_path, command):
     """From far too little to enough, the answer is the same, or that there is too little."""
     log = tmp_path / "log"

@@ -10,6 +10,7 @@ from helpers.rows import PROGRAMS
 
 LOG, EMPTY = log_of("V3 I1 HA I1 RA UA"), log_of("V3")
 READ = (b"complete 1\n", b"", 0)
+MEASURED = (b"complete 1\nmargin 1\nweakest 1 00\n", b"", 0)
 USAGE = (b"", b"vicinity: usage\n", 4)
 UNREAD, UNWRITTEN = (b"", b"vicinity: read failed\n", 4), (b"", b"vicinity: write failed\n", 4)
 # Tags of a field that are Quiet together are passed over by 64, 4,096 and 262,144: one of each, and
@@ -36,6 +37,11 @@ def test_a_log_is_read_from_a_file_or_standard_input(one, file, command):
     assert one.run(command, file, given=EMPTY) == READ
 
 
+def test_margin_reads_a_file_or_standard_input(one, file):
+    assert one.run("margin", given=LOG) == MEASURED
+    assert one.run("margin", file, given=EMPTY) == MEASURED
+
+
 def test_simulate_reads_a_file_or_standard_input(one, file):
     assert one.run("simulate", given=EMPTY) == (EMPTY, b"", 0)
     assert one.run("simulate", file) == (b"refused at line 3: OutcomeGiven\n", b"", 3)
@@ -53,7 +59,7 @@ def test_frame_and_spell_end_with_their_status(one):
 
 @pytest.mark.parametrize("words", [
     [], ["frame"], ["spell"], ["check", "a", "b"], ["help"], ["list"], ["explain", "a", "b"],
-    ["report", "a", "b"],
+    ["report", "a", "b"], ["margin", "a", "b"],
     ["check", "-x"], ["frame", "--"], ["spell", "--"], ["check", b"\xff"],
     ["spell", b"\xed\xa0\x80"]], ids=repr)
 def test_words_that_are_no_command(one, words):

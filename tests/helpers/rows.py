@@ -1,7 +1,7 @@
 """What the rows of tests/data/rows ask for, and what they have to be answered.
 
-    check STATUS | LOG | LINES      the same for `explain`, `simulate` and `report`, which begins as
-                                    `check` does
+    check STATUS | LOG | LINES      the same for `explain`, `simulate`, `margin` and `report`, which
+                                    begins as `check` does
     fill | LOG | LOG | LINE         what `simulate` makes of a log, and what `check` says of that
     replay | LOG |                  the tags of a log's explanation, asked the same, answer what the
                                     log says
@@ -28,7 +28,8 @@ from helpers.program import TOP
 PROGRAMS = ("program", "commands", "arm")
 LIBRARIES = ("library", "library_rattle")
 MODULES = (*LIBRARIES, "wasm")
-FILES = ("verdicts", "texts", "populations", "reports", "simulations", "frames", "spelled")
+FILES = ("verdicts", "texts", "populations", "reports", "margins", "simulations", "frames",
+         "spelled")
 
 
 def all_rows(asked):
@@ -113,6 +114,9 @@ class OfProgram:
 
     def report(self, *row):
         self.over_log("report", *row)
+
+    def margin(self, *row):
+        self.over_log("margin", *row)
 
     def fill(self, given, answers, _):
         filled = log_of(answers[0])

@@ -60,13 +60,8 @@ fn say_again<F: Fn(Global) -> Result<bool, AllocError>>(
 fn say_logs(rt: &HostRuntime) -> io::Result<()> {
     say(rt, "push", logs::push(rt.alloc()))?;
     say_again(rt, "read_log", logs::read_row)?;
+    say_again(rt, "overlooked", margins::overlooked_row)?;
     say(rt, "add", tags::add(rt.alloc()))
-}
-
-/// Makes the calls that count in how many slots UIDs were overlooked.
-fn say_margins(rt: &HostRuntime) -> io::Result<()> {
-    say_again(rt, "margin", margins::margin_row)?;
-    say_again(rt, "overlooked", margins::overlooked_row)
 }
 
 /// Makes the calls on sets of open UIDs.
@@ -86,7 +81,6 @@ fn main(rt: HostRuntime) -> io::Result<()> {
         say_planted(&rt, alloc)
     } else if input.is_empty() {
         say_logs(&rt)?;
-        say_margins(&rt)?;
         say_sets(&rt)
     } else {
         judge_counted(&rt, alloc, &input)

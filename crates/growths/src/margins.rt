@@ -1,33 +1,13 @@
-//! Margins: `margin` and `overlooked`.
+//! Margins: `overlooked`.
 
 use crate::logs::log_of;
 use std::alloc::{AllocError, Global};
 use vic_frame::Uid;
-use vic_log::Log;
-use vic_margin::{Margin, Weakest, margin, overlooked};
-use vic_verdict::Verdict;
+use vic_margin::overlooked;
 
 /// A tag that was heard and silenced, and a silent round.
 const ONE_SILENCED: &[u8] =
     b"vicinity-log 1\nT 260100F60A\nR 0000A1000000000104E06745\nT 2202A1000000000104E0662A\nT 260100F60A\nS\nU E0040100000000A1\n";
-
-/// Whether the margin of a complete log is 2, and its weakest mask (1, 0).
-fn has_margin(alloc: Global, log: &Log) -> Result<bool, AllocError> {
-    let Margin { verdict, weakest } = margin(alloc, log)?;
-    let Some(Weakest { margin, mask }) = weakest else {
-        return Ok(false);
-    };
-    let is_complete = verdict == Verdict::Complete { count: 1 };
-    Ok(is_complete && margin == 2 && mask.len() == 1 && mask.value() == 0)
-}
-
-/// The margin of a log.
-pub fn margin_row(alloc: Global) -> Result<bool, AllocError> {
-    match log_of(alloc, ONE_SILENCED)? {
-        Some(log) => has_margin(alloc, &log),
-        None => Ok(false),
-    }
-}
 
 /// The margins of two UIDs: the tag's own, and that of another one.
 pub fn overlooked_row(alloc: Global) -> Result<bool, AllocError> {

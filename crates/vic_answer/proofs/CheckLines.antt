@@ -2,9 +2,13 @@
 use Rattle.vic_answer.proofs.Words.{◌≡◌, ℕ, List, [], ◌∷◌, ◌++◌, ap, append_assoc, append-nil, arith, refl, subst, sym, ◌∙◌, codes, decimal, Option, Some, None, MatchOption, flat_map, option_map, LogLine, Impossible, Absent, Unlisted, Unsettled, Doubtful, Complete, BeginsAsCheck, IsAnswer, IsCheckOf, IsCompleteText, answer_line, verdict_line, Status, Entry, IsReport, verdict_by, verdict_of, uids_of, LogReport, ShownUid, report_begins, none_where_complete, IsPopulationBehind, IsShownByNone, Shows, Verdict, complete_whole, complete_second, complete_third, Answer, Judged, Explained, get_or}
 use Rattle.vic_report.specs.declared.findings.Unsettled.{Unsettled as LeftToAsk}
 use Rattle.vic_report.specs.declared.reporting.LogReport.TheVariants as report
+use Rattle.vic_answer.specs.CompleteRun.{BeginWith}
 use Rattle.vic_answer.specs.ExplainText as explain
+use Rattle.vic_answer.specs.MarginText as margin
 use Rattle.vic_answer.specs.ReportText as reporting
 use Rattle.vic_answer.specs.declared.explain.Explained.TheVariants as explained
+use Rattle.vic_answer.specs.declared.margin.Measured.{Measured}
+use Rattle.vic_answer.specs.declared.margin.Measured.TheVariants as measured
 use Rattle.vic_answer.specs.declared.report.Reported.{Reported}
 use Rattle.vic_answer.specs.declared.report.Reported.TheVariants as reported
 
@@ -48,6 +52,10 @@ pub record IsCompleteAnswer (text rest : List ℕ) : Type 0 where
 abbrev pub TellComplete : (List ℕ → List ℕ → Status → Type 0) → Type 0
 TellComplete IsAnswerTo = (text rest : List ℕ) (status : Status) → IsAnswerTo text (codes "complete " ++ rest) status → IsCompleteAnswer text rest
 
+-- the same of answers that may have more lines
+abbrev pub TellCompleteFirst : (List ℕ → List ℕ → Status → Type 0) → Type 0
+TellCompleteFirst IsAnswerTo = (text rest : List ℕ) (status : Status) → IsAnswerTo text (codes "complete " ++ rest) status → BeginWith (IsCompleteAnswer text) rest
+
 -- where nothing is behind the line
 alone : (text rest more : List ℕ) (answer : Answer) → IsAnswer text answer → codes "complete " ++ rest ≡ answer_line answer ++ more
     → ((count : ℕ) → answer ≡ Judged (Complete count) → more ≡ []) → IsCompleteAnswer text rest
@@ -90,6 +98,26 @@ none_behind text (explained.RefusedAt n fault) count h is = cc
 
 pub explanation_tells : TellComplete explain.IsExplanationOf
 explanation_tells text rest status h = alone text rest _ (explain.answer_of h.explained) (explained_answer text h.explained h.right) h.answer_is (λ count is. none_behind text h.explained count h.right is)
+
+-- ---- margin
+
+measured_answer : (text : List ℕ) (m : Measured) → margin.IsMeasured text m → IsAnswer text (margin.answer_of m)
+measured_answer text (measured.Judged m) h = (h.0, h.1, h.2.verdict)
+measured_answer text (measured.RefusedAt n fault) h = h
+
+pub margin_begins : (text answer : List ℕ) (status : Status) → margin.IsMarginOf text answer status → BeginsAsCheck text answer status
+margin_begins text answer status h = record {
+  line = answer_line (margin.answer_of h.measured);
+  more = margin.margin_lines h.measured;
+  right = record { answer = margin.answer_of h.measured; right = measured_answer text h.measured h.right; line_is = refl; status_is = h.status_is };
+  answer_is = h.answer_is;
+}
+
+pub margin_tells : TellCompleteFirst margin.IsMarginOf
+margin_tells text rest status h =
+    let l = complete_line (margin.answer_of h.measured) rest (margin.margin_lines h.measured) h.answer_is in
+    let complete = complete_text text _ l.count l.answer_is (measured_answer text h.measured h.right) in
+    record { front = decimal l.count ++ codes "\n"; more = margin.margin_lines h.measured; right = record { count = l.count; complete = complete; told = refl }; are = l.told }
 
 -- ---- report
 

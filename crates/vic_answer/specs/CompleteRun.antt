@@ -1,4 +1,4 @@
--- What a run of `check`, `explain` or `report` has read if it writes `complete`.
+-- What a run of `check`, `explain`, `report` or `margin` has read if it writes `complete`.
 use Rattle.std.specs.Prelude.{◌≡◌, ℕ, Bool, true, List, ◌++◌, Option, Some, Result, OnOk, codes, decimal}
 use Rattle.std.specs.Io.KnownBytes.{Consumes, IsAtEnd}
 use Rattle.vic_answer.specs.CheckText.{IsCompleteText}
@@ -37,3 +37,24 @@ abbrev pub IsCompleteWhereWritten : {A E : Type 0} → List ℕ → List ℕ →
 IsCompleteWhereWritten returned returned' ended written written' result =
     OnOk result ((rest : List ℕ) → written' ≡ written ++ (codes "complete " ++ rest)
     → ReadsCompleteText returned returned' ended rest)
+
+-- bytes that begin with some that are so
+pub record BeginWith (AreSo : List ℕ → Type 0) (bytes : List ℕ) : Type 0 where
+  pub front : List ℕ
+  pub more : List ℕ
+  pub right : AreSo front
+  pub are : bytes ≡ front ++ more
+
+-- the same of a run that may write more lines: what it wrote next begins with the number and LF
+abbrev pub IsCompleteWhereSaidFirst : {A E : Type 0} → Option (List ℕ) → Option (List ℕ)
+    → Option (List ℕ) → Option (List ℕ) → Result A E → Type 0
+IsCompleteWhereSaidFirst left left' taken taken' result =
+    OnOk result ((before rest : List ℕ) → taken ≡ Some before
+    → taken' ≡ Some (before ++ (codes "complete " ++ rest))
+    → BeginWith (GivesCompleteText left left') rest)
+
+abbrev pub IsCompleteWhereWrittenFirst : {A E : Type 0} → List ℕ → List ℕ → Bool
+    → List ℕ → List ℕ → Result A E → Type 0
+IsCompleteWhereWrittenFirst returned returned' ended written written' result =
+    OnOk result ((rest : List ℕ) → written' ≡ written ++ (codes "complete " ++ rest)
+    → BeginWith (ReadsCompleteText returned returned' ended) rest)

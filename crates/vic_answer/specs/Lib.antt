@@ -10,6 +10,7 @@ pub mod Readings
 pub mod CompleteRun
 pub mod ExplainText
 pub mod ReportText
+pub mod MarginText
 pub mod FaultNumbers
 pub mod Numbers
 pub mod ExplainedNumbers

@@ -2,13 +2,14 @@
 use Rattle.std.specs.Prelude.{◌≡◌, ℕ, Bool, List, ◌++◌, Result, IfOk, OnOk, map, string_bytes}
 use Rattle.vic_log.specs.Device.{HasWrittenPrefix}
 use Rattle.vic_answer.specs.declared.task.Task.{Task}
-use Rattle.vic_answer.specs.declared.task.Task.TheVariants.{Check, Simulate, Explain, Report, Frame, Spell}
+use Rattle.vic_answer.specs.declared.task.Task.TheVariants.{Check, Simulate, Explain, Report, Margin, Frame, Spell}
 use Rattle.vic_answer.specs.declared.status.RunFault.{RunFault}
 use Rattle.vic_answer.specs.declared.status.Status.{Status}
 use Rattle.vic_answer.specs.CheckText.{IsCheckOf}
-use Rattle.vic_answer.specs.CompleteRun.{IsCompleteWhereWritten}
+use Rattle.vic_answer.specs.CompleteRun.{IsCompleteWhereWritten, IsCompleteWhereWrittenFirst}
 use Rattle.vic_answer.specs.ExplainText.{IsExplanationOf}
 use Rattle.vic_answer.specs.FrameText.{frame_text, frame_status}
+use Rattle.vic_answer.specs.MarginText.{IsMarginOf}
 use Rattle.vic_answer.specs.ReportText.{IsReportOf}
 use Rattle.vic_answer.specs.Runs.{LeavesSource, RunsOver}
 use Rattle.vic_answer.specs.SimulateText.{IsSimulationOf}
@@ -34,6 +35,9 @@ Does (Explain file) read read' ended written written' result =
 Does (Report file) read read' ended written written' result =
     RunsOver IsReportOf read read' ended written written' result
     × IsCompleteWhereWritten read read' ended written written' result
+Does (Margin file) read read' ended written written' result =
+    RunsOver IsMarginOf read read' ended written written' result
+    × IsCompleteWhereWrittenFirst read read' ended written written' result
 Does (Frame word) read read' ended written written' result =
     (read' ≡ read)
     × IsWritten (frame_text (string_bytes word)) (frame_status (string_bytes word))
@@ -53,6 +57,8 @@ LeavesSourceAfter (Simulate file) reads has_failed old new result =
 LeavesSourceAfter (Explain file) reads has_failed old new result =
     LeavesSource reads has_failed old new result
 LeavesSourceAfter (Report file) reads has_failed old new result =
+    LeavesSource reads has_failed old new result
+LeavesSourceAfter (Margin file) reads has_failed old new result =
     LeavesSource reads has_failed old new result
 LeavesSourceAfter (Frame word) reads has_failed old new result = new ≡ old
 LeavesSourceAfter (Spell words) reads has_failed old new result = new ≡ old

@@ -9,6 +9,7 @@ ghost use Rattle.vic_frame.specs.Replies.{Reply};
 ghost use Rattle.vic_answer.specs.declared.spell.Said.{Said};
 ghost use Rattle.vic_answer.specs.CheckText.{BeginsAsCheck};
 ghost use Rattle.vic_answer.specs.ExplainText.{IsExplanationOf};
+ghost use Rattle.vic_answer.specs.MarginText.{IsMarginOf};
 ghost use Rattle.vic_answer.specs.ReportText.{IsReportOf};
 ghost use Rattle.vic_answer.specs.declared.status.Status.{Status};
 ghost use Rattle.vic_answer.specs.FrameText.{request_line, response_line};
@@ -36,13 +37,15 @@ pub fn spell_undoes_frame()
         → words_reading words ≡ Ok what → words ≡ words_of what }
 {}
 
-/// The answers of `explain` and `report` to a text begin with the line of `check` and have its
-/// status.
+/// The answers of `explain`, `report` and `margin` to a text begin with the line of `check` and have
+/// its status.
 pub fn answers_begin_as_check()
     ensures explain { (text answer : List ℕ) (status : Status)
         → IsExplanationOf text answer status → BeginsAsCheck text answer status }
     ensures report { (text answer : List ℕ) (status : Status)
         → IsReportOf text answer status → BeginsAsCheck text answer status }
+    ensures margin { (text answer : List ℕ) (status : Status)
+        → IsMarginOf text answer status → BeginsAsCheck text answer status }
 {}
 
 /// What `simulate` writes with status `Whole` is the text of a log. So a log with only the header

@@ -12,6 +12,7 @@ mod input;
 pub mod laws;
 mod lines;
 mod listing;
+mod margin;
 mod numbers;
 mod output;
 mod pieces;
@@ -37,6 +38,7 @@ pub use finding_numbers::{FindingKind, VicinityFinding, findings_of, put_finding
 pub use frame::run_frame;
 pub use lines::LINE_ROOM;
 pub use listing::{LISTED, Listing, NOT_LISTED, list_text, listed_in, listing_numbers};
+pub use margin::{Measured, margin_text, measured_answer, run_margin};
 pub use numbers::{Kind, NO_ANSWER, VicinityAnswer, numbers_of};
 pub use population::{put_population, put_uids};
 pub use reconcile::{

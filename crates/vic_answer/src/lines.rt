@@ -4,6 +4,7 @@ ghost use Rattle.std.specs.Prelude.{◌≡◌, ◌*◌, ◌<◌, ◌≤◌, ◌+
 ghost use Rattle.arrayvec.specs.ArrayVec.{array_vec_len};
 ghost use Rattle.vic_answer.specs.FrameText as spec;
 ghost use Rattle.vic_answer.specs.CheckText as check;
+ghost use Rattle.vic_answer.specs.MarginText as margin;
 ghost use Rattle.vic_answer.specs.Refusals as refusals;
 ghost use Rattle.vic_answer.specs.ReportText as report;
 
@@ -11,6 +12,7 @@ use crate::text::{TEXT_ROOM, Text, put, put_bytes, put_decimal, put_value};
 use arrayvec::ArrayVec;
 use vic_frame::{FrameFault, Mask, Request, Response};
 use vic_log::LineFault;
+use vic_margin::Weakest;
 use vic_verdict::Verdict;
 
 /// The size of the buffer for an answer's line: at most 45 bytes, and a zero.
@@ -165,6 +167,22 @@ pub(crate) fn more_line(more: bool) -> Text
         put(&mut text, "more open\n");
     }
     text
+}
+
+/// Appends the lines of the margin of a log and of its weakest mask, if it has them.
+pub(crate) fn put_weakest(text: &mut Text, weakest: &Option<Weakest>)
+    requires { array_vec_len text.old < LINE_ROOM }
+    ensures { text.new.items ≡ text.old.items ++ margin.weakest_text weakest.now }
+{
+    if let Some(Weakest { margin, mask }) = weakest {
+        put(text, "margin ");
+        put_decimal(text, *margin);
+        put(text, "\nweakest ");
+        put_decimal(text, u32::from(mask.len()));
+        put(text, " ");
+        put_value(text, mask);
+        put(text, "\n");
+    }
 }
 
 /// The line of a refusal, for a reason with a name.

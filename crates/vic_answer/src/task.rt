@@ -6,6 +6,7 @@ ghost use Rattle.vic_answer.specs.Tasks.{Does, LeavesSourceAfter};
 use crate::check::run_check;
 use crate::explain::run_explain;
 use crate::frame::run_frame;
+use crate::margin::run_margin;
 use crate::report::run_report;
 use crate::simulate::run_simulate;
 use crate::spell::run_spell;
@@ -25,6 +26,8 @@ pub enum Task {
     Explain(Option<String>),
     /// To judge a log and show every finding, with its lines.
     Report(Option<String>),
+    /// To judge a log and show its margin, if it is complete.
+    Margin(Option<String>),
     /// To read one frame, given in hex digits.
     Frame(String),
     /// To spell a frame, given in the words of `frame`.
@@ -35,8 +38,11 @@ impl Task {
     /// The file that it reads, if one is named.
     pub fn file(&self) -> Option<&str> {
         match self {
-            Task::Check(file) | Task::Simulate(file) | Task::Explain(file) | Task::Report(file) =>
-                file.as_ref().map(|name| name.as_str()),
+            Task::Check(file)
+            | Task::Simulate(file)
+            | Task::Explain(file)
+            | Task::Report(file)
+            | Task::Margin(file) => file.as_ref().map(|name| name.as_str()),
             Task::Frame(_) | Task::Spell(_) => None,
         }
     }
@@ -60,6 +66,7 @@ pub fn do_task<R: Source, W: Sink>(
         Task::Simulate(_) => run_simulate(alloc, source, sink),
         Task::Explain(_) => run_explain(alloc, source, sink),
         Task::Report(_) => run_report(alloc, source, sink),
+        Task::Margin(_) => run_margin(alloc, source, sink),
         Task::Frame(word) => run_frame(word.as_bytes(), sink),
         Task::Spell(words) => run_spell(words.as_slice(), sink),
     }

@@ -9,7 +9,7 @@ use itoa::Buffer;
 use vic_frame::Mask;
 use vic_log::push_hex;
 
-/// How many bytes the text of an answer has at most: two lines.
+/// How many bytes the text of an answer has at most: three lines.
 pub const TEXT_ROOM: usize = 192;
 
 /// The text of an answer, which allocates no memory.

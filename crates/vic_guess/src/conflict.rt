@@ -38,8 +38,8 @@ pub fn guess_conflict(alloc: Global, lines: &[PackedLine]) -> Result<Vec<u32>, A
     Ok(numbers)
 }
 
-/// The line that the last one contradicts, unless its reply doesn't fit its own slot: the first that
-/// rules out the UID that it heard; else the first reply of a UID that it rules out.
+/// The line that the last one contradicts, unless its reply doesn't fit its own slot: the first
+/// that rules out the UID that it heard; else the first reply of a UID that it rules out.
 fn other_line(lines: &[PackedLine], steps: &[Step], ends: &[u32]) -> Option<u32> {
     let (span, own) = match *steps.last()? {
         Step::Ruling(_, span, own) | Step::Captured(_, span, own) => (span, own),

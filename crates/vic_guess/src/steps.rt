@@ -13,8 +13,8 @@ pub(crate) enum Step {
     Quiet(usize),
     /// All are Ready again.
     Wake,
-    /// A slot, by the number of its line, rules out the parts in its mask that are Ready, except for
-    /// the one that was heard. If none was, it is the end of the mask's parts.
+    /// A slot, by the number of its line, rules out the parts in its mask that are Ready, except
+    /// for the one that was heard. If none was, it is the end of the mask's parts.
     Ruling(u32, Span, usize),
     /// A slot, by the number of its line, in whose mask these parts are, and in which this one was
     /// heard, alone or among others.

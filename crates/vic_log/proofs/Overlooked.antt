@@ -1,6 +1,6 @@
 -- A UID that is overlooked nowhere is open.
 use Rattle.vic_log.proofs.Words.{◌≡◌, ℕ, zero, suc, ◌<◌, List, length, Bool, true, false, ◌&&◌, Option, Some, None, refl, sym, ap, subst, ◌∙◌, ◌↔◌, inl, inr, arith, nat_tests, cases_lt, and_from, and_parts, slice_get, slice_get_past, Entry, IsUid, is_uid, list_all, allows, Slot, is_open, slots_before, slots_of, with_entry, answers_at}
-use Rattle.vic_log.specs.Overlooked.{is_overlooked, some_lacks_reply_of, IsNeverOverlooked}
+use Rattle.vic_log.specs.Overlooked.{is_overlooked, some_denies_reply_of, IsNeverOverlooked}
 use Rattle.vic_log.proofs.Supply.{is_uid_from}
 
 and-false : (b : Bool) → b && false ≡ false
@@ -15,7 +15,7 @@ below_more P {n} below here i k = elim (cases_lt i n) [
 
 -- the slot of an entry allows a UID where it isn't overlooked
 entry_allows : (answers : ℕ → Bool) (o : Option Entry) (slots : List Slot) (u : ℕ)
-    → (list_all (allows u) (with_entry answers o slots) ≡ true) ↔ ((answers u && some_lacks_reply_of o u ≡ false) × (list_all (allows u) slots ≡ true))
+    → (list_all (allows u) (with_entry answers o slots) ≡ true) ↔ ((answers u && some_denies_reply_of o u ≡ false) × (list_all (allows u) slots ≡ true))
 entry_allows answers None slots u = grind (arith, nat_tests)
 entry_allows answers (Some e) slots u = grind (arith, nat_tests, and_parts, and_from)
 

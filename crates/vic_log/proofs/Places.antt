@@ -1,5 +1,5 @@
 -- From the entries of a log to its slots; what entries that follow leave as it is.
-use Rattle.vic_log.proofs.Words.{◌≡◌, ℕ, zero, suc, ◌<◌, ◌≤◌, List, [], ◌∷◌, ◌++◌, length, Bool, Option, Some, None, refl, sym, ap, ◌∙◌, subst, arith, ◌↔◌, inl, inr, slice_get, nat_tests, filter, cases_lt, cond_both, length_push, slice_get_within, Entry, opener, is_quiet, answers_at, Fits, CouldHaveGiven, Slot, filter_agree, answerers_at, with_entry, slots_before, slots_of}
+use Rattle.vic_log.proofs.Words.{◌≡◌, ℕ, zero, suc, ◌<◌, ◌≤◌, List, [], ◌∷◌, ◌++◌, length, Bool, Option, Some, None, refl, sym, ◌∙◌, subst, arith, ◌↔◌, inl, inr, slice_get, nat_tests, filter, cases_lt, cond_both, length_push, slice_get_within, Entry, opener, is_quiet, answers_at, Fits, CouldHaveGiven, Slot, filter_agree, answerers_at, with_entry, slots_before, slots_of}
 use Rattle.vic_log.specs.Rounds.{mask_at}
 use Rattle.vic_log.proofs.Meeting.{MeetsAll}
 

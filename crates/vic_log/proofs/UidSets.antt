@@ -37,7 +37,7 @@ pub row_is : (s : UidSet) (uid rows place : ℕ) (row : List ℕ) → rows ≡ v
 row_is s uid rows place row long is there at = grind (arith, common_steps)
 
 pub is_put : (old : UidSet) (uid rows place k number : ℕ) (row seen : List ℕ) → rows ≡ vec_len old.rows → place ≡ place_of uid rows → place < rows → row ≡ get_or old.rows.items place row → seen ≡ get_or old.rows.items place seen → slice_get seen k ≡ Some 0 → number ≡ uid
-    → IsPut old (record { rows = with_item old.rows place (set row k number); others = old.others }) uid k
+    → IsPut old (record { rows = with_item old.rows place (set row k number); others = old.others; lines = old.lines }) uid k
 is_put old uid rows place k number row seen long is there at seen_at free same = grind (arith, common_steps)
 
 -- a search of a row for a number

@@ -2,7 +2,7 @@
 use Rattle.vic_log.proofs.Words.{◌≡◌, ℕ, zero, suc, ◌+◌, ◌<◌, ◌⊎◌, inl, inr, List, [], ◌∷◌, length, Bool, true, false, Option, Some, None, refl, sym, ap, ◌∙◌, subst, ◌↔◌, ⊎_elim, arith, nat_tests, eqb-true, eq-eqb, cases_lt, filter_agree, slice_get, slice_get_within, slice_get_past, slice_get-get_or, get_or, Entry, Sent, Silent, Collision, Heard, Listed, Garbled, FieldCycle, Captured, Unknown, is_slot, ends_round, opener, wakes, is_quiet, answerers_at, answers_at, Fits, CouldHaveGiven, listed, has, outcome_of, Nobody, Lone, Several, ◌==◌, false≢true}
 use Rattle.vic_log.specs.Quiet.{silences}
 use Rattle.vic_log.specs.Rounds.{mask_at, mask_of_slot}
-use Rattle.vic_log.specs.Weaker.{AreWeaker, IsWeaker, FitsLess, is_weaker}
+use Rattle.vic_log.specs.Weaker.{AreWeaker, IsWeaker, FitsMore, is_weaker}
 use Rattle.vic_log.proofs.Places.{opener_below}
 use Rattle.vic_log.proofs.Sets.{has_here, has_at}
 
@@ -19,7 +19,7 @@ lone_answers u v (x ∷ []) e k = let same : x ≡ v = cc in has_at u x [] (eqb-
 lone_answers u v (x ∷ y ∷ us) e k = cc
 
 -- a slot line by the table fits what the other fits
-weaker-fits : (d e : Entry) → is_weaker d e ≡ true → FitsLess d e
+weaker-fits : (d e : Entry) → is_weaker d e ≡ true → FitsMore d e
 weaker-fits Unknown e w us f = tt
 weaker-fits Silent Silent w us f = f
 weaker-fits Collision Collision w us f = f
@@ -39,7 +39,7 @@ others : (u v w : ℕ) → u < v → u < w → has (v ∷ w ∷ []) u ≡ true �
 others u v w a b h = grind (arith, nat_tests, eqb-true)
 
 -- what fits one and not the other, where it isn't by the table
-fits-weaker : (d e : Entry) → is_slot d ≡ true → is_slot e ≡ true → FitsLess d e → is_weaker d e ≡ true
+fits-weaker : (d e : Entry) → is_slot d ≡ true → is_slot e ≡ true → FitsMore d e → is_weaker d e ≡ true
 fits-weaker Unknown e s t f = refl
 fits-weaker Silent Silent s t f = refl
 fits-weaker Collision Collision s t f = refl
@@ -63,7 +63,7 @@ fits-weaker Silent Unknown s t f = let k = f (0 ∷ []) tt in cc
 fits-weaker d Unknown s t f = let k = f [] tt in grind (arith, nat_tests)
 fits-weaker d e s t f = grind (arith, nat_tests)
 
-pub weaker-iff : (d e : Entry) → is_slot d ≡ true → is_slot e ≡ true → (is_weaker d e ≡ true) ↔ FitsLess d e
+pub weaker-iff : (d e : Entry) → is_slot d ≡ true → is_slot e ≡ true → (is_weaker d e ≡ true) ↔ FitsMore d e
 weaker-iff d e s t = (weaker-fits d e, fits-weaker d e s t)
 
 -- ---- at each position

@@ -11,65 +11,80 @@ use Rattle.vic_log.specs.Populations.{Outcome, Nobody, Lone, Several, outcome_of
 use Rattle.vic_log.specs.Rounds.{mask_since, lies_in_some}
 
 abbrev pub IsOfFirstVersion : Entry → Type 0
+IsOfFirstVersion (Sent q) = ⊤
+IsOfFirstVersion Silent = ⊤
+IsOfFirstVersion Collision = ⊤
+IsOfFirstVersion (Heard r) = ⊤
+IsOfFirstVersion (Listed u) = ⊤
 IsOfFirstVersion Garbled = ⊥
 IsOfFirstVersion FieldCycle = ⊥
 IsOfFirstVersion (Captured r) = ⊥
 IsOfFirstVersion Unknown = ⊥
-IsOfFirstVersion e = ⊤
 
 -- all entries are of version 1
 abbrev pub AreOfFirstVersion : List Entry → Type 0
 AreOfFirstVersion es = (i : ℕ) (e : Entry) → slice_get es i ≡ Some e → IsOfFirstVersion e
 
-abbrev pub ends_first_round : Option Entry → Bool
-ends_first_round (Some (Sent q)) = true
-ends_first_round (Some (Listed u)) = true
-ends_first_round (Some e) = false
-ends_first_round None = false
+abbrev pub ends_round_in_first : Option Entry → Bool
+ends_round_in_first (Some (Sent q)) = true
+ends_round_in_first (Some (Listed u)) = true
+ends_round_in_first (Some e) = false
+ends_round_in_first None = false
 
-abbrev pub first_opener : List Entry → ℕ → Option ℕ
-first_opener es zero = None
-first_opener es (suc j) = if ends_first_round (slice_get es j) then Some j else first_opener es j
+abbrev pub opener_in_first : List Entry → ℕ → Option ℕ
+opener_in_first es zero = None
+opener_in_first es (suc j) =
+    if ends_round_in_first (slice_get es j) then Some j else opener_in_first es j
 
-abbrev pub is_first_quiet : List Entry → ℕ → ℕ → Bool
-is_first_quiet es zero u = false
-is_first_quiet es (suc j) u = silences (slice_get es j) u || is_first_quiet es j u
+abbrev pub is_quiet_in_first : List Entry → ℕ → ℕ → Bool
+is_quiet_in_first es zero u = false
+is_quiet_in_first es (suc j) u = silences (slice_get es j) u || is_quiet_in_first es j u
 
 abbrev pub FitsFirst : Entry → Outcome → Type 0
 FitsFirst Silent o = o ≡ Nobody
 FitsFirst (Heard r) o = o ≡ Lone r.uid
 FitsFirst Collision o = o ≡ Several
-FitsFirst e o = ⊤
+FitsFirst (Sent q) o = ⊤
+FitsFirst (Listed u) o = ⊤
+FitsFirst Garbled o = ⊤  -- not a line of version 1, as all below
+FitsFirst FieldCycle o = ⊤
+FitsFirst (Captured r) o = ⊤
+FitsFirst Unknown o = ⊤
 
 -- a tag with this UID answers in the slot at position i
-abbrev pub answers_first_at : List Entry → ℕ → ℕ → Bool
-answers_first_at es i u =
-    lies_in_some (mask_since es i (first_opener es i)) u && not (is_first_quiet es i u)
+abbrev pub answers_at_in_first : List Entry → ℕ → ℕ → Bool
+answers_at_in_first es i u =
+    lies_in_some (mask_since es i (opener_in_first es i)) u && not (is_quiet_in_first es i u)
 
 -- every slot line fits the outcome of its slot
 abbrev pub CouldHaveGivenFirst : List ℕ → List Entry → Type 0
 CouldHaveGivenFirst p es =
     (i : ℕ) (e : Entry) → slice_get es i ≡ Some e
-    → FitsFirst e (outcome_of (filter (answers_first_at es i) p))
+    → FitsFirst e (outcome_of (filter (answers_at_in_first es i) p))
 
 -- the entry is a slot line
-abbrev pub is_first_slot : Entry → Bool
-is_first_slot Silent = true
-is_first_slot Collision = true
-is_first_slot (Heard r) = true
-is_first_slot e = false
+abbrev pub is_slot_in_first : Entry → Bool
+is_slot_in_first Silent = true
+is_slot_in_first Collision = true
+is_slot_in_first (Heard r) = true
+is_slot_in_first (Sent q) = false
+is_slot_in_first (Listed u) = false
+is_slot_in_first Garbled = false  -- not a line of version 1, as all below
+is_slot_in_first FieldCycle = false
+is_slot_in_first (Captured r) = false
+is_slot_in_first Unknown = false
 
 -- position i is a slot of the request that its opener sent
-abbrev pub IsInFirstRound : List Entry → ℕ → Type 0
-IsInFirstRound es i =
+abbrev pub IsInRoundFirst : List Entry → ℕ → Type 0
+IsInRoundFirst es i =
     (j : ℕ) × (q : Request)
-    × (first_opener es i ≡ Some j) × (slice_get es j ≡ Some (Sent q))
+    × (opener_in_first es i ≡ Some j) × (slice_get es j ≡ Some (Sent q))
     × (i - suc j < slot_count q)
 
 -- every slot line is in a round, no request comes after a listed UID, and no UID is listed twice
-pub record IsInFirstOrder (es : List Entry) : Type 0 where
-  pub rounds : (i : ℕ) (e : Entry) → slice_get es i ≡ Some e → is_first_slot e ≡ true
-      → IsInFirstRound es i
+pub record IsInOrderFirst (es : List Entry) : Type 0 where
+  pub rounds : (i : ℕ) (e : Entry) → slice_get es i ≡ Some e → is_slot_in_first e ≡ true
+      → IsInRoundFirst es i
   pub requests_first : (i j : ℕ) (u : ℕ) (q : Request) → i < j
       → slice_get es i ≡ Some (Listed u) → slice_get es j ≢ Some (Sent q)
   pub once : (i j : ℕ) (u w : ℕ) → i < j → slice_get es i ≡ Some (Listed u)

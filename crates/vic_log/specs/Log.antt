@@ -4,7 +4,7 @@ use Rattle.vic_frame.specs.Requests.{IsInRange, IsValid}
 use Rattle.vic_frame.specs.Replies.{IsReply}
 use Rattle.vic_frame.specs.Uids.{IsUid}
 use Rattle.vic_log.specs.declared.entry.Entry.{Entry}
-use Rattle.vic_log.specs.declared.entry.Entry.TheVariants.{Sent, Heard, Listed, Captured}
+use Rattle.vic_log.specs.declared.entry.Entry.TheVariants.{Sent, Silent, Collision, Heard, Listed, Garbled, FieldCycle, Captured, Unknown}
 use Rattle.vic_log.specs.declared.entry.LogLine.{LogLine}
 use Rattle.vic_log.specs.declared.entry.TheConstants.{MAX_LINES}
 use Rattle.vic_log.specs.declared.entry.Version.{Version}
@@ -39,7 +39,11 @@ IsTyped (Sent q) = IsInRange q
 IsTyped (Heard r) = IsReply r
 IsTyped (Captured r) = IsReply r
 IsTyped (Listed u) = IsUid u
-IsTyped e = ⊤
+IsTyped Silent = ⊤
+IsTyped Collision = ⊤
+IsTyped Garbled = ⊤
+IsTyped FieldCycle = ⊤
+IsTyped Unknown = ⊤
 
 abbrev pub AreTyped : List Entry → Type 0
 AreTyped es = (i : ℕ) (e : Entry) → slice_get es i ≡ Some e → IsTyped e

@@ -6,13 +6,13 @@ use Rattle.vic_log.specs.Populations.{Fits}
 use Rattle.vic_log.specs.Rounds.{is_slot}
 
 -- whatever fits the second entry fits the first
-abbrev pub FitsLess : Entry → Entry → Type 0
-FitsLess d e = (us : List ℕ) → Fits e us → Fits d us
+abbrev pub FitsMore : Entry → Entry → Type 0
+FitsMore d e = (us : List ℕ) → Fits e us → Fits d us
 
 -- an entry is weaker than another if it is the same, or if both are slot lines, and whatever fits
 -- the other fits it
 abbrev pub IsWeaker : Entry → Entry → Type 0
-IsWeaker d e = (d ≡ e) ⊎ ((is_slot d ≡ true) × (is_slot e ≡ true) × FitsLess d e)
+IsWeaker d e = (d ≡ e) ⊎ ((is_slot d ≡ true) × (is_slot e ≡ true) × FitsMore d e)
 
 -- as many entries, each weaker than the other at its position
 pub record AreWeaker (ds es : List Entry) : Type 0 where

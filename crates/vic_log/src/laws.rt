@@ -6,7 +6,7 @@ ghost use Rattle.vic_log.specs.declared.entry.Entry.{Entry};
 ghost use Rattle.vic_log.specs.declared.fault.LineFault.{LineFault};
 ghost use Rattle.vic_log.specs.declared.fault.LogFault.{LogFault};
 ghost use Rattle.vic_log.specs.Early.{IsEarlyFault, ReadsAs, Judges};
-ghost use Rattle.vic_log.specs.FirstVersion.{IsOfFirstVersion, AreOfFirstVersion, first_opener, is_first_quiet, FitsFirst, CouldHaveGivenFirst, IsInFirstOrder};
+ghost use Rattle.vic_log.specs.FirstVersion.{IsOfFirstVersion, AreOfFirstVersion, opener_in_first, is_quiet_in_first, FitsFirst, CouldHaveGivenFirst, IsInOrderFirst};
 ghost use Rattle.vic_log.specs.declared.entry.Version.{Version};
 ghost use Rattle.vic_log.specs.Grammar.{SpellsEntry, IsPassedOver};
 ghost use Rattle.vic_log.specs.LineReading.{line_reading};
@@ -15,12 +15,12 @@ ghost use Rattle.vic_log.specs.Log.{IsLog, LogValue};
 ghost use Rattle.vic_log.specs.Order.{IsInOrder, listed, refusal};
 ghost use Rattle.vic_log.specs.Overlooked.{IsNeverOverlooked};
 ghost use Rattle.vic_log.specs.Populations.{Fits, CouldHaveGiven, outcome_of};
-ghost use Rattle.vic_log.specs.SecondVersion.{IsOfSecondVersion, AreOfSecondVersion, FitsSecond, CouldHaveGivenOutcomes};
+ghost use Rattle.vic_log.specs.SecondVersion.{IsOfSecondVersion, AreOfSecondVersion, FitsSecond, IsInOrderSecond, CouldHaveGivenOutcomes};
 ghost use Rattle.vic_log.specs.Slots.{is_open, slots_of};
 ghost use Rattle.vic_log.specs.Quiet.{is_quiet, IsSilenced};
 ghost use Rattle.vic_log.specs.Rounds.{is_slot, opener};
 ghost use Rattle.vic_log.specs.Text.{IsLogOf, IsFirstFault};
-ghost use Rattle.vic_log.specs.Weaker.{AreWeaker, FitsLess, is_weaker};
+ghost use Rattle.vic_log.specs.Weaker.{AreWeaker, FitsMore, is_weaker};
 ghost use Rattle.vic_log.specs.Writing.{text_of, renumbered};
 
 /// A line is read as an entry if and only if it spells it, and is ignored if and only if it is
@@ -75,34 +75,37 @@ pub fn quiet_since_stay_quiet()
     ensures { (es : List Entry) (i u : ℕ) → (is_quiet es i u ≡ true) ↔ IsSilenced es i u }
 {}
 
-/// For entries of version 1, the rules of later versions agree with those of version 1: on rounds, Quiet tags, outcomes, the order of entries, and what a population could have
-/// produced.
+/// For entries of version 1, the rules of later versions agree with those of version 1: on rounds,
+/// Quiet tags, outcomes, the order of entries, and what a population could have produced.
 pub fn first_version_is_kept()
     ensures opener { (es : List Entry) → AreOfFirstVersion es
-        → (i : ℕ) → opener es i ≡ first_opener es i }
+        → (i : ℕ) → opener es i ≡ opener_in_first es i }
     ensures quiet { (es : List Entry) → AreOfFirstVersion es
-        → (i u : ℕ) → is_quiet es i u ≡ is_first_quiet es i u }
+        → (i u : ℕ) → is_quiet es i u ≡ is_quiet_in_first es i u }
     ensures fits { (e : Entry) → IsOfFirstVersion e
         → (us : List ℕ) → Fits e us ↔ FitsFirst e (outcome_of us) }
     ensures order { (es : List Entry) → AreOfFirstVersion es
-        → IsInOrder es ↔ IsInFirstOrder es }
+        → IsInOrder es ↔ IsInOrderFirst es }
     ensures given { (es : List Entry) → AreOfFirstVersion es
         → (p : List ℕ) → CouldHaveGiven p es ↔ CouldHaveGivenFirst p es }
 {}
 
-/// For entries of version 2, the rules of version 3 agree with those of version 2: on outcomes, and
-/// what a population could have produced.
+/// For entries of version 2, the rules of version 3 agree with those of version 2: on outcomes, the
+/// order of entries, and what a population could have produced.
 pub fn second_version_is_kept()
     ensures fits { (e : Entry) → IsOfSecondVersion e
         → (us : List ℕ) → Fits e us ↔ FitsSecond e (outcome_of us) }
+    ensures order { (es : List Entry) → AreOfSecondVersion es
+        → IsInOrder es ↔ IsInOrderSecond es }
     ensures given { (es : List Entry) → AreOfSecondVersion es
         → (p : List ℕ) → CouldHaveGiven p es ↔ CouldHaveGivenOutcomes p es }
 {}
 
-/// A slot line is weaker than another if and only if every list of UIDs that fits the other fits it.
+/// A slot line is weaker than another if and only if every list of UIDs that fits the other fits
+/// it.
 pub fn weaker_fits_more()
     ensures { (d e : Entry) → is_slot d ≡ true → is_slot e ≡ true
-        → (is_weaker d e ≡ true) ↔ FitsLess d e }
+        → (is_weaker d e ≡ true) ↔ FitsMore d e }
 {}
 
 /// A population that could have produced entries could have produced all that are weaker; these

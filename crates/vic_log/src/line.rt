@@ -104,13 +104,21 @@ fn digits_entry(version: Version, letter: u8, digits: &[u8]) -> Result<Option<En
     ensures second_version { version ≡ V2
         → IfOk result (λ entry. IfSome entry IsOfSecondVersion) }
 {
+    let known = match letter {
+        b'T' | b'R' | b'U' => true,
+        b'H' => version == Version::V3,
+        _ => false,
+    };
+    if !known {
+        return Err(LineFault::UnknownEntry);
+    }
     let mut room = [0; 63];
-    match (version, letter) {
-        (_, b'T') => request_entry(decode(digits, &mut room)?),
-        (_, b'R') => reply_entry(decode(digits, &mut room)?),
-        (_, b'U') => uid_entry(decode(digits, &mut room)?),
-        (Version::V3, b'H') => captured_entry(decode(digits, &mut room)?),
-        _ => Err(LineFault::UnknownEntry),
+    let bytes = decode(digits, &mut room)?;
+    match letter {
+        b'T' => request_entry(bytes),
+        b'R' => reply_entry(bytes),
+        b'U' => uid_entry(bytes),
+        _ => captured_entry(bytes),
     }
 }
 

@@ -9,16 +9,17 @@ use crate::entry::{Entry, MAX_LINES};
 use crate::packed::PackedLine;
 use std::alloc::{AllocError, Global};
 use std::collections::BTreeSet;
+use std::simd::prelude::*;
 use vic_frame::Uid;
 
 /// How many UIDs fit into a row.
 const ROW: usize = 8;
 
-/// How many UIDs there are per row at most, unless there are as many rows as a log needs.
+/// How many UIDs there are per row at most.
 const MEAN: usize = 5;
 
-/// A new set has rows for this many times the UIDs that there are.
-const GROWTH: usize = 4;
+/// A new set has rows for this many times as many lines to come as there are.
+const GROWTH: usize = 3;
 
 /// What a UID is multiplied by, so that UIDs in any order are spread over the rows: 2^64 divided by
 /// the golden ratio.
@@ -32,6 +33,8 @@ pub(crate) struct UidSet {
     pub(crate) rows: Vec<[u64; ROW]>,
     /// The UIDs whose row was full.
     pub(crate) others: BTreeSet<Uid>,
+    /// For how many lines of the log there are enough rows.
+    pub(crate) lines: usize,
 }
 
 /// Which of `rows` rows a UID's number selects.
@@ -40,20 +43,31 @@ fn place_of(uid: Uid, rows: usize) -> usize
     ensures value { result ≡ place_of uid rows }
     ensures there { result < rows }
 {
-    (uid.number().wrapping_mul(SPREAD) >> 32) as usize % rows
+    let spread = uid.number().wrapping_mul(SPREAD);
+    (u128::from(spread) * rows as u128 >> 64) as usize
 }
 
-/// The index of the first free element of a row.
+/// Whether a row has a number.
+#[inline(always)]
+fn is_in(row: &[u64; ROW], number: u64) -> bool
+    ensures { result ≡ has row.now number }
+{
+    u64x8::from_slice(row).simd_eq(u64x8::splat(number)).any()
+}
+
+/// The index of the first free element of a row. No branch depends on which it is: a wrong guess by
+/// the processor takes longer than all of it.
+#[inline(always)]
 fn free_place(row: &[u64; ROW]) -> Option<usize>
     ensures full { IfNone result (has row.now 0 ≡ false) }
     ensures free { IfSome result (λ k. slice_get row.now k ≡ Some 0) }
+    ensures inside { IfSome result (λ k. k < ROW) }
 {
-    for k in 0..ROW {
-        if row[k] == 0 {
-            return Some(k);
-        }
+    let free = u64x8::from_slice(row).simd_eq(u64x8::splat(0)).to_bitmask();
+    if free == 0 {
+        return None;
     }
-    None
+    Some(free.trailing_zeros() as usize)
 }
 
 impl UidSet {
@@ -64,18 +78,28 @@ impl UidSet {
         UidSet {
             rows: Vec::new(alloc),
             others: BTreeSet::new(alloc),
+            lines: 0,
         }
     }
 
-    /// A set of that many rows, without UIDs.
-    fn with_rows(alloc: Global, rows: usize) -> Result<UidSet, AllocError>
-        requires { 0 < rows }
+    /// A set without UIDs, with rows for those that lines list and for those of lines to come: of
+    /// some times as many lines, or of all that a log may still have.
+    fn with_rows(alloc: Global, lines: &[PackedLine]) -> Result<UidSet, AllocError>
         ensures set { IfOk result IsUidSet }
         ensures empty { IfOk result (IsSetOf []) }
     {
+        let left = (MAX_LINES as usize).saturating_sub(lines.len());
+        let more = lines.len().saturating_mul(GROWTH).min(left);
+        let mut uids = more;
+        for line in lines {
+            if let Entry::Listed(_) = line.item() {
+                uids = uids.saturating_add(1);
+            }
+        }
         Ok(UidSet {
-            rows: vec![in alloc; [0; ROW]; rows]?,
+            rows: vec![in alloc; [0; ROW]; uids / MEAN + 1]?,
             others: BTreeSet::new(alloc),
+            lines: lines.len().saturating_add(more),
         })
     }
 
@@ -86,15 +110,15 @@ impl UidSet {
         self.rows.is_empty()
     }
 
-    /// Whether it has too few rows for that many UIDs.
-    pub(crate) fn is_crowded(&self, uids: usize) -> bool
+    /// Whether it has too few rows for one more line than that many.
+    pub(crate) fn is_crowded(&self, lines: usize) -> bool
         ensures { result ≡ false → 0 < length self.now.rows.items }
     {
-        self.rows.len() <= uids / MEAN
+        self.rows.is_empty() || self.lines <= lines
     }
 
     /// Rebuilds it from the UIDs that lines list, which are those in it, if it has too few rows for
-    /// that many lines.
+    /// one more line.
     #[inline(always)]
     pub(crate) fn make_room(&mut self, lines: &[PackedLine]) -> Result<(), AllocError>
         requires set { 0 < length self.old.rows.items → IsUidSet self.old }
@@ -121,7 +145,7 @@ impl UidSet {
         ensures same { OnErr result ((u : ℕ) → is_held self.new u ≡ is_held self.old u) }
     {
         let place = place_of(uid, self.rows.len());
-        if self.rows[place].contains(&uid.number()) {
+        if is_in(&self.rows[place], uid.number()) {
             return Ok(false);
         }
         match free_place(&self.rows[place]) {
@@ -168,18 +192,11 @@ pub(crate) fn listed_uids(alloc: Global, lines: &[PackedLine]) -> Result<UidSet,
     ensures set { IfOk result IsUidSet }
     ensures uids { IfOk result (IsSetOf (listed (entries lines.now))) }
 {
-    let mut set = UidSet::with_rows(alloc, rows_for(lines.len()))?;
+    let mut set = UidSet::with_rows(alloc, lines)?;
     for line in lines {
         put_listed(&mut set, &line.item())?;
     }
     Ok(set)
-}
-
-/// How many rows a new set has for that many lines.
-fn rows_for(lines: usize) -> usize
-    ensures { 0 < result }
-{
-    lines.min(MAX_LINES as usize / GROWTH) * GROWTH / MEAN + 1
 }
 
 /// Adds the UID that an entry lists, if it lists one.

@@ -1,5 +1,5 @@
 -- Entries that differ in some slot lines, and entries of which less is known.
-use Rattle.vic_margin.proofs.Words.{◌≡◌, ◌↔◌, ℕ, zero, suc, ◌+◌, ◌≤◌, ◌&&◌, true, false, Option, Some, List, [], ◌∷◌, length, nat_lt, if◌then◌else◌, inl, inr, refl, sym, ap, subst, ◌∙◌, arith, nat_tests, both_ways, cases_Bool, cases_lt, and_parts, slice_get, has, IsUid, Entry, Unknown, Silent, Heard, is_slot, answers_at, is_overlooked, lacks_reply_of, some_lacks_reply_of, margin_of}
+use Rattle.vic_margin.proofs.Words.{◌≡◌, ◌↔◌, ℕ, zero, suc, ◌+◌, ◌≤◌, ◌&&◌, true, false, Option, Some, List, [], ◌∷◌, length, nat_lt, if◌then◌else◌, inl, inr, refl, sym, ap, subst, ◌∙◌, arith, nat_tests, both_ways, cases_Bool, cases_lt, and_parts, slice_get, has, IsUid, Entry, Unknown, Silent, Heard, is_slot, answers_at, is_overlooked, denies_reply_of, some_denies_reply_of, margin_of}
 use Rattle.std.proofs.Common.{option_map}
 use Rattle.std.proofs.lemmas.Option.{slice_get-get_or, slice_get_past, slice_get_within}
 use Rattle.std.proofs.Common.{get_or}
@@ -16,7 +16,7 @@ use Rattle.vic_margin.proofs.Counting.{count_listed, count_more, count_to, fails
 -- ---- a UID that is overlooked nowhere
 
 past_end : (es : List Entry) (i u : ℕ) → length es ≤ i → is_overlooked es i u ≡ false
-past_end es i u past = ap (λ o. answers_at es i u && some_lacks_reply_of o u) (slice_get_past es i past) ∙ grind (arith, nat_tests)
+past_end es i u past = ap (λ o. answers_at es i u && some_denies_reply_of o u) (slice_get_past es i past) ∙ grind (arith, nat_tests)
 
 pub no_margin : (es : List Entry) (u : ℕ) → (margin_of es u ≡ 0) ↔ IsNeverOverlooked es u
 no_margin es u = (
@@ -108,7 +108,7 @@ margin_few places es ds u h is may =
 
 -- ---- and with no fewer slots unknown it is possible
 
-lacks_slot : (o : Option Entry) (u : ℕ) → some_lacks_reply_of o u ≡ true → (e : Entry) × (o ≡ Some e) × (is_slot e ≡ true)
+lacks_slot : (o : Option Entry) (u : ℕ) → some_denies_reply_of o u ≡ true → (e : Entry) × (o ≡ Some e) × (is_slot e ≡ true)
 lacks_slot (Some Silent) u h = (Silent, refl, refl)
 lacks_slot (Some (Heard r)) u h = (Heard r, refl, refl)
 lacks_slot o u h = grind (arith, nat_tests)
@@ -140,7 +140,7 @@ never_missed : (es : List Entry) (u : ℕ) → IsNeverOverlooked (forget (misses
 never_missed es u i = elim (cases_Bool (has (misses es u) i)) [
   | inl it ↦
       let s = overlooked_slot es i u (missed es i u it) in
-      ap (λ o. answers_at (forget (misses es u) 0 es) i u && some_lacks_reply_of o u) (forgotten (misses es u) es i s.0 it s.1) ∙ grind (arith, nat_tests)
+      ap (λ o. answers_at (forget (misses es u) 0 es) i u && some_denies_reply_of o u) (forgotten (misses es u) es i s.0 it s.1) ∙ grind (arith, nat_tests)
   | inr isnt ↦ differ_overlooked (misses es u) es (forget (misses es u) 0 es) i u (misses_differ es u) isnt ∙ not_missed es i u isnt
 ]
 
@@ -164,23 +164,23 @@ margin_exact es u possible is =
 
 -- ---- weaker entries
 
-lacks_weaker : (d e : Entry) (u : ℕ) → is_weaker d e ≡ true → lacks_reply_of d u ≡ true → lacks_reply_of e u ≡ true
+lacks_weaker : (d e : Entry) (u : ℕ) → is_weaker d e ≡ true → denies_reply_of d u ≡ true → denies_reply_of e u ≡ true
 lacks_weaker d e u w h = grind (arith, nat_tests)
 
-some_weaker : (d e : Entry) (u : ℕ) → IsWeaker d e → lacks_reply_of d u ≡ true → lacks_reply_of e u ≡ true
+some_weaker : (d e : Entry) (u : ℕ) → IsWeaker d e → denies_reply_of d u ≡ true → denies_reply_of e u ≡ true
 some_weaker d e u w h = elim w [
-  | inl same ↦ subst (λ x. lacks_reply_of x u ≡ true) same h
+  | inl same ↦ subst (λ x. denies_reply_of x u ≡ true) same h
   | inr s ↦ lacks_weaker d e u ((weaker-iff d e s.0 s.1).1 s.2) h
 ]
 
 overlooked_weaker : (ds es : List Entry) (i u : ℕ) → AreWeaker ds es → is_overlooked ds i u ≡ true → is_overlooked es i u ≡ true
 overlooked_weaker ds es i u w h =
-    let both = and_parts (answers_at ds i u) (some_lacks_reply_of (slice_get ds i) u) h in
+    let both = and_parts (answers_at ds i u) (some_denies_reply_of (slice_get ds i) u) h in
     let d = lacks_slot (slice_get ds i) u both.1 in
     let many = w.as_many in
     let below = slice_get_within ds i d.0 d.1 in
     let there = slice_get-get_or es i Silent (omega (arith, below, many)) in
-    let lacks_d : lacks_reply_of d.0 u ≡ true = rw d.1 at both.1 in
+    let lacks_d : denies_reply_of d.0 u ≡ true = rw d.1 at both.1 in
     let lacks_e = some_weaker d.0 (get_or es i Silent) u (w.each i d.0 (get_or es i Silent) d.1 there) lacks_d in
     let answers = sym (weaker_answers ds es w i u) ∙ both.0 in
     rw (answers, there) lacks_e

@@ -1,5 +1,5 @@
 -- More entries, and more UIDs on the list: no margin is less.
-use Rattle.vic_margin.proofs.Words.{◌≡◌, ℕ, zero, suc, ◌+◌, ◌≤◌, ◌||◌, ◌&&◌, false, List, [], ◌∷◌, ◌++◌, length, map, refl, ap, ◌∙◌, arith, nat_tests, slice_get, has, Entry, Listed, answers_at, is_overlooked, some_lacks_reply_of, margin_before, margin_of, one_if}
+use Rattle.vic_margin.proofs.Words.{◌≡◌, ℕ, zero, suc, ◌+◌, ◌≤◌, ◌||◌, ◌&&◌, false, List, [], ◌∷◌, ◌++◌, length, map, refl, ap, ◌∙◌, arith, nat_tests, slice_get, has, Entry, Listed, answers_at, is_overlooked, some_denies_reply_of, margin_before, margin_of, one_if}
 use Rattle.std.proofs.Math.Bool.{and-false}
 use Rattle.std.proofs.lemmas.List.{length-append}
 use Rattle.std.proofs.lemmas.List.Folds.{list_any-append}
@@ -35,12 +35,12 @@ more_margin es more u =
 
 -- ---- a list that follows
 
-listed_lacks : (us : List ℕ) (i u : ℕ) → some_lacks_reply_of (slice_get (map Listed us) i) u ≡ false
+listed_lacks : (us : List ℕ) (i u : ℕ) → some_denies_reply_of (slice_get (map Listed us) i) u ≡ false
 listed_lacks [] i u = refl
 listed_lacks (v ∷ us) zero u = refl
 listed_lacks (v ∷ us) (suc i) u = listed_lacks us i u
 
-behind_lacks : (es : List Entry) (us : List ℕ) (d u : ℕ) → some_lacks_reply_of (slice_get (es ++ map Listed us) (d + length es)) u ≡ false
+behind_lacks : (es : List Entry) (us : List ℕ) (d u : ℕ) → some_denies_reply_of (slice_get (es ++ map Listed us) (d + length es)) u ≡ false
 behind_lacks [] us d u = let same : d + 0 ≡ d = omega arith in rw same (listed_lacks us d u)
 behind_lacks (e ∷ es) us d u = let same : d + suc (length es) ≡ suc (d + length es) = omega arith in rw same (behind_lacks es us d u)
 

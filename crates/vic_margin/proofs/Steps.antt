@@ -1,5 +1,5 @@
 -- What each kind of entry makes of what a tally knows.
-use Rattle.vic_margin.proofs.Words.{◌≡◌, ◌≢◌, ◌==◌, ◌||◌, ◌&&◌, not, ℕ, suc, ◌+◌, ◌<◌, ◌≤◌, Bool, true, false, Some, List, length, slice_get, slice_index, add-one, ap, sym, refl, subst, ◌∙◌, inl, inr, arith, nat_tests, cases_Bool, cases_eq, false_from_ne_true, eqb-true, nat_lt, IsUid, mirror, Entry, Reply, Captured, Collision, FieldCycle, Garbled, Heard, Listed, Sent, Silent, Unknown, StayQuiet, answers_at, is_quiet, silences, wakes, lies_in_some, mask_at, AreBorders, IsPartOf, AreCut, names, is_marked, Span, is_overlooked, lacks_reply_of, some_lacks_reply_of, margin_before, margin_of, one_if, Tally, AreMargins, HasRoom, IsCounted, IsSpanAt, IsTallyAt, IsTallyOf, IsTurned, within}
+use Rattle.vic_margin.proofs.Words.{◌≡◌, ◌≢◌, ◌==◌, ◌||◌, ◌&&◌, not, ℕ, suc, ◌+◌, ◌<◌, ◌≤◌, Bool, true, false, Some, List, length, slice_get, slice_index, add-one, ap, sym, refl, subst, ◌∙◌, inl, inr, arith, nat_tests, cases_Bool, cases_eq, false_from_ne_true, eqb-true, nat_lt, IsUid, mirror, Entry, Reply, Captured, Collision, FieldCycle, Garbled, Heard, Listed, Sent, Silent, Unknown, StayQuiet, answers_at, is_quiet, silences, wakes, lies_in_some, mask_at, AreBorders, IsPartOf, AreCut, names, is_marked, Span, is_overlooked, denies_reply_of, some_denies_reply_of, margin_before, margin_of, one_if, Tally, AreMargins, HasRoom, IsCounted, IsSpanAt, IsTallyAt, IsTallyOf, IsTurned, within}
 use Rattle.vic_walk.proofs.PartLaws.{one_part}
 use Rattle.vic_margin.proofs.Turning.{room_turned}
 
@@ -8,8 +8,8 @@ eqb-same n = grind (arith, nat_tests)
 
 -- ---- what an entry says of a UID
 
-overlooked_is : (es : List Entry) (i : ℕ) (e : Entry) (u : ℕ) → slice_get es i ≡ Some e → is_overlooked es i u ≡ ((lies_in_some (mask_at es i) u && not (is_quiet es i u)) && lacks_reply_of e u)
-overlooked_is es i e u k = ap (λ o. answers_at es i u && some_lacks_reply_of o u) k
+overlooked_is : (es : List Entry) (i : ℕ) (e : Entry) (u : ℕ) → slice_get es i ≡ Some e → is_overlooked es i u ≡ ((lies_in_some (mask_at es i) u && not (is_quiet es i u)) && denies_reply_of e u)
+overlooked_is es i e u k = ap (λ o. answers_at es i u && some_denies_reply_of o u) k
 
 quiet_is : (es : List Entry) (i : ℕ) (e : Entry) (u : ℕ) → slice_get es i ≡ Some e → is_quiet es (suc i) u ≡ (silences (Some e) u || (not (wakes (Some e)) && is_quiet es i u))
 quiet_is es i e u k = ap (λ o. silences o u || (not (wakes o) && is_quiet es i u)) k
@@ -18,7 +18,7 @@ quiet_same : (es : List Entry) (i : ℕ) (e : Entry) (u : ℕ) → slice_get es 
 quiet_same es i e u k silent awake = rw (quiet_is es i e u k, silent, awake) refl
 
 -- the entry overlooks no UID
-not_overlooked : (es : List Entry) (i : ℕ) (e : Entry) (u : ℕ) → slice_get es i ≡ Some e → lacks_reply_of e u ≡ false → margin_before es (suc i) u ≡ margin_before es i u
+not_overlooked : (es : List Entry) (i : ℕ) (e : Entry) (u : ℕ) → slice_get es i ≡ Some e → denies_reply_of e u ≡ false → margin_before es (suc i) u ≡ margin_before es i u
 not_overlooked es i e u k none =
     let it = overlooked_is es i e u k in
     let isnt : is_overlooked es i u ≡ false = grind (arith, nat_tests) in
@@ -123,7 +123,7 @@ tally_heard bs es i own r s old new k borders cut is own_at span h t = rw add-on
 pub record DoesNothing (e : Entry) : Type 0 where
   pub silences : (u : ℕ) → IsUid u → silences (Some e) u ≡ false
   pub wakes : wakes (Some e) ≡ false
-  pub lacks : (u : ℕ) → lacks_reply_of e u ≡ false
+  pub lacks : (u : ℕ) → denies_reply_of e u ≡ false
 
 pub tally_idle : (bs : List ℕ) (es : List Entry) (i : ℕ) (e : Entry) (t : Tally) → slice_get es i ≡ Some e → DoesNothing e → IsTallyAt bs es i t → IsTallyAt bs es (i + 1) t
 tally_idle bs es i e t k none h = rw add-one (record {
@@ -165,7 +165,7 @@ silenced_part es i link u p which old new k h lt turned kept marked t =
     }
 
 -- another UID
-other_part : (es : List Entry) (i u p : ℕ) (e : Entry) (which : ℕ → Bool) (old new : Tally) → slice_get es i ≡ Some e → silences (Some e) u ≡ false → wakes (Some e) ≡ false → lacks_reply_of e u ≡ false → IsTurned which old new → which p ≡ false → is_marked new.quiet p ≡ is_marked old.quiet p → IsTallyOf es i u p old → IsTallyOf es (suc i) u p new
+other_part : (es : List Entry) (i u p : ℕ) (e : Entry) (which : ℕ → Bool) (old new : Tally) → slice_get es i ≡ Some e → silences (Some e) u ≡ false → wakes (Some e) ≡ false → denies_reply_of e u ≡ false → IsTurned which old new → which p ≡ false → is_marked new.quiet p ≡ is_marked old.quiet p → IsTallyOf es i u p old → IsTallyOf es (suc i) u p new
 other_part es i u p e which old new k silent awake lacks h isnt marked t =
     let same = quiet_same es i e u k silent awake in
     let margin = not_overlooked es i e u k lacks in

@@ -20,7 +20,7 @@ pub use Rattle.vic_walk.specs.Borders.{AreBorders, IsByParts, IsPartOf, part_cou
 pub use Rattle.vic_walk.specs.Cuts.{AreCut, AreTogether, names}
 pub use Rattle.vic_walk.specs.Marked.{IsFirst, NoneBetween, is_marked}
 pub use Rattle.vic_walk.specs.declared.parts.Span.{Span}
-pub use Rattle.vic_log.specs.Overlooked.{is_overlooked, lacks_reply_of, some_lacks_reply_of}
+pub use Rattle.vic_log.specs.Overlooked.{is_overlooked, denies_reply_of, some_denies_reply_of}
 pub use Rattle.vic_margin.specs.UidMargins.{margin_before, margin_of, one_if}
 pub use Rattle.vic_margin.specs.declared.tally.Tally.{Tally}
 pub use Rattle.vic_margin.specs.inner.Counts.{count_at}

@@ -1,5 +1,5 @@
 -- The first line that rules a UID out, by the end that a walk knows of it.
-use Rattle.vic_report.proofs.Words.{◌≡◌, ℕ, ◌-◌, ◌<◌, ◌≤◌, zero, suc, List, length, Bool, true, false, Option, Some, None, refl, sym, ap, ◌∙◌, subst, arith, cases_lt, nat_tests, inl, inr, false≢true, slice_get, get_or, get_or_default, IsUid, Entry, LogLine, IsRisingFrom, entries, answers_at, reading_of, slots_before, is_open, IsPossible, RulesOut, lacks_reply_of, entry_allows, [], ◌∷◌, option_map, slice_get-map, open_step}
+use Rattle.vic_report.proofs.Words.{◌≡◌, ℕ, ◌-◌, ◌<◌, ◌≤◌, zero, suc, List, length, Bool, true, false, Option, Some, None, refl, sym, ap, ◌∙◌, subst, arith, cases_lt, nat_tests, inl, inr, false≢true, slice_get, get_or, get_or_default, IsUid, Entry, LogLine, IsRisingFrom, entries, answers_at, reading_of, slots_before, is_open, IsPossible, RulesOut, denies_reply_of, entry_allows, [], ◌∷◌, option_map, slice_get-map, open_step}
 use Rattle.vic_verdict.proofs.Listing.{number_above}
 use Rattle.vic_verdict.proofs.Walking.{broken_log}
 use Rattle.vic_verdict.specs.Verdict.{IsLeast}
@@ -45,11 +45,11 @@ has_end es n u zero h shut = absurd (false≢true (sym shut ∙ h))
 has_end es n u (suc j) h shut = let below = h.0 in (omega arith, omega (arith, below))
 
 -- what an entry doesn't allow to a tag lacks its reply, which it would have given
-not_allowed : (e : Entry) (answers : Bool) (u : ℕ) → entry_allows (reading_of e) answers u ≡ false → (answers ≡ true) × (lacks_reply_of e u ≡ true)
+not_allowed : (e : Entry) (answers : Bool) (u : ℕ) → entry_allows (reading_of e) answers u ≡ false → (answers ≡ true) × (denies_reply_of e u ≡ true)
 not_allowed e answers u h = grind (arith, nat_tests)
 
 -- and the other way round
-allows_none : (e : Entry) (u : ℕ) → lacks_reply_of e u ≡ true → entry_allows (reading_of e) true u ≡ false
+allows_none : (e : Entry) (u : ℕ) → denies_reply_of e u ≡ true → entry_allows (reading_of e) true u ≡ false
 allows_none e u h = grind (arith, nat_tests)
 
 -- a UID that a line rules out isn't open after it

@@ -52,7 +52,7 @@ pub use Rattle.vic_walk.specs.declared.answers.Answering.{Answering}
 pub use Rattle.vic_verdict.specs.declared.judging.Verdict.TheVariants.{Complete, Impossible}
 pub use Rattle.vic_report.specs.Conflicts.{FitsLines, IsConflictAt, IsNoQuietReply, IsSilencedBefore, IsSilencedBy, IsSlotLine}
 pub use Rattle.vic_report.specs.Findings.{IsRuledOut, IsToldOf, MayAnswer, RulesOut, ShowsCertain, TellsOf, uids_of}
-pub use Rattle.vic_log.specs.Overlooked.{lacks_reply_of}
+pub use Rattle.vic_log.specs.Overlooked.{denies_reply_of}
 pub use Rattle.vic_report.specs.Reports.{AreFindings, AreOpenMasks, IsReport, IsUnsettledWith, verdict_by, unsettled_with, verdict_of}
 pub use Rattle.vic_report.specs.declared.shown.ShownUid.{ShownUid}
 pub use Rattle.vic_report.specs.inner.KeptLogs.{IsKeptLog, KeepsLine, SameQuiet}

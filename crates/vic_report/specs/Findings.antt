@@ -4,7 +4,7 @@ use Rattle.vic_log.specs.declared.entry.Entry.{Entry}
 use Rattle.vic_log.specs.declared.entry.Entry.TheVariants.{Sent, Silent, Collision, Heard, Listed, Garbled, FieldCycle, Captured, Unknown}
 use Rattle.vic_log.specs.declared.entry.LogLine.{LogLine}
 use Rattle.vic_log.specs.Order.{entries}
-use Rattle.vic_log.specs.Overlooked.{lacks_reply_of}
+use Rattle.vic_log.specs.Overlooked.{denies_reply_of}
 use Rattle.vic_log.specs.Populations.{answers_at}
 use Rattle.vic_report.specs.declared.shown.ShownUid.{ShownUid}
 use Rattle.vic_verdict.specs.Possible.{IsPossibleUid}
@@ -18,7 +18,7 @@ pub record RulesOut (lines : List LogLine) (n u : ℕ) : Type 0 where
   pub there : slice_get lines place ≡ Some line
   pub number : line.number ≡ n
   pub answers : answers_at (entries lines) place u ≡ true
-  pub lacks : lacks_reply_of line.item u ≡ true
+  pub lacks : denies_reply_of line.item u ≡ true
 
 -- the UID is possible and, if it is in the field, answers in the slot at position i
 abbrev pub MayAnswer : List Entry → ℕ → ℕ → Type 0

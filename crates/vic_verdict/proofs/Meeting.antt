@@ -5,6 +5,8 @@ use Rattle.vic_log.proofs.Sets.{eq_swapped}
 use Rattle.vic_verdict.proofs.Entries.{EntryForces, IsForcedBy-places, enough_forced, forces_cases, hears_forces}
 use Rattle.vic_verdict.proofs.Gathering.{exact_forces}
 use Rattle.vic_verdict.specs.Rising.{Adds}
+use Rattle.vic_walk.proofs.ListLaws.{heard_past}
+use Rattle.vic_walk.specs.Listing.{IsListFrom}
 use Rattle.vic_walk.specs.Met.{AreMetBefore}
 use Rattle.vic_verdict.proofs.Walking.{supplied_met}
 use Rattle.vic_verdict.proofs.Decide.{supplied_all}
@@ -35,6 +37,17 @@ heard_pushed es i us e v k own h u =
       (λ w. all ∙ elim (cases_lt w.0 i) [
         | inl less ↦ or_left _ _ (before.1 (w.0, less, w.2))
         | inr more ↦ let same : w.0 ≡ i = omega (arith, w.1) in or_right _ _ (sym here ∙ (rw same at w.2))
+      ]),
+    )
+
+-- where the list begins, all that were heard are known
+pub heard_at_list : (es : List Entry) (n m : ℕ) (us : List ℕ) → IsListFrom es n → n ≤ m → HasHeard es n us → HasHeard es m us
+heard_at_list es n m us list within h u =
+    let before = h u in (
+      (λ there. let w = before.0 there in (w.0, omega (arith, w.1, within), w.2)),
+      (λ w. elim (cases_lt w.0 n) [
+        | inl less ↦ before.1 (w.0, less, w.2)
+        | inr past ↦ absurd (false≢true (sym (heard_past es n w.0 u list past) ∙ w.2))
       ]),
     )
 

@@ -68,7 +68,14 @@ IsWholeSecond = HasExactlyListed CouldHaveGivenSecond
 -- unknown slot says nothing
 abbrev pub IsTrueOfThird : List ℕ → List Entry → ℕ → Entry → Type 0
 IsTrueOfThird p es i (Captured r) = Answers p es i r.uid
-IsTrueOfThird p es i e = IsTrueOf p es i e
+IsTrueOfThird p es i Unknown = ⊤
+IsTrueOfThird p es i Silent = IsTrueOf p es i Silent
+IsTrueOfThird p es i (Heard r) = IsTrueOf p es i (Heard r)
+IsTrueOfThird p es i Collision = IsTrueOf p es i Collision
+IsTrueOfThird p es i Garbled = IsTrueOf p es i Garbled
+IsTrueOfThird p es i (Sent q) = ⊤
+IsTrueOfThird p es i (Listed u) = ⊤
+IsTrueOfThird p es i FieldCycle = ⊤
 
 abbrev pub CouldHaveGivenThird : List ℕ → List Entry → Type 0
 CouldHaveGivenThird p es =

@@ -5,7 +5,7 @@ ghost use Rattle.std.specs.Prelude.{IfOk, MatchResult, ◌≡◌, ◌↔◌, ℕ
 ghost use Rattle.std.specs.List.Sorted.{IsStrictlyIncreasing};
 ghost use Rattle.std.specs.List.{All, Any};
 ghost use Rattle.vic_frame.specs.Uids.{has};
-ghost use Rattle.vic_log.specs.Order.{entries};
+ghost use Rattle.vic_log.specs.Order.{IsInOrder, entries};
 ghost use Rattle.vic_log.specs.declared.entry.Entry.{Entry as EntryValue};
 ghost use Rattle.vic_log.specs.Slots.{slots_of, is_open, IsForcedBy};
 ghost use Rattle.vic_tree.specs.OpenSet.{SameUids};
@@ -25,7 +25,7 @@ use vic_frame::low_bits_first::key;
 use vic_log::{Entry, PackedLine};
 use vic_tree::OpenSet;
 use vic_tree::rising::put_in_order;
-use vic_walk::{Answering, LogWalk, closed_keys, first_lack, open_answers, walk_log};
+use vic_walk::{Answering, LogWalk, closed_keys, first_lack, list_start, open_answers, walk_log};
 
 /// What a possible log tells of the tags: which may be there, and which must.
 #[derive(Drop)]
@@ -158,11 +158,12 @@ fn are_met(found: &[Answering]) -> bool
 
 /// The UIDs that the slots of a log heard.
 fn heard_uids(alloc: Global, lines: &[PackedLine]) -> Result<Vec<Uid>, AllocError>
+    requires { IsInOrder (entries lines.now) }
     ensures { IfOk result (λ v. HasHeard (entries lines.now) (length lines.now) v.items) }
 {
     let mut heard = Vec::new(alloc);
-    for line in lines {
-        if let Some(uid) = line.item().heard() {
+    for index in 0..list_start(lines) {
+        if let Some(uid) = lines[index].item().heard() {
             heard.push(uid)?;
         }
     }

@@ -87,9 +87,12 @@ pub fn weaker_is_complete()
         → IsWhole es }
 {}
 
-/// Where the verdict is `Complete`, each UID that was overlooked nowhere is listed. It takes
+/// Where the verdict is `Complete`, which is where the list is complete, each UID that was
+/// overlooked nowhere is listed. It takes
 /// nothing for granted of any other tag.
 pub fn never_overlooked_is_listed()
-    ensures { (lines : List LogLine) (count u : ℕ) → IsVerdict lines (Complete count) → IsUid u
-        → IsNeverOverlooked (entries lines) u → has (listed (entries lines)) u ≡ true }
+    ensures complete { (lines : List LogLine) (count u : ℕ) → IsVerdict lines (Complete count)
+        → IsUid u → IsNeverOverlooked (entries lines) u → has (listed (entries lines)) u ≡ true }
+    ensures whole { (es : List Entry) (u : ℕ) → IsWhole es → IsUid u → IsNeverOverlooked es u
+        → has (listed es) u ≡ true }
 {}

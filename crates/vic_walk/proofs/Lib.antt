@@ -7,6 +7,7 @@ mod Entries
 pub mod Alike
 mod Ruling
 mod Steps
+pub mod ListLaws
 mod Lines
 mod PartUids
 mod OpenAnswers

@@ -1,8 +1,6 @@
 -- The lines of a log, and their entries.
-use Rattle.vic_walk.proofs.Words.{◌≡◌, ℕ, zero, suc, ◌+◌, ◌<◌, ◌≤◌, ◌∙◌, List, [], ◌∷◌, Some, ap, arith, false, get_or, length, length-map, option_map, refl, slice_get, slice_get-map, slice_get_read}
-use Rattle.std.proofs.lemmas.Option.{slice_get_past}
+use Rattle.vic_walk.proofs.Words.{◌≡◌, ℕ, zero, suc, ◌+◌, ◌<◌, ◌∙◌, List, [], ◌∷◌, Some, ap, arith, get_or, length, option_map, refl, slice_get, slice_get-map, slice_get_read}
 use Rattle.vic_log.specs.declared.entry.LogLine.{LogLine}
-use Rattle.vic_walk.specs.Answers.{is_unread}
 use Rattle.vic_log.specs.Order.{IsRisingFrom, entries}
 
 pub entry_at : (lines : List LogLine) (i : ℕ) (l : LogLine) → i < length lines → l ≡ get_or lines i l → slice_get (entries lines) i ≡ Some l.item
@@ -13,7 +11,3 @@ pub number_above : (n : ℕ) (lines : List LogLine) (i : ℕ) (l : LogLine) → 
 number_above n [] i l r k = cc
 number_above n (x ∷ lines) zero l r k = let same : x ≡ l = cc in let e = ap (λ y. y.number) same in let h = r.0 in omega arith
 number_above n (x ∷ lines) (suc i) l r k = let h = number_above x.number lines i l r.1 k in let b = r.0 in omega arith
-
--- past the last line no slot is unread
-pub read_past : (lines : List LogLine) (i : ℕ) → length lines ≤ i → is_unread (slice_get (entries lines) i) ≡ false
-read_past lines i past = rw (slice_get_past (entries lines) i (omega (arith, length-map lines (λ (x : LogLine). x.item), past))) refl

@@ -5,4 +5,5 @@ pub mod Walk
 pub mod Needs
 pub mod Answers
 pub mod Met
+pub mod Listing
 pub mod inner

@@ -14,6 +14,7 @@ ghost use Rattle.vic_walk.specs.Walk.{AreOpenParts, HasRoom, IsWalkAt};
 ghost use Rattle.vic_walk.specs.inner.Ready.{IsReadyAt};
 ghost use Rattle.vic_walk.specs.inner.Spans.{IsPlace};
 
+use crate::listing::list_start;
 use crate::parts::Parts;
 use crate::three::up_to_three;
 use crate::walk::{Walk, span_of};
@@ -114,12 +115,13 @@ fn is_unread(entry: &Entry) -> bool
     }
 }
 
-/// The position after the last unread slot, 0 if there is none: from there on nobody answers unread.
+/// The position after the last unread slot, 0 if there is none: from there on no slot is unread.
 fn after_unread(lines: &[PackedLine]) -> usize
+    requires { IsInOrder (entries lines.now) }
     ensures within { result ≤ length lines.now }
     ensures read { (i : ℕ) → result ≤ i → is_unread (slice_get (entries lines.now) i) ≡ false }
 {
-    let mut after = lines.len();
+    let mut after = list_start(lines);
     while after > 0 {
         let entry = lines[after - 1].item();
         if is_unread(&entry) {

@@ -66,7 +66,8 @@ impl Reach {
         requires borders { AreBorders parts.now }
         requires count { part_count parts.now ≡ length ends.now }
         requires reach { HasReach ends.now self.old }
-        ensures ruled { OnOk result (AreRuled ends.now self.new.upto self.new.ordered self.new.ruled.items) }
+        ensures ruled { OnOk result (AreRuled ends.now self.new.upto self.new.ordered
+            self.new.ruled.items) }
         ensures back { OnOk result ((es : List EntryValue)
             → IsPlace parts.now es at entry.now rounds.now
             → IsReachAt parts.now es ends.now at self.old

@@ -17,6 +17,7 @@ ghost use Rattle.vic_walk.specs.inner.Searching.{IsBetween};
 
 use crate::gathered::Gathered;
 use crate::index::{Index, up_to};
+use crate::listing::list_start;
 use std::alloc::{AllocError, Global};
 use std::marker::Model;
 use vic_frame::low_bits_first::{KeyBlock, key};
@@ -175,8 +176,8 @@ fn gather(alloc: Global, lines: &[PackedLine]) -> Result<Gathered, AllocError>
 {
     let mut borders = Gathered::new(alloc)?;
     let mut cursor = RoundCursor::first();
-    for line in lines {
-        let entry = line.item();
+    for index in 0..list_start(lines) {
+        let entry = lines[index].item();
         push_mask(&mut borders, &cursor, &entry)?;
         push_named(&mut borders, &entry)?;
         cursor.advance(&entry);

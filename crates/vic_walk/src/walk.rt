@@ -15,6 +15,7 @@ ghost use Rattle.vic_walk.specs.Walk.{HasRoom, IsWalkAt, IsEndOfWalk, IsWalkOver
 ghost use Rattle.vic_walk.specs.inner.Ready.{IsReadyAt};
 ghost use Rattle.vic_walk.specs.inner.Spans.{is_within, is_other, HasLost, IsSpanAt, IsPlace, IsRuledOut};
 
+use crate::listing::list_start;
 use crate::marks::Marks;
 use crate::parts::{Parts, Span};
 use std::alloc::{AllocError, Global};
@@ -273,7 +274,7 @@ fn walk_over(
 {
     let mut walk = Walk::start(alloc, parts.count())?;
     let mut rounds = RoundCursor::first();
-    for index in 0..lines.len() {
+    for index in 0..list_start(lines) {
         let entry = entry_of(lines[index]);
         if !walk.pass(parts, &rounds, index as u32, &entry)? {
             return Ok((walk, Some(index)));

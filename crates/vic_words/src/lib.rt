@@ -76,11 +76,12 @@ fn with_files<'a>(alloc: Global, name: &'a str) -> Result<Command<'a>, AllocErro
 }
 
 /// The commands with one operand: their names, what it is, and whether it is required.
-const WITH_OPERAND: [(&str, &str, bool); 5] = [
+const WITH_OPERAND: [(&str, &str, bool); 6] = [
     ("check", "file", false),
     ("simulate", "file", false),
     ("explain", "file", false),
     ("report", "file", false),
+    ("margin", "file", false),
     ("frame", "hex", true),
 ];
 
@@ -126,6 +127,7 @@ fn asked_of_file(name: &str, file: Option<String>) -> Result<Task, WordsFault> {
         "simulate" => Ok(Task::Simulate(file)),
         "explain" => Ok(Task::Explain(file)),
         "report" => Ok(Task::Report(file)),
+        "margin" => Ok(Task::Margin(file)),
         _ => Err(WordsFault::Usage),
     }
 }

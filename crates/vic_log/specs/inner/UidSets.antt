@@ -8,7 +8,7 @@ use Rattle.vic_log.specs.declared.uid_set.UidSet.{UidSet}
 
 -- which of that many rows a number selects
 abbrev pub place_of : ℕ → ℕ → ℕ
-place_of u rows = (u * SPREAD % 2 ^ 64 / 2 ^ 32) % rows
+place_of u rows = u * SPREAD % 2 ^ 64 * rows / 2 ^ 64
 
 -- the row of a number
 abbrev pub row_of : List (List ℕ) → ℕ → List ℕ

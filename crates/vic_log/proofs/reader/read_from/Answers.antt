@@ -1,4 +1,4 @@
-use Rattle.vic_log.proofs.Words.{rules, ◌≡◌, ◌++◌, ℕ, List, Option, Result, Err, MatchResult, IfErr, take, length-append, length-take-le, false, true, ap, ◌∙◌, append-nil, append_assoc, arith, ◌↔◌, common_steps, Consumes-trans, err_from_is_err_and, Consumes, LogFault, Read, IsEarly, lines_of_text, LogValue, IsLogOf, Refuses, Consumes-nil, KeepsOrHides, HandsOut, TellsOn, ReadsWhere}
+use Rattle.vic_log.proofs.Words.{rules, ◌≡◌, ◌++◌, ℕ, List, Option, Result, Err, MatchResult, IfErr, subst, take, length-append, length-take-le, false, true, ap, ◌∙◌, append-nil, append_assoc, arith, ◌↔◌, common_steps, Consumes-trans, err_from_is_err_and, Consumes, LogFault, Read, IsEarly, lines_of_text, LogValue, IsLogOf, Refuses, Consumes-nil, KeepsOrHides, HandsOut, TellsOn, ReadsWhere}
 use Rattle.vic_log.proofs.reader.read_from.Goals as goal
 
 handed : (a b : Option (List ℕ)) (xs : List ℕ) → Consumes a b xs → HandsOut a b xs × TellsOn a b
@@ -73,7 +73,11 @@ pub loop-count-smaller : goal.loop-count-smaller
 loop-count-smaller g c = grind (arith, common_steps, length-append, length-take-le)
 
 pub returns-clause-answer : goal.returns-clause-answer
-returns-clause-answer g c = grind (arith, common_steps, append-nil, handed, reads_end)
+returns-clause-answer g c =
+    let i = c.loop-count.invariant in
+    let none : c.loop-count.count ≡ 0 = omega arith in
+    let bytes : i.text ++ take c.loop-count.count c.loop-count.piece ≡ i.text = rw none (append-nil i.text) in
+    (i.text, (handed _ _ i.text (subst (Consumes _ _) bytes i.given)).0, (reads_end _ i.text c.finish.result (i.end none) (c.finish.ensures.answer i.text i.fed)).0)
 
 pub returns-clause-returned : goal.returns-clause-returned
 returns-clause-returned g c = grind (arith, common_steps, append-nil, reads_end)

@@ -1,16 +1,21 @@
-use Rattle.vic_verdict.proofs.Words.{◌∙◌, ap, sym, Some, Entry, entries}
+use Rattle.vic_verdict.proofs.Words.{◌≡◌, ◌∙◌, ap, arith, sym, Some, Entry, entries}
 use Rattle.vic_verdict.proofs.Listing.{entry_at}
-use Rattle.vic_verdict.proofs.Meeting.{heard_kept, heard_pushed}
+use Rattle.vic_verdict.proofs.Meeting.{heard_at_list, heard_kept, heard_pushed}
 use Rattle.vic_verdict.proofs.facts.heard_uids.Goals as goal
 use Rattle.vic_verdict.proofs.facts.heard_uids.Goals.{in-Some+in_ok-push, in_default}
 
-pub loop-line-preserved : goal.loop-line-preserved
-loop-line-preserved c =
+pub loop-index-preserved : goal.loop-index-preserved
+loop-index-preserved c =
     let es = entries c.args.lines.now in
-    let i = c.loop-line.line-index in
-    let l = c.line-item.result in
-    let here = entry_at c.args.lines.now i l c.loop-line-test.true c.line-item.is ∙ ap (λ (e : Entry). Some e) (sym c.item.ensures) in
+    let i = c.loop-index.index in
+    let here = entry_at c.args.lines.now i c.index-lines-index.result (omega (arith, c.loop-index-test.true, c.list_start-index-end.ensures.within)) c.index-lines-index.is ∙ ap (λ (e : Entry). Some e) (sym c.item.ensures) in
     elim c.match-heard.branch [
-      | in-Some+in_ok-push w ↦ rw (w.heard-is, w.in_ok-push.ensures.items) (heard_pushed es i c.loop-line.heard.items c.item.result _ here (rw w.in-Some.is at c.heard.ensures.some) c.loop-line.invariant)
-      | in_default w ↦ rw w.heard-is (heard_kept es i c.loop-line.heard.items c.item.result here w.in_default.ensures.none c.loop-line.invariant)
+      | in-Some+in_ok-push w ↦ rw (w.heard-is, w.in_ok-push.ensures.items) (heard_pushed es i c.loop-index.heard.items c.item.result _ here (rw w.in-Some.is at c.heard.ensures.some) c.loop-index.invariant)
+      | in_default w ↦ rw w.heard-is (heard_kept es i c.loop-index.heard.items c.item.result here w.in_default.ensures.none c.loop-index.invariant)
     ]
+
+pub returns : goal.returns
+returns c =
+    let start = c.list_start-index-end in
+    let end : c.loop-index.index ≡ start.result = omega (arith, c.loop-index-test.false, c.loop-index.auto.index-end) in
+    heard_at_list (entries c.args.lines.now) start.result _ _ start.ensures.list start.ensures.within (rw end at c.loop-index.invariant)

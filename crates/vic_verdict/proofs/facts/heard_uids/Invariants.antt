@@ -1,5 +1,5 @@
 use Rattle.vic_verdict.proofs.Words.{entries, HasHeard}
 use Rattle.vic_verdict.proofs.facts.heard_uids.Given as goal
 
-abbrev pub invariant-loop-line : goal.invariant-loop-line
-invariant-loop-line l = HasHeard (entries l.lines) l.line-index l.heard.items
+abbrev pub invariant-loop-index : goal.invariant-loop-index
+invariant-loop-index l = HasHeard (entries l.lines) l.index l.heard.items

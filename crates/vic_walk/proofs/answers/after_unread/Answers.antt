@@ -1,9 +1,10 @@
 use Rattle.vic_walk.proofs.Words.{◌≡◌, ◌-◌, ◌∙◌, Entry, Some, ap, arith, cases_lt, inl, inr, sym}
-use Rattle.vic_walk.proofs.Lines.{entry_at, read_past}
+use Rattle.vic_walk.proofs.Lines.{entry_at}
+use Rattle.vic_walk.proofs.ListLaws.{unread_past}
 use Rattle.vic_walk.proofs.answers.after_unread.Goals as goal
 
 pub loop-after-init : goal.loop-after-init
-loop-after-init c = record { within = omega arith; read = λ i past. read_past c.args.lines.now i past }
+loop-after-init c = record { within = c.list_start-after.ensures.within; read = λ i past. unread_past _ c.list_start-after.result i c.list_start-after.ensures.list past }
 
 pub loop-after-preserved : goal.loop-after-preserved
 loop-after-preserved c =

@@ -1,13 +1,12 @@
-use Rattle.std.proofs.Common.{Some, arith, ap, slice_get, length, refl, sym, ◌∙◌, ◌≡◌, option_map}
-use Rattle.std.proofs.lemmas.Option.{slice_get-map, slice_get_read}
+use Rattle.vic_walk.proofs.Words.{Some, Entry, arith, ap, cases_lt, inl, inr, sym, ◌∙◌, ◌≡◌, slice_get}
 use Rattle.vic_log.specs.Order.{entries}
-use Rattle.vic_log.specs.declared.entry.Entry.{Entry}
-use Rattle.vic_log.specs.declared.entry.LogLine.{LogLine}
 use Rattle.vic_walk.proofs.CutLaws.{all_cuts, cuts_here, more_again}
+use Rattle.vic_walk.proofs.Lines.{entry_at}
+use Rattle.vic_walk.proofs.ListLaws.{cuts_past}
 use Rattle.vic_walk.proofs.parts.gather.Goals as goal
 
-pub loop-line-init : goal.loop-line-init
-loop-line-init c = record {
+pub loop-index-init : goal.loop-index-init
+loop-index-init c = record {
   cursor = c.first-cursor.ensures (entries c.args.lines.now);
   cut = λ i lt. absurd (omega (arith, lt));
   borders = c.in_ok-borders.ensures.borders;
@@ -15,21 +14,26 @@ loop-line-init c = record {
   end = c.in_ok-borders.ensures.end;
 }
 
-pub loop-line-preserved : goal.loop-line-preserved
-loop-line-preserved c =
+pub loop-index-preserved : goal.loop-index-preserved
+loop-index-preserved c =
     let lines = c.args.lines.now in
     let es = entries lines in
-    let l = c.loop-line in
+    let l = c.loop-index in
     let i = l.invariant in
     let masked = c.in_ok-push_mask.ensures in
     let named = c.in_ok-push_named.ensures in
     let more = more_again _ _ _ masked.more named.more in
-    let at = slice_get_read lines (length lines) l.line-index c.line-item.result refl c.loop-line-test.true c.line-item.is in
-    let here : slice_get es l.line-index ≡ Some c.item-entry.result = slice_get-map (λ (x : LogLine). x.item) lines l.line-index ∙ ap (option_map (λ (x : LogLine). x.item)) at ∙ ap (λ (e : Entry). Some e) (sym c.item-entry.ensures) in
+    let here : slice_get es l.index ≡ Some c.item-entry.result = entry_at lines l.index c.index-lines-index.result (omega (arith, c.loop-index-test.true, c.list_start-index-end.ensures.within)) c.index-lines-index.is ∙ ap (λ (e : Entry). Some e) (sym c.item-entry.ensures) in
     record {
-      cursor = c.advance.ensures es l.line-index c.requires.order here i.cursor;
-      cut = all_cuts es l.line-index _ _ more i.cut (cuts_here es l.line-index _ _ _ here (masked.mask es l.line-index c.requires.valid i.cursor) named.more named.named);
+      cursor = c.advance.ensures es l.index c.requires.order here i.cursor;
+      cut = all_cuts es l.index _ _ more i.cut (cuts_here es l.index _ _ _ here (masked.mask es l.index c.requires.valid i.cursor) named.more named.named);
       borders = more.borders i.borders;
       first = more.kept _ i.first;
       end = more.kept _ i.end;
     }
+
+pub returns-clause-cut : goal.returns-clause-cut
+returns-clause-cut c i within = elim (cases_lt i c.loop-index.index) [
+  | inl before ↦ c.loop-index.invariant.cut i before
+  | inr past ↦ cuts_past (entries c.args.lines.now) _ c.list_start-index-end.result i c.list_start-index-end.ensures.list (omega (arith, past, c.loop-index-test.false))
+]

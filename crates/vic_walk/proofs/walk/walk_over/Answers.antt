@@ -3,6 +3,7 @@ use Rattle.vic_log.specs.declared.entry.LogLine.{LogLine}
 use Rattle.vic_walk.specs.inner.Spans.{IsPlace}
 use Rattle.vic_log.specs.Order.{entries}
 use Rattle.vic_walk.proofs.Lines.{entry_at, number_above}
+use Rattle.vic_walk.proofs.ListLaws.{walk_at_list}
 use Rattle.vic_walk.proofs.walk.walk_over.Goals as goal
 
 pub loop-index-init : goal.loop-index-init
@@ -15,20 +16,20 @@ loop-index-init c = record {
 pub overflow_cast-index : goal.overflow_cast-index
 overflow_cast-index c =
     let i = c.loop-index.index in
-    let at = slice_get_read c.args.lines.now (length c.args.lines.now) i c.index-lines-index.result refl c.loop-index-test.true c.index-lines-index.is in
+    let at = slice_get_read c.args.lines.now (length c.args.lines.now) i c.index-lines-index.result refl (omega (arith, c.loop-index-test.true, c.list_start-index-end.ensures.within)) c.index-lines-index.is in
     omega (arith, number_above 0 c.args.lines.now i c.index-lines-index.result c.requires.rising at, c.entry_of-entry.ensures.number)
 
 pub pass-requires-clause-at : goal.pass-requires-clause-at
 pass-requires-clause-at c =
     let i = c.loop-index.index in
-    let at = slice_get_read c.args.lines.now (length c.args.lines.now) i c.index-lines-index.result refl c.loop-index-test.true c.index-lines-index.is in
+    let at = slice_get_read c.args.lines.now (length c.args.lines.now) i c.index-lines-index.result refl (omega (arith, c.loop-index-test.true, c.list_start-index-end.ensures.within)) c.index-lines-index.is in
     omega (arith, number_above 0 c.args.lines.now i c.index-lines-index.result c.requires.rising at, c.entry_of-entry.ensures.number)
 
 pub returns-then-not-branch : goal.returns-then-not-branch
 returns-then-not-branch c =
     let es = entries c.args.lines.now in
     let l = c.loop-index in
-    let here = entry_at c.args.lines.now l.index c.index-lines-index.result c.loop-index-test.true c.index-lines-index.is ∙ ap (λ (e : Entry). Some e) (sym c.entry_of-entry.ensures.value) in
+    let here = entry_at c.args.lines.now l.index c.index-lines-index.result (omega (arith, c.loop-index-test.true, c.list_start-index-end.ensures.within)) c.index-lines-index.is ∙ ap (λ (e : Entry). Some e) (sym c.entry_of-entry.ensures.value) in
     let place : IsPlace c.args.parts.now es l.index c.entry_of-entry.result l.rounds = record { here = here; valid = c.requires.valid; rounds_here = l.invariant.rounds; borders = c.requires.borders; cut = c.requires.cut } in
     let fine = c.in_ok-pass.ensures.fine es place l.invariant.walk l.invariant.borne in (
       slice_get_within es l.index c.entry_of-entry.result here,
@@ -41,7 +42,7 @@ pub loop-index-preserved : goal.loop-index-preserved
 loop-index-preserved c =
     let es = entries c.args.lines.now in
     let l = c.loop-index in
-    let here = entry_at c.args.lines.now l.index c.index-lines-index.result c.loop-index-test.true c.index-lines-index.is ∙ ap (λ (e : Entry). Some e) (sym c.entry_of-entry.ensures.value) in
+    let here = entry_at c.args.lines.now l.index c.index-lines-index.result (omega (arith, c.loop-index-test.true, c.list_start-index-end.ensures.within)) c.index-lines-index.is ∙ ap (λ (e : Entry). Some e) (sym c.entry_of-entry.ensures.value) in
     let place : IsPlace c.args.parts.now es l.index c.entry_of-entry.result l.rounds = record { here = here; valid = c.requires.valid; rounds_here = l.invariant.rounds; borders = c.requires.borders; cut = c.requires.cut } in
     let fine = c.in_ok-pass.ensures.fine es place l.invariant.walk l.invariant.borne in
     record {
@@ -52,5 +53,6 @@ loop-index-preserved c =
 
 pub returns : goal.returns
 returns c =
-    let end : length (entries c.args.lines.now) ≡ c.loop-index.index = omega (arith, length-map c.args.lines.now (λ (x : LogLine). x.item), c.loop-index-test.false, c.loop-index.auto.index-end) in
-    rw end (c.loop-index.invariant.walk, c.loop-index.invariant.borne)
+    let start = c.list_start-index-end in
+    let end : c.loop-index.index ≡ start.result = omega (arith, c.loop-index-test.false, c.loop-index.auto.index-end) in
+    walk_at_list c.args.parts.now (entries c.args.lines.now) start.result c.loop-index.walk start.ensures.list (omega (arith, length-map c.args.lines.now (λ (x : LogLine). x.item), start.ensures.within)) (rw end at c.loop-index.invariant.walk) (rw end at c.loop-index.invariant.borne)

@@ -1,4 +1,4 @@
-use Rattle.vic_walk.proofs.Words.{◌≡◌, ◌∙◌, ℕ, Bool, false, Some, inl, inr, Entry, Collision, Garbled, ap, refl, silences, wakes}
+use Rattle.vic_walk.proofs.Words.{◌≡◌, ◌∙◌, ℕ, false, Some, inl, inr, Entry, Collision, Garbled, ap, refl, silences, wakes}
 use Rattle.vic_walk.specs.Needs.{needs, needs_of}
 use Rattle.vic_walk.proofs.GoingBack.{back_none, reach_past, reach_still}
 use Rattle.vic_walk.proofs.Steps.{nothing_collision, nothing_garbled}
