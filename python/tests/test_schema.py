@@ -58,7 +58,7 @@ class Schema(Command):
 
     def test_each_field_is_needed(self):
         for told, kind in {kind: (told, kind) for told, kind in self.objects()}.values():
-            has_more = kind in ("collection", "log")
+            has_more = kind in ("collection", "log", "survey")
             for field in self.schema["$defs"][kind]["required"] if has_more else told:
                 left = {key: value for key, value in told.items() if key != field}
                 self.assertFalse(self.fits(left, kind)[1], (kind, field))
