@@ -5,7 +5,7 @@ from enum import Enum
 from functools import cached_property
 from typing import Iterable, Iterator, NamedTuple, Optional, Sequence
 
-from .._answers import FindingKind, Mask
+from .._answers import FindingKind, Mask, Weakest
 from .._calls import margin_listed, overlooked, reconcile_parts
 from .._process import NoAnswer, shown
 from .catalogue import Catalogue
@@ -57,12 +57,10 @@ class Left(NamedTuple):
 
 
 class Least(NamedTuple):
-    """The margin of a collection: in how many slots a tag that isn't expected would have had to be
-    missed in the field of one log, where it is least; the log, and its weakest mask."""
+    """The margin of a collection, and the first log in whose field it is so small."""
 
-    margin: int
     log: int
-    mask: Mask
+    weakest: Weakest
 
 
 class Collection:
@@ -92,7 +90,9 @@ class Collection:
     @property
     def is_small(self) -> bool:
         """Whether it is complete, and its margin is less than was asked for, or isn't known."""
-        return self.answer.is_complete and (self.least.margin if self.least else 0) < self.wanted
+        if not self.wanted or not self.answer.is_complete:
+            return False
+        return self.least is None or self.least.weakest.margin < self.wanted
 
     def of(self, state: State) -> list[Item]:
         """The items with a state."""
@@ -145,8 +145,8 @@ class Collection:
                 weakest = margin_listed(without_list(text), expected).weakest if text else None
             if weakest is None:
                 return None
-            found.append(Least(weakest.margin, index, weakest.mask))
-        return min(found)
+            found.append(Least(index, weakest))
+        return min(found, key=lambda it: it.weakest.margin)
 
     def overlooked(self) -> dict[int, int]:
         """In how many slots each missing tag was overlooked, in the field of the log in which these

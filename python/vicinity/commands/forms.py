@@ -7,7 +7,7 @@ import os
 from collections import Counter
 from typing import Any, Callable, Iterable, Iterator, Mapping, Sequence, Union
 
-from .._answers import Finding, FindingKind, Weakest
+from .._answers import Finding, FindingKind
 from .._fields import SCHEMA, fields, margin_fields, mask_fields, small, small_fields
 from .._process import NO_ANSWER, shown
 from ..collections.collection import Collection, Item, Left, State
@@ -53,7 +53,7 @@ def small_margin(found: Collection) -> str:
     if least is None:
         return small(found.answer, None, found.wanted)
     where = f" in {shown(found.logs[least.log].name)}"
-    return small(found.answer, Weakest(least.margin, least.mask), found.wanted, where)
+    return small(found.answer, least.weakest, found.wanted, where)
 
 
 def _findings(found: Collection) -> Iterator[str]:
@@ -81,8 +81,7 @@ def notes(found: Collection) -> Iterator[str]:
         yield HEARD
     least = found.least
     if least is not None:
-        yield missed(Weakest(least.margin, least.mask),
-                     f" in the field of {shown(found.logs[least.log].name)}")
+        yield missed(least.weakest, f" in the field of {shown(found.logs[least.log].name)}")
     names = [shown(log.name) for log in found.logs if log.captured.get("holds") is False]
     if names:
         more = [count(len(names) - MOST_NAMES, "other log")] * (len(names) > MOST_NAMES)
@@ -167,8 +166,8 @@ def _margin(found: Collection) -> dict[str, object]:
     least = found.least
     if least is None:
         return {}
-    return {"margin": least.margin,
-            "weakest": {"file": found.logs[least.log].name, **mask_fields(least.mask)}}
+    return {"margin": least.weakest.margin,
+            "weakest": {"file": found.logs[least.log].name, **mask_fields(least.weakest.mask)}}
 
 
 def _of_aside(log: Log) -> dict[str, object]:
