@@ -166,6 +166,17 @@ struct vicinity_mask {
     uint64_t value;
 };
 
+/*
+ * The margin of a log: the least number of slots in which a tag that isn't listed was overlooked.
+ * The mask is the first, by length and then by value, all of whose UIDs have this margin and aren't
+ * listed. All is 0 if there is no margin, since the log is impossible or the text is refused.
+ */
+struct vicinity_weakest {
+    uint32_t margin;
+    uint32_t mask_len;   /* in bits, 0 to 56 */
+    uint64_t mask_value; /* below two to the power of mask_len */
+};
+
 /* A line of a log, LF included, then zeros. */
 struct vicinity_line {
     uint32_t fault; /* 0, or enum vicinity_refusal */
@@ -192,6 +203,7 @@ _Static_assert(sizeof(struct vicinity_frame) == 24, "the size of struct vicinity
 _Static_assert(sizeof(struct vicinity_request) == 32, "the size of struct vicinity_request");
 _Static_assert(sizeof(struct vicinity_reply) == 16, "the size of struct vicinity_reply");
 _Static_assert(sizeof(struct vicinity_mask) == 16, "the size of struct vicinity_mask");
+_Static_assert(sizeof(struct vicinity_weakest) == 16, "the size of struct vicinity_weakest");
 _Static_assert(sizeof(struct vicinity_line) == 140, "the size of struct vicinity_line");
 _Static_assert(sizeof(struct vicinity_name) == 32, "the size of struct vicinity_name");
 #endif
@@ -315,6 +327,38 @@ uint32_t vicinity_reconcile(const uint64_t *expected, size_t count, const uint64
                             size_t certain_count, const struct vicinity_mask *masks,
                             size_t mask_count, struct vicinity_answer *answer,
                             struct vicinity_finding *findings, size_t room, size_t *needed);
+
+/*
+ * Judges a log and writes its margin. A UID was overlooked in a slot in which, by the log, its tag
+ * should have answered, and that is logged as silent, or as the reply `R` of another UID. The
+ * margin of the log is in how many slots the UIDs of the weakest mask were overlooked, and no
+ * unlisted UID was in fewer. So for VICINITY_COMPLETE it is at least 1: a tag that isn't listed
+ * would have had to be missed in so many slots. It is written for every possible log, complete or
+ * not; `*weakest` is all 0 for VICINITY_IMPOSSIBLE, _REFUSED and _NO_ANSWER.
+ */
+uint32_t vicinity_margin(const uint8_t *text, size_t text_len, struct vicinity_answer *answer,
+                         struct vicinity_weakest *weakest);
+
+/* As vicinity_margin, for a text and a list of UIDs as vicinity_check_listed takes them. */
+uint32_t vicinity_margin_listed(const uint8_t *text, size_t text_len, const uint64_t *uids,
+                                size_t count, struct vicinity_answer *answer,
+                                struct vicinity_weakest *weakest);
+
+/*
+ * Judges a log and writes in how many of its slots each UID was overlooked, as with
+ * vicinity_margin. The UIDs may be any, listed or not, in any order, also repeatedly; they don't
+ * change the answer. The numbers are at the start of `places`, in the order of `uids`, if `room` is
+ * at least `count`; otherwise nothing is written there. Of an impossible log they are the same as
+ * of any other. All `count` are 0 for VICINITY_REFUSED, and nothing is written for
+ * VICINITY_NO_ANSWER.
+ *
+ * If the text has no fault, a UID that doesn't begin E0 is VICINITY_REFUSED, with
+ * VICINITY_FAULT_NOT_VICINITY: the first one, at the line that it would have if the text were
+ * followed by a line for each UID. A line beyond 4,294,967,295 is written as that number.
+ */
+uint32_t vicinity_overlooked(const uint8_t *text, size_t text_len, const uint64_t *uids,
+                             size_t count, struct vicinity_answer *answer, uint32_t *places,
+                             size_t room);
 
 /*
  * Fills in the slots of a log, as the tags that it lists would answer. What `vicinity simulate`

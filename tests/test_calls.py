@@ -7,10 +7,10 @@ import re
 
 import pytest
 from vicinity import _native
-from vicinity._native import AnswerStruct, FindingStruct, MaskStruct
+from vicinity._native import AnswerStruct, FindingStruct, MaskStruct, WeakestStruct
 
 from helpers.frames import with_crc
-from helpers.library import SIZE, U64, answer_to, findings_of, masks, uids
+from helpers.library import SIZE, U32, U64, answer_to, findings_of, masks, uids
 from helpers.lines import log_of, reconciled_rows
 from helpers.program import TOP
 from helpers.rows import LIBRARIES, MODULES
@@ -30,6 +30,7 @@ ALONE = 56, 0x040100000000A1
 BESIDES_A = [(1, 0), (2, 3), (3, 5), (4, 9), (5, 0x11), (6, 1), (7, 0x61), (8, 0x21)]
 BESIDES_BOTH = sorted({*BESIDES_A[1:], (2, 0), (3, 6), (4, 0xA), (5, 2), (6, 0x12), (7, 0x72),
                        (8, 0x32)})
+WITHOUT_TEXT = "refused at line 1: Header"
 # How many random numbers are written and random frames read.
 NUMBER = 200
 
@@ -209,6 +210,65 @@ def test_surveys(library_of, short, status, certain, open_masks):
         assert (told.status, bytes(told)) == (status, bytes(checked))
 
 
+A, B, Z = "E0040100000000A1", "E0040100000000B2", "E000000000000000"
+
+
+def refusable(line):
+    """The answer that a line says, with the number of its fault."""
+    name = line.rpartition(" ")[2]
+    return answer_to(line, 1 + LINE_FAULTS.index(name) if name in LINE_FAULTS else 0)
+
+
+# A log that isn't complete has a margin too, unless it is impossible.
+MEASURED = [
+    ("I1 S", "complete 0", (1, 0, 0)), ("I1 RA UA", "complete 1", (1, 1, 0)),
+    ("I1 RA QA I1 S UA", "complete 1", (2, 1, 0)), ("V2 I1 S F I1 S", "complete 0", (2, 0, 0)),
+    ("V3 I1 HA QA I1 S UA", "complete 1", (1, 1, 0)),
+    ("I1 RA QA QB I1 S UA", "complete 1", (1, 56, 0x040100000000B2)),
+    ("I1 RA", f"unlisted {A}", (0, *ALONE)), ("I1 C UA", "unsettled 1 00", (0, 1, 0)),
+    ("I1 S UA", f"absent {A}", (1, 1, 0)), ("I1 S I1 RA", "impossible at line 5", (0, 0, 0)),
+    ("UA UA", "refused at line 3: DuplicateListed", (0, 0, 0))]
+
+
+@pytest.mark.parametrize(("short", "line", "weakest"), MEASURED, ids=[row[0] for row in MEASURED])
+def test_the_margin_of_a_log(library_of, short, line, weakest):
+    """Also with its list removed and passed separately."""
+    lines = log_of(short).splitlines(keepends=True)
+    text = b"".join(given for given in lines if not given.startswith(b"U"))
+    listed = [int(given[2:], 16) for given in lines if given.startswith(b"U")]
+    for name, *given in ("margin", b"".join(lines)), ("margin_listed", text, uids(listed)):
+        told, least = (kind.from_buffer_copy(b"\x09" * ctypes.sizeof(kind))
+                       for kind in (AnswerStruct, WeakestStruct))
+        status = library_of.call(name, *given, ctypes.byref(told), ctypes.byref(least))
+        assert (status, bytes(told)) == (told.status, bytes(refusable(line)))
+        assert (least.margin, least.mask_len, least.mask_value) == weakest
+
+
+OVERLOOKED = [
+    ("I1 RA", [UID_A, UID_B, UID_Z], f"unlisted {A}", [0, 1, 1]),
+    ("I1 RA QA I1 S UA", [UID_B, UID_A, UID_B], "complete 1", [2, 0, 2]),
+    ("I1 RA QA QB I1 S UA", [UID_B, UID_Z], "complete 1", [1, 2]), ("I1 S", [], "complete 0", []),
+    ("I1 S I1 RA", [UID_A, UID_B], "impossible at line 5", [1, 2]),
+    ("UA UA", [UID_A, 0], "refused at line 3: DuplicateListed", [0, 0]),
+    ("I1 S", [UID_A, 0xDF << 56, 0], "refused at line 5: NotVicinity", [0, 0, 0]),
+    ("I1 S UA", [0xE1 << 56], "refused at line 5: NotVicinity", [0]),
+    (r'"vicinity-log 1\r\n\n\n# the end"', [0], "refused at line 5: NotVicinity", [0]),
+    ('""', [0], WITHOUT_TEXT, [0])]
+
+
+@pytest.mark.parametrize(("short", "asked", "line", "places"), OVERLOOKED,
+                         ids=[f"{row[0]} {len(row[1])}" for row in OVERLOOKED])
+def test_how_often_uids_were_overlooked(library_of, short, asked, line, places):
+    """In buffers of every size, whose bytes were 7 before."""
+    for count in sorted({0, max(len(places) - 1, 0), len(places), len(places) + 3}):
+        told, room = AnswerStruct.from_buffer_copy(b"\x09" * 104), (U32 * count)()
+        ctypes.memset(room, 7, ctypes.sizeof(room))
+        status = library_of.call("overlooked", log_of(short), uids(asked), ctypes.byref(told), room)
+        assert (status, bytes(told)) == (told.status, bytes(refusable(line)))
+        written = bytes((U32 * len(places))(*places)) if len(places) <= count else b""
+        assert bytes(room) == written.ljust(ctypes.sizeof(room), b"\7")
+
+
 def reconciled(library, expected, certain, open_masks, lines, fault=0):
     """What many logs say, in buffers of every size; faultless arrays also in other orders, and with
     elements twice."""
@@ -219,9 +279,6 @@ def reconciled(library, expected, certain, open_masks, lines, fault=0):
         told = library.into_each(FindingStruct, [] if fault else findings_of(lines), "reconcile",
                                  uids(listed), uids(heard), masks(asked))
         assert bytes(told) == bytes(answer_to(lines[0], fault))
-
-
-A, B, Z = "E0040100000000A1", "E0040100000000B2", "E000000000000000"
 
 
 @pytest.mark.parametrize(("expected", "certain", "open_masks", "lines"), [
@@ -279,7 +336,6 @@ def test_row_of_many_logs(library_of, expected, logs, lines):
 SOMETHING = uids([0, 0])
 NOTHING = (None, ctypes.addressof(SOMETHING) + 1)
 LIST, SILENT = log_of("UA"), log_of("I1 S")
-WITHOUT_TEXT = "refused at line 1: Header"
 # Calls by what stands before the answer, with the answer and how many elements each array needs.
 EMPTY = [
     ("check", [0], WITHOUT_TEXT, []), ("explain", [0], WITHOUT_TEXT, [0]),
@@ -309,6 +365,9 @@ def test_nothing_at_a_pointer(native, nothing):
     room, number = (ctypes.c_char * 64)(), SIZE(9)
     assert calls.vicinity_simulate(*empty, room, SIZE(64), ctypes.byref(number)) == 3
     assert room.value == f"{WITHOUT_TEXT}\n".encode() and number.value == len(room.value)
+    silent, weakest = (SILENT, SIZE(len(SILENT))), WeakestStruct()
+    assert [calls.vicinity_margin_listed(*silent, *empty, ctypes.byref(told), ctypes.byref(weakest)),
+            calls.vicinity_overlooked(*silent, *empty, ctypes.byref(told), *empty)] == [0, 0]
     frame = ctypes.byref((U64 * 32)())
     assert [calls.vicinity_add_crc(*empty, frame), calls.vicinity_read_request(*empty, frame),
             calls.vicinity_read_response(*empty, frame),

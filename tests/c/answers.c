@@ -2,7 +2,7 @@
  *
  * A text is given as its length in decimal on a line, and its bytes. For each, the answer of each call is written with every
  * field; the population in buffers of none, one and as many elements as it needs; the certain UIDs and the open masks, and
- * what these say of two UIDs. */
+ * what these say of two UIDs; the margin of the log, and of these UIDs. */
 #include "vicinity.h"
 
 #include <inttypes.h>
@@ -50,9 +50,10 @@ static void *elements(size_t count, size_t size)
     return room;
 }
 
+static const uint64_t expected[] = {UINT64_C(0xE0040100000000B2), UINT64_C(0xE0040100000000A1)};
+
 static void reconcile(const uint64_t *certain, size_t uids, const struct vicinity_mask *masks, size_t count)
 {
-    static const uint64_t expected[] = {UINT64_C(0xE0040100000000B2), UINT64_C(0xE0040100000000A1)};
     struct vicinity_answer answer;
     size_t needed;
     vicinity_reconcile(expected, 2, certain, uids, masks, count, &answer, (struct vicinity_finding *)nothing, 0, &needed);
@@ -84,6 +85,17 @@ static void survey(const uint8_t *text, size_t len)
     free(masks);
 }
 
+static void measure(const uint8_t *text, size_t len)
+{
+    struct vicinity_answer answer;
+    struct vicinity_weakest weakest;
+    uint32_t places[] = {7, 7, 7};
+    show(&answer, vicinity_margin(text, len, &answer, &weakest));
+    printf("%" PRIu32 " %" PRIu32 " %" PRIX64 "\n", weakest.margin, weakest.mask_len, weakest.mask_value);
+    show(&answer, vicinity_overlooked(text, len, expected, 2, &answer, places, 3));
+    printf("%" PRIu32 " %" PRIu32 " %" PRIu32 "\n", places[0], places[1], places[2]);
+}
+
 int main(void)
 {
     size_t len;
@@ -96,6 +108,7 @@ int main(void)
         show(&answer, vicinity_check(text, len, &answer));
         explain(text, len, 0);
         survey(text, len);
+        measure(text, len);
         free(text);
     }
     return ferror(stdin) || fflush(stdout) ? 1 : 0;

@@ -16,9 +16,12 @@ enum which {
     OPEN_MASKS,
     SURVEY,
     RECONCILE,
+    MARGIN,
+    OVERLOOKED,
     CHECK_LISTED,
     EXPLAIN_LISTED,
     REPORT_LISTED,
+    MARGIN_LISTED,
     SIMULATE,
     LISTED,
     CALLS
@@ -66,6 +69,8 @@ struct given {
     uint64_t room[PLACES];
     struct vicinity_finding findings[PLACES];
     struct vicinity_mask masks[PLACES];
+    struct vicinity_weakest weakest;
+    uint32_t places[PLACES];
     uint8_t filled[ROOM];
 };
 
@@ -98,6 +103,12 @@ static void call(enum which which, const uint8_t *text, size_t len, size_t numbe
         given->status = vicinity_reconcile(uids, 2, certain, certain_count, open_masks, mask_count, &given->answer,
                                            given->findings, PLACES, &given->needed);
         break;
+    case MARGIN:
+        given->status = vicinity_margin(text, len, &given->answer, &given->weakest);
+        break;
+    case OVERLOOKED:
+        given->status = vicinity_overlooked(text, len, uids, 2, &given->answer, given->places, PLACES);
+        break;
     case CHECK_LISTED:
         given->status = vicinity_check_listed(text, len, uids, 2, &given->answer);
         break;
@@ -108,6 +119,9 @@ static void call(enum which which, const uint8_t *text, size_t len, size_t numbe
     case REPORT_LISTED:
         given->status =
             vicinity_report_listed(text, len, uids, 2, &given->answer, given->findings, PLACES, &given->needed);
+        break;
+    case MARGIN_LISTED:
+        given->status = vicinity_margin_listed(text, len, uids, 2, &given->answer, &given->weakest);
         break;
     case SIMULATE:
         given->status = vicinity_simulate(text, len, given->filled, ROOM, &given->needed);
@@ -142,6 +156,8 @@ static void none(enum which which, struct given *given)
     given->needed = 0;
     if (which == SURVEY)
         given->masks_needed = 0;
+    if (which == MARGIN || which == MARGIN_LISTED)
+        memset(&given->weakest, 0, sizeof given->weakest);
 }
 
 /* Removes the lines that begin with one of these letters from a text. */

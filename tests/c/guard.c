@@ -86,6 +86,18 @@ static uint32_t simulate(const uint8_t *text, size_t len, answer *told, void *ro
     return told->status = vicinity_simulate(text, len, room, places, needed);
 }
 
+/* What a log is measured by, into structs and buffers that end where memory ends, the last with too few places. */
+static int measures(const uint8_t *text, size_t len)
+{
+    answer told, again;
+    struct vicinity_weakest *weakest = (struct vicinity_weakest *)ends[BUFFER] - 1;
+    uint32_t *places = (uint32_t *)ends[BUFFER];
+    return vicinity_margin(text, len, &told, weakest) == told.status &&
+           vicinity_margin_listed(text, len, expected, COUNT, &again, weakest) == again.status &&
+           vicinity_overlooked(text, len, expected, COUNT, &again, places - COUNT, COUNT) == told.status &&
+           vicinity_overlooked(text, len, expected, COUNT, &again, places - COUNT + 1, COUNT - 1) == told.status;
+}
+
 /* Makes each call on a text whose end is the end of memory. */
 static int judges(const uint8_t *text, size_t len)
 {
@@ -97,7 +109,8 @@ static int judges(const uint8_t *text, size_t len)
            vicinity_check_listed(text, len, expected, COUNT, &again) == again.status &&
            lists(explain_beside, sizeof(uint64_t), text, len) &&
            lists(report_beside, sizeof(struct vicinity_finding), text, len) &&
-           lists(reconcile, sizeof(struct vicinity_finding), text, len) && lists(simulate, 1, text, len);
+           lists(reconcile, sizeof(struct vicinity_finding), text, len) && lists(simulate, 1, text, len) &&
+           measures(text, len);
 }
 
 /* Whether a frame that is both a request and a reply is read, and no part of it; CRCs and lines are written of all parts. */

@@ -15,6 +15,7 @@ mod listing;
 mod margin;
 mod numbers;
 mod output;
+mod overlooked;
 mod pieces;
 mod population;
 mod reconcile;
@@ -40,6 +41,7 @@ pub use lines::LINE_ROOM;
 pub use listing::{LISTED, Listing, NOT_LISTED, list_text, listed_in, listing_numbers};
 pub use margin::{Measured, margin_text, measured_answer, run_margin};
 pub use numbers::{Kind, NO_ANSWER, VicinityAnswer, numbers_of};
+pub use overlooked::{Overlooked, overlooked_answer, overlooked_text};
 pub use population::{put_population, put_uids};
 pub use reconcile::{
     Reconciled, Reconciling, read_expected, read_next, reconciled_answer, write_reconciled,

@@ -1,5 +1,5 @@
 -- The words of proofs, from one place: what files name from outside of the crate, and the definitions that several of them name.
-pub use Rattle.std.proofs.Common.{Bool, Err, List, None, Ok, Option, Some, [], add-one, ap, append-nil, append_assoc, arith, cond, drop, drop-cons, false, get_or, inl, inr, length, length-append, map, nat_cmp, nat_eq, option_map, refl, replicate, rules, slice_get, slice_index, subst, suc, sym, take, true, w64, zero, ℕ, ◌%◌, ◌++◌, ◌+◌, ◌/◌, ◌<◌, ◌∙◌, ◌∷◌, ◌≡◌, ◌≤◌}
+pub use Rattle.std.proofs.Common.{Bool, Err, List, None, Ok, Option, Some, [], add-one, ap, append-nil, append_assoc, arith, cond, drop, drop-cons, false, get_or, inl, inr, length, length-append, map, nat_cmp, nat_eq, option_map, refl, replicate, rules, slice_get, slice_index, subst, suc, sym, take, true, w64, zero, ℕ, ◌%◌, ◌++◌, ◌+◌, ◌-◌, ◌/◌, ◌<◌, ◌∙◌, ◌∷◌, ◌≡◌, ◌≤◌}
 pub use Rattle.std.proofs.Math.ListN.{set}
 pub use Rattle.std.proofs.Math.Seq.{take-append-add, take-append_seam}
 pub use Rattle.std.proofs.lemmas.Simd.{map-map}
@@ -21,7 +21,7 @@ pub use Rattle.vic_frame.specs.Masks.{BitMask}
 pub use Rattle.vic_frame.specs.Uids.{IsUid, has}
 pub use Rattle.vic_log.proofs.Places.{slice_get-append}
 pub use Rattle.vic_log.proofs.Supply.{is_uid_from}
-pub use Rattle.vic_log.specs.Lines.{lf, lines_of_text}
+pub use Rattle.vic_log.specs.Lines.{cut, lf, lines_of_text}
 pub use Rattle.vic_log.specs.Order.{entries}
 pub use Rattle.vic_log.specs.Text.{log_upto}
 pub use Rattle.vic_log.specs.Writing.{entry_text, listed_text}

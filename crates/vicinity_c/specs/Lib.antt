@@ -6,4 +6,5 @@ pub mod Names
 pub mod Simulated
 pub mod Arrays
 pub mod Reconciled
+pub mod Margins
 pub mod Together

@@ -56,7 +56,7 @@ pub(crate) fn read_arrays(
         Ok(uids) => uids,
         Err(fault) => return Ok(Err(behind(0, fault))),
     };
-    let certain_uids = match certain_uids(alloc, certain)? {
+    let certain_uids = match uids_in(alloc, certain)? {
         Ok(uids) => uids,
         Err(fault) => return Ok(Err(behind(expected.len(), fault))),
     };
@@ -129,8 +129,8 @@ fn expected_uid(
     Ok(Ok(uid))
 }
 
-/// The UIDs that are certain, or the first that has a fault.
-fn certain_uids(
+/// UIDs, or the first that has a fault.
+pub(crate) fn uids_in(
     alloc: Global,
     numbers: &[u64],
 ) -> Result<Result<Vec<Uid>, ElementFault>, AllocError>

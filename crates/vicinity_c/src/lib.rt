@@ -15,6 +15,7 @@ mod inventory;
 mod laws;
 mod lines;
 mod listed;
+mod margins;
 mod names;
 mod reconciled;
 mod report;
@@ -27,6 +28,7 @@ pub use frames::VicinityFrame;
 pub use inventory::VicinityMask;
 pub use laws::surveys_go_together;
 pub use lines::VicinityLine;
+pub use margins::VicinityWeakest;
 pub use names::{VicinityName, each_fault_has_its_name};
 use std::alloc::Global;
 use vic_answer::{

@@ -1,6 +1,6 @@
 use Rattle.vicinity_c.proofs.Words.{◌∷◌, [], ◌++◌, get_or, map, take, ap, ◌∙◌, arith, length-map, take_all, take_more, slice_get-get_or, uid_fault}
 use Rattle.vicinity_c.proofs.ArrayFaults.{map_get, none_all, none_next, uid_sound}
-use Rattle.vicinity_c.proofs.arrays.certain_uids.Goals as goal
+use Rattle.vicinity_c.proofs.arrays.uids_in.Goals as goal
 
 pub loop-index-preserved : goal.loop-index-preserved
 loop-index-preserved c =

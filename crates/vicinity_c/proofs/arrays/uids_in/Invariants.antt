@@ -1,5 +1,5 @@
 use Rattle.vicinity_c.proofs.Words.{◌≡◌, map, take, HaveNoFault, uid_fault}
-use Rattle.vicinity_c.proofs.arrays.certain_uids.Given as goal
+use Rattle.vicinity_c.proofs.arrays.uids_in.Given as goal
 
 abbrev pub invariant-loop-index : goal.invariant-loop-index
 invariant-loop-index l = record {

@@ -1,0 +1,245 @@
+//! The margin of the log of a text, and of UIDs in it, in numbers.
+
+ghost use Rattle.std.specs.Prelude.{◌≡◌, ◌≢◌, ◌++◌, ℕ, IfOk, List, length, map, replicate};
+ghost use Rattle.vic_log.specs.Lines.{lines_of_text};
+ghost use Rattle.vic_log.specs.Writing.{listed_text};
+ghost use Rattle.vic_verdict.specs.declared.judging.Verdict.TheVariants.{Complete};
+ghost use Rattle.vic_answer.specs.CheckText.{IsCompleteText};
+ghost use Rattle.vic_answer.specs.ExplainedNumbers.{IsPutInto};
+ghost use Rattle.vic_answer.specs.Numbers.{AreNumbersFor, no_answer};
+ghost use Rattle.vic_answer.specs.OverlookedText.{answer_of};
+ghost use Rattle.vicinity_c.specs.Arrays.{IsFirst, uid_fault};
+ghost use Rattle.vicinity_c.specs.Margins as spec;
+
+use crate::arrays::{MOST, uids_in};
+use crate::lines::with_listed;
+use std::alloc::{AllocError, Global};
+use vic_answer::{
+    Answer, Measured, NO_ANSWER, Overlooked, VicinityAnswer, margin_text, measured_answer,
+    numbers_of, overlooked_answer, overlooked_text,
+};
+use vic_log::{LineFault, LogFault, read_log};
+use vic_margin::Weakest;
+
+/// The margin of a log, and the weakest mask: the first by length, then by value, all of whose UIDs
+/// have this margin and aren't listed. All is 0 if there is no margin.
+#[repr(C)]
+#[derive(Clone, Copy, Debug, PartialEq, Eq)]
+pub struct VicinityWeakest {
+    /// In how many slots each UID of the mask was overlooked.
+    pub margin: u32,
+    /// At most 56.
+    pub mask_len: u32,
+    pub mask_value: u64,
+}
+
+/// No margin.
+const NO_WEAKEST: VicinityWeakest = VicinityWeakest {
+    margin: 0,
+    mask_len: 0,
+    mask_value: 0,
+};
+
+/// Judges the log that a text spells, as `vicinity_check` does, and returns its margin, complete or
+/// not: the least number of slots in which a UID that isn't listed was overlooked, with the weakest
+/// mask. It is all 0 if the log is impossible or the text refused.
+#[unsafe(no_mangle)]
+pub extern "C" fn vicinity_margin(
+    alloc: Global,
+    text: &[u8],
+    answer: &mut VicinityAnswer,
+    weakest: &mut VicinityWeakest,
+) -> u32
+    ensures answer { answer.new.kind ≢ 0 → AreNumbersFor text.now answer.new }
+    ensures whole { answer.new.kind ≡ 1 → IsCompleteText text.now answer.new.count }
+    ensures weakest { answer.new.kind ≢ 0
+        → spec.AreMarginNumbersFor text.now answer.new weakest.new }
+    ensures no_answer { answer.new.kind ≡ 0 → answer.new ≡ no_answer }
+    ensures no_weakest { answer.new.kind ≡ 0 → weakest.new ≡ spec.no_weakest }
+    ensures status { result ≡ answer.new.status }
+{
+    let Ok(measured) = margin_text(alloc, text) else {
+        return refuse(answer, weakest);
+    };
+    *weakest = weakest_of(&measured);
+    let numbers = numbers_of(&measured_answer(&measured));
+    *answer = numbers;
+    numbers.status
+}
+
+/// Judges and measures the log of a text with a list of UIDs after it, as `vicinity_check_listed`
+/// and `vicinity_margin` do.
+#[unsafe(no_mangle)]
+pub extern "C" fn vicinity_margin_listed(
+    alloc: Global,
+    text: &[u8],
+    uids: &[u64],
+    answer: &mut VicinityAnswer,
+    weakest: &mut VicinityWeakest,
+) -> u32
+    ensures answer { answer.new.kind ≢ 0
+        → AreNumbersFor (text.now ++ listed_text uids.now) answer.new }
+    ensures whole { answer.new.kind ≡ 1
+        → IsCompleteText (text.now ++ listed_text uids.now) answer.new.count }
+    ensures weakest { answer.new.kind ≢ 0
+        → spec.AreMarginNumbersFor (text.now ++ listed_text uids.now) answer.new weakest.new }
+    ensures no_answer { answer.new.kind ≡ 0 → answer.new ≡ no_answer }
+    ensures no_weakest { answer.new.kind ≡ 0 → weakest.new ≡ spec.no_weakest }
+    ensures status { result ≡ answer.new.status }
+{
+    match with_listed(alloc, text, uids) {
+        Ok(whole) => vicinity_margin(alloc, whole.as_slice(), answer, weakest),
+        Err(_) => refuse(answer, weakest),
+    }
+}
+
+/// Judges the log that a text spells, as `vicinity_check` does, and returns the margin of each UID,
+/// listed or not: in how many slots of the log it was overlooked. If they fit into the buffer, they
+/// are at its start, in the order of the UIDs; otherwise it is unchanged. They are all 0 if the
+/// text is refused.
+///
+/// If the text has a log, the first UID without E0 is refused, at the line that it would have if
+/// the text were followed by a line for each UID, or at 4,294,967,295 if that is less.
+#[unsafe(no_mangle)]
+pub extern "C" fn vicinity_overlooked(
+    alloc: Global,
+    text: &[u8],
+    uids: &[u64],
+    answer: &mut VicinityAnswer,
+    places: &mut [u32],
+) -> u32
+    ensures overlooked { answer.new.kind ≢ 0
+        → spec.AreOverlookedNumbersFor text.now uids.now answer.new places.old places.new }
+    ensures whole { answer.new.kind ≡ 1 → IsCompleteText text.now answer.new.count }
+    ensures no_answer { answer.new.kind ≡ 0 → answer.new ≡ no_answer }
+    ensures no_places { answer.new.kind ≡ 0 → places.new ≡ places.old }
+    ensures status { result ≡ answer.new.status }
+{
+    let Ok(overlooked) = overlooked_by(alloc, text, uids) else {
+        *answer = NO_ANSWER;
+        return NO_ANSWER.status;
+    };
+    put_margins(&overlooked, uids.len(), places);
+    let numbers = numbers_of(&overlooked_answer(&overlooked));
+    *answer = numbers;
+    numbers.status
+}
+
+/// Returns no answer and no margin: memory was refused.
+fn refuse(answer: &mut VicinityAnswer, weakest: &mut VicinityWeakest) -> u32
+    ensures answer { answer.new ≡ no_answer }
+    ensures weakest { weakest.new ≡ spec.no_weakest }
+    ensures status { result ≡ no_answer.status }
+{
+    *answer = NO_ANSWER;
+    *weakest = NO_WEAKEST;
+    NO_ANSWER.status
+}
+
+/// The margin of the log of a text, in numbers.
+fn weakest_of(measured: &Measured) -> VicinityWeakest
+    ensures { result ≡ spec.weakest_of measured.now }
+{
+    match measured {
+        Measured::Judged(margin) => weakest_fields(&margin.weakest),
+        Measured::RefusedAt { .. } => NO_WEAKEST,
+    }
+}
+
+/// A margin in numbers.
+fn weakest_fields(weakest: &Option<Weakest>) -> VicinityWeakest
+    ensures { result ≡ spec.weakest_fields weakest.now }
+{
+    match weakest {
+        Some(weakest) => VicinityWeakest {
+            margin: weakest.margin,
+            mask_len: u32::from(weakest.mask.len()),
+            mask_value: weakest.mask.value(),
+        },
+        None => NO_WEAKEST,
+    }
+}
+
+/// The answer to a text and UIDs, with their margins. The only error is that memory was refused.
+fn overlooked_by(alloc: Global, text: &[u8], uids: &[u64]) -> Result<Overlooked, AllocError>
+    ensures overlooked { IfOk result (spec.AreOverlookedBy text.now uids.now) }
+    ensures whole { IfOk result (λ o. (count : ℕ)
+        → answer_of o ≡ Answer.Judged (Complete count) → IsCompleteText text.now count) }
+{
+    match uids_in(alloc, uids)? {
+        Ok(uids) => overlooked_text(alloc, text, uids.as_slice()),
+        Err(fault) => refusal_behind(alloc, text, fault.index),
+    }
+}
+
+/// The answer to a text and UIDs of which this one is the first that has a fault.
+fn refusal_behind(alloc: Global, text: &[u8], index: usize) -> Result<Overlooked, AllocError>
+    ensures overlooked { (uids : List ℕ) (number : ℕ)
+        → IsFirst (map uid_fault uids) index number
+        → IfOk result (spec.AreOverlookedBy text.now uids) }
+    ensures refused { IfOk result (λ o. (count : ℕ)
+        → answer_of o ≡ Answer.Judged (Complete count) → ⊥) }
+{
+    match read_log(alloc, text) {
+        Ok(_) => Ok(Overlooked::RefusedAt {
+            line: line_behind(text, index),
+            fault: LineFault::NotVicinity,
+        }),
+        Err(LogFault::Line { line, fault }) => Ok(Overlooked::RefusedAt { line, fault }),
+        Err(LogFault::Memory) => Err(AllocError),
+        Err(LogFault::Read) | Err(LogFault::Spent) => unreachable!(),
+    }
+}
+
+/// The line that an element would have if a text were followed by a line for each.
+fn line_behind(text: &[u8], index: usize) -> u32
+    ensures { result ≡ spec.line_behind text.now index }
+{
+    let lines = line_count(text);
+    let line = lines.saturating_add(index).saturating_add(1);
+    line.min(MOST as usize) as u32
+}
+
+/// How many lines a text has.
+fn line_count(text: &[u8]) -> usize
+    ensures { result ≡ length (lines_of_text text.now) }
+{
+    let mut count = 0;
+    // whether the line that was counted last goes on
+    let mut goes_on = false;
+    for byte in text {
+        if !goes_on {
+            count += 1;
+        }
+        goes_on = *byte != b'\n';
+    }
+    count
+}
+
+/// Puts the margins of so many UIDs at the start of a buffer, if they fit; zeros for a refusal.
+fn put_margins(overlooked: &Overlooked, count: usize, room: &mut [u32])
+    ensures { IsPutInto (spec.margins_of count overlooked.now) room.old room.new }
+{
+    match overlooked {
+        Overlooked::Judged { margins, .. } => put_numbers(margins.as_slice(), room),
+        Overlooked::RefusedAt { .. } => put_zeros(count, room),
+    }
+}
+
+/// Puts numbers at the start of a buffer, if they fit.
+fn put_numbers(numbers: &[u32], room: &mut [u32])
+    ensures { IsPutInto numbers.now room.old room.new }
+{
+    if numbers.len() <= room.len() {
+        room[..numbers.len()].copy_from_slice(numbers);
+    }
+}
+
+/// Puts so many zeros at the start of a buffer, if they fit.
+fn put_zeros(count: usize, room: &mut [u32])
+    ensures { IsPutInto (replicate count 0) room.old room.new }
+{
+    if count <= room.len() {
+        room[..count].fill(0);
+    }
+}
