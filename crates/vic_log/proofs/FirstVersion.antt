@@ -1,5 +1,5 @@
 -- On entries of version 1 both versions say the same.
-use Rattle.vic_log.proofs.Words.{◌≡◌, ℕ, zero, suc, List, false, Option, Some, None, refl, sym, ap, subst, ◌∙◌, ◌↔◌, arith, nat_tests, filter, Entry, FieldCycle, IsInOrder, is_slot, ends_round, opener, wakes, is_quiet, Fits, answers_at, outcome_of, CouldHaveGiven, IsOfFirstVersion, AreOfFirstVersion, filter_agree}
+use Rattle.vic_log.proofs.Words.{◌≡◌, ℕ, zero, suc, List, false, Option, Some, None, refl, sym, subst, ◌∙◌, ◌↔◌, arith, nat_tests, filter, Entry, FieldCycle, IsInOrder, is_slot, ends_round, opener, wakes, is_quiet, Fits, answers_at, outcome_of, CouldHaveGiven, IsOfFirstVersion, AreOfFirstVersion, filter_agree}
 use Rattle.vic_log.specs.FirstVersion.{ends_round_in_first, opener_in_first, is_quiet_in_first, FitsFirst, answers_at_in_first, CouldHaveGivenFirst, is_slot_in_first, IsInOrderFirst}
 
 ends_same : (o : Option Entry) → ((e : Entry) → o ≡ Some e → IsOfFirstVersion e) → ends_round o ≡ ends_round_in_first o

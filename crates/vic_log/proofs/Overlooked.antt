@@ -1,5 +1,5 @@
 -- A UID that is overlooked nowhere is open.
-use Rattle.vic_log.proofs.Words.{◌≡◌, ℕ, zero, suc, ◌<◌, List, length, Bool, true, false, ◌&&◌, Option, Some, None, refl, sym, ap, subst, ◌∙◌, ◌↔◌, inl, inr, arith, nat_tests, cases_lt, and_from, and_parts, slice_get, slice_get_past, Entry, IsUid, is_uid, list_all, allows, Slot, is_open, slots_before, slots_of, with_entry, answers_at}
+use Rattle.vic_log.proofs.Words.{◌≡◌, ℕ, zero, suc, ◌<◌, List, length, Bool, true, false, ◌&&◌, Option, Some, None, refl, subst, ◌↔◌, inl, inr, arith, nat_tests, cases_lt, and_from, and_parts, slice_get, slice_get_past, Entry, IsUid, list_all, allows, Slot, is_open, slots_before, slots_of, with_entry, answers_at}
 use Rattle.vic_log.specs.Overlooked.{is_overlooked, some_denies_reply_of, IsNeverOverlooked}
 use Rattle.vic_log.proofs.Supply.{is_uid_from}
 

@@ -1,10 +1,9 @@
 -- A set of UIDs, spread over rows.
-use Rattle.vic_log.proofs.Words.{◌≡◌, ℕ, zero, suc, ◌<◌, Bool, true, false, Some, List, [], ◌∷◌, ◌++◌, length, take, get_or, refl, sym, ap, ◌∙◌, arith, nat_eq, ◌||◌, not, slice_get, set, cond, common_steps, nat_tests, false_from_ne_true, ne_eqb, eq-eqb, list_any-append, list_any_at, list_any, get_or_from_slice_get, slice_get_within, has, IsUid, row_of, IsUidSet, IsSetOf, IsIndex, LogLine, entries, listed, length-set, get_or-set_same, get_or-set_other, or-false, is_at, with_item, vec_len, nat_cmp}
+use Rattle.vic_log.proofs.Words.{◌≡◌, ℕ, zero, suc, ◌<◌, Bool, true, false, Some, List, [], ◌∷◌, ◌++◌, length, take, get_or, refl, sym, ap, ◌∙◌, arith, nat_eq, ◌||◌, not, slice_get, set, cond, common_steps, nat_tests, false_from_ne_true, ne_eqb, eq-eqb, list_any-append, list_any_at, get_or_from_slice_get, slice_get_within, has, IsUid, row_of, IsUidSet, IsSetOf, IsIndex, LogLine, entries, listed, length-set, get_or-set_same, get_or-set_other, or-false, is_at, with_item, vec_len, nat_cmp}
 use Rattle.std.specs.BTreeSet as sorted
 use Rattle.vic_log.specs.declared.uid_set.UidSet.{UidSet}
 use Rattle.vic_log.specs.inner.UidSets.{place_of, is_held}
 use Rattle.vic_log.proofs.Push.{listed-append, entries_next}
-use Rattle.vic_log.proofs.Sets.{eq_swapped}
 
 has_got : (us : List ℕ) (k u : ℕ) → slice_get us k ≡ Some u → has us u ≡ true
 has_got us k u h = list_any_at (nat_eq u) us k 0 (slice_get_within us k u h) (eq-eqb u _ (sym (get_or_from_slice_get us k u 0 h)))
@@ -39,11 +38,6 @@ row_is s uid rows place row long is there at = grind (arith, common_steps)
 pub is_put : (old : UidSet) (uid rows place k number : ℕ) (row seen : List ℕ) → rows ≡ vec_len old.rows → place ≡ place_of uid rows → place < rows → row ≡ get_or old.rows.items place row → seen ≡ get_or old.rows.items place seen → slice_get seen k ≡ Some 0 → number ≡ uid
     → IsPut old (record { rows = with_item old.rows place (set row k number); others = old.others; lines = old.lines }) uid k
 is_put old uid rows place k number row seen long is there at seen_at free same = grind (arith, common_steps)
-
--- a search of a row for a number
-pub has_searched : (row : List ℕ) (u : ℕ) → list_any (λ x. nat_eq x u) row ≡ has row u
-has_searched [] u = refl
-has_searched (x ∷ row) u = rw (eq_swapped x u) (ap (λ b. nat_eq u x || b) (has_searched row u))
 
 -- a UID put beside the rows
 pub held-beside : (old new : UidSet) (uid u : ℕ) → new.rows ≡ old.rows → sorted.contains nat_cmp new.others u ≡ cond (is_at (nat_cmp uid) u) true (sorted.contains nat_cmp old.others u) → is_held new u ≡ (is_held old u || nat_eq u uid)

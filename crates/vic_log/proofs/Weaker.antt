@@ -1,9 +1,8 @@
 -- What weaker entries keep: rounds, Quiet tags, listed UIDs, and the populations that could have produced them.
-use Rattle.vic_log.proofs.Words.{◌≡◌, ℕ, zero, suc, ◌+◌, ◌<◌, ◌⊎◌, inl, inr, List, [], ◌∷◌, length, Bool, true, false, Option, Some, None, refl, sym, ap, ◌∙◌, subst, ◌↔◌, ⊎_elim, arith, nat_tests, eqb-true, eq-eqb, cases_lt, filter_agree, slice_get, slice_get_within, slice_get_past, slice_get-get_or, get_or, Entry, Sent, Silent, Collision, Heard, Listed, Garbled, FieldCycle, Captured, Unknown, is_slot, ends_round, opener, wakes, is_quiet, answerers_at, answers_at, Fits, CouldHaveGiven, listed, has, outcome_of, Nobody, Lone, Several, ◌==◌, false≢true}
+use Rattle.vic_log.proofs.Words.{◌≡◌, ℕ, zero, suc, ◌+◌, ◌<◌, ◌⊎◌, inl, inr, List, [], ◌∷◌, length, true, Option, Some, refl, sym, ap, ◌∙◌, subst, ◌↔◌, ⊎_elim, arith, nat_tests, eqb-true, eq-eqb, cases_lt, filter_agree, slice_get, slice_get_within, slice_get_past, slice_get-get_or, Entry, Silent, Collision, Heard, Listed, Garbled, Captured, Unknown, is_slot, ends_round, opener, wakes, is_quiet, answerers_at, answers_at, Fits, CouldHaveGiven, listed, has, outcome_of, Nobody, Lone, ◌==◌, false≢true}
 use Rattle.vic_log.specs.Quiet.{silences}
 use Rattle.vic_log.specs.Rounds.{mask_at, mask_of_slot}
 use Rattle.vic_log.specs.Weaker.{AreWeaker, IsWeaker, FitsMore, is_weaker}
-use Rattle.vic_log.proofs.Places.{opener_below}
 use Rattle.vic_log.proofs.Sets.{has_here, has_at}
 
 -- ---- one slot line
