@@ -50,6 +50,12 @@ SAID = (
     ("I1 S", "check the antenna", "Nothing to do"),
     ("I1 S UA", "If the list is what the reader found: a tag left", "shown by"),
     ("I1 S UA", "ruled out by", "must be here"),
+    ("I1 S UA", "asked in 1 slot, silent there; ruled out by line 3", "A tag would have had"),
+    ("I1 S MA S I1 S UA", "asked in 3 slots, silent in each; ruled out by line 3", "silent there"),
+    ("I1 S", "A tag would have had to be missed in 1 slot; weakest: any UID.", "silent"),
+    ("I1 RA QA I1 S UA", "in 2 slots; weakest: UIDs ending in an even digit.", "silent"),
+    ("I1 RA QA QB I1 S UA", "in 1 slot; weakest: E0040100000000B2.", "silent"),
+    ("I1 RA", "1 tag that is here", "A tag would have had"),
     ("I1 RA", "1 tag that is here", "must be here"),
     ("I1 RA UB", "its software has to write a U line", "Nothing to do"),
     ("I1 RA I1 S", "if always, its reply was lost, or a Stay Quiet isn't in the log", "it came"),
@@ -586,7 +592,8 @@ def saved(page, folder):
     return next(folder.iterdir())
 
 
-@pytest.mark.parametrize("names", [*READ, "I1 C UA", "V2 I1 QA I1 S UA", ""])
+@pytest.mark.parametrize("names", [*READ, "I1 C UA", "V2 I1 QA I1 S UA", "", "I1 S I1 S UB UA",
+                                   "I1 RA QA I1 S UA"])
 def test_what_is_saved_is_what_python_writes(page, vicinity, tmp_path, names):
     """And is drawn as it was."""
     page.drop_files({"a <b>.log": log_of(names)})
@@ -657,8 +664,35 @@ def test_a_collection_is_judged_as_python_judges_it(page, release, tmp_path, mor
 
 
 def test_a_collection_that_is_complete(page):
-    page.drop(catalogue=b"title;uid\nWalden;E0:04:01:00:00:00:00:A1\n", log=log_of("I1 RA"))
+    """And in which field a tag would have had to be missed the fewest times."""
+    page.drop(**{"catalogue": b"title;uid\nWalden;E0:04:01:00:00:00:00:A1\n",
+                 "one.log": log_of("I1 RA QA I1 S"), "two.log": log_of("I1 S")})
     page.until(".banner.yes h1", "The one expected item is here, and no other.")
+    assert "A tag would have had to be missed in 1 slot in the field of two.log; weakest: any " \
+        "UID." in page.texts(".holds p")
+
+
+def test_a_collection_of_which_one_field_has_a_silenced_tag_of_another(page, release, tmp_path):
+    """It was asked once in the first field, but is in the second; the next were asked twice."""
+    files = {"catalogue.csv": b"uid\nE0040100000000A1\nE0040100000000B2\n",
+             "one.log": log_of("I1 RA QA QB I1 S"), "two.log": log_of("I1 RB QB I1 S I1 S UB")}
+    for name, content in files.items():
+        (tmp_path / name).write_bytes(content)
+    logs = tmp_path / "one.log", tmp_path / "two.log"
+    wanted = of_python(release, "--expected", tmp_path / "catalogue.csv", *logs)
+    page.drop_files(files)
+    page.until(".banner.yes h1", "All 2 expected items are here, and no others.")
+    file = saved(page, tmp_path / "saved")
+    told = collected(drawn_in(file.read_text())[0])
+    assert told == collected(drawn_in(wanted)[0])
+    assert (told["margin"], told["weakest"]["mask_value"]) == (2, "00")
+
+
+def test_how_often_a_missing_item_was_asked(page):
+    page.drop(**{"catalogue": b"title;uid\nWalden;E0:04:01:00:00:00:00:A1\n",
+                 "one.log": log_of("I1 S I1 S I1 S"), "two.log": log_of("I1 S I1 S")})
+    page.until("h1", "1 item missing.")
+    assert "in 2 slots or more of each field" in page.texts("details")[0]
 
 
 @pytest.mark.parametrize(("table", "words"), [

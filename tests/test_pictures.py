@@ -363,8 +363,31 @@ def test_page_of_a_collection(reconciled):
               "Read to the end (2 logs)", "What this takes for granted (9)"]
     assert page.texts("details > summary h2") == groups
     assert "Walden" in page.texts("details")[0]
+    assert "in 1 slot or more of each field" in page.texts("details")[0]
     assert page.texts(".logs summary")[0] == (
         "shelf-c.log 3 tags proved; left to ask: UIDs ending in E and UIDs ending in F")
+
+
+def test_page_of_a_collection_that_is_not_sure_enough(run, browser, tmp_path):
+    """Shelf A alone, of which more misses were wanted than its log bears. It isn't green."""
+    listed = b"".join(line for line in SHELVES[0].read_bytes().splitlines(keepends=True)
+                      if line[:1] in b"vU")
+    (tmp_path / "expected.log").write_bytes(listed)
+    words = "reconcile", "--page", "--expected", tmp_path / "expected.log", SHELVES[0]
+    missed = "a tag would have had to be missed in 2 slots"
+    page = Screen(browser)
+    for most, status, headline in (
+            ("2", 0, "All 4 expected items are here, and no others."),
+            ("3", 1, f"Not sure enough: {missed}, and 3 or more were asked for.")):
+        done = run(*words, "--margin", most)
+        (tmp_path / "page.html").write_bytes(done.stdout)
+        page.open(tmp_path / "page.html")
+        page.until("header h1", headline)
+        assert (done.returncode, bool(page.texts(".banner.yes"))) == (status, status == 0)
+        where = "in the field of shelf-a.log; weakest: UIDs ending in an even digit."
+        assert f"{missed.capitalize()} {where}" in page.texts(".holds p")
+        page.is_readable()
+    page.end()
 
 
 def test_a_log_of_a_collection_is_drawn_when_it_is_opened(reconciled):

@@ -2,7 +2,7 @@
 import { el, folded } from "./elements.mjs";
 import { KIND } from "./kinds.mjs";
 import { Pane } from "./pane.mjs";
-import { ALSO, GRANTED, HOLDS, TO_KNOW } from "./say.mjs";
+import { ALSO, GRANTED, HOLDS, missed, notSure, TO_KNOW } from "./say.mjs";
 import { maskOf, tell } from "./told.mjs";
 import { banner, signed, view } from "./view.mjs";
 import { count, ending, listing, printable } from "./words.mjs";
@@ -11,7 +11,7 @@ import { count, ending, listing, printable } from "./words.mjs";
 /** @typedef {import("./view.mjs").Names} Names */
 /** @typedef {"there" | "misplaced" | "missing" | "not provable" | "unexpected" | "no tag"} State */
 /** @typedef {{uid: string | null, state: State, columns: Record<string, string>, certain_in: string[], may_be_in: string[],
- *   belongs?: string}} Item */
+ *   belongs?: string, overlooked?: number}} Item */
 /** @typedef {{file: string, certain: number, open: {mask_len: number, mask_value: string, ask?: string}[], more_open: boolean,
  *   list: {kind: string, status: number, line?: number, error?: string}, captured?: OfField, object?: LogObject}} OneLog */
 /** @typedef {{holds: boolean, mask_len?: number, mask_value?: string}} OfField whether a log says the same of its field if strong
@@ -29,6 +29,9 @@ import { count, ending, listing, printable } from "./words.mjs";
  * @property {{file: string, kind: string, do: string}[]} set_aside
  * @property {Item[]} items
  * @property {OneLog[]} logs
+ * @property {number} [margin] of a complete collection
+ * @property {number} [wanted] the margin that was asked for, where its own is less or isn't known
+ * @property {import("./told.mjs").Margin["weakest"]} [weakest]
  */
 
 /** How many rows of a table are drawn, how many are seen unfolded, and how many logs and masks are named. */
@@ -37,6 +40,8 @@ const MOST_ROWS = 2000, FEW_ROWS = 40, MOST_NAMES = 3, MOST_MASKS = 3;
 const MOST_CELLS = 2;
 /** The head of where items belong, which the catalogue's own column of places repeats. */
 const BELONGS = "belongs to";
+/** The head of how often a missing item was asked. */
+const SILENT = "asked, and silent";
 const CANNOT_BE_READ = 4;
 /** How much text of logs stands in a page that is saved. */
 const MOST_TEXT = 4_000_000;
@@ -68,7 +73,7 @@ export function collectionView(object) {
   return [banner({ look, sign, headline: headlineOf(object), lights: lights(object) }, [...said, ` · ${count(object.logs.length, "log")}`]),
     ...conditionsOfAll(object),
     ...first ? again : [],
-    ...items("Look for", LOOK_FOR, of("missing"), {}, true),
+    ...items("Look for", LOOK_FOR, of("missing"), askedIn(of("missing"), object.logs.length), true),
     ...items("Move", MOVE, of("misplaced"), { "is in": (item) => namesOf(item.certain_in), [BELONGS]: (item) => item.belongs ?? "" }, true),
     ...first ? [] : again,
     ...items("Unknown", NOT_EXPECTED, of("unexpected"), { "is in": (item) => namesOf(item.certain_in) }, true),
@@ -111,6 +116,7 @@ export function headlineOf(object) {
     if (tags === 1) return "The one expected item is here, and no other.";
     return `All ${count(tags, "expected item")}${which} are here, and no others.`;
   }
+  if (object.kind === KIND.SMALL) return notSure(object.margin, object.wanted ?? 0);
   const parts = /** @type {[number, string][]} */ ([[counts.missing, "missing"], [counts.misplaced, "in the wrong place"],
     [counts.unexpected, "unknown"], [counts["not provable"], "not known yet"]]);
   const said = parts.filter(([number]) => number).map(([number, words], at) => at ? `${number.toLocaleString("en")} ${words}`
@@ -140,10 +146,12 @@ function lights(object) {
 function conditionsOfAll(object) {
   const { counts } = object, all = object.logs.filter((log) => !isAside(log));
   const hidden = all.filter((log) => log.captured?.holds === false).map((log) => log.file);
-  if (!isWhole(object) && !counts.missing && !counts.unexpected) return [];
-  const known = all.every((log) => log.captured), where = hidden.length ? `no. In the field of ${namesOf(hidden)}: ${TO_KNOW}.` : "yes.";
-  return [el("section", { class: "holds" }, ...isWhole(object) ? [el("p", {}, HOLDS)] : [],
-    ...known || hidden.length ? [el("p", {}, ALSO + where)] : [])];
+  const isAll = isWhole(object) || object.kind === KIND.SMALL;
+  if (!isAll && !counts.missing && !counts.unexpected) return [];
+  const known = all.every((log) => log.captured), also = hidden.length ? `no. In the field of ${namesOf(hidden)}: ${TO_KNOW}.` : "yes.";
+  const sure = isAll ? [HOLDS, ...missed(object, ` in the field of ${nameOf(object.weakest?.file ?? "")}`)] : [];
+  return [el("section", { class: "holds" }, ...sure.map((it) => el("p", {}, it)),
+    ...known || hidden.length ? [el("p", {}, ALSO + also)] : [])];
 }
 
 /**
@@ -156,6 +164,17 @@ function countAgain(object, unknown, names) {
   const open = object.logs.filter(isOpen), aside = open.filter(isAside);
   return [...logs("Count again", COUNT_EACH, [...aside, ...open.filter((log) => !isAside(log))], true, names),
     ...items("Not known yet", UNKNOWN_YET, unknown, { "may be in": (item) => namesOf(item.may_be_in) }, false)];
+}
+
+/**
+ * In how many slots missing items were asked, if that is known: of several fields in the one in which it was least.
+ * @param {Item[]} missing
+ * @param {number} logs
+ * @returns {Record<string, (item: Item) => string>}
+ */
+function askedIn(missing, logs) {
+  if (missing.some((item) => !item.overlooked)) return {};
+  return { [SILENT]: ({ overlooked = 0 }) => `in ${count(overlooked, "slot")}${logs > 1 ? " or more of each field" : ""}` };
 }
 
 /**

@@ -3,6 +3,7 @@ import { withCaptures } from "./captured.mjs";
 import { ANY_LINK, linkOf } from "./frames.mjs";
 import { FOUND, KIND } from "./kinds.mjs";
 import { LF } from "./log.mjs";
+import { marginFields, maskFields } from "./margins.mjs";
 import { hex, UID_BITS } from "./words.mjs";
 
 /** @typedef {import("./library.mjs").Library} Library */
@@ -29,14 +30,14 @@ const DECODED = new TextDecoder("utf-8", { ignoreBOM: true });
  */
 export async function judge(library, text, name, left) {
   const { answer, list, counts, conflict } = library.report(text, MOST_TOLD), possible = answer.status < 2;
+  const absent = list.filter((it) => it.kind === FOUND.ABSENT).map((it) => it.uid);
   const { certain, open } = left ?? (possible ? library.survey(text) : { certain: [], open: [] });
   const kept = untilRefused(text, answer), decoded = DECODED.decode(kept), link = linkIn(decoded);
   const masks = open.slice(0, MOST_TOLD).map(({ len, value }) => ({ ...maskFields(len, value),
     ask: (len ? [1] : [16, 1]).map((slots) => `T ${hexOf(library.writeInventory(slots, len, value, link))}`) }));
-  return { schema: SCHEMA, version: versionOf(library.version), file: name, ...fields(library, answer), ...capturedOf(library, text, answer),
-    answer: answer.text.trim(),
+  return { schema: SCHEMA, version: versionOf(library.version), file: name, ...fields(library, answer), ...marginFields(answer.status ? null : library.margin(text).weakest), ...capturedOf(library, text, answer), answer: answer.text.trim(),
     lines: linesIn(text), ended: text[text.length - 1] === LF, sha256: await sumOf(text),
-    findings: [...findingsOf(list.filter((it) => it.kind !== FOUND.CONFLICT)), ...conflict.map((line) => ({ kind: "conflict", line }))],
+    findings: [...findingsOf(list.filter((it) => it.kind !== FOUND.CONFLICT), absent.length ? library.overlooked(text, absent).list : []), ...conflict.map((line) => ({ kind: "conflict", line }))],
     found: { absent: counts[FOUND.ABSENT], unlisted: counts[FOUND.UNLISTED], doubtful: counts[FOUND.DOUBTFUL] },
     certain: { count: certain.length, uids: certain.slice(0, MOST_LISTED).map((uid) => hex(uid)) },
     open: { count: open.length, share: shareOf(open), masks },
@@ -45,11 +46,12 @@ export async function judge(library, text, name, left) {
 
 /**
  * @param {Finding[]} list
+ * @param {number[]} overlooked in how many slots each absent UID was
  * @returns {LogObject["findings"]}
  */
-function findingsOf(list) {
-  return KINDS.flatMap(([kind, word]) => list.filter((it) => it.kind === kind).map(({ line, uid }) =>
-    ({ kind: word, ...uid ? { uid: hex(uid) } : {}, ...line ? { line } : {} })));
+function findingsOf(list, overlooked) {
+  return KINDS.flatMap(([kind, word]) => list.filter((it) => it.kind === kind).map(({ line, uid }, at) =>
+    ({ kind: word, ...uid ? { uid: hex(uid) } : {}, ...line ? { line } : {}, ...kind === FOUND.ABSENT ? { overlooked: overlooked[at] } : {} })));
 }
 
 /**
@@ -87,14 +89,6 @@ export function fields(library, { kind: number, status, count, line, fault, mask
   if (kind === KIND.IMPOSSIBLE) return { ...said, line };
   if (kind === KIND.REFUSED) return { ...said, line, fault: library.nameOf("fault", fault) };
   return { ...said, uid: hex(uid) };
-}
-
-/**
- * @param {number} len
- * @param {bigint} value
- */
-export function maskFields(len, value) {
-  return { mask_len: len, mask_value: len ? hex(BigInt.asUintN(len, value), 2 * Math.ceil(len / 8)) : "-" };
 }
 
 /** @param {Uint8Array} bytes */

@@ -21,6 +21,7 @@ import { FOUND } from "./kinds.mjs";
  */
 /** @typedef {{kind: number, line: number, maskLen: number, maskValue: bigint, uid: bigint}} Finding */
 /** @typedef {{fault: number, len: number, value: bigint}} Mask */
+/** @typedef {{margin: number, maskLen: number, maskValue: bigint}} Weakest the margin of a log, and its weakest mask */
 /** @typedef {{fault: number, link: number, slots: number, maskLen: number, maskValue: bigint, uid: bigint}} Request */
 /** @typedef {{fault: number, flags: number, dsfid: number, uid: bigint}} Reply */
 /** @typedef {(...words: (number | bigint)[]) => number | bigint} Call */
@@ -28,7 +29,7 @@ import { FOUND } from "./kinds.mjs";
 
 const INTERFACE = 1, NO_ANSWER = 4, FIRST_ROOM = 64;
 /** The sizes of the header's structs, in bytes, and where the text of an answer begins. */
-const ANSWER = 104, TEXT = 40, FINDING = 32, MASK = 16, UID = 8, REQUEST = 32, REPLY = 16, FRAME = 24, NAME = 32, NUMBER = 8;
+const ANSWER = 104, TEXT = 40, FINDING = 32, MASK = 16, WEAKEST = 16, PLACES = 4, UID = 8, REQUEST = 32, REPLY = 16, FRAME = 24, NAME = 32, NUMBER = 8;
 const DECODER = new TextDecoder();
 const ENCODER = new TextEncoder();
 
@@ -238,6 +239,50 @@ export class Library {
         }
         [uidRoom, maskRoom] = [Math.max(uidRoom, certain), Math.max(maskRoom, open)];
       }
+    });
+  }
+
+  /**
+   * The answer, and the margin of a possible log.
+   * @param {Uint8Array | string} text
+   */
+  margin(text) { return this.#margin("margin", (take) => this.#put(take, text)); }
+
+  /**
+   * The same of a text that has no list and ends with an LF, with a list beside it.
+   * @param {Uint8Array | string} text
+   * @param {ArrayLike<bigint>} uids
+   */
+  marginListed(text, uids) {
+    return this.#margin("margin_listed", (take) => [...this.#put(take, text), ...this.#putUids(take, uids)]);
+  }
+
+  /**
+   * @param {string} name
+   * @param {(take: Take) => number[]} given what is passed before the answer
+   * @returns {{answer: Answer, weakest: Weakest | null}}
+   */
+  #margin(name, given) {
+    return this.#within((take) => {
+      const words = given(take), answer = take(ANSWER), at = take(WEAKEST);
+      this.#call(name, ...words, answer, at);
+      const told = this.#answer(answer), view = this.#view;
+      return { answer: told, weakest: told.status > 1 ? null : { margin: view.getUint32(at, true),
+        maskLen: view.getUint32(at + 4, true), maskValue: view.getBigUint64(at + 8, true) } };
+    });
+  }
+
+  /**
+   * The answer, and in how many slots of a log each of these UIDs was overlooked.
+   * @param {Uint8Array | string} text
+   * @param {ArrayLike<bigint>} uids
+   */
+  overlooked(text, uids) {
+    return this.#within((take) => {
+      const words = [...this.#put(take, text), ...this.#putUids(take, uids)], answer = take(ANSWER), at = take(PLACES * uids.length);
+      this.#call("overlooked", ...words, answer, at, uids.length);
+      const told = this.#answer(answer), view = this.#view;
+      return { answer: told, list: Array.from({ length: uids.length }, (_, i) => view.getUint32(at + PLACES * i, true)) };
     });
   }
 

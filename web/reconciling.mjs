@@ -1,8 +1,9 @@
 /** The object of a collection, of what the library says of its logs: the same as `python3 -m vicinity reconcile` writes. */
 import { placeColumn, placesOf, readCatalogue } from "./catalogue.mjs";
 import { withCaptures } from "./captured.mjs";
-import { fields, judge, maskFields } from "./judge.mjs";
+import { fields, judge } from "./judge.mjs";
 import { FOUND, KIND } from "./kinds.mjs";
+import { leastOf, marginFields, maskFields, overlookedIn, withoutList } from "./margins.mjs";
 import { UID_BITS, hex } from "./words.mjs";
 
 /** @typedef {import("./library.mjs").Library} Library */
@@ -11,7 +12,8 @@ import { UID_BITS, hex } from "./words.mjs";
 /** @typedef {import("./collection.mjs").CollectionObject} CollectionObject */
 /** @typedef {import("./collection.mjs").State} State */
 /** @typedef {import("./collection.mjs").OfField} OfField */
-/** @typedef {{object: import("./told.mjs").LogObject, certain: bigint[], open: Mask[], aside: boolean, captured?: OfField}} Surveyed */
+/** @typedef {import("./margins.mjs").Measured & {object: import("./told.mjs").LogObject, certain: bigint[], open: Mask[], aside: boolean,
+ *   captured?: OfField}} Surveyed */
 
 const COUNT_IT = "count it again", CORRECT_IT = "correct it, or count it again";
 const ALL = { fault: 0, len: 0, value: 0n };
@@ -66,12 +68,13 @@ export async function reconciled(library, given) {
   for (const log of given.logs) logs.push(await surveyed(library, log));
   const { answer, list } = library.reconcile(uids, logs.flatMap((log) => log.certain),
     logs.flatMap((log) => log.open.map((mask) => ({ fault: 0, ...mask }))));
-  const items = itemsOf(catalogue, placesOf(given.places, files), logs, list, files), aside = logs.filter((log) => log.aside);
+  const missing = overlookedIn(library, logs, list.filter((it) => it.kind === FOUND.ABSENT).map((it) => it.uid));
+  const items = itemsOf(catalogue, placesOf(given.places, files), logs, list, files, missing), aside = logs.filter((log) => log.aside);
   const misplaced = items.filter((item) => item.state === "misplaced"), unsettled = list.find((it) => it.kind === FOUND.UNSETTLED);
   const said = fields(library, answer), worst = Math.max(...aside.map((log) => log.object.status));
   const first = aside.length ? asideOf(/** @type {Surveyed} */ (aside.find((log) => log.object.status === worst)))
     : !list.length && misplaced.length ? { status: 1, kind: "misplaced", uid: misplaced[0].uid } : said;
-  return { schema: 1, ...first, version: logs[0].object.version, name: catalogue.name,
+  return { schema: 1, ...first, ...leastOf(library, answer, logs, uids), version: logs[0].object.version, name: catalogue.name,
     counts: Object.fromEntries(ALL_STATES.map((state) => [state, items.filter((item) => item.state === state).length])),
     unsettled: unsettled ? maskFields(unsettled.maskLen, unsettled.maskValue) : null,
     set_aside: aside.map((log) => ({ ...asideOf(log), do: log.object.kind === KIND.IMPOSSIBLE ? COUNT_IT : CORRECT_IT })),
@@ -90,10 +93,11 @@ const maskKey = ({ len, value }) => `${len}:${value}`;
 async function surveyed(library, { name, text }) {
   const { answer, certain, open } = library.survey(text), aside = answer.status > 1;
   const object = await judge(library, text, name, aside ? undefined : { certain, open });
-  if (aside) return { object, aside, certain: [], open: [ALL], captured: object.captured };
+  if (aside) return { text, file: name, weakest: null, object, aside, certain: [], open: [ALL], captured: object.captured };
   const read = withCaptures(text), known = new Set(open.map(maskKey));
   const opened = read && library.openMasks(read).list.find((mask) => !known.has(maskKey(mask)));
-  return { object, aside, certain, open, captured: opened ? { holds: false, ...maskFields(opened.len, opened.value) } : { holds: true } };
+  const { weakest } = library.marginListed(withoutList(text), certain);
+  return { text, file: name, weakest, object, aside, certain, open, captured: opened ? { holds: false, ...maskFields(opened.len, opened.value) } : { holds: true } };
 }
 
 /** @param {Surveyed} log */
@@ -115,8 +119,9 @@ function answerOf({ status, kind, count, line, fault, uid, mask_len, mask_value 
  * @param {Surveyed[]} logs
  * @param {import("./library.mjs").Finding[]} list
  * @param {string[]} files
+ * @param {Map<bigint, number>} missing in how many slots each missing tag was overlooked
  */
-function itemsOf(catalogue, places, logs, list, files) {
+function itemsOf(catalogue, places, logs, list, files, missing) {
   const states = new Map(list.flatMap((it) => STATES[it.kind] ? [[it.uid, STATES[it.kind]]] : []));
   const unlisted = list.filter((it) => it.kind === FOUND.UNLISTED).map((it) => it.uid);
   const uids = [...catalogue.entries.flatMap(({ uid }) => uid ?? []), ...unlisted], { certain, open } = whereOf(logs, uids);
@@ -130,7 +135,8 @@ function itemsOf(catalogue, places, logs, list, files) {
     const away = belongs && !where.some((log) => own.has(log));
     const state = /** @type {State} */ (states.get(uid) ?? (away ? "misplaced" : "there"));
     const may = (open.get(uid) ?? []).filter((log) => !where.length || own.has(log) || !logs[log].aside);
-    return { uid: hex(uid), state, columns: columns(cells), certain_in: named(where), may_be_in: named(may), ...said };
+    const slots = missing.get(uid), silent = slots === undefined ? {} : { overlooked: slots };
+    return { uid: hex(uid), state, columns: columns(cells), certain_in: named(where), may_be_in: named(may), ...silent, ...said };
   });
   return [...rows, ...unlisted.map((uid) => ({ uid: hex(uid), state: /** @type {State} */ ("unexpected"), columns: columns(catalogue.heads.map(() => "")),
     certain_in: named(certain.get(uid) ?? []), may_be_in: named((open.get(uid) ?? []).filter((log) => !logs[log].aside)) }))];
@@ -165,7 +171,7 @@ function leftOf(logs) {
     const masks = log.aside ? [ALL] : without(log.open, certain);
     const open = masks.slice(0, MOST_OPEN).map(({ len, value }) => maskFields(len, value));
     return { file: log.object.file, certain: log.certain.length, open, more_open: masks.length > MOST_OPEN, list: answerOf(log.object),
-      ...log.captured ? { captured: log.captured } : {}, object: log.object };
+      ...marginFields(log.weakest), ...log.captured ? { captured: log.captured } : {}, object: log.object };
   });
 }
 

@@ -2,9 +2,11 @@
 import { contradiction } from "./contradiction.mjs";
 import { KIND } from "./kinds.mjs";
 import { refused } from "./refused.mjs";
+import { maskOf } from "./told.mjs";
 import { count, ending, lines, listing, short } from "./words.mjs";
 
 /** @typedef {import("./told.mjs").Told} Told */
+/** @typedef {import("./told.mjs").Margin} Margin */
 /** @typedef {import("./causes.mjs").Cause} Cause */
 /** @typedef {"yes" | "no" | "read" | "broken" | "refused" | "plain"} Look */
 /** @typedef {{name: string, value: string, look: Look}} Light */
@@ -222,4 +224,32 @@ export function alsoHolds({ object: { kind, captured }, counts, requests }) {
   if (!captured || !counts.heard) return null;
   if (!certain.includes(kind)) return null;
   return captured.holds ? { words: `${ALSO}yes.`, ask: "" } : { words: `${ALSO}no. To know, ${TO_KNOW}:`, ask: requests.all };
+}
+
+/**
+ * How sure it is that no other tag is here; of no answer but a complete one.
+ * @param {Partial<Margin>} of
+ * @param {string} [where]
+ */
+export function missed({ margin, weakest }, where = "") {
+  if (!margin || !weakest) return [];
+  return [`A tag would have had to be missed in ${count(margin, "slot")}${where}; weakest: ${ending(maskOf(weakest))}.`];
+}
+
+/**
+ * What is said of a complete answer of which a greater margin was asked for.
+ * @param {number | undefined} margin
+ * @param {number} wanted
+ */
+export function notSure(margin, wanted) {
+  const missed = margin ? `a tag would have had to be missed in ${count(margin, "slot")}` : "how often a tag would have had to be missed isn't known";
+  return `Not sure enough: ${missed}, and ${wanted.toLocaleString("en")} or more were asked for.`;
+}
+
+/**
+ * How sure it is that a tag isn't here.
+ * @param {number} slots
+ */
+export function silentIn(slots) {
+  return `asked in ${count(slots, "slot")}, silent ${slots === 1 ? "there" : "in each"}`;
 }

@@ -38,12 +38,19 @@ import { strip } from "./strip.mjs";
  * @property {boolean} ended whether the text ends with an LF
  * @property {string} sha256 empty where it can't be had
  * @property {string} text
- * @property {{kind: string, uid?: string, line?: number}[]} findings the first of each kind, and all lines of a conflict
+ * @property {{kind: string, uid?: string, line?: number, overlooked?: number}[]} findings the first of each kind, and all lines
+ *   of a conflict; an absent UID was overlooked in so many slots
  * @property {{absent: number, unlisted: number, doubtful: number}} found how many there are
  * @property {{count: number, uids: string[]}} certain
  * @property {{count: number, share: number, masks: {mask_len: number, mask_value: string, ask: string[]}[]}} open
  * @property {string | null} unnoticed a UID that isn't listed, and could be there
  * @property {Captured} [captured] of a log
+ * @property {number} [margin] of a complete list
+ * @property {Margin["weakest"]} [weakest]
+ */
+/**
+ * In how many slots a tag that isn't listed would have had to be missed, and the weakest mask; of a collection also in which log.
+ * @typedef {{margin: number, weakest: {file?: string, mask_len: number, mask_value: string}}} Margin
  */
 /**
  * @typedef {Object} Captured

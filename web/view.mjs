@@ -5,7 +5,7 @@ import { maintainer } from "./maintainer.mjs";
 import { KIND } from "./kinds.mjs";
 import { noted } from "./notes.mjs";
 import { rounds } from "./rounds.mjs";
-import { alsoHolds, GRANTED, HOLDS, say } from "./say.mjs";
+import { alsoHolds, GRANTED, HOLDS, missed, say, silentIn } from "./say.mjs";
 import { count, ending, lines, printable, TRIAL } from "./words.mjs";
 
 /** @typedef {import("./told.mjs").Told} Told */
@@ -54,7 +54,7 @@ export function banner(said, what, heading = "h1") {
  * @param {Told} told
  */
 function conditions(told) {
-  const also = alsoHolds(told), holds = told.object.kind === KIND.COMPLETE ? [el("p", {}, HOLDS)] : [];
+  const also = alsoHolds(told), holds = (told.object.kind === KIND.COMPLETE ? [HOLDS, ...missed(told.object)] : []).map((it) => el("p", {}, it));
   const parts = [...holds, ...also ? [el("p", {}, also.words, ...also.ask ? [" ", el("code", {}, also.ask)] : [])] : []];
   return parts.length ? [el("section", { class: "holds" }, parts)] : [];
 }
@@ -78,8 +78,9 @@ function findings({ object: { findings, found }, counts }, names) {
     [KIND.DOUBTFUL, "listed tag that isn't proved", "listed tags that aren't proved", ""]]);
   return kinds.filter(([kind]) => found[kind]).map(([kind, one, many, by]) => {
     const list = findings.filter((it) => it.kind === kind), all = found[kind];
-    const shown = (/** @type {number} */ line) => [" ", el("span", { class: "by" }, by), toLine(line)];
-    const items = list.map(({ uid = "", line }) => el("li", {}, ...tagWith(uid, names), ...line ? shown(line) : []));
+    const shown = (/** @type {number} */ line, asked = "") => [" ", el("span", { class: "by" }, asked, by), toLine(line)];
+    const items = list.map(({ uid = "", line, overlooked }) => el("li", {}, ...tagWith(uid, names),
+      ...line ? shown(line, overlooked ? `${silentIn(overlooked)}; ` : "") : []));
     return folded(count(all, one, many), all <= FEW, el("ul", { class: "uids" }, items), ...rest(all - list.length));
   });
 }

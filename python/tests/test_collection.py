@@ -210,17 +210,23 @@ class Reconcile(Command):
             "schema": 1, "status": 1, "kind": "absent", "uid": "E00401502B91C435",
             "counts": counts, "unsettled": {"mask_len": 4, "mask_value": "0F"}, "set_aside": []})
         self.assertEqual(len(items), 12)
+        self.assertEqual({it["uid"]: it["overlooked"] for it in items if "overlooked" in it},
+                         {"E00401502B91C435": 1})
         self.assertEqual(items[11], {
             "uid": "E00401506D9320CE", "state": "not provable", "certain_in": [],
             "may_be_in": [SHELVES[2]], "columns": {"title": "Ulysses", "shelf": "C"}})
         masks = [{"mask_len": 4, "mask_value": "0E"}, {"mask_len": 4, "mask_value": "0F"}]
+        even, odd = ({"mask_len": 1, "mask_value": it} for it in ("00", "01"))
         self.assertEqual(logs, [
             {"file": SHELVES[0], "certain": 4, "open": [], "more_open": False,
-             "list": {"status": 0, "kind": "complete", "count": 4}, "captured": {"holds": True}},
+             "list": {"status": 0, "kind": "complete", "count": 4},
+             "margin": 2, "weakest": even, "captured": {"holds": True}},
             {"file": SHELVES[1], "certain": 3, "open": [], "more_open": False,
-             "list": {"status": 0, "kind": "complete", "count": 3}, "captured": {"holds": True}},
+             "list": {"status": 0, "kind": "complete", "count": 3},
+             "margin": 2, "weakest": odd, "captured": {"holds": True}},
             {"file": SHELVES[2], "certain": 3, "open": masks, "more_open": False,
              "list": {"status": 1, "kind": "unsettled", "mask_len": 4, "mask_value": "0E"},
+             "margin": 0, "weakest": masks[0],
              "captured": {"holds": False, "mask_len": 5, "mask_value": "01"}}])
 
     def test_page(self):

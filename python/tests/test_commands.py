@@ -44,8 +44,10 @@ class Answers(Command):
         found = [json.loads(line) for line in said.decode().splitlines()]
         self.assertEqual([it["file"] for it in found], [*self.names, "/nowhere.log"])
         wanted = [
-            {"status": 0, "kind": "complete", "count": 0},
-            {"status": 0, "kind": "complete", "count": 1},
+            {"status": 0, "kind": "complete", "count": 0, "margin": 1,
+             "weakest": {"mask_len": 0, "mask_value": "-"}},
+            {"status": 0, "kind": "complete", "count": 1, "margin": 1,
+             "weakest": {"mask_len": 1, "mask_value": "00"}},
             {"status": 1, "kind": "absent", "uid": "E0040100000000A1"},
             {"status": 1, "kind": "unlisted", "uid": "E0040100000000A1"},
             {"status": 1, "kind": "unsettled", "mask_len": 56, "mask_value": "040100000000A1"},
@@ -76,7 +78,10 @@ class Words(Command):
         name = self.names[0]
         for words in ([], ["--tabs", "--json", name], ["--other", name], ["show"],
                       ["page", name, name], ["--ascii", name], ["page", "--ascii", name],
-                      ["show", "--json", name]):
+                      ["show", "--json", name], ["margin"], ["margin", name, name],
+                      *(["--margin", word, name]
+                        for word in ("0", "-1", "x", "1000000", "9" * 5000)),
+                      ["report", "--margin", "1", name]):
             said, errors, status = within(*words)
             self.assertEqual((said, status), (b"", 4))
             self.assertTrue(errors.startswith(b"vicinity: "))

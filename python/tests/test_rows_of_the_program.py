@@ -1,4 +1,4 @@
-"""`explain`, `simulate`, `frame` and `spell` write what the program writes:
+"""`explain`, `margin`, `simulate`, `frame` and `spell` write what the program writes:
 they are asked for its rows in tests/data/rows, without a process for each."""
 from unittest import mock
 
@@ -11,7 +11,8 @@ import vicinity
 from vicinity.__main__ import words
 from vicinity.commands import answers, frames
 
-MODULES = {"explain": answers, "simulate": answers, "frame": frames, "spell": frames}
+MODULES = {"explain": answers, "margin": answers, "simulate": answers, "frame": frames,
+           "spell": frames}
 #: Of the rows, those that ask for other commands too.
 ALSO = ("fill", "replay", "request", "reply")
 ROWS = [row for row in all_rows(["python"]) if row.values[1] in (*MODULES, *ALSO)]

@@ -6,7 +6,7 @@ import os
 
 import jsonschema
 
-from cases import COLLECTION, SHELVES, TOP, Command, command, here, within
+from cases import COLLECTION, LIST_A, SHELVES, TOP, Command, command, here, log, within
 from helpers.records import drawn_in
 
 
@@ -29,6 +29,7 @@ class Schema(Command):
             for line in within(*words, *names)[0].splitlines():
                 told = json.loads(line)
                 yield told, "check" if told["status"] == 4 else kind
+        yield json.loads(within("--json", "--margin", "2", self.names[0])[0]), "check"
         for line in within("survey", *names)[0].splitlines():
             told = json.loads(line)
             yield told, "check" if told["status"] > 1 else "survey"
@@ -38,6 +39,9 @@ class Schema(Command):
         place = ["--place", "shelf", "--places", os.path.join(COLLECTION, "places.csv")]
         answers = [here("json", catalogue, *logs, options=place)[0]
                    for logs in (SHELVES, [*SHELVES[:2], *self.names], [*SHELVES, self.names[7]])]
+        listed = self.write("expected.log", log(LIST_A))
+        answers += [here("json", listed, self.names[1], options=["--margin", most])[0]
+                    for most in "12"]
         yield from ((json.loads(answer), "collection") for answer in answers)
         yield drawn_in(here("page", catalogue, *SHELVES, options=place)[0])[0], "collection"
         old, *others = [self.write(f"{index}.json", answer.encode())
@@ -54,7 +58,7 @@ class Schema(Command):
 
     def test_each_field_is_needed(self):
         for told, kind in {kind: (told, kind) for told, kind in self.objects()}.values():
-            has_more = kind in ("collection", "log")
+            has_more = kind in ("collection", "log", "survey")
             for field in self.schema["$defs"][kind]["required"] if has_more else told:
                 left = {key: value for key, value in told.items() if key != field}
                 self.assertFalse(self.fits(left, kind)[1], (kind, field))

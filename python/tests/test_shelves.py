@@ -26,6 +26,8 @@ MISSING = (110, 455, 1013)
 MISPLACED = {3: "S02", 220: "S40", 820: "S05", 1205: "S01", 1999: "S18"}
 UNEXPECTED = {0xE0040199000000A1: "S09", 0xE0040199000000B7: "S30"}
 SPLIT = 4
+#: Each log asks each UID once, besides those in collisions, and its items end in every digit.
+ONCE = {"margin": 1, "weakest": {"mask_len": 4, "mask_value": "0A"}}
 
 
 def reply(uid):
@@ -128,6 +130,7 @@ class Collection(Command):
                           "columns": {"Barcode": barcode, "Title": title, "Shelf": shelf},
                           "certain_in": [certain] * bool(certain),
                           "may_be_in": [may_be] * bool(may_be),
+                          **({"overlooked": 1} if known == "missing" else {}),
                           **({"belongs": shelf} if shelf else {})}
                          for barcode, title, uid, shelf, known, certain, may_be in rows]
         told["logs"] = []
@@ -135,11 +138,12 @@ class Collection(Command):
             uids = [row[2] for row in rows if row[5] == log]
             said = {"status": 1, "kind": "unlisted", "uid": min(uids, default="")}
             told["logs"].append({"file": log, "certain": len(uids), "open": [], "more_open": False,
-                                 "list": said})
+                                 "list": said, **ONCE})
         for aside in told["set_aside"]:
             said = {key: aside[key] for key in ("status", "kind", "line")}
-            told["logs"][self.logs.index(aside["file"])].update(
-                open=[{"mask_len": 0, "mask_value": "-"}], list=said)
+            broken = told["logs"][self.logs.index(aside["file"])]
+            broken.update(open=[{"mask_len": 0, "mask_value": "-"}], list=said)
+            del broken["margin"], broken["weakest"]
         return told
 
     def test_what_is_planted(self):
@@ -199,7 +203,11 @@ class Collection(Command):
                 self.write(name, said)
             options = [*self.OPTIONS, "--surveys", "one.jsonl", "two.jsonl"]
             for form in ("lines", "csv", "json"):
-                self.assertEqual(here(form, "catalogue.csv", options=options), self.ask(form), form)
+                said, errors, ended = self.ask(form)
+                # how often a missing item was asked only a log says
+                said = said.replace(', "overlooked": 1', "")
+                self.assertEqual(here(form, "catalogue.csv", options=options),
+                                 (said, errors, ended), form)
             told, plain = drawn_in(here("page", "catalogue.csv", options=options)[0])
             self.assertEqual(([log.get("object") for log in told["logs"]], plain),
                              ([None] * len(self.logs), wanted(f"{state}.lines")))

@@ -15,6 +15,8 @@ class Surveys(Command):
                    {**told, "open": [{"mask_len": 1}]},
                    {**told, "open": [{"mask_len": 4, "mask_value": "1F"}]}, {**told, "file": 3},
                    {**told, "open": [{"mask_len": 64, "mask_value": "0" * 16}]},
+                   {**told, "margin": -1}, {**told, "margin": "1"}, {**told, "weakest": None},
+                   {**told, "weakest": {"mask_len": 1, "mask_value": "2"}},
                    *[{**told, "certain": [{"uid": "E0040100000000A1", "line": line}]}
                      for line in (-1, 1.5, "3", True, float("inf"), 1 << 32)],
                    {key: told[key] for key in told if key != "open"}]
@@ -37,7 +39,8 @@ class Surveys(Command):
             "schema": 1, "file": self.names[3],
             "status": 1, "kind": "unlisted", "uid": "E0040100000000A1",
             "certain": [{"uid": "E0040100000000A1", "line": 3}], "open": [],
-            "captured": {"holds": False, "mask_len": 1, "mask_value": "00"}})
+            "captured": {"holds": False, "mask_len": 1, "mask_value": "00"},
+            "margin": 1, "weakest": {"mask_len": 1, "mask_value": "00"}})
         self.assertEqual(found[4]["open"], [{"mask_len": 56, "mask_value": "040100000000A1"}])
         self.assertEqual(found[6], {
             "schema": 1, "file": self.names[6], "status": 2, "kind": "impossible", "line": 5,
@@ -51,8 +54,10 @@ class Surveys(Command):
                      *([self.names[1], it] for it in broken)):
             name = self.write("surveys", within("survey", *logs)[0])
             for form in ("lines", "csv", "json"):
-                ended = here(form, listed, options=["--surveys", name])
-                self.assertEqual(ended, here(form, listed, *logs), logs)
+                said, *ended = here(form, listed, *logs)
+                # how often a missing item was asked only a log says
+                self.assertEqual(here(form, listed, options=["--surveys", name]),
+                                 (said.replace(', "overlooked": 1', ""), *ended), logs)
 
     def test_answers_that_cannot_be_compared(self):
         listed = self.write("listed", log(LIST_A))

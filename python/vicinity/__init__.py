@@ -14,10 +14,11 @@ It is loaded on the first call; LIBVICINITY may name its file.
 `python3 -m vicinity reconcile --expected FILE LOG ..` compares many with one list
 of what should be there.
 """
-from ._answers import (Answer, Explanation, Fault, Finding, FindingKind, Kind, ListFault, Mask,
-                       Report, Simulation, Survey)
-from ._calls import (check, check_listed, explain, explain_into, explain_listed, listed, reconcile,
-                     report, report_listed, simulate, simulate_into, survey)
+from ._answers import (Answer, Explanation, Fault, Finding, FindingKind, Kind, ListFault, Margin,
+                       Mask, Report, Simulation, Survey, Weakest)
+from ._calls import (check, check_listed, explain, explain_into, explain_listed, listed, margin,
+                     margin_listed, overlooked, reconcile, report, report_listed, simulate,
+                     simulate_into, survey)
 from ._captured import captured
 from ._drawn import page
 from .frames import (HEADER_LINE, FrameFault, Reply, Request, add_crc, parse_uid, read_request,
@@ -25,10 +26,10 @@ from .frames import (HEADER_LINE, FrameFault, Reply, Request, add_crc, parse_uid
                      write_response, write_stay_quiet)
 
 __all__ = ["Answer", "Explanation", "Fault", "Finding", "FindingKind", "FrameFault", "HEADER_LINE",
-           "Kind", "ListFault", "Mask", "Reply", "Report", "Request", "Simulation", "Survey",
-           "add_crc", "captured", "check", "check_listed", "explain", "explain_into",
-           "explain_listed", "listed", "page", "parse_uid",
-           "read_request", "read_response", "reconcile", "report", "report_listed", "simulate",
-           "simulate_into", "slot_mask", "survey", "uid_text", "write_inventory", "write_line",
-           "write_response", "write_stay_quiet"]
+           "Kind", "ListFault", "Margin", "Mask", "Reply", "Report", "Request", "Simulation",
+           "Survey", "Weakest", "add_crc", "captured", "check", "check_listed", "explain",
+           "explain_into", "explain_listed", "listed", "margin", "margin_listed", "overlooked",
+           "page", "parse_uid", "read_request", "read_response", "reconcile", "report",
+           "report_listed", "simulate", "simulate_into", "slot_mask", "survey", "uid_text",
+           "write_inventory", "write_line", "write_response", "write_stay_quiet"]
 __version__ = "1.2.0.dev0"

@@ -21,6 +21,8 @@ The exit status is the worst of all: 0 complete, 1 not complete, 2 impossible,
 3 refused, 4 no answer. Standard error says why there is no answer; other logs
 are still judged."""
 ANY = sys.maxsize
+#: A log has fewer slots than this.
+MOST_MARGIN = 999_999
 
 
 class _Commands:
@@ -53,6 +55,12 @@ def _logs_from(command: Words) -> None:
                          help="a file that lists more logs, separated by NUL or line ends")
 
 
+def _margin_of(command: Words) -> None:
+    command.add_argument("--margin", metavar="K", type=_margin, default=0,
+                         help="a list is complete only if a tag that isn't on it would have had "
+                              "to be missed in K slots or more")
+
+
 def words() -> tuple[Words, Mapping[str, Words]]:
     """The words of all commands, and of each."""
     is_module = os.path.basename(sys.argv[0]) == "__main__.py"
@@ -65,6 +73,7 @@ def words() -> tuple[Words, Mapping[str, Words]]:
                          "LOG", 0, ANY)
     _forms(check, lines="FILE: answer", tabs="file, status and answer, separated by tabs",
            json="an object a line")
+    _margin_of(check)
     _logs_from(check)
     report = commands.add("report", "every finding of each log", "answers.report_all",
                           "LOG", 0, ANY)
@@ -77,6 +86,8 @@ def words() -> tuple[Words, Mapping[str, Words]]:
     show.add_argument("--ascii", action="store_true", help="only ASCII characters")
     commands.add("page", "the same as one HTML file", "draw.page", "LOG", 1, 1)
     for name, what in (("explain", "the answer to a log, and tags that show it"),
+                       ("margin", "the answer to a log, and how often a tag would have had to be "
+                                  "missed"),
                        ("simulate", "the log that listed tags would produce for given requests")):
         commands.add(name, f"{what}, as the program does", f"answers.{name}_one", "LOG", 1, 1)
     _misread(commands)
@@ -115,6 +126,7 @@ def _of_collections(commands: _Commands) -> None:
     logs.add_argument("--strict", action="store_true",
                       help="end at the first log that is impossible, refused or unreadable, "
                            "as the program does")
+    _margin_of(reconcile)
     logs.add_argument("--jobs", metavar="N", type=_jobs, default=1,
                       help="how many processes read logs")
     survey = commands.add(
@@ -142,6 +154,12 @@ def _misread(commands: _Commands) -> None:
 def _jobs(word: str) -> int:
     if not word.isdecimal() or not int(word):
         raise argparse.ArgumentTypeError("a number from 1")
+    return int(word)
+
+
+def _margin(word: str) -> int:
+    if not word.isdecimal() or not 0 < int(word) <= MOST_MARGIN:
+        raise argparse.ArgumentTypeError(f"a number from 1 to {MOST_MARGIN:,}")
     return int(word)
 
 

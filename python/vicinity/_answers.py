@@ -2,7 +2,7 @@
 from __future__ import annotations
 
 import enum
-from typing import NamedTuple
+from typing import NamedTuple, Optional
 
 from ._native import name_of
 
@@ -198,6 +198,33 @@ class Report(NamedTuple):
         """What `vicinity report` writes, without its last LF."""
         first = [] if self.answer.status == 1 else [self.answer.text]
         return "\n".join([*first, *map(str, self.findings)])
+
+
+class Weakest(NamedTuple):
+    """Where a list is weakest: a tag that isn't on it would have had to be missed least often."""
+
+    margin: int
+    """In how many slots: a UID was overlooked in a slot in which its tag should have answered,
+    if that is logged as silent, or as the reply R of another."""
+    mask: Mask
+    """The first mask, by length and then by value, of at most 56 bits,
+    all of whose UIDs aren't listed and were overlooked in so many slots."""
+
+
+class Margin(NamedTuple):
+    """The answer to a text, and how sure it is."""
+
+    answer: Answer
+    weakest: Optional[Weakest]
+    """None if the text is refused or the log impossible. Of a complete list the margin
+    is at least 1; it is 0 if a tag that isn't listed may be there."""
+
+    def __str__(self) -> str:
+        """What `vicinity margin` writes, without its last LF."""
+        if self.weakest is None or not self.answer.is_complete:
+            return self.answer.text
+        margin, mask = self.weakest
+        return f"{self.answer}\nmargin {margin}\nweakest {mask.length} {mask.digits}"
 
 
 class Survey(NamedTuple):

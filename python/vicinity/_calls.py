@@ -7,9 +7,9 @@ import struct
 from array import array
 from typing import TYPE_CHECKING, Any, Callable, Iterable
 
-from ._answers import (Answer, Explanation, Fault, Finding, FindingKind, Kind, ListFault, Mask,
-                       Report, Simulation, Survey)
-from ._native import AnswerStruct, FindingStruct, MaskStruct, bytes_of, library
+from ._answers import (Answer, Explanation, Fault, Finding, FindingKind, Kind, ListFault, Margin,
+                       Mask, Report, Simulation, Survey, Weakest)
+from ._native import AnswerStruct, FindingStruct, MaskStruct, WeakestStruct, bytes_of, library
 
 if TYPE_CHECKING:
     from ._native import BytesLike
@@ -154,6 +154,45 @@ def report_listed(text: BytesLike, uids: Iterable[int]) -> Report:
     text, listed = _without_list(text), _numbers(uids)
     return _report(*_in_room(FindingStruct, library().vicinity_report_listed,
                              text, len(text), listed, len(listed)))
+
+
+def _margin(call: Callable[..., int], *given: Any) -> Margin:
+    told, least = AnswerStruct(), WeakestStruct()
+    call(*given, ctypes.byref(told), ctypes.byref(least))
+    answer = _answer(told)
+    return Margin(answer, None if answer.status > 1 else
+                  Weakest(least.margin, Mask(least.mask_len, least.mask_value)))
+
+
+def margin(text: BytesLike) -> Margin:
+    """The answer to a text, and in how many slots a tag that isn't listed
+    would have had to be missed. Raises what `check` raises."""
+    text = bytes_of(text)
+    return _margin(library().vicinity_margin, text, len(text))
+
+
+def margin_listed(text: BytesLike, uids: Iterable[int]) -> Margin:
+    """The answer of `check_listed`, and the margin against this list.
+    Raises what `check_listed` raises."""
+    text, listed = _without_list(text), _numbers(uids)
+    return _margin(library().vicinity_margin_listed, text, len(text), listed, len(listed))
+
+
+def overlooked(text: BytesLike, uids: Iterable[int]) -> list[int]:
+    """In how many slots of a log each of these UIDs was overlooked, in their order:
+    its tag should have answered, and the slot is logged as silent, or as the reply R of another.
+    They may be any, listed or not, also of an impossible log.
+
+    Raises ValueError, with the line of the refusal, if the text is refused or a UID doesn't begin
+    E0, what `check` raises, and OverflowError if a UID doesn't fit into 64 bits."""
+    text, asked = bytes_of(text), _numbers(uids)
+    told, places = AnswerStruct(), (ctypes.c_uint32 * len(asked))()
+    library().vicinity_overlooked(text, len(text), asked, len(asked), ctypes.byref(told), places,
+                                  len(places))
+    answer = _answer(told)
+    if answer.kind is Kind.REFUSED:
+        raise ValueError(answer.text)
+    return list(places)
 
 
 def survey(text: BytesLike) -> Survey:

@@ -3,13 +3,16 @@ from __future__ import annotations
 
 from typing import Any, Mapping, Optional
 
-from ._answers import Answer, Fault, Kind, Mask
+from ._answers import Answer, Fault, Kind, Mask, Weakest
 from ._process import shown
 from .frames import parse_uid, uid_text
 
 #: The form of the objects, which docs/answers.schema.json describes.
 SCHEMA = 1
 UID_BITS = 56
+#: The kind of the answer to a complete list of which a greater margin was asked for,
+#: and its status.
+SMALL, NOT_COMPLETE = "margin", 1
 
 
 def fields(answer: Answer) -> dict[str, Any]:
@@ -34,6 +37,35 @@ def captured_fields(answer: Answer, reread: Optional[Answer]) -> dict[str, Any]:
     if reread is None:
         return {}
     return {"captured": {"holds": True} if reread == answer else {"holds": False, **fields(reread)}}
+
+
+def margin_fields(weakest: Optional[Weakest]) -> dict[str, Any]:
+    """In how many slots a tag that isn't listed would have had to be missed, and the weakest mask;
+    nothing if that isn't known."""
+    if weakest is None:
+        return {}
+    return {"margin": weakest.margin, "weakest": mask_fields(weakest.mask)}
+
+
+def small(answer: Answer, weakest: Optional[Weakest], wanted: int, where: str = "") -> str:
+    """The line of such an answer."""
+    if weakest is None:
+        return f"{SMALL} unknown, {wanted} asked for: {answer}"
+    mask = f"{weakest.mask.length} {weakest.mask.digits}"
+    return f"{SMALL} {weakest.margin} below {wanted}{where}: {answer}, weakest {mask}"
+
+
+def small_fields(answer: Answer, wanted: int) -> dict[str, Any]:
+    """Its fields, besides those of its margin."""
+    return {"status": NOT_COMPLETE, "kind": SMALL, "count": answer.count, "wanted": wanted}
+
+
+def weakest_of(said: Mapping[str, Any]) -> Optional[Weakest]:
+    """The margin and the mask that these fields have, if they have any.
+    Raises ValueError, KeyError or TypeError if they are wrong."""
+    if "margin" not in said:
+        return None
+    return Weakest(number_of(said["margin"]), mask_of(said["weakest"]))
 
 
 def answer_of(said: Mapping[str, Any]) -> Answer:

@@ -52,6 +52,17 @@ function surveyed(library, text) {
 }
 
 /**
+ * The margin of a log, and how often UIDs were overlooked, before a number that stays as it was.
+ * @param {Library} library
+ * @param {Uint8Array} text
+ */
+function measured(library, text) {
+  const { answer, weakest } = library.margin(text), overlooked = library.overlooked(text, EXPECTED);
+  const { margin, maskLen, maskValue } = weakest ?? { margin: 0, maskLen: 0, maskValue: 0n };
+  return [shown(answer), `${margin} ${maskLen} ${hex(maskValue)}\n`, shown(overlooked.answer), `${overlooked.list.join(" ")} 7\n`].join("");
+}
+
+/**
  * Of texts, each after its length in decimal and an LF.
  * @param {Library} library
  * @param {Uint8Array} texts
@@ -61,7 +72,7 @@ export function answers(library, texts) {
   for (let at = 0; at < texts.length;) {
     const end = texts.indexOf(10, at), length = Number(new TextDecoder().decode(texts.subarray(at, end)));
     const text = texts.subarray(end + 1, end + 1 + length);
-    written.push(shown(library.check(text)), explained(library, text), surveyed(library, text));
+    written.push(shown(library.check(text)), explained(library, text), surveyed(library, text), measured(library, text));
     at = end + 1 + length;
   }
   return written.join("");

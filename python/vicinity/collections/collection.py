@@ -2,15 +2,16 @@
 from __future__ import annotations
 
 from enum import Enum
+from functools import cached_property
 from typing import Iterable, Iterator, NamedTuple, Optional, Sequence
 
-from .._answers import FindingKind, Mask
-from .._calls import reconcile_parts
+from .._answers import FindingKind, Mask, Weakest
+from .._calls import margin_listed, overlooked, reconcile_parts
 from .._process import NoAnswer, shown
 from .catalogue import Catalogue
-from .masks import Under, without
+from .masks import Under, are_all, without
 from .places import Places
-from .surveys import ALL, Surveys
+from .surveys import ALL, Surveys, without_list
 
 #: How many of the open masks of a log are named.
 MOST_OPEN = 16
@@ -55,15 +56,23 @@ class Left(NamedTuple):
     has_more: bool
 
 
-class Collection:
-    """What many logs say together. Logs go by their positions."""
+class Least(NamedTuple):
+    """The margin of a collection, and the first log in whose field it is so small."""
 
-    def __init__(self, expected: Catalogue, read: Surveys, places: Places):
+    log: int
+    weakest: Weakest
+
+
+class Collection:
+    """What many logs say together. Logs go by their positions.
+    If it is complete with a margin below `wanted`, it counts as not complete."""
+
+    def __init__(self, expected: Catalogue, read: Surveys, places: Places, wanted: int = 0):
         self.expected, self.logs, self.places = expected, read.all, places
         self.answer, self.findings = reconcile_parts(
             expected.uids, (uid for log in self.logs for uid in log.certain),
             (mask for log in self.logs for mask in log.open_masks))
-        self._read = read
+        self._read, self.wanted = read, wanted
         self.aside = [log for log in self.logs if log.status]
         self.items = list(self._items())
 
@@ -73,9 +82,17 @@ class Collection:
 
     @property
     def status(self) -> int:
-        """The highest status: that of the answer, 1 if an item is misplaced,
+        """The highest status: that of the answer, 1 if an item is misplaced or the margin small,
         and that of each log that is set aside."""
-        return max([self.answer.status, bool(self.misplaced), *(log.status for log in self.aside)])
+        return max([self.answer.status, bool(self.misplaced), self.is_small,
+                    *(log.status for log in self.aside)])
+
+    @property
+    def is_small(self) -> bool:
+        """Whether it is complete, and its margin is less than was asked for, or isn't known."""
+        if not self.wanted or not self.answer.is_complete:
+            return False
+        return self.least is None or self.least.weakest.margin < self.wanted
 
     def of(self, state: State) -> list[Item]:
         """The items with a state."""
@@ -113,6 +130,40 @@ class Collection:
             else:
                 yield Left(*without(log.open_masks, certain, MOST_OPEN))
 
+    @cached_property
+    def least(self) -> Optional[Least]:
+        """The margin of a complete collection: of its logs against what is expected, the least.
+        It is that against the UIDs that the log proves, unless all that are weakest are expected.
+        Nothing if the collection isn't complete, or that of a log isn't known."""
+        if not self.answer.is_complete:
+            return None
+        expected, found = self.expected.uids, []
+        for index, log in enumerate(self.logs):
+            weakest = log.weakest
+            if weakest and are_all(expected, weakest.mask):
+                text = self.text(index)
+                weakest = margin_listed(without_list(text), expected).weakest if text else None
+            if weakest is None:
+                return None
+            found.append(Least(index, weakest))
+        return min(found, key=lambda it: it.weakest.margin)
+
+    def overlooked(self) -> dict[int, int]:
+        """In how many slots each missing tag was overlooked, in the field of the log in which these
+        were fewest; nothing if a log isn't there any more."""
+        missing = [item.uid for item in self.of(State.MISSING) if item.uid is not None]
+        least: list[int] = []
+        for index in range(len(self.logs) if missing else 0):
+            text = self.text(index)
+            if text is None:
+                return {}
+            try:
+                found = overlooked(text, missing)
+            except ValueError:
+                raise self._changed(index) from None
+            least = [min(pair) for pair in zip(least, found)] if least else found
+        return dict(zip(missing, least))
+
     def text(self, index: int) -> Optional[bytes]:
         """The text of a log, if it is still there."""
         return self._read.text(index)
@@ -129,9 +180,11 @@ class Collection:
             for uid in uids:
                 found[uid] = index, shown_there.line_of(uid)
                 if not found[uid][1]:
-                    name = shown(self.logs[index].name)
-                    raise NoAnswer(f"{name} has changed since it was read first")
+                    raise self._changed(index)
         return found
+
+    def _changed(self, index: int) -> NoAnswer:
+        return NoAnswer(f"{shown(self.logs[index].name)} has changed since it was read first")
 
     def _items(self) -> Iterator[Item]:
         """Each row of the catalogue, in its order, and then the unexpected UIDs.

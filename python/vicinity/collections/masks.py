@@ -31,6 +31,12 @@ class Under:
         return self._start(first) < self._start(first + (1 << UID_BITS - mask.length))
 
 
+def are_all(uids: Sequence[int], mask: Mask) -> bool:
+    """Whether these UIDs, each once, have all that have a mask among them."""
+    size, low = 1 << UID_BITS - mask.length, (1 << mask.length) - 1
+    return size <= len(uids) and sum((uid ^ mask.value) & low == 0 for uid in uids) == size
+
+
 def _turned(number: int) -> int:
     """The 56 low bits, the lowest first."""
     return int(f"{number & (1 << UID_BITS) - 1:0{UID_BITS}b}"[::-1], 2)

@@ -11,11 +11,11 @@ from concurrent.futures import ProcessPoolExecutor
 from contextlib import closing
 from typing import Any, Iterator, Mapping, NamedTuple, Optional, Sequence
 
-from .._answers import Answer, Kind, Mask, Survey
-from .._calls import survey
+from .._answers import Answer, Kind, Mask, Survey, Weakest
+from .._calls import margin_listed, survey
 from .._captured import with_captures
-from .._fields import (SCHEMA, answer_of, captured_fields, fields, mask_fields, mask_of, number_of,
-                       refusal)
+from .._fields import (SCHEMA, answer_of, captured_fields, fields, margin_fields, mask_fields,
+                       mask_of, number_of, refusal, weakest_of)
 from .._process import NO_ANSWER, NoAnswer, counted, read, shown
 from ..frames import parse_uid, uid_text
 from ..sessions.findings import Shown, tell
@@ -46,6 +46,9 @@ class Log(NamedTuple):
     captured: Mapping[str, Any] = {}
     """Whether it says the same of its field if strong replies hid weaker ones, as JSON has it;
     nothing if that isn't known."""
+    weakest: Optional[Weakest] = None
+    """The margin against its certain UIDs alone, if that is known. With more UIDs on the list
+    it isn't less."""
 
     @classmethod
     def of(cls, name: str, text: bytes) -> Log:
@@ -54,11 +57,13 @@ class Log(NamedTuple):
             found = survey(text)
             is_refused = found.answer.kind is Kind.REFUSED
             captured = {} if is_refused else _captured(found, survey(with_captures(text)))
+            if found.answer.status > 1:
+                return cls(name, found.answer, [], [ALL], captured=captured)
+            weakest = margin_listed(without_list(text), found.certain).weakest
         except MemoryError as error:
             return cls.unread(name, error)
-        if found.answer.status > 1:
-            return cls(name, found.answer, [], [ALL], captured=captured)
-        return cls(name, found.answer, found.certain, found.open_masks, captured=captured)
+        return cls(name, found.answer, found.certain, found.open_masks, captured=captured,
+                   weakest=weakest)
 
     @classmethod
     def unread(cls, name: str, error: Exception) -> Log:
@@ -134,10 +139,15 @@ class Surveys:
             return None
 
 
+def without_list(text: bytes) -> bytes:
+    """A log without its own list."""
+    listed = LIST.search(text)
+    return text[:listed.start()] if listed else text
+
+
 def certain_lines(text: bytes) -> Shown:
     """The UIDs that a log makes certain, each with the line that shows it."""
-    listed = LIST.search(text)
-    return tell(text[:listed.start()] if listed else text).unlisted
+    return tell(without_list(text)).unlisted
 
 
 def _each(names: Sequence[str], jobs: int, texts: dict[int, bytes]) -> Iterator[Log]:
@@ -197,6 +207,7 @@ def record(log: Log, lines: Optional[Sequence[int]]) -> str:
         said["certain"] = [{"uid": uid_text(uid), "line": line}
                            for uid, line in zip(log.certain, lines)]
         said["open"] = [mask_fields(mask) for mask in log.open_masks]
+    said.update(margin_fields(log.weakest))
     return json.dumps(said) + "\n"
 
 
@@ -232,7 +243,7 @@ def _recorded(said: dict[str, Any]) -> Log:
         return Log(name, answer, [], [ALL], captured=captured)
     pairs = sorted((parse_uid(it["uid"]), number_of(it["line"])) for it in said["certain"])
     return Log(name, answer, [uid for uid, _ in pairs], [mask_of(it) for it in said["open"]], "",
-               [line for _, line in pairs], captured)
+               [line for _, line in pairs], captured, weakest_of(said))
 
 
 def _captured_of(said: Mapping[str, Any]) -> dict[str, Any]:

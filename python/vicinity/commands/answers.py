@@ -1,4 +1,4 @@
-"""`check`, `explain`, `report` and `simulate`: what the program says,
+"""`check`, `explain`, `report`, `margin` and `simulate`: what the program says,
 of many logs in one process."""
 from __future__ import annotations
 
@@ -7,9 +7,10 @@ import json
 from typing import Any, Callable, Mapping, Union
 
 from .._answers import Answer
-from .._calls import check, explain, simulate
+from .._calls import check, explain, margin, simulate
 from .._captured import if_captured
-from .._fields import SCHEMA, captured_fields, fields
+from .._fields import (NOT_COMPLETE, SCHEMA, captured_fields, fields, margin_fields, small,
+                       small_fields)
 from .._native import library
 from .._process import NO_ANSWER, NoAnswer, complain, read, shown, write
 from ..frames import uid_text
@@ -18,13 +19,22 @@ from .names import names_of
 Fields = Mapping[str, Any]
 
 
-def judge(name: str, is_reread: bool = False) -> tuple[Union[Answer, str], Fields]:
-    """The answer to a file, or why there is none; and if the file is read again,
-    whether it also holds under capture."""
+def judge(name: str, wanted: int = 0, has_more: bool = False) -> tuple[Union[Answer, str], Fields]:
+    """The answer to a file, or why there is none; and if more is asked for, its margin,
+    and whether it also holds under capture.
+    A complete list counts as not complete if its margin is less than was wanted."""
     try:
         text = read(name)
-        answer = check(text)
-        return answer, captured_fields(answer, if_captured(text, answer)) if is_reread else {}
+        if not wanted and not has_more:
+            return check(text), {}
+        answer, weakest = margin(text)
+        weakest = weakest if answer.is_complete else None
+        more = {**margin_fields(weakest),
+                **(captured_fields(answer, if_captured(text, answer)) if has_more else {})}
+        if weakest is None or weakest.margin >= wanted:
+            return answer, more
+        return (answer._replace(status=NOT_COMPLETE, text=small(answer, weakest, wanted)),
+                {**more, **small_fields(answer, wanted)})
     except NoAnswer as why:
         return str(why), {}
     except MemoryError:
@@ -57,7 +67,7 @@ def check_all(asked: argparse.Namespace) -> int:
     library()
     worst = 0
     for name in names_of(asked):
-        answer, more = judge(name, asked.form == "json")
+        answer, more = judge(name, asked.margin, asked.form == "json")
         worst = max(worst, complain(answer) if isinstance(answer, str) else answer.status)
         write([FORMS[asked.form](name, answer, more)])
     return worst
@@ -90,6 +100,13 @@ def explain_one(asked: argparse.Namespace) -> int:
     write([f"{answer}\n", f"population {len(population)}\n" * has_one,
            *(f"U {uid_text(uid)}\n" for uid in population)])
     return answer.status
+
+
+def margin_one(asked: argparse.Namespace) -> int:
+    """Writes what `vicinity margin` writes, and returns the status."""
+    found = margin(read(asked.names[0]))
+    write([f"{found}\n"])
+    return found.answer.status
 
 
 def simulate_one(asked: argparse.Namespace) -> int:

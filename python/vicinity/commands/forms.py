@@ -8,7 +8,7 @@ from collections import Counter
 from typing import Any, Callable, Iterable, Iterator, Mapping, Sequence, Union
 
 from .._answers import Finding, FindingKind
-from .._fields import SCHEMA, fields, mask_fields
+from .._fields import SCHEMA, fields, margin_fields, mask_fields, small, small_fields
 from .._process import NO_ANSWER, shown
 from ..collections.collection import Collection, Item, Left, State
 from ..collections.surveys import Log
@@ -16,7 +16,7 @@ from ..frames import uid_text
 from ..pages.document import document, version
 from ..pages.log import object_of
 from ..sessions.findings import tell_people
-from ..sessions.sentence import ALSO, ASK_AGAIN, HEARD
+from ..sessions.sentence import ALSO, ASK_AGAIN, HEARD, missed
 from ..sessions.words import count, listing
 
 #: How much text of logs stands in a page.
@@ -41,8 +41,19 @@ def as_lines(found: Collection) -> Iterator[str]:
         where = " and ".join(shown(found.logs[log].name) for log in item.certain_in)
         yield f"misplaced {uid_text(item.uid or 0)} in {where}, belongs to {shown(item.belongs)}\n"
     yield from (f"no tag in row {item.row}\n" for item in found.of(State.NO_TAG))
-    if not found.findings and not found.misplaced:
+    if found.is_small:
+        yield f"{small_margin(found)}\n"
+    elif not found.findings and not found.misplaced:
         yield f"{found.answer}\n"
+
+
+def small_margin(found: Collection) -> str:
+    """The line of a complete collection of which a greater margin was asked for."""
+    least = found.least
+    if least is None:
+        return small(found.answer, None, found.wanted)
+    where = f" in {shown(found.logs[least.log].name)}"
+    return small(found.answer, least.weakest, found.wanted, where)
 
 
 def _findings(found: Collection) -> Iterator[str]:
@@ -65,9 +76,12 @@ def _findings(found: Collection) -> Iterator[str]:
 
 def notes(found: Collection) -> Iterator[str]:
     """What a person has to know beside the lines: what a complete answer is said of,
-    and which logs don't hold under capture."""
+    how sure it is, and which logs don't hold under capture."""
     if not found.findings and not found.aside:
         yield HEARD
+    least = found.least
+    if least is not None:
+        yield missed(least.weakest, f" in the field of {shown(found.logs[least.log].name)}")
     names = [shown(log.name) for log in found.logs if log.captured.get("holds") is False]
     if names:
         more = [count(len(names) - MOST_NAMES, "other log")] * (len(names) > MOST_NAMES)
@@ -96,15 +110,15 @@ def as_json(found: Collection, more: Mapping[str, object] = {},
     the widest mask of which any UID may be there, each item, and each log;
     with more fields, and with objects of some logs."""
     unsettled = [mask_fields(it.mask) for it in found.findings if it.kind is FindingKind.UNSETTLED]
-    counts = Counter(item.state for item in found.items)
+    counts, overlooked = Counter(item.state for item in found.items), found.overlooked()
     head = json.dumps({
-        "schema": SCHEMA, **_answer(found), **more,
+        "schema": SCHEMA, **_answer(found), **_margin(found), **more,
         "counts": {state.value: counts[state] for state in State},
         "unsettled": unsettled[0] if unsettled else None,
         "set_aside": [{**_of_aside(log), "do": log.advice} for log in found.aside]})
     yield head[:-1] + ', "items": ['
     for index, item in enumerate(found.items):
-        yield ", " * (index > 0) + json.dumps(_of_item(found, item))
+        yield ", " * (index > 0) + json.dumps(_of_item(found, item, overlooked))
     yield '], "logs": ['
     for index, (log, left) in enumerate(zip(found.logs, found.left())):
         its_own = {"object": of_log[index]} if index in of_log else {}
@@ -144,7 +158,16 @@ def _answer(found: Collection) -> dict[str, object]:
     if not found.findings and found.misplaced:
         return {"status": found.status, "kind": State.MISPLACED.value,
                 "uid": uid_text(found.misplaced[0].uid or 0)}
-    return fields(found.answer)
+    return small_fields(found.answer, found.wanted) if found.is_small else fields(found.answer)
+
+
+def _margin(found: Collection) -> dict[str, object]:
+    """The margin of a complete collection, and in which log a tag would have been missed."""
+    least = found.least
+    if least is None:
+        return {}
+    return {"margin": least.weakest.margin,
+            "weakest": {"file": found.logs[least.log].name, **mask_fields(least.weakest.mask)}}
 
 
 def _of_aside(log: Log) -> dict[str, object]:
@@ -157,11 +180,13 @@ def _of_answer(log: Log) -> dict[str, object]:
     return fields(log.answer)
 
 
-def _of_item(found: Collection, item: Item) -> dict[str, object]:
+def _of_item(found: Collection, item: Item, overlooked: Mapping[int, int]) -> dict[str, object]:
     said: dict[str, object] = {
         "uid": None if item.uid is None else uid_text(item.uid), "state": item.state.value,
         "columns": {found.expected.heads[at]: item.cells[at] for at in found.expected.beside()},
         "certain_in": _named(found, item.certain_in), "may_be_in": _named(found, item.may_be_in)}
+    if item.uid is not None and item.uid in overlooked:
+        said["overlooked"] = overlooked[item.uid]
     return {**said, "belongs": item.belongs} if item.belongs else said
 
 
@@ -169,6 +194,7 @@ def _of_log(log: Log, left: Left) -> dict[str, object]:
     return {"file": log.name, "certain": len(log.certain),
             "open": [mask_fields(mask) for mask in left.masks],
             "more_open": left.has_more, "list": _of_answer(log),
+            **margin_fields(log.weakest),
             **({"captured": log.captured} if log.captured else {})}
 
 

@@ -6,7 +6,7 @@ from itertools import chain
 from typing import Iterator, Mapping
 
 from .._answers import Kind
-from .._fields import SCHEMA, captured_fields, fields, mask_fields
+from .._fields import SCHEMA, captured_fields, fields, margin_fields, mask_fields
 from ..sessions.conflict import ask
 from ..sessions.faults import ADVICE
 from ..sessions.findings import Shown, Told, tell_people
@@ -65,7 +65,7 @@ def _shown(session: Session, word: str, shown: Shown) -> Iterator[tuple[int, str
 def object_of_report(name: str, session: Session, told: Told) -> Iterator[str]:
     """One object on one line: what `--json` says about a log, with all findings and notes."""
     yield json.dumps({"schema": SCHEMA, "file": name, **fields(told.answer),
-                      **captured_fields(told.answer, told.reread),
+                      **margin_fields(told.weakest), **captured_fields(told.answer, told.reread),
                       "sentence": sentence(session, told)})[:-1]
     yield ', "findings": ['
     for index, finding in enumerate(_findings(told)):
@@ -77,9 +77,10 @@ def _findings(told: Told) -> Iterator[Mapping[str, object]]:
     if told.silenced:
         yield {"kind": "silenced by", "line": told.silenced}
     yield from ({"kind": "conflict", "line": line} for line in told.conflict)
-    for word, shown in ("absent", told.absent), ("unlisted", told.unlisted):
-        yield from ({"kind": word, "uid": uid(number), "line": line}
-                    for number, line in zip(shown.uids, shown.lines))
+    yield from ({"kind": "absent", "uid": uid(number), "line": line, "overlooked": slots}
+                for number, line, slots in zip(*told.absent, told.overlooked))
+    yield from ({"kind": "unlisted", "uid": uid(number), "line": line}
+                for number, line in zip(*told.unlisted))
     masks = [("unsettled", mask) for mask in (told.unsettled,) if mask]
     masks += [("open", mask) for mask in told.open_masks]
     yield from ({"kind": word, **mask_fields(mask)} for word, mask in masks)

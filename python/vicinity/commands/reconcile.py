@@ -13,7 +13,7 @@ from ..collections.collection import Collection
 from ..collections.places import Places, places_of
 from ..collections.surveys import Log, Surveys, certain_lines, record, records
 from ..collections.tables import Wrong
-from .forms import FORMS, notes, set_aside
+from .forms import FORMS, notes, set_aside, small_margin
 from .names import names_of
 
 REFUSED = 3
@@ -39,10 +39,12 @@ def reconcile(asked: argparse.Namespace) -> int:
     if asked.strict and broken is not None and (asked.form != "page" or broken.answer is None):
         write(_ended(asked.form, broken))
         return broken.status
-    found = Collection(expected, logs, places)
+    found = Collection(expected, logs, places, asked.margin)
     if asked.form == "csv":
         for log in found.aside:
             complain(set_aside(log))
+        if found.is_small:
+            complain(small_margin(found))
     write(FORMS[asked.form](found))
     if asked.form == "lines":
         tell_terminal(f"{note}\n" for note in notes(found))

@@ -8,10 +8,10 @@ from typing import Any, Iterator, Mapping, Optional
 
 from .._answers import Answer, Kind, Mask, Survey
 from .._calls import explain, survey
-from .._fields import SCHEMA, captured_fields, fields, mask_fields
+from .._fields import SCHEMA, captured_fields, fields, margin_fields, mask_fields
 from ..frames import uid_text
 from ..sessions.conflict import ask, has
-from ..sessions.findings import Shown, Told, tell_people
+from ..sessions.findings import Told, tell_people
 from ..sessions.reading import read_session
 from ..sessions.show import MOST_LINES, show
 from .document import document, version
@@ -36,7 +36,8 @@ def object_of(name: str, text: bytes, told: Told) -> dict[str, Any]:
     answer, left = told.answer, survey(text)
     return {
         "schema": SCHEMA, "version": version(), "file": name, **fields(answer),
-        **captured_fields(answer, told.reread), "answer": answer.text,
+        **margin_fields(told.weakest), **captured_fields(answer, told.reread),
+        "answer": answer.text,
         "lines": text.count(b"\n") + (not text.endswith(b"\n") and bool(text)),
         "ended": text.endswith(b"\n"),
         "sha256": sha256(text).hexdigest(), "findings": list(_findings(told)),
@@ -54,15 +55,12 @@ def object_of(name: str, text: bytes, told: Told) -> dict[str, Any]:
 def _findings(told: Told) -> Iterator[Mapping[str, object]]:
     if told.silenced:
         yield {"kind": "silenced by", "line": told.silenced}
-    yield from _shown("absent", told.absent)
-    yield from _shown("unlisted", told.unlisted)
+    yield from ({"kind": "absent", "uid": uid_text(uid), "line": line, "overlooked": slots}
+                for uid, line, slots, _ in zip(*told.absent, told.overlooked, range(MOST_TOLD)))
+    yield from ({"kind": "unlisted", "uid": uid_text(uid), "line": line}
+                for uid, line, _ in zip(*told.unlisted, range(MOST_TOLD)))
     yield from ({"kind": "doubtful", "uid": uid_text(uid)} for uid in told.doubtful[:MOST_TOLD])
     yield from ({"kind": "conflict", "line": line} for line in told.conflict)
-
-
-def _shown(kind: str, shown: Shown) -> Iterator[Mapping[str, object]]:
-    for uid, line in zip(shown.uids[:MOST_TOLD], shown.lines):
-        yield {"kind": kind, "uid": uid_text(uid), "line": line}
 
 
 def _open_masks(text: bytes, left: Survey) -> list[dict[str, object]]:

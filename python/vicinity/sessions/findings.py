@@ -5,10 +5,10 @@ from __future__ import annotations
 from array import array
 from bisect import bisect_left
 from itertools import groupby
-from typing import NamedTuple, Optional
+from typing import NamedTuple, Optional, Sequence
 
-from .._answers import Answer, FindingKind, Kind, Mask
-from .._calls import report_records
+from .._answers import Answer, FindingKind, Kind, Mask, Weakest
+from .._calls import margin, overlooked, report_records
 from .._captured import if_captured
 
 
@@ -41,7 +41,11 @@ class Told:
         self.answer = answer
         #: The answer if any reply may have hidden others.
         self.reread = reread
+        #: The margin of a complete list.
+        self.weakest: Optional[Weakest] = None
         self.absent = Shown(array("Q"), array("I"))
+        #: In how many slots each absent UID was overlooked.
+        self.overlooked: Sequence[int] = []
         self.unlisted = Shown(array("Q"), array("I"))
         self.doubtful: array[int] = array("Q")
         #: The widest open mask without a listed UID.
@@ -98,6 +102,12 @@ def tell(text: bytes) -> Told:
 
 
 def tell_people(text: bytes) -> Told:
-    """The same, and the answer if any reply may have hidden others."""
+    """The same, the answer if any reply may have hidden others, and how sure it is:
+    in how many slots a tag would have had to be missed, or was silent."""
     answer, records = report_records(text)
-    return Told(answer, records, if_captured(text, answer))
+    told = Told(answer, records, if_captured(text, answer))
+    if answer.is_complete:
+        told.weakest = margin(text).weakest
+    if told.absent.uids:
+        told.overlooked = overlooked(text, told.absent.uids)
+    return told

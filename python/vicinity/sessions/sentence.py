@@ -3,12 +3,12 @@ from __future__ import annotations
 
 from typing import Iterator
 
-from .._answers import Kind, Mask
+from .._answers import Kind, Mask, Weakest
 from .conflict import ask, contradiction
 from .faults import ADVICE
 from .findings import Told
 from .session import Session
-from .words import count, listing
+from .words import count, ending, listing
 
 ALL = Mask(0, 0)
 HEARD = ("This is said of tags that had power, heard the reader, "
@@ -33,10 +33,12 @@ def sentence(session: Session, told: Told) -> str:
 
 def conditions(session: Session, told: Told) -> Iterator[str]:
     """What an answer is said under: of a complete list which tags it speaks of,
-    and whether it also holds under capture."""
+    and how often one would have had to be missed; and whether it also holds under capture."""
     answer, reread = told.answer, told.reread
     if answer.kind is Kind.COMPLETE:
         yield HEARD
+    if told.weakest is not None:
+        yield missed(told.weakest)
     if reread is None:
         return
     if reread == answer:
@@ -46,6 +48,17 @@ def conditions(session: Session, told: Told) -> Iterator[str]:
                "If replies may hide others, write H in place of R, in a log of version 3.")
     else:
         yield f"{ALSO} no, '{reread}'. {ASK_AGAIN} ({ask(session.link, 1, ALL)})."
+
+
+def missed(weakest: Weakest, where: str = "") -> str:
+    """How sure it is that no other tag is there."""
+    return (f"A tag would have had to be missed in {count(weakest.margin, 'slot')}{where}; "
+            f"weakest: {ending(weakest.mask)}.")
+
+
+def silent(slots: int) -> str:
+    """How sure it is that a tag isn't there."""
+    return f"asked in {count(slots, 'slot')}, silent {'there' if slots == 1 else 'in each'}"
 
 
 def _complete(number: int) -> str:

@@ -3,7 +3,7 @@ a row for each round with a cell for each slot, and what was found."""
 from __future__ import annotations
 
 from textwrap import wrap
-from typing import Iterable, Iterator, NamedTuple, Sequence
+from typing import Iterable, Iterator, Mapping, NamedTuple, Sequence
 
 from .._answers import Kind
 from .conflict import ask, contradiction
@@ -12,7 +12,7 @@ from .findings import Shown, Told
 from .notes import notes
 from .quotes import Quote, quotes
 from .rows import Drawn, Gap, chosen
-from .sentence import conditions, sentence
+from .sentence import conditions, sentence, silent
 from .session import FieldCycle, Reading, Round, Session, Slot, StayQuiet
 from .words import count, digits_heard, ending, of_uid, printable, span, uid
 
@@ -134,8 +134,10 @@ def _found(session: Session, told: Told, look: Look) -> Iterator[str]:
         for quote in quotes(session, numbers):
             yield from _quoted(quote, "silenced by" if quote.first == told.silenced else "by", look)
         yield from _more(len(told.conflict), "line")
-    yield from _shown(session, "absent", told.absent, look)
-    yield from _shown(session, "unlisted", told.unlisted, look)
+    asked = {number: f"  {silent(slots)}" for number, slots, _ in
+             zip(told.absent.uids, told.overlooked, range(MOST_LINES))}
+    yield from _shown(session, "absent", told.absent, look, asked)
+    yield from _shown(session, "unlisted", told.unlisted, look, {})
     if told.unsettled:
         yield _mask("unsettled", told.unsettled)
     for mask in told.open_masks:
@@ -153,13 +155,16 @@ def _mask(word: str, mask: "Sequence[int]") -> str:
     return f"{word} {length} " + (f"{value:0{2 * ((length + 7) // 8)}X}" if length else "-")
 
 
-def _shown(session: Session, word: str, shown: Shown, look: Look) -> Iterator[str]:
-    """UIDs, grouped by the line that shows them, which follows."""
+def _shown(session: Session, word: str, shown: Shown, look: Look,
+           asked: Mapping[int, str]) -> Iterator[str]:
+    """UIDs, with how often they were asked, grouped by the line that shows them,
+    which follows."""
     by_line: dict[int, list[int]] = {}
     for number, line in zip(shown.uids[:MOST_LINES], shown.lines):
         by_line.setdefault(line, []).append(number)
     for line, numbers in by_line.items():
-        yield from (f"{word} {uid(number)}" for number in numbers)
+        for number in numbers:
+            yield from look.wrapped(f"{word} {uid(number)}{asked.get(number, '')}")
         yield from _quoted(next(quotes(session, [line])), "by", look)
     yield from _more(len(shown.uids), f"{word} UID")
 

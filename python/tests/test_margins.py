@@ -1,0 +1,236 @@
+"""How sure an answer is: in how many slots a tag would have had to be missed, or was silent.
+What is wanted is counted by hand."""
+import json
+import os
+import pty
+import subprocess
+import sys
+
+import vicinity
+from cases import (A, ALL, B, HEARD_A, HEARD_B, LIST_A, LIST_B, SILENCE_A, SIXTEEN, Command, frame,
+                   here, log, within)
+from helpers.records import drawn_in
+from vicinity import Mask, Weakest
+
+SILENCE_B = b"T %s\n" % frame(bytes.fromhex("2202B2000000000104E0"))
+#: A is heard and silenced; then all are asked, and none answers.
+TWICE = ALL + HEARD_A + SILENCE_A + ALL + b"S\n"
+#: B is silenced as well, so it was asked only once.
+ONCE_B = ALL + HEARD_A + SILENCE_A + SILENCE_B + ALL + b"S\n"
+#: B is heard, and all are asked three times more.
+OFTEN = ALL + HEARD_B + SILENCE_B + (ALL + b"S\n") * 3
+ONLY_B = Mask(56, B & (1 << 56) - 1)
+SAID = "A tag would have had to be missed in"
+
+
+class Calls(Command):
+    def test_margins(self):
+        for text, wanted in (
+                (log(ALL + b"S\n"), "complete 0\nmargin 1\nweakest 0 -"),
+                (log(TWICE + LIST_A), "complete 1\nmargin 2\nweakest 1 00"),
+                (log(TWICE + LIST_A).replace(b"1\n", b"3\n", 1).replace(b"R ", b"H "),
+                 "complete 1\nmargin 1\nweakest 1 00"),
+                (log(ONCE_B + LIST_A), "complete 1\nmargin 1\nweakest 56 040100000000B2"),
+                (log(ALL + b"C\n" + LIST_A), "unsettled 1 00"),
+                (log(TWICE + ALL + HEARD_A), "impossible at line 8"),
+                (b"", "refused at line 1: Header")):
+            found = vicinity.margin(text)
+            self.assertEqual(str(found), wanted)
+            self.assertEqual(found.answer, vicinity.check(text))
+            self.assertEqual(vicinity.margin(bytearray(text)), found)
+
+    def test_of_every_possible_log(self):
+        for lines, wanted in ((TWICE + LIST_A, Weakest(2, Mask(1, 0))),
+                              (ALL + HEARD_A, Weakest(0, Mask(56, A & (1 << 56) - 1))),
+                              (ALL + b"C\n" + LIST_A, Weakest(0, Mask(1, 0))),
+                              (ALL + b"S\n" + LIST_A, Weakest(1, Mask(1, 0))),
+                              (ALL + b"S\n" + ALL + b"C\n", None), (b"X\n", None)):
+            self.assertEqual(vicinity.margin(log(lines)).weakest, wanted)
+
+    def test_a_list_beside_the_text(self):
+        for lines in (TWICE, OFTEN, b"X\n", b""):
+            for uids in ([], [A], [B, A]):
+                listed = b"".join(vicinity.write_line("U", uid=uid) for uid in uids)
+                wanted = vicinity.margin(log(lines + listed))
+                self.assertEqual(vicinity.margin_listed(log(lines), uids), wanted)
+                self.assertEqual(vicinity.margin_listed(log(lines).rstrip(), iter(uids)), wanted)
+        self.assertEqual(str(vicinity.margin_listed(log(TWICE), [1])),
+                         "refused at line 7: NotVicinity")
+
+    def test_how_often_uids_were_overlooked(self):
+        other = 0xE0 << 56
+        for lines, wanted in ((ALL + HEARD_A, [0, 1, 1]), (TWICE, [0, 2, 2]), (ONCE_B, [0, 1, 2]),
+                              (OFTEN, [4, 0, 4]), (ALL + b"C\n", [0, 0, 0]), (b"", [0, 0, 0]),
+                              (SIXTEEN + b"S\n" * 2, [1, 0, 1]),
+                              (ALL + b"S\n" + ALL + HEARD_A + LIST_A, [1, 2, 2])):
+            self.assertEqual(vicinity.overlooked(log(lines), [A, B, other]), wanted)
+            self.assertEqual(vicinity.overlooked(log(lines), (other, A, A)),
+                             [wanted[2], wanted[0], wanted[0]])
+        cycled = b"vicinity-log 2\n" + ONCE_B + b"F\n" + ALL + b"S\n"
+        self.assertEqual(vicinity.overlooked(cycled, [A, B]), [1, 2])
+        self.assertEqual(vicinity.overlooked(log(TWICE), []), [])
+        uids = [other + number for number in range(1000)]
+        self.assertEqual(vicinity.overlooked(log(TWICE), uids), [2] * 1000)
+
+    def test_what_has_no_numbers(self):
+        for lines, uids, wanted in ((b"X\n", [A], "refused at line 2: UnknownEntry"),
+                                    (TWICE, [A, B, 5], "refused at line 9: NotVicinity")):
+            with self.assertRaisesRegex(ValueError, wanted):
+                vicinity.overlooked(log(lines), uids)
+        for call in (vicinity.margin_listed, vicinity.overlooked):
+            with self.assertRaises(OverflowError):
+                call(log(TWICE), [1 << 64])
+            with self.assertRaisesRegex(TypeError, "bytes, not str"):
+                call("", [])
+
+
+class Said(Command):
+    def setUp(self):
+        super().setUp()
+        self.whole = self.write("whole.log", log(TWICE + LIST_A))
+        self.absent = self.write("absent.log", log(OFTEN + LIST_A + LIST_B))
+
+    def test_as_the_program_says_it(self):
+        self.assertEqual(within("margin", self.whole),
+                         (b"complete 1\nmargin 2\nweakest 1 00\n", b"", 0))
+        for name, status in ((self.absent, 1), (self.names[6], 2), (self.names[7], 3)):
+            answer = within("check", name)[0].partition(b": ")[2]
+            self.assertEqual(within("margin", name), (answer, b"", status))
+
+    def test_a_margin_that_is_too_small(self):
+        """The line doesn't say complete first, and the status is 1."""
+        small = "margin 2 below 3: complete 1, weakest 1 00"
+        for most, said, status in (("2", "complete 1", 0), ("3", small, 1)):
+            for words in ([], ["check"]):
+                self.assertEqual(within(*words, "--margin", most, self.whole),
+                                 (f"{self.whole}: {said}\n".encode(), b"", status))
+            self.assertEqual(within("--tabs", self.whole, "--margin", most)[0].decode(),
+                             f"{self.whole}\t{status}\t{said}\n")
+        self.assertEqual(within("--margin", "999999", self.whole)[2], 1)
+
+    def test_other_answers_stay(self):
+        self.assertEqual(within("--margin", "9", *self.names[2:]), within(*self.names[2:]))
+
+    def test_as_json(self):
+        weakest = {"mask_len": 1, "mask_value": "00"}
+        for words, wanted in (
+                ([], {"status": 0, "kind": "complete", "count": 1}),
+                (["--margin", "2"], {"status": 0, "kind": "complete", "count": 1}),
+                (["--margin", "3"], {"status": 1, "kind": "margin", "count": 1, "wanted": 3})):
+            said, _, status = within("--json", *words, self.whole)
+            self.assertEqual(json.loads(said), {
+                "schema": 1, "file": self.whole, **wanted, "margin": 2, "weakest": weakest,
+                "captured": {"holds": True}})
+            self.assertEqual(status, wanted["status"])
+        told = json.loads(within("report", "--json", self.whole)[0])
+        self.assertEqual((told["margin"], told["weakest"]), (2, weakest))
+        told = json.loads(within("report", "--json", self.absent)[0])
+        self.assertEqual(told["findings"], [{
+            "kind": "absent", "uid": "E0040100000000A1", "line": 3, "overlooked": 4}])
+        self.assertNotIn("margin", told)
+
+    def test_in_a_terminal(self):
+        for lines, wanted in (
+                (TWICE + LIST_A, f"{SAID} 2 slots; weakest: UIDs ending in an even digit."),
+                (ALL + b"S\n", f"{SAID} 1 slot; weakest: all UIDs."),
+                (ONCE_B + LIST_A, f"{SAID} 1 slot; weakest: E0040100000000B2."),
+                (OFTEN + LIST_A + LIST_B,
+                 "absent E0040100000000A1 asked in 4 slots, silent in each"),
+                (ALL + b"S\n" + LIST_A, "absent E0040100000000A1 asked in 1 slot, silent there")):
+            said = within("show", self.write("one.log", log(lines)))[0].decode()
+            self.assertIn(wanted, " ".join(said.split()))
+            self.assertEqual(SAID in said, said.startswith("complete"))
+
+    def test_on_a_page(self):
+        told = drawn_in(vicinity.page(log(TWICE + LIST_A)))[0]
+        self.assertEqual((told["margin"], told["weakest"]),
+                         (2, {"mask_len": 1, "mask_value": "00"}))
+        told = drawn_in(vicinity.page(log(OFTEN + LIST_A + LIST_B)))[0]
+        self.assertEqual([it["overlooked"] for it in told["findings"]], [4])
+        self.assertNotIn("margin", told)
+
+
+class Collections(Command):
+    def setUp(self):
+        super().setUp()
+        self.listed = self.write("expected.log", log(LIST_A + LIST_B))
+        self.logs = [self.write(name, log(lines)) for name, lines in (
+            ("a.log", TWICE + LIST_A), ("b.log", OFTEN))]
+
+    def margin(self, *words, listed="", form="json"):
+        said, errors, status = here(form, listed or self.listed, *words)
+        return json.loads(said), errors, status
+
+    def test_the_least_of_its_logs(self):
+        weakest = {"file": self.logs[0], "mask_len": 1, "mask_value": "00"}
+        for logs in (self.logs, self.logs[::-1]):
+            told, _, status = self.margin(*logs)
+            self.assertEqual((told["margin"], told["weakest"], status), (2, weakest, 0))
+        self.assertEqual([it["margin"] for it in told["logs"]], [4, 2])
+        other = self.write("c.log", log((ALL + b"S\n") * 2))
+        for logs, first in (([*self.logs, other], self.logs[0]), ([other, *self.logs], other)):
+            self.assertEqual(self.margin(*logs)[0]["weakest"]["file"], first)
+
+    def test_where_all_that_are_weakest_are_expected(self):
+        """B was asked only once in the first field. It is in the second, so it is no tag that
+        was missed; the next were asked twice. A survey alone doesn't say that."""
+        once = self.write("once.log", log(ONCE_B + LIST_A))
+        told = self.margin(once, self.logs[1])[0]
+        self.assertEqual((told["margin"], told["weakest"]),
+                         (2, {"file": once, "mask_len": 2, "mask_value": "00"}))
+        self.assertEqual(told["logs"][0]["margin"], 1)
+        records = self.write("records", within("survey", once, self.logs[1])[0])
+        self.assertNotIn("margin", self.margin("--surveys", records)[0])
+
+    def test_surveys_of_other_machines(self):
+        records = self.write("records", within("survey", *self.logs)[0])
+        said, _, status = within("reconcile", "--json", "--expected", self.listed, "--surveys",
+                                 records)
+        self.assertEqual((json.loads(said), "", status), self.margin(*self.logs))
+
+    def test_of_what_is_not_complete(self):
+        told = self.margin(self.logs[0])[0]
+        self.assertNotIn("margin", told)
+        self.assertEqual({it["uid"]: it.get("overlooked") for it in told["items"]},
+                         {"E0040100000000A1": None, "E0040100000000B2": 2})
+        more = self.write("more.log", log(ALL + b"S\n"))
+        items = self.margin(self.logs[0], more)[0]["items"]
+        self.assertEqual([it.get("overlooked") for it in items], [None, 1])
+
+    def test_a_margin_that_is_too_small(self):
+        where = f"margin 2 below 3 in {self.logs[0]}: complete 2, weakest 1 00"
+        words = "reconcile", "--expected", self.listed, *self.logs, "--margin"
+        self.assertEqual(within(*words, "2"), (b"complete 2\n", b"", 0))
+        self.assertEqual(within(*words, "3"), (f"{where}\n".encode(), b"", 1))
+        said, errors, status = within(*words, "3", "--csv")
+        self.assertEqual((errors.decode(), status), (f"vicinity: {where}\n", 1))
+        self.assertEqual(said, within(*words, "1", "--csv")[0])
+        for form in ("json", "page"):
+            said, _, status = within(*words, "3", f"--{form}")
+            told = json.loads(said) if form == "json" else drawn_in(said.decode())[0]
+            self.assertEqual((told["status"], told["kind"], told["count"], told["wanted"]),
+                             (1, "margin", 2, 3))
+            self.assertEqual((told["margin"], status), (2, 1))
+
+    def test_a_margin_that_is_not_known(self):
+        """It counts as too small."""
+        records = [json.loads(line) for line in within("survey", *self.logs)[0].splitlines()]
+        del records[1]["margin"], records[1]["weakest"]
+        name = self.write("records", "\n".join(map(json.dumps, records)).encode())
+        words = "reconcile", "--expected", self.listed, "--surveys", name
+        self.assertEqual(within(*words), (b"complete 2\n", b"", 0))
+        self.assertEqual(within(*words, "--margin", "1"),
+                         (b"margin unknown, 1 asked for: complete 2\n", b"", 1))
+
+    def test_a_terminal_is_told(self):
+        ours, theirs = pty.openpty()
+        subprocess.run([sys.executable, "-m", "vicinity", "reconcile", "--expected", self.listed,
+                        *self.logs], stdout=subprocess.PIPE, stderr=theirs, check=True)
+        os.write(theirs, b"END\n")
+        told = b""
+        while not told.endswith(b"END\r\n"):
+            told += os.read(ours, 4096)
+        os.close(ours)
+        os.close(theirs)
+        self.assertIn(f"{SAID} 2 slots in the field of {self.logs[0]}; "
+                      "weakest: UIDs ending in an even digit.", told.decode())
