@@ -131,7 +131,7 @@ def as_page(found: Collection) -> Iterator[str]:
     of many the first that have to be counted again."""
     name = "standard input" if found.expected.name == "-" else os.path.basename(found.expected.name)
     plain = [line.rstrip("\n") for line in as_lines(found) if line]
-    answer = small_margin(found) if found.is_small else found.answer
+    answer = plain[0] if found.status else found.answer
     return document(f"{shown(name)}: {answer}",
                     as_json(found, {"version": version(), "name": name}, _objects(found)), plain)
 
