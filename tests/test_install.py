@@ -186,6 +186,15 @@ def test_completion_for_zsh(root):
         assert sorted(tool("zsh", "-fc", ZSH, script, *words).split()) == offered
 
 
+def test_completion_for_fish(root):
+    script = root / "usr/share/fish/vendor_completions.d/vicinity.fish"
+    begun = str(LOG).removesuffix(".log")
+    for words, offered in (("", COMMANDS), (f"check {begun}", [str(LOG)]), ("frame ", [])):
+        said = tool("fish", "--no-config", "-c", 'source $argv[1]; complete -C "vicinity $argv[2]"',
+                    script, words)
+        assert sorted(said.split()) == offered
+
+
 # What fails, and removal.
 
 @pytest.mark.parametrize("name", ["usr/bin/vicinity", "usr/share/man", "usr/lib/libvicinity.so"])

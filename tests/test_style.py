@@ -1,6 +1,7 @@
 """The style of scripts and Python, and the types of Python and of the page's modules, by Debian's
 tools: shellcheck, flake8, mypy and tsc, as setup.cfg and web/ have it."""
 import os
+import re
 
 import pytest
 
@@ -41,6 +42,16 @@ def test_a_tool_finds_nothing(words):
     needs(words[0])
     said = Program(*words).run()
     assert not said.status, said.out.decode()
+
+
+def test_lines_of_code_and_definitions_end_by_column_100():
+    longer = re.compile(r' *(ghost use|use|import|b?")')
+    files = [file for file in TOP.glob("crates/*/s*/**/*")
+             if file.suffix in (".rt", ".antt")]
+    assert len(files) > 300
+    assert not [f"{file.relative_to(TOP)}:{number}" for file in files
+                for number, line in enumerate(file.read_text().splitlines(), 1)
+                if len(line) > 100 and not longer.match(line)]
 
 
 def test_each_kind_of_script_is_found():

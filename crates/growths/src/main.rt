@@ -2,8 +2,8 @@
 //! `right`, `memory` (refused memory, and the right answer when called again) or `wrong`.
 //!
 //! `tests/test_growths.py` runs it with one allocation refused, each in turn. With `planted` on
-//! standard input it makes calls that are deliberately wrong; with a log it judges that log, and the
-//! test counts how many times.
+//! standard input it makes calls that are deliberately wrong; with a log it judges that log, and
+//! the test counts how many times.
 #![tactic(auto)]
 
 mod found;

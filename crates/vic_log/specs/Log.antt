@@ -53,8 +53,8 @@ abbrev pub IsValidEntry : Entry → Type 0
 IsValidEntry (Sent q) = IsValid q
 IsValidEntry e = ⊤
 
--- the lines of a log: entries in order, on lines 2 to 1,000,000, in versions 1 and 2 only those that
--- they have
+-- the lines of a log: entries in order, on lines 2 to 1,000,000, in versions 1 and 2 only those
+-- that they have
 pub record IsLog (version : Version) (lines : List LogLine) : Type 0 where
   pub order : IsInOrder (entries lines)
   pub rising : IsRisingFrom 1 lines

@@ -1,5 +1,5 @@
-//! Logs judged over a list of cells, and explained over a tree. `tests/test_rows.py` asks the program
-//! what `judge` says about them, over ranges of keys.
+//! Logs judged over a list of cells, and explained over a tree. `tests/test_rows.py` asks the
+//! program what `judge` says about them, over ranges of keys.
 
 use crate::logs::text_of;
 use arrayvec::ArrayVec;

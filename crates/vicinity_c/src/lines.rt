@@ -26,11 +26,11 @@ pub struct VicinityLine {
     pub text: [u8; LINE_ROOM],
 }
 
-/// Writes one line of a log's text, LF included: `letter` and `bytes` for a frame that was sent (T),
-/// heard (R) or captured (H); U and `uid` for a listed UID; only the letter for a slot that was
-/// silent (S), had a collision (C), was garbled (D) or is unknown (N), and for a field cycle (F). What the letter doesn't need
-/// isn't looked at, and the bytes aren't judged. The result is 0 or the fault: the letter is
-/// another one, or there are more than 63 bytes.
+/// Writes one line of a log's text, LF included: `letter` and `bytes` for a frame that was sent
+/// (T), heard (R) or captured (H); U and `uid` for a listed UID; only the letter for a slot that
+/// was silent (S), had a collision (C), was garbled (D) or is unknown (N), and for a field cycle
+/// (F). What the letter doesn't need isn't looked at, and the bytes aren't judged. The result is 0
+/// or the fault: the letter is another one, or there are more than 63 bytes.
 #[unsafe(no_mangle)]
 pub extern "C" fn vicinity_write_line(
     letter: u8,
