@@ -210,12 +210,14 @@ def test_random_pictures(vicinity):
         version = rng.randint(1, 3)
         _, lines = random_logs.random_log(rng, version)
         text = random_logs.text_of(version, lines)
-        found = findings.tell(text)
+        found = findings.tell_people(text)
         kept = reading.read_session(text, found, found.lines(20))
         kinds.add(found.answer.kind.word)
         parts = [sentence.sentence(kept, found), *show.show(kept, found),
                  *listing.lines_of_report("log", kept, found)]
-        json.loads("".join(listing.object_of_report("log", kept, found)))
+        told = json.loads("".join(listing.object_of_report("log", kept, found)))
+        absent = [it["uid"] for it in told["findings"] if it["kind"] == "absent"]
+        assert absent == list(map(vicinity.uid_text, found.absent.uids)), text
         json.dumps(log.object_of("log", text, found))
         assert all(parts[:2]), text
     assert kinds >= {"complete", "impossible", "unsettled", "unlisted"}

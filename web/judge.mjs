@@ -35,9 +35,11 @@ export async function judge(library, text, name, left) {
   const kept = untilRefused(text, answer), decoded = DECODED.decode(kept), link = linkIn(decoded);
   const masks = open.slice(0, MOST_TOLD).map(({ len, value }) => ({ ...maskFields(len, value),
     ask: (len ? [1] : [16, 1]).map((slots) => `T ${hexOf(library.writeInventory(slots, len, value, link))}`) }));
-  return { schema: SCHEMA, version: versionOf(library.version), file: name, ...fields(library, answer), ...marginFields(answer.status ? null : library.margin(text).weakest), ...capturedOf(library, text, answer), answer: answer.text.trim(),
+  const weakest = answer.status ? null : library.margin(text).weakest, overlooked = absent.length ? library.overlooked(text, absent).list : [];
+  return { schema: SCHEMA, version: versionOf(library.version), file: name, ...fields(library, answer), ...marginFields(weakest),
+    ...capturedOf(library, text, answer), answer: answer.text.trim(),
     lines: linesIn(text), ended: text[text.length - 1] === LF, sha256: await sumOf(text),
-    findings: [...findingsOf(list.filter((it) => it.kind !== FOUND.CONFLICT), absent.length ? library.overlooked(text, absent).list : []), ...conflict.map((line) => ({ kind: "conflict", line }))],
+    findings: [...findingsOf(list.filter((it) => it.kind !== FOUND.CONFLICT), overlooked), ...conflict.map((line) => ({ kind: "conflict", line }))],
     found: { absent: counts[FOUND.ABSENT], unlisted: counts[FOUND.UNLISTED], doubtful: counts[FOUND.DOUBTFUL] },
     certain: { count: certain.length, uids: certain.slice(0, MOST_LISTED).map((uid) => hex(uid)) },
     open: { count: open.length, share: shareOf(open), masks },

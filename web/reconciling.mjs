@@ -97,7 +97,8 @@ async function surveyed(library, { name, text }) {
   const read = withCaptures(text), known = new Set(open.map(maskKey));
   const opened = read && library.openMasks(read).list.find((mask) => !known.has(maskKey(mask)));
   const { weakest } = library.marginListed(withoutList(text), certain);
-  return { text, file: name, weakest, object, aside, certain, open, captured: opened ? { holds: false, ...maskFields(opened.len, opened.value) } : { holds: true } };
+  const captured = opened ? { holds: false, ...maskFields(opened.len, opened.value) } : { holds: true };
+  return { text, file: name, weakest, object, aside, certain, open, captured };
 }
 
 /** @param {Surveyed} log */

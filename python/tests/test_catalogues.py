@@ -188,11 +188,13 @@ class Catalogues(Command):
         empty = self.write("north.log", NOTHING)
         said = f"misplaced E0040100000000A1 in {both}, belongs to North\n"
         self.assertEqual(here("lines", catalogue, empty, both, options=place), (said, "", 1))
-        told = json.loads(here("json", catalogue, empty, both, options=place)[0])
-        self.assertEqual((told["status"], told["kind"], told["uid"]),
-                         (1, "misplaced", "E0040100000000A1"))
-        told, plain = drawn_in(here("page", catalogue, empty, both, options=place)[0])
+        # by its text: in Python True is 1
+        self.assertIn('"status": 1, "kind": "misplaced", "uid": "E0040100000000A1"',
+                      here("json", catalogue, empty, both, options=place)[0])
+        page = here("page", catalogue, empty, both, options=place)[0]
+        told, plain = drawn_in(page)
         self.assertEqual((told["status"], told["kind"], plain), (1, "misplaced", said))
+        self.assertIn(f": {said.rstrip()}</title>", page)
         rows = [("North", both), ("North", empty), ("South", both), ("East", "/nowhere.log")]
         places = self.write("places.csv",
                             "".join(f"{a};{b}\n" for a, b in [("Place", "Log"), *rows]).encode())

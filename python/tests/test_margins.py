@@ -98,8 +98,8 @@ class Said(Command):
             self.assertEqual(within("margin", name), (answer, b"", status))
 
     def test_a_margin_that_is_too_small(self):
-        """The line doesn't say complete first, and the status is 1."""
-        small = "margin 2 below 3: complete 1, weakest 1 00"
+        """The line doesn't say complete, and the status is 1."""
+        small = "margin 2 below 3, weakest 1 00"
         for most, said, status in (("2", "complete 1", 0), ("3", small, 1)):
             for words in ([], ["check"]):
                 self.assertEqual(within(*words, "--margin", most, self.whole),
@@ -198,7 +198,7 @@ class Collections(Command):
         self.assertEqual([it.get("overlooked") for it in items], [None, 1])
 
     def test_a_margin_that_is_too_small(self):
-        where = f"margin 2 below 3 in {self.logs[0]}: complete 2, weakest 1 00"
+        where = f"margin 2 below 3 in {self.logs[0]}, weakest 1 00"
         words = "reconcile", "--expected", self.listed, *self.logs, "--margin"
         self.assertEqual(within(*words, "2"), (b"complete 2\n", b"", 0))
         self.assertEqual(within(*words, "3"), (f"{where}\n".encode(), b"", 1))
@@ -211,6 +211,7 @@ class Collections(Command):
             self.assertEqual((told["status"], told["kind"], told["count"], told["wanted"]),
                              (1, "margin", 2, 3))
             self.assertEqual((told["margin"], status), (2, 1))
+        self.assertIn(f"<title>expected.log: {where}</title>", said.decode())
 
     def test_a_margin_that_is_not_known(self):
         """It counts as too small."""
@@ -220,7 +221,7 @@ class Collections(Command):
         words = "reconcile", "--expected", self.listed, "--surveys", name
         self.assertEqual(within(*words), (b"complete 2\n", b"", 0))
         self.assertEqual(within(*words, "--margin", "1"),
-                         (b"margin unknown, 1 asked for: complete 2\n", b"", 1))
+                         (b"margin unknown, 1 asked for\n", b"", 1))
 
     def test_a_terminal_is_told(self):
         ours, theirs = pty.openpty()

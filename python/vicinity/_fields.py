@@ -47,12 +47,12 @@ def margin_fields(weakest: Optional[Weakest]) -> dict[str, Any]:
     return {"margin": weakest.margin, "weakest": mask_fields(weakest.mask)}
 
 
-def small(answer: Answer, weakest: Optional[Weakest], wanted: int, where: str = "") -> str:
-    """The line of such an answer."""
+def small(weakest: Optional[Weakest], wanted: int, where: str = "") -> str:
+    """The line of such an answer. It hasn't the words of a complete one anywhere."""
     if weakest is None:
-        return f"{SMALL} unknown, {wanted} asked for: {answer}"
+        return f"{SMALL} unknown, {wanted} asked for"
     mask = f"{weakest.mask.length} {weakest.mask.digits}"
-    return f"{SMALL} {weakest.margin} below {wanted}{where}: {answer}, weakest {mask}"
+    return f"{SMALL} {weakest.margin} below {wanted}{where}, weakest {mask}"
 
 
 def small_fields(answer: Answer, wanted: int) -> dict[str, Any]:

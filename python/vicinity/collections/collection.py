@@ -84,8 +84,8 @@ class Collection:
     def status(self) -> int:
         """The highest status: that of the answer, 1 if an item is misplaced or the margin small,
         and that of each log that is set aside."""
-        return max([self.answer.status, bool(self.misplaced), self.is_small,
-                    *(log.status for log in self.aside)])
+        differs = bool(self.misplaced) or self.is_small
+        return max([self.answer.status, int(differs), *(log.status for log in self.aside)])
 
     @property
     def is_small(self) -> bool:

@@ -33,7 +33,7 @@ def judge(name: str, wanted: int = 0, has_more: bool = False) -> tuple[Union[Ans
                 **(captured_fields(answer, if_captured(text, answer)) if has_more else {})}
         if weakest is None or weakest.margin >= wanted:
             return answer, more
-        return (answer._replace(status=NOT_COMPLETE, text=small(answer, weakest, wanted)),
+        return (answer._replace(status=NOT_COMPLETE, text=small(weakest, wanted)),
                 {**more, **small_fields(answer, wanted)})
     except NoAnswer as why:
         return str(why), {}

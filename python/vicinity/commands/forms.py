@@ -51,9 +51,9 @@ def small_margin(found: Collection) -> str:
     """The line of a complete collection of which a greater margin was asked for."""
     least = found.least
     if least is None:
-        return small(found.answer, None, found.wanted)
+        return small(None, found.wanted)
     where = f" in {shown(found.logs[least.log].name)}"
-    return small(found.answer, least.weakest, found.wanted, where)
+    return small(least.weakest, found.wanted, where)
 
 
 def _findings(found: Collection) -> Iterator[str]:
@@ -131,7 +131,8 @@ def as_page(found: Collection) -> Iterator[str]:
     of many the first that have to be counted again."""
     name = "standard input" if found.expected.name == "-" else os.path.basename(found.expected.name)
     plain = [line.rstrip("\n") for line in as_lines(found) if line]
-    return document(f"{shown(name)}: {found.answer}",
+    answer = plain[0] if found.status else found.answer
+    return document(f"{shown(name)}: {answer}",
                     as_json(found, {"version": version(), "name": name}, _objects(found)), plain)
 
 
