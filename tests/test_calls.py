@@ -257,7 +257,7 @@ OVERLOOKED = [
 
 
 @pytest.mark.parametrize(("short", "asked", "line", "places"), OVERLOOKED,
-                         ids=[f"{row[0]} {len(row[1])}" for row in OVERLOOKED])
+                         ids=[f"{row[0]}: {row[2]}" for row in OVERLOOKED])
 def test_how_often_uids_were_overlooked(library_of, short, asked, line, places):
     """In buffers of every size, whose bytes were 7 before."""
     for count in sorted({0, max(len(places) - 1, 0), len(places), len(places) + 3}):

@@ -6,7 +6,7 @@ import json
 import subprocess
 
 import pytest
-from vicinity._native import AnswerStruct, FindingStruct, MaskStruct
+from vicinity._native import AnswerStruct, FindingStruct, MaskStruct, WeakestStruct
 
 from helpers.library import CALLS, U8, U32, U64, masks, uids
 from helpers.lines import biglog, log_of
@@ -29,6 +29,8 @@ LISTING = {"explain": U64, "certain": U64, "listed": U64, "explain_listed": U64,
            "open_masks": MaskStruct, "report": FindingStruct, "report_listed": FindingStruct,
            "reconcile": FindingStruct, "simulate": U8}
 ROOM = 2048
+# Those that write a margin, which is all 0 where there is none.
+MEASURING, NO_MARGIN = ("margin", "margin_listed"), bytes(WeakestStruct())
 # The status of a call that was refused memory.
 REFUSED = 4
 # Logs of which each allocation is refused.
@@ -97,6 +99,10 @@ class Growing(WasmLibrary):
     def result(self, name, number, *given):
         """All that a call returns and writes, and how many allocations it made."""
         self.module.test_refuse(U32(number))
+        if name in MEASURING:
+            told, weakest = AnswerStruct(), WeakestStruct()
+            self.call(name, *given, ctypes.byref(told), ctypes.byref(weakest))
+            return bytes(told), bytes(weakest), 0, self.module.test_grown()
         if name not in LISTING:
             told, *written = self.told(AnswerStruct, name, *given), 0, b""
         else:
@@ -110,7 +116,8 @@ class Growing(WasmLibrary):
         no memory is kept, and the same call answers right afterwards."""
         held, right = self.module.test_held(), self.result(name, 0, *given)
         none = REFUSED if name == "simulate" else bytes(AnswerStruct(status=REFUSED))
-        wanted = none, b"\7" * ROOM if name in LISTING else b"", 0
+        written = b"\7" * ROOM if name in LISTING else NO_MARGIN if name in MEASURING else b""
+        wanted = none, written, 0
         assert right[0] != none and right[-1] > 0
         for number in range(1, right[-1] + 1):
             assert self.result(name, number, *given)[:-1] == wanted, f"{name}, allocation {number}"
@@ -132,9 +139,9 @@ def growing(wasm_module, tmp_path_factory):
 def test_each_growth_is_refused(growing, names):
     listed = uids([UID_B, UID_A])
     beside = log_of(" ".join(name for name in names.split() if not name.startswith("U")))
-    for name in "check", "explain", "report", "certain", "open_masks":
+    for name in "check", "explain", "report", "certain", "open_masks", "margin":
         growing.refuse_each(name, log_of(names))
-    for name in "check_listed", "explain_listed", "report_listed":
+    for name in "check_listed", "explain_listed", "report_listed", "margin_listed":
         growing.refuse_each(name, beside, listed)
     growing.refuse_each("reconcile", listed, uids([UID_A]), masks([]))
     growing.refuse_each("listed", log_of("UA UB"))
