@@ -186,7 +186,7 @@ def test_report_as_json(run):
     told = [(it["status"], it["kind"]) for it in objects]
     assert told == [(1, "absent"), (4, "no answer"), (2, "impossible")]
     assert objects[0]["findings"] == [
-        {"kind": "absent", "uid": "E0040100000000B2", "line": 8},
+        {"kind": "absent", "uid": "E0040100000000B2", "line": 8, "overlooked": 1},
         {"kind": "unlisted", "uid": "E0040100000000D4", "line": 10},
         {"kind": "unsettled", "mask_len": 4, "mask_value": "0E"},
         {"kind": "open", "mask_len": 4, "mask_value": "0E"},
