@@ -123,6 +123,10 @@ impl Counts {
             ≡ count_in self.now.nodes.items self.now.levels self.now.leaves place }
         ensures few { result ≤ self.now.raised }
     {
+        // nothing is counted yet, as where a log silences its tags first
+        if self.raised == 0 {
+            return 0;
+        }
         sum_up(&self.nodes, self.leaves + place, self.levels)
     }
 }

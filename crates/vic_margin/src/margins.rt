@@ -43,9 +43,10 @@ pub(crate) fn part_margins(
 {
     let mut tally = Tally::start(alloc, parts.count())?;
     let mut rounds = RoundCursor::first();
+    let mut last = 0;
     for line in lines {
         let entry = entry_of(*line);
-        tally.pass(parts, &rounds, &entry);
+        tally.pass(parts, &rounds, &entry, &mut last);
         rounds.advance(&entry);
     }
     Ok(tally.margins())

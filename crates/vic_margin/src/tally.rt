@@ -4,7 +4,8 @@ ghost use Rattle.std.specs.Prelude.{◌≡◌, ◌==◌, ◌+◌, ◌-◌, ◌^�
 ghost use Rattle.vic_log.specs.declared.entry.Entry.{Entry as EntryValue};
 ghost use Rattle.vic_log.specs.declared.entry.Entry.TheVariants.{Sent};
 ghost use Rattle.vic_log.specs.Rounds.{is_slot};
-ghost use Rattle.vic_walk.specs.Borders.{AreBorders, part_count};
+ghost use Rattle.vic_frame.specs.LowBitsFirst.{IsKey};
+ghost use Rattle.vic_walk.specs.Borders.{AreBorders, IsPartOf, part_count};
 ghost use Rattle.vic_walk.specs.Cuts.{AreCut};
 ghost use Rattle.vic_walk.specs.Marked.{is_marked};
 ghost use Rattle.vic_margin.specs.UidMargins.{one_if};
@@ -114,8 +115,9 @@ impl Tally {
         }
     }
 
-    /// Makes the part of the UID Quiet that a request silences, if it silences one.
-    fn pass_request(&mut self, parts: &Parts, request: &Request)
+    /// Makes the part of the UID Quiet that a request silences, if it silences one. It is expected
+    /// in part `near`.
+    fn pass_request(&mut self, parts: &Parts, request: &Request, near: usize)
         requires borders { AreBorders parts.now }
         requires room { HasRoom (part_count parts.now) self.old }
         ensures { (es : List EntryValue) (i : ℕ) → slice_get es i ≡ Some (Sent request.now)
@@ -126,15 +128,22 @@ impl Tally {
             Request::StayQuiet { uid, .. } => {
                 // no tag has another number
                 if let Some(uid) = Uid::new(uid) {
-                    self.silence(parts.at(key(uid)));
+                    self.silence(part_near(parts, near, key(uid)));
                 }
             }
             Request::Inventory { .. } => {}
         }
     }
 
-    /// Takes the tally past an entry.
-    pub(crate) fn pass(&mut self, parts: &Parts, rounds: &RoundCursor, entry: &Entry)
+    /// Takes the tally past an entry. `last` is the part of the last reply: its tag is mostly
+    /// silenced next.
+    pub(crate) fn pass(
+        &mut self,
+        parts: &Parts,
+        rounds: &RoundCursor,
+        entry: &Entry,
+        last: &mut usize,
+    )
         requires borders { AreBorders parts.now }
         requires room { HasRoom (part_count parts.now) self.old }
         requires few { self.old.counts.raised + 1 < 2 ^ 32 }
@@ -142,12 +151,14 @@ impl Tally {
             → IsTallyAt parts.now es i self.old → IsTallyAt parts.now es (i + 1) self.new }
     {
         match *entry {
-            Entry::Sent(request) => self.pass_request(parts, &request),
+            Entry::Sent(request) => self.pass_request(parts, &request, *last),
             Entry::FieldCycle => self.wake(),
             Entry::Silent => self.count(span_of(parts, rounds)),
             Entry::Heard(response) => {
-                let own = parts.at(key(response.uid()));
-                self.hear(span_of(parts, rounds), own);
+                let span = span_of(parts, rounds);
+                let own = part_near(parts, span.from, key(response.uid()));
+                *last = own;
+                self.hear(span, own);
             }
             // in these no UID is overlooked
             Entry::Garbled
@@ -172,6 +183,28 @@ impl Tally {
         }
         tally.rest
     }
+}
+
+/// The part that has a key, which is expected in this part or in the next.
+fn part_near(parts: &Parts, part: usize, key: u64) -> usize
+    requires borders { AreBorders parts.now }
+    requires key { IsKey key }
+    ensures { IsPartOf parts.now key result }
+{
+    if has_key(parts, part, key) {
+        part
+    } else if has_key(parts, part.saturating_add(1), key) {
+        part.saturating_add(1)
+    } else {
+        parts.at(key)
+    }
+}
+
+/// Whether there is this part, and it has a key.
+fn has_key(parts: &Parts, part: usize, key: u64) -> bool
+    ensures { result ≡ true → IsPartOf parts.now key part }
+{
+    part < parts.count() && parts.first(part) <= key && key < parts.end(part)
 }
 
 /// The parts whose UIDs lie in the mask of the next slot.
