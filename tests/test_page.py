@@ -5,6 +5,7 @@ import random
 import re
 import subprocess
 import sys
+from hashlib import sha256
 
 import pytest
 
@@ -231,6 +232,21 @@ def test_print_is_a_record(page):
     assert "Open logs" not in said and not page.driver.find_element("id", "text").is_displayed()
 
 
+def test_no_word_stands_on_a_line_number_on_paper(page):
+    """Those of findings and of notes, with why they are named."""
+    page.drop(log=log_of("I16 S RA RB S11 UA"))
+    page.until(".lights", "no")
+    page.media("print")
+    ends = page.run("""return [...document.querySelectorAll("#told li .to-line")].map((it) => {
+        const range = document.createRange(), next = it.nextSibling, before = it.previousSibling;
+        range.selectNode(next?.data ? next : before);
+        const [one] = range.getClientRects(), own = it.getBoundingClientRect();
+        return next?.data ? one.left - own.right : own.left - one.right;
+      })""")
+    assert len(ends) > 2 and min(ends) > -1
+    assert "shown by" in "\n".join(page.texts(".uids"))
+
+
 def test_rings_are_explained_on_paper(page):
     page.drop(log=UNFINISHED)
     page.until(".lights", "no")
@@ -401,6 +417,7 @@ def test_a_large_conflict_is_told_by_its_collision(page, program, make):
     page.until("h1", f"in line {collision} two or more tags answered, but {others:,} other lines "
                "leave at most one.")
     assert str(collision) in [it["line"] for it in page.run(RINGED)]
+    assert any("and on others" in it for it in page.texts(".legend li"))
 
 
 def test_the_cause_is_found_far_above(page):
@@ -686,6 +703,17 @@ def test_a_collection_of_which_one_field_has_a_silenced_tag_of_another(page, rel
     told = collected(drawn_in(file.read_text())[0])
     assert told == collected(drawn_in(wanted)[0])
     assert (told["margin"], told["weakest"]["mask_value"]) == (2, "00")
+
+
+def test_a_collection_with_a_tag_that_is_not_in_the_catalogue(page):
+    """It is no item of it. On paper each log has its sum."""
+    log = log_of("I1 RA QA I1 S")
+    page.drop(**{"catalogue": b"uid,title\n", "one.log": log})
+    page.until("h1", "1 item not in the catalogue.")
+    assert "0 items" in page.texts(".record")[0] and sha256(log).hexdigest() not in page.said()
+    page.media("print")
+    page.run("window.dispatchEvent(new Event('beforeprint'))")
+    assert sha256(log).hexdigest() in page.said()
 
 
 def test_how_often_a_missing_item_was_asked(page):

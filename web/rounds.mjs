@@ -1,4 +1,5 @@
 /** Draws the rounds of a log: a row for each, a cell for each slot. */
+import { isLarge } from "./conflict.mjs";
 import { el, toLine } from "./elements.mjs";
 import { SLOTS } from "./frames.mjs";
 import { count, ending, hex, printable } from "./words.mjs";
@@ -75,7 +76,7 @@ function rowOf(row, ringed, named, names) {
  */
 function tail(mask) {
   const digits = hex(mask.value, Math.ceil(mask.len / 4));
-  return mask.len % 4 ? `${digits} (${count(mask.len, "bit")})` : digits;
+  return mask.len % 4 ? `${digits} (${count(mask.len, "bit").replace(" ", "\u00A0")})` : digits;
 }
 
 /**
@@ -139,6 +140,8 @@ function legend(told) {
   const digits = slots.some((slot) => slot.uid !== null) ? [el("li", {}, "A1: the two digits of the UID before those asked")] : [];
   if (slots.some((slot) => slot.silenced)) drawn.add("heard quiet");
   if (told.ringed.length || told.named.length) drawn.add("silent named");
+  const classOf = (/** @type {string} */ look) => look === "heard quiet" && !drawn.has("heard") ? "captured quiet" : look;
+  const others = (/** @type {string} */ look) => look === "silent named" && isLarge(told.conflict) ? ", and on others" : "";
   return el("ul", { class: "legend" }, LEGEND.filter(([look]) => drawn.has(look))
-    .map(([look, sign, words]) => el("li", {}, el("span", { class: `cell ${look}` }, sign), ` ${words}`)), digits);
+    .map(([look, sign, words]) => el("li", {}, el("span", { class: `cell ${classOf(look)}` }, sign), ` ${words}${others(look)}`)), digits);
 }
