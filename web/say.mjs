@@ -106,9 +106,10 @@ function steps({ object: { kind, found, open }, counts, quiet, notes }) {
   const steps = [];
   if (kind === KIND.DOUBTFUL) steps.push(CYCLE, LOOK);
   else if (open.count) steps.push(quiet === open.count ? CYCLE : AGAIN);
-  if (found.absent) steps.push(...notes.lost.length ? [LOST] : [], ...MISSING);
-  if (found.unlisted && counts.listed) steps.push(...STRANGERS);
-  return [...steps, STAYS];
+  if (found.absent && notes.lost.length) steps.push(LOST);
+  const differs = [...found.absent ? [MISSING] : [], ...found.unlisted && counts.listed ? [STRANGERS] : []];
+  // what is expected first, of both, then what was found
+  return [...steps, ...differs.map(([first]) => first), ...differs.map(([, second]) => second), STAYS];
 }
 
 /** @param {Told} told */
