@@ -18,6 +18,7 @@ from helpers.screen import PHONE, Screen
 MOST_BYTES = 700_000
 UNFINISHED = (TOP / "examples/unfinished-count.log").read_bytes()
 LONG = text_of(["vicinity-log 1", *biglog.search(biglog.new_tags(random.Random(1), 400))])
+BITS = text_of(["vicinity-log 1", *[biglog.ask((5, 2), 16), *["S"] * 16] * 20])
 # Logs by the short names of their lines, with how the headline begins.
 LOGS = (
     ("I16 S RA RB S13 UA UB", "All 2 listed tags are here, and no others."),
@@ -209,9 +210,9 @@ def test_everybody_can_read_it(page, names):
     page.is_readable()
 
 
-@pytest.mark.parametrize("log", [UNFINISHED, LONG], ids=["short", "long"])
+@pytest.mark.parametrize("log", [UNFINISHED, LONG, BITS], ids=["short", "long", "bits"])
 def test_on_a_phone_every_slot_is_seen(page, log):
-    """Also beside numbers of lines with four digits."""
+    """Also beside numbers of lines with four digits, and a mask that has no whole digits."""
     page.on_a_phone()
     page.drop(log=log)
     page.until(".rounds caption", "The rounds")

@@ -76,7 +76,7 @@ function rowOf(row, ringed, named, names) {
  */
 function tail(mask) {
   const digits = hex(mask.value, Math.ceil(mask.len / 4));
-  return mask.len % 4 ? `${digits} (${count(mask.len, "bit").replace(" ", "\u00A0")})` : digits;
+  return mask.len % 4 ? `${digits} (${count(mask.len, "bit")})` : digits;
 }
 
 /**
