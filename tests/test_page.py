@@ -5,6 +5,7 @@ import random
 import re
 import subprocess
 import sys
+from hashlib import sha256
 
 import pytest
 
@@ -17,6 +18,7 @@ from helpers.screen import PHONE, Screen
 MOST_BYTES = 700_000
 UNFINISHED = (TOP / "examples/unfinished-count.log").read_bytes()
 LONG = text_of(["vicinity-log 1", *biglog.search(biglog.new_tags(random.Random(1), 400))])
+BITS = text_of(["vicinity-log 1", *[biglog.ask((5, 2), 16), *["S"] * 16] * 20])
 # Logs by the short names of their lines, with how the headline begins.
 LOGS = (
     ("I16 S RA RB S13 UA UB", "All 2 listed tags are here, and no others."),
@@ -208,9 +210,9 @@ def test_everybody_can_read_it(page, names):
     page.is_readable()
 
 
-@pytest.mark.parametrize("log", [UNFINISHED, LONG], ids=["short", "long"])
+@pytest.mark.parametrize("log", [UNFINISHED, LONG, BITS], ids=["short", "long", "bits"])
 def test_on_a_phone_every_slot_is_seen(page, log):
-    """Also beside numbers of lines with four digits."""
+    """Also beside numbers of lines with four digits, and a mask that has no whole digits."""
     page.on_a_phone()
     page.drop(log=log)
     page.until(".rounds caption", "The rounds")
@@ -229,6 +231,21 @@ def test_print_is_a_record(page):
     for words in "E0040100000000A1", "Each tag has power", "SHA-256 of the log", "Counted on":
         assert words in said
     assert "Open logs" not in said and not page.driver.find_element("id", "text").is_displayed()
+
+
+def test_no_word_stands_on_a_line_number_on_paper(page):
+    """Those of findings and of notes, with why they are named."""
+    page.drop(log=log_of("I16 S RA RB S11 UA"))
+    page.until(".lights", "no")
+    page.media("print")
+    ends = page.run("""return [...document.querySelectorAll("#told li .to-line")].map((it) => {
+        const range = document.createRange(), next = it.nextSibling, before = it.previousSibling;
+        range.selectNode(next?.data ? next : before);
+        const [one] = range.getClientRects(), own = it.getBoundingClientRect();
+        return next?.data ? one.left - own.right : own.left - one.right;
+      })""")
+    assert len(ends) > 2 and min(ends) > -1
+    assert "shown by" in "\n".join(page.texts(".uids"))
 
 
 def test_rings_are_explained_on_paper(page):
@@ -401,6 +418,7 @@ def test_a_large_conflict_is_told_by_its_collision(page, program, make):
     page.until("h1", f"in line {collision} two or more tags answered, but {others:,} other lines "
                "leave at most one.")
     assert str(collision) in [it["line"] for it in page.run(RINGED)]
+    assert any("and on others" in it for it in page.texts(".legend li"))
 
 
 def test_the_cause_is_found_far_above(page):
@@ -686,6 +704,17 @@ def test_a_collection_of_which_one_field_has_a_silenced_tag_of_another(page, rel
     told = collected(drawn_in(file.read_text())[0])
     assert told == collected(drawn_in(wanted)[0])
     assert (told["margin"], told["weakest"]["mask_value"]) == (2, "00")
+
+
+def test_a_collection_with_a_tag_that_is_not_in_the_catalogue(page):
+    """It is no item of it. On paper each log has its sum."""
+    log = log_of("I1 RA QA I1 S")
+    page.drop(**{"catalogue": b"uid,title\n", "one.log": log})
+    page.until("h1", "1 item not in the catalogue.")
+    assert "0 items" in page.texts(".record")[0] and sha256(log).hexdigest() not in page.said()
+    page.media("print")
+    page.run("window.dispatchEvent(new Event('beforeprint'))")
+    assert sha256(log).hexdigest() in page.said()
 
 
 def test_how_often_a_missing_item_was_asked(page):

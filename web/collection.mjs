@@ -76,7 +76,7 @@ export function collectionView(object) {
     ...items("Look for", LOOK_FOR, of("missing"), askedIn(of("missing"), object.logs.length), true),
     ...items("Move", MOVE, of("misplaced"), { "is in": (item) => namesOf(item.certain_in), [BELONGS]: (item) => item.belongs ?? "" }, true),
     ...first ? [] : again,
-    ...items("Unknown", NOT_EXPECTED, of("unexpected"), { "is in": (item) => namesOf(item.certain_in) }, true),
+    ...items("Not in the catalogue", NOT_EXPECTED, of("unexpected"), { "is in": (item) => namesOf(item.certain_in) }, true),
     ...items("Without a tag", NO_TAG, of("no tag"), {}, false),
     ...items("Here, and in place", "", of("there"), { "is in": (item) => namesOf(item.certain_in) }, false),
     ...logs("Read to the end", "", object.logs.filter((log) => !isOpen(log)), false, names), ...grantedOfAll(object), recordOfAll(object)];
@@ -118,7 +118,7 @@ export function headlineOf(object) {
   }
   if (object.kind === KIND.SMALL) return notSure(object.margin, object.wanted ?? 0);
   const parts = /** @type {[number, string][]} */ ([[counts.missing, "missing"], [counts.misplaced, "in the wrong place"],
-    [counts.unexpected, "unknown"], [counts["not provable"], "not known yet"]]);
+    [counts.unexpected, "not in the catalogue"], [counts["not provable"], "not known yet"]]);
   const said = parts.filter(([number]) => number).map(([number, words], at) => at ? `${number.toLocaleString("en")} ${words}`
     : `${count(number, "item")} ${words}`);
   const todo = !again ? "" : again < object.logs.length || again === 1 ? `count ${count(again, "log")} again` : "count all logs again";
@@ -249,8 +249,8 @@ function logs(title, words, list, open, names) {
  * @param {Names} names
  */
 function oneLog(log, names) {
-  const words = [el("b", { title: printable(log.file) }, nameOf(log.file)), ` ${saidOf(log)}`];
-  const { object } = log;
+  const { object } = log, sum = object?.sha256 ? [" ", el("code", { class: "sum" }, `SHA-256 ${object.sha256}`)] : [];
+  const words = [el("b", { title: printable(log.file) }, nameOf(log.file)), ` ${saidOf(log)}`, ...sum];
   if (!object) return el("p", { class: "log" }, words);
   const it = /** @type {HTMLDetailsElement} */ (el("details", { class: "log aside" }, el("summary", {}, words)));
   it.addEventListener("toggle", () => {
@@ -296,6 +296,7 @@ function grantedOfAll(object) {
 
 /** @param {CollectionObject} object */
 function recordOfAll(object) {
-  const said = [count(object.items.length, "item"), count(object.logs.length, "log"), `vicinity ${object.version}`];
+  const expected = object.items.filter((item) => item.state !== "unexpected").length;
+  const said = [count(expected, "item"), count(object.logs.length, "log"), `vicinity ${object.version}`];
   return el("footer", { class: "record" }, el("p", {}, said.join(" · ")), signed());
 }

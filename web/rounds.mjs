@@ -1,4 +1,5 @@
 /** Draws the rounds of a log: a row for each, a cell for each slot. */
+import { isLarge } from "./conflict.mjs";
 import { el, toLine } from "./elements.mjs";
 import { SLOTS } from "./frames.mjs";
 import { count, ending, hex, printable } from "./words.mjs";
@@ -139,6 +140,8 @@ function legend(told) {
   const digits = slots.some((slot) => slot.uid !== null) ? [el("li", {}, "A1: the two digits of the UID before those asked")] : [];
   if (slots.some((slot) => slot.silenced)) drawn.add("heard quiet");
   if (told.ringed.length || told.named.length) drawn.add("silent named");
+  const classOf = (/** @type {string} */ look) => look === "heard quiet" && !drawn.has("heard") ? "captured quiet" : look;
+  const others = (/** @type {string} */ look) => look === "silent named" && isLarge(told.conflict) ? ", and on others" : "";
   return el("ul", { class: "legend" }, LEGEND.filter(([look]) => drawn.has(look))
-    .map(([look, sign, words]) => el("li", {}, el("span", { class: `cell ${look}` }, sign), ` ${words}`)), digits);
+    .map(([look, sign, words]) => el("li", {}, el("span", { class: `cell ${classOf(look)}` }, sign), ` ${words}${others(look)}`)), digits);
 }

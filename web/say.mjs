@@ -3,7 +3,7 @@ import { contradiction } from "./contradiction.mjs";
 import { KIND } from "./kinds.mjs";
 import { refused } from "./refused.mjs";
 import { maskOf } from "./told.mjs";
-import { count, ending, lines, listing, short } from "./words.mjs";
+import { count, ending, lines, listing, short, whom } from "./words.mjs";
 
 /** @typedef {import("./told.mjs").Told} Told */
 /** @typedef {import("./told.mjs").Margin} Margin */
@@ -106,9 +106,10 @@ function steps({ object: { kind, found, open }, counts, quiet, notes }) {
   const steps = [];
   if (kind === KIND.DOUBTFUL) steps.push(CYCLE, LOOK);
   else if (open.count) steps.push(quiet === open.count ? CYCLE : AGAIN);
-  if (found.absent) steps.push(...notes.lost.length ? [LOST] : [], ...MISSING);
-  if (found.unlisted && counts.listed) steps.push(...STRANGERS);
-  return [...steps, STAYS];
+  if (found.absent && notes.lost.length) steps.push(LOST);
+  const differs = [...found.absent ? [MISSING] : [], ...found.unlisted && counts.listed ? [STRANGERS] : []];
+  // what is expected first, of both, then what was found
+  return [...steps, ...differs.map(([first]) => first), ...differs.map(([, second]) => second), STAYS];
 }
 
 /** @param {Told} told */
@@ -207,7 +208,7 @@ function runs(slots) {
  * @param {Cause} cause
  */
 function because(cause) {
-  const asks = cause.asked.len ? ending(cause.asked) : "all UIDs", round = `round of line ${cause.round}, which asked ${asks},`;
+  const round = `round of line ${cause.round}, which asked ${whom(cause.asked)},`;
   const slots = `slot${cause.slots.length > 1 ? "s" : ""} ${runs(cause.slots)}`;
   if (cause.reading === "unreached") return cause.slots[0] === 0 ? `Of the ${round} no slot was logged.` : `The ${round} ended before ${slots}.`;
   const held = cause.reading === "captured" ? readIn(cause.uids) : HELD[cause.reading];

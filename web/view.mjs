@@ -6,7 +6,7 @@ import { KIND } from "./kinds.mjs";
 import { noted } from "./notes.mjs";
 import { rounds } from "./rounds.mjs";
 import { alsoHolds, GRANTED, HOLDS, missed, say, silentIn } from "./say.mjs";
-import { count, ending, lines, printable, TRIAL } from "./words.mjs";
+import { count, lines, printable, TRIAL, whom } from "./words.mjs";
 
 /** @typedef {import("./told.mjs").Told} Told */
 /** @typedef {Map<string, string>} Names what a catalogue says of UIDs */
@@ -107,7 +107,7 @@ function rest(number) {
 function conflict({ conflict: it }) {
   if (!it || !isLarge(it)) return [];
   const items = it.parts.map(({ asked, round, lines: numbers, silent }) => el("li", {}, toLine(numbers[0], lines(numbers)),
-    `: ${ending(asked)} were asked in line ${round}${silent ? ", and none answered" : ""}`));
+    `: line ${round} asked ${whom(asked)}${silent ? ", and none answered" : ""}`));
   const part = folded(`The ${count(it.count, "line")} that can't all be true, of ${count(it.rounds, "round")}`, false, el("ul", {}, items),
     ...rest(it.rounds - items.length));
   if (it.rounds > MOST_ON_PAPER) part.classList.add("aside");

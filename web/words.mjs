@@ -68,6 +68,12 @@ export function ending(mask) {
 }
 
 /**
+ * Whom a request asked, by its mask.
+ * @param {Mask} mask
+ */
+export const whom = (mask) => mask.len ? ending(mask) : "all UIDs";
+
+/**
  * What isn't seen of a line, and makes it no line of a log.
  * @type {Record<string, string>}
  */
