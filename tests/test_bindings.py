@@ -269,7 +269,7 @@ def test_readme_of_go(folder, tmp_path):
     (tmp_path / "main.go").write_text(
         'package main\n\nimport (\n"fmt"\n\n"vicinity"\n)\n\nfunc main() {\n'
         + fence("go", page) + "}\n")
-    assert made("go", "run", ".", cwd=tmp_path, **go_environment(folder)) == "complete 0 <nil>\n"
+    assert made("go", "run", ".", cwd=tmp_path, **go_environment(folder)) == "complete 0 <nil>\n1\n"
 
 
 def test_readme_of_rust(rust_target, tmp_path):

@@ -361,7 +361,7 @@ def test_page_of_a_collection(reconciled):
     page = reconciled(*SHELVES)
     assert page.texts("h1") == ["1 item missing and 1 not known yet; count 1 log again."]
     assert page.texts(".lights dd") == ["2 of 3 logs", "differs"]
-    groups = ["Look for (1)", "Count again (1 log)", "Not known yet (1)", "Here, and in place (10)",
+    groups = ["Look for (1)", "Count again (1 log)", "Not known yet (1)", "Here (10)",
               "Read to the end (2 logs)", "What this takes for granted (9)"]
     assert page.texts("details > summary h2") == groups
     assert "Walden" in page.texts("details")[0]

@@ -78,7 +78,7 @@ export function collectionView(object) {
     ...first ? [] : again,
     ...items("Not in the catalogue", NOT_EXPECTED, of("unexpected"), { "is in": (item) => namesOf(item.certain_in) }, true),
     ...items("Without a tag", NO_TAG, of("no tag"), {}, false),
-    ...items("Here, and in place", "", of("there"), { "is in": (item) => namesOf(item.certain_in) }, false),
+    ...items(object.items.some((item) => item.belongs) ? "Here, and in place" : "Here", "", of("there"), { "is in": (item) => namesOf(item.certain_in) }, false),
     ...logs("Read to the end", "", object.logs.filter((log) => !isOpen(log)), false, names), ...grantedOfAll(object), recordOfAll(object)];
 }
 
