@@ -52,12 +52,13 @@ SAID = (
     ("I1 S", "check the antenna", "Nothing to do"),
     ("I1 S UA", "If the list is what the reader found: a tag left", "shown by"),
     ("I1 S UA", "ruled out by", "must be here"),
-    ("I1 S UA", "asked in 1 slot, silent there; ruled out by line 3", "A tag would have had"),
+    ("I1 S UA", "asked in 1 slot, silent there; ruled out by line 3", "To go unnoticed"),
     ("I1 S MA S I1 S UA", "asked in 3 slots, silent in each; ruled out by line 3", "silent there"),
-    ("I1 S", "A tag would have had to be missed in 1 slot; weakest: any UID.", "asked in"),
+    ("I1 S", "To go unnoticed, a tag would have had to be missed in 1 slot; weakest: any UID.",
+     "asked in"),
     ("I1 RA QA I1 S UA", "in 2 slots; weakest: UIDs ending in an even digit.", "asked in"),
     ("I1 RA QA QB I1 S UA", "in 1 slot; weakest: E0040100000000B2.", "asked in"),
-    ("I1 RA", "1 tag that is here", "A tag would have had"),
+    ("I1 RA", "1 tag that is here", "To go unnoticed"),
     ("I1 RA", "1 tag that is here", "must be here"),
     ("I1 RA UB", "its software has to write a U line", "Nothing to do"),
     ("I1 RA I1 S", "if always, its reply was lost, or a Stay Quiet isn't in the log", "it came"),
@@ -104,7 +105,8 @@ THIRD = {
         "others"),
     "none was hidden": (
         (ALL, OVER_A, QUIET_A, ALL, "S", LIST_A), "The one listed tag is here, and no other.",
-        "Would also hold if a strong reply hid a weaker one: yes."),
+        "If a strong reply hid a weaker one, the answer still holds, and a tag would still have "
+        "had to be missed in 1 slot."),
     "two were hidden": (
         (ALL, OVER_A, QUIET_A, ALL, "C", LIST_A), "Not finished: 0 % of all UIDs settled. 1 tag",
         "In slot 0 of the round of line 5, which asked all UIDs, two or more tags answered"),
@@ -113,7 +115,8 @@ THIRD = {
         "In slot 0 of the round of line 2, which asked all UIDs, nothing is known of who answered"),
     "it is asked again": (
         (EACH, "N", READ_A, *"S" * 14, "T 26010400AB05", "S", LIST_A),
-        "The one listed tag is here, and no other.", "Would also hold"),
+        "The one listed tag is here, and no other.",
+        "If a strong reply hid a weaker one, the answer may be wrong."),
     "the last round has such a slot": (
         (EACH, *"S" * 15, "N"), "Not finished", "Of a slot of the last round, which asked all"),
     "it was silenced": (
@@ -134,8 +137,13 @@ THIRD = {
         (ALL, "H 0000A1"), "This text isn't a log. Line 3: the reply doesn't", "gets the line D")}
 # What each answer says of strong replies that hid weaker ones.
 HIDDEN = (
-    ("I16 S RA RB S13 UA UB", "no. To know, silence each tag that was heard, and ask all in one "
-     "slot, until none answers: T 260100F60A"), ("I1 RA QA I1 S UA", "yes."),
+    ("I16 S RA RB S13 UA UB", "may be wrong. To know, silence each tag that was heard, and ask all "
+     "in one slot, until none answers: T 260100F60A"),
+    ("I1 RA QA I1 S UA", "still holds, but a tag would have had to be missed in only 1 slot."),
+    ("I1 RA QA I1 S I1 S UA", "still holds, but a tag would have had to be missed in only 2 "
+     "slots."),
+    ("I1 RA UB", "may be wrong. To know, silence each tag that was heard, and ask all in one slot, "
+     "until none answers: T 260100F60A"), ("I1 RA", "still holds."),
     ("I1 RA I1 S UB", None), ("I1 S", None), ("I1 C UA", None), ("UA UA", None))
 # Logs whose pages are read by everybody: each look of the answer.
 READ = ("I16 S RA RB S13 UA UB", "I16 S C S14 UA", "I1 RA I1 S", "UA UA", "I1 RA")
@@ -271,6 +279,17 @@ def test_a_foreign_text_is_told_from_a_log(page, text, words):
     page.until("#told", words)
 
 
+@pytest.mark.parametrize("start", [b"PK\x03\x04\x14\0\x06\0,\n", b"PK\x03\x04",
+                                   b"\xD0\xCF\x11\xE0\xA1\xB1\x1A\xE1\0", b"\xD0\xCF\x11\xE0"])
+def test_a_spreadsheet_is_told_from_a_log(page, program, tmp_path, start):
+    """By its first bytes. The answer is that of the library."""
+    page.choose(tmp_path, {"books.xlsx": start + bytes(range(256)) * 20})
+    page.until("h1", "This file isn't a log, but a spreadsheet: save it as CSV, and drop that.")
+    answer = program.run("check", str(tmp_path / "books.xlsx")).out.decode().strip()
+    assert answer.startswith("refused at line 1: ") and page.texts(".banner code") == [answer]
+    assert "UTF-16" not in page.said()
+
+
 def third(*lines):
     """The text of a log of version 3."""
     return text_of(["vicinity-log 3", *lines])
@@ -315,7 +334,7 @@ def test_what_is_left_to_ask_under_a_reply(page):
 def test_whether_it_also_holds_if_replies_were_hidden(page, names, words):
     page.drop(log=log_of(names))
     page.until(".banner h1", "")
-    said = [it.partition("hid a weaker one: ")[2] for it in page.texts(".holds p")]
+    said = [it.partition("hid a weaker one, the answer ")[2] for it in page.texts(".holds p")]
     assert [it for it in said if it] == ([words] if words else [])
 
 
@@ -522,6 +541,7 @@ def test_nothing_is_left_of_the_answer_before(page):
 def test_an_edit_stays_with_its_log(page):
     """Also if another log is shown before it is judged."""
     page.drop(one=log_of("I1 RA UA"), two=log_of("I1 S UA"))
+    page.press("#logs button")
     page.until("#logs", "1 listed tag can't be here")
     type_in(page, log_of("I1 RA").decode())
     page.press("#logs button", 1)
@@ -580,12 +600,34 @@ def test_text_and_rounds_are_linked(page):
 
 
 def test_several_logs(page):
+    """Each has its own answer, and no answer stands for all of them, until one is pressed."""
     page.drop(one=log_of("I1 RA UA"), two=log_of("I1 S UA"), three=log_of("UA UA"))
     page.until("#logs", "The one listed tag is here")
     page.until("#logs", "1 listed tag can't be here")
     page.until("#logs", "isn't a log")
+    said = "3 logs, each with its own answer. Complete: 1 of 3."
+    page.until("h1", said)
+    assert (page.texts("h1"), page.driver.title) == ([said], said)
+    assert (page.texts(".banner"), page.said()) == ([], "")
+    assert not page.driver.find_element("id", "text").is_displayed()
+    page.is_readable()
     page.press("#logs button", 1)
     page.until("h1", "1 listed tag can't be here")
+    assert len(page.texts("h1")) == 1 and said in page.texts("#each")[0]
+    assert page.run("return document.activeElement.textContent").startswith("two ")
+
+
+def test_a_trial_of_one_of_several_is_not_counted(page):
+    page.drop(one=log_of("I1 C UA"), two=log_of("I1 S"))
+    page.until("h1", "Complete: 1 of 2.")
+    page.press("#logs button")
+    page.press('td[data-line="3"]')
+    page.press("#trial button")
+    page.until("h1", "A trial: ")
+    page.press("#logs button", 1)
+    page.press('td[data-line="3"]')
+    page.press("#trial button")
+    page.until("#each", "Complete: 0 of 2.")
 
 
 def test_a_session_of_a_million_lines_does_not_freeze_the_page(page, tmp_path):
@@ -610,6 +652,15 @@ def saved(page, folder):
     return next(folder.iterdir())
 
 
+def also_hidden(told, vicinity):
+    """The object of a log, with the margin of its list if strong replies hid weaker ones."""
+    if told["kind"] == "complete" and told["captured"]["holds"]:
+        weakest = vicinity.margin(vicinity.captured(told["text"].encode())).weakest
+        mask = {"mask_len": weakest.mask.length, "mask_value": weakest.mask.digits}
+        told["captured"] = {"holds": True, "margin": weakest.margin, "weakest": mask}
+    return told
+
+
 @pytest.mark.parametrize("names", [*READ, "I1 C UA", "V2 I1 QA I1 S UA", "", "I1 S I1 S UB UA",
                                    "I1 RA QA I1 S UA"])
 def test_what_is_saved_is_what_python_writes(page, vicinity, tmp_path, names):
@@ -619,7 +670,7 @@ def test_what_is_saved_is_what_python_writes(page, vicinity, tmp_path, names):
     heading = page.texts("h1")
     file = saved(page, tmp_path / "saved")
     object, plain = drawn_in(file.read_text())
-    assert object == drawn_in(vicinity.page(log_of(names), "a <b>.log"))[0]
+    assert object == also_hidden(drawn_in(vicinity.page(log_of(names), "a <b>.log"))[0], vicinity)
     assert heading[0] in plain
     page.open(file)
     assert (page.texts("h1"), page.driver.title) == (heading, f"{heading[0]} a <b>.log")
@@ -647,12 +698,20 @@ def test_a_slot_is_tried_otherwise(page, tmp_path):
 SHELVES = TOP / "examples/collection"
 
 
-def of_python(release, *words):
-    """The page that `python3 -m vicinity reconcile` writes."""
+@pytest.fixture
+def of_python(release, vicinity):
+    """What is drawn by the page that `python3 -m vicinity reconcile` writes."""
     environment = {"PYTHONPATH": str(TOP / "python"), "PYTHONDONTWRITEBYTECODE": "1",
                    "LIBVICINITY": str(release / "libvicinity.so")}
-    return subprocess.run([sys.executable, "-m", "vicinity", "reconcile", "--page", *words],
-                          env=environment, capture_output=True, check=False).stdout.decode()
+
+    def ask(*words):
+        done = subprocess.run([sys.executable, "-m", "vicinity", "reconcile", "--page", *words],
+                              env=environment, capture_output=True, check=False)
+        told = drawn_in(done.stdout.decode())[0]
+        for log in told["logs"]:
+            also_hidden(log["object"], vicinity)
+        return collected(told)
+    return ask
 
 
 def collected(told):
@@ -664,19 +723,19 @@ def collected(told):
     ({}, "1 item missing, 1 in the wrong place and 1 not known yet; count 1 log again."),
     ({"broken.log": log_of("I1 RA I1 S")}, "count 2 logs again."),
     ({"none.txt": b"no log\n", "open.log": log_of("QA I1 S")}, "count 3 logs again.")])
-def test_a_collection_is_judged_as_python_judges_it(page, release, tmp_path, more, words):
+def test_a_collection_is_judged_as_python_judges_it(page, of_python, tmp_path, more, words):
     files = {it.name: it.read_bytes() for it in sorted(SHELVES.iterdir())} | more
     for name, content in files.items():
         (tmp_path / name).write_bytes(content)
     logs = [tmp_path / name for name in files if not name.endswith(".csv")]
-    wanted = of_python(release, "--expected", tmp_path / "catalogue.csv", "--place", "shelf",
+    wanted = of_python("--expected", tmp_path / "catalogue.csv", "--place", "shelf",
                        "--places", tmp_path / "places.csv", *logs)
     page.drop_files(files)
     page.until("h1", words)
     assert not page.driver.find_elements("css selector", ".banner.yes")
     page.is_readable()
     heading, file = page.texts("h1"), saved(page, tmp_path / "saved")
-    assert collected(drawn_in(file.read_text())[0]) == collected(drawn_in(wanted)[0])
+    assert collected(drawn_in(file.read_text())[0]) == wanted
     page.open(file)
     assert page.texts("h1") == heading
 
@@ -686,23 +745,26 @@ def test_a_collection_that_is_complete(page):
     page.drop(**{"catalogue": b"title;uid\nWalden;E0:04:01:00:00:00:00:A1\n",
                  "one.log": log_of("I1 RA QA I1 S"), "two.log": log_of("I1 S")})
     page.until(".banner.yes h1", "The one expected item is here, and no other.")
-    assert "A tag would have had to be missed in 1 slot in the field of two.log; weakest: any " \
-        "UID." in page.texts(".holds p")
+    assert page.texts(".holds p")[1:] == [
+        "To go unnoticed, a tag would have had to be missed in 1 slot in the field of two.log; "
+        "weakest: any UID.",
+        "If a strong reply hid a weaker one, the answer still holds, but fewer slots may be "
+        "enough."]
 
 
-def test_a_collection_of_which_one_field_has_a_silenced_tag_of_another(page, release, tmp_path):
+def test_a_collection_of_which_one_field_has_a_silenced_tag_of_another(page, of_python, tmp_path):
     """It was asked once in the first field, but is in the second; the next were asked twice."""
     files = {"catalogue.csv": b"uid\nE0040100000000A1\nE0040100000000B2\n",
              "one.log": log_of("I1 RA QA QB I1 S"), "two.log": log_of("I1 RB QB I1 S I1 S UB")}
     for name, content in files.items():
         (tmp_path / name).write_bytes(content)
     logs = tmp_path / "one.log", tmp_path / "two.log"
-    wanted = of_python(release, "--expected", tmp_path / "catalogue.csv", *logs)
+    wanted = of_python("--expected", tmp_path / "catalogue.csv", *logs)
     page.drop_files(files)
     page.until(".banner.yes h1", "All 2 expected items are here, and no others.")
     file = saved(page, tmp_path / "saved")
     told = collected(drawn_in(file.read_text())[0])
-    assert told == collected(drawn_in(wanted)[0])
+    assert told == wanted
     assert (told["margin"], told["weakest"]["mask_value"]) == (2, "00")
 
 
@@ -722,6 +784,21 @@ def test_how_often_a_missing_item_was_asked(page):
                  "one.log": log_of("I1 S I1 S I1 S"), "two.log": log_of("I1 S I1 S")})
     page.until("h1", "1 item missing.")
     assert "in 2 slots or more of each field" in page.texts("details")[0]
+
+
+@pytest.mark.parametrize(("name", "content", "words"), [
+    ("books.csv", b"Tag ID;title\nE0040100000000A1;Walden\n", "books.csv, row 1: no column is "
+     "named uid. Name the column of UIDs 'uid'. The columns found are 'Tag ID' and 'title'."),
+    ("books.csv", ",".join(f"c{number}" for number in range(30)).encode(), "'c10', 'c11' and 18 "
+     "others."), ("books.csv", b"\n\n", "No column has a name."),
+    ("books.csv", b"\xD0\xCF\x11\xE0\xA1\xB1\x1A\xE1", "books.csv is a spreadsheet: save it"),
+    ("books.ods", b"PK\x03\x04", "No answer: books.ods is a spreadsheet: save it as CSV, and ")])
+def test_a_better_catalogue_is_compared_with_the_same_logs(page, tmp_path, name, content, words):
+    """Also if it comes alone, as after a page that says what to do with the first one."""
+    page.choose(tmp_path, {name: content, "one.log": log_of("I1 RA QA I1 S")})
+    page.until(".error", words)
+    page.choose(tmp_path, {"better.csv": b"uid\nE0040100000000A1\n"})
+    page.until(".banner.yes h1", "The one expected item is here, and no other.")
 
 
 @pytest.mark.parametrize(("table", "words"), [

@@ -1,6 +1,6 @@
 /** What is expected in a collection: a table with a column of UIDs, or a log that only lists them. */
-import { Wrong, columnOf, readTable } from "./tables.mjs";
-import { hex } from "./words.mjs";
+import { Wrong, columnOf, isSpreadsheet, readTable, SAVE_AS_CSV } from "./tables.mjs";
+import { count, hex, listing, printable } from "./words.mjs";
 
 /** @typedef {{row: number, uid: bigint | null, cells: string[]}} Entry */
 /** @typedef {{name: string, heads: string[], uidAt: number, entries: Entry[]}} Catalogue */
@@ -11,6 +11,8 @@ const HEADER = "vicinity-log", OF_UIDS = "uid", PLACE = "place", LOG = "log";
 const BETWEEN = /[\s:\-\u2010-\u2013]/g, BEFORE = /^'?(0x)?/i, DIGITS = /^E0[0-9A-F]{14}$/;
 /** Lines of a log that aren't a list: requests and outcomes. */
 const ASKED = /^[TSRHCDNF]/m, LISTED = /^U ([0-9A-Fa-f]{16})/gm;
+/** How many columns are named, where none has the UIDs. */
+const MOST_HEADS = 12;
 /** The columns that `reconcile --csv` has added, and the state of rows that it has. */
 const ADDED = ["state", "certain in", "may be in"], UNEXPECTED = "unexpected";
 
@@ -41,10 +43,11 @@ function headsOf(file) {
 const isLog = (file) => startOf(file).startsWith(HEADER);
 
 /**
- * Whether a file is a table: its name says so, or it has a column of UIDs.
+ * Whether a file is meant as a table: its name says so, or it has a column of UIDs, or is a spreadsheet.
  * @param {Given} file
  */
-export const looksLikeTable = (file) => !isLog(file) && (/\.(csv|tsv)$/i.test(file.name) || headsOf(file).heads.includes(OF_UIDS));
+export const looksLikeTable = (file) => !isLog(file) && (/\.(csv|tsv)$/i.test(file.name) || headsOf(file).heads.includes(OF_UIDS)
+  || isSpreadsheet(startOf(file)));
 
 /** @param {Given} file */
 function isList(file) {
@@ -57,19 +60,30 @@ function isList(file) {
  * @returns {Catalogue}
  */
 export function readCatalogue(file) {
+  if (isSpreadsheet(startOf(file))) throw new Wrong(`${file.name} is a spreadsheet: ${SAVE_AS_CSV}`);
   if (startOf(file).startsWith(HEADER)) {
     const entries = [...new TextDecoder().decode(file.text).matchAll(LISTED)].map(([, digits]) => BigInt(`0x${digits}`))
       .sort((one, other) => one < other ? -1 : 1).map((uid) => ({ row: 0, uid, cells: [hex(uid)] }));
     return { name: file.name, heads: [OF_UIDS], uidAt: 0, entries };
   }
   const table = withoutAdded(readTable(file.name, file.text)), uidAt = columnOf(table, OF_UIDS), rows = new Map();
-  if (uidAt < 0) throw new Wrong(`${file.name}, row 1: no column is named uid`);
+  if (uidAt < 0) throw new Wrong(`${file.name}, row 1: no column is named uid. Name the column of UIDs 'uid'. ${found(table.heads)}`);
   const entries = table.rows.map(({ row, cells }) => ({ row, uid: uidOfCell(file.name, row, cells[uidAt]), cells }));
   for (const { row, uid } of entries) {
     if (uid !== null && rows.has(uid)) throw new Wrong(`${file.name}, row ${row}: ${hex(uid)} is also in row ${rows.get(uid)}`);
     if (uid !== null) rows.set(uid, row);
   }
   return { name: file.name, heads: table.heads, uidAt, entries };
+}
+
+/**
+ * Which columns a table has.
+ * @param {string[]} heads
+ */
+function found(heads) {
+  const named = heads.filter((head) => head).map((head) => `'${printable(head)}'`), more = named.length - MOST_HEADS;
+  if (!named.length) return "No column has a name";
+  return `The columns found are ${listing(more > 1 ? [...named.slice(0, MOST_HEADS), count(more, "other")] : named)}`;
 }
 
 /**

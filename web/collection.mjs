@@ -2,7 +2,7 @@
 import { el, folded } from "./elements.mjs";
 import { KIND } from "./kinds.mjs";
 import { Pane } from "./pane.mjs";
-import { ALSO, GRANTED, HOLDS, missed, notSure, TO_KNOW } from "./say.mjs";
+import { GRANTED, HOLDS, mayBeWrong, missed, notSure, stillHolds } from "./say.mjs";
 import { maskOf, tell } from "./told.mjs";
 import { banner, signed, view } from "./view.mjs";
 import { count, ending, listing, printable } from "./words.mjs";
@@ -148,10 +148,11 @@ function conditionsOfAll(object) {
   const hidden = all.filter((log) => log.captured?.holds === false).map((log) => log.file);
   const isAll = isWhole(object) || object.kind === KIND.SMALL;
   if (!isAll && !counts.missing && !counts.unexpected) return [];
-  const known = all.every((log) => log.captured), also = hidden.length ? `no. In the field of ${namesOf(hidden)}: ${TO_KNOW}.` : "yes.";
+  const known = all.every((log) => log.captured);
+  const also = hidden.length ? `${mayBeWrong(` in the field of ${namesOf(hidden)},`)}.` : stillHolds(isAll ? object.margin : undefined);
   const sure = isAll ? [HOLDS, ...missed(object, ` in the field of ${nameOf(object.weakest?.file ?? "")}`)] : [];
   return [el("section", { class: "holds" }, ...sure.map((it) => el("p", {}, it)),
-    ...known || hidden.length ? [el("p", {}, ALSO + also)] : [])];
+    ...known || hidden.length ? [el("p", {}, also)] : [])];
 }
 
 /**

@@ -9,6 +9,7 @@ import { hex, UID_BITS } from "./words.mjs";
 /** @typedef {import("./library.mjs").Library} Library */
 /** @typedef {import("./library.mjs").Answer} Answer */
 /** @typedef {import("./library.mjs").Finding} Finding */
+/** @typedef {import("./library.mjs").Weakest} Weakest */
 /** @typedef {import("./frames.mjs").Mask} Mask */
 /** @typedef {import("./told.mjs").LogObject} LogObject */
 /** @typedef {import("./told.mjs").Captured} Captured */
@@ -37,7 +38,7 @@ export async function judge(library, text, name, left) {
     ask: (len ? [1] : [16, 1]).map((slots) => `T ${hexOf(library.writeInventory(slots, len, value, link))}`) }));
   const weakest = answer.status ? null : library.margin(text).weakest, overlooked = absent.length ? library.overlooked(text, absent).list : [];
   return { schema: SCHEMA, version: versionOf(library.version), file: name, ...fields(library, answer), ...marginFields(weakest),
-    ...capturedOf(library, text, answer), answer: answer.text.trim(),
+    ...capturedOf(library, text, answer, weakest), answer: answer.text.trim(),
     lines: linesIn(text), ended: text[text.length - 1] === LF, sha256: await sumOf(text),
     findings: [...findingsOf(list.filter((it) => it.kind !== FOUND.CONFLICT), overlooked), ...conflict.map((line) => ({ kind: "conflict", line }))],
     found: { absent: counts[FOUND.ABSENT], unlisted: counts[FOUND.UNLISTED], doubtful: counts[FOUND.DOUBTFUL] },
@@ -67,16 +68,19 @@ function shareOf(masks) {
 }
 
 /**
- * Whether an answer also holds if strong replies hid weaker ones, and if not, the answer that does; nothing of what is refused.
+ * Whether an answer also holds if strong replies hid weaker ones, with the margin that it has then, and if not, the answer that
+ * does; nothing of what is refused.
  * @param {Library} library
  * @param {Uint8Array} text
  * @param {Answer} answer
+ * @param {Weakest | null} weakest of a complete list
  * @returns {{captured?: Captured}}
  */
-export function capturedOf(library, text, answer) {
+function capturedOf(library, text, answer, weakest) {
   if (answer.fault) return {};
-  const read = withCaptures(text), other = read ? library.check(read) : answer, holds = other.text === answer.text;
-  return { captured: holds ? { holds } : { holds, ...fields(library, other) } };
+  const read = withCaptures(text), { answer: other, weakest: then } = !read ? { answer, weakest }
+    : answer.status ? { answer: library.check(read), weakest } : library.margin(read);
+  return { captured: other.text === answer.text ? { holds: true, ...marginFields(then) } : { holds: false, ...fields(library, other) } };
 }
 
 /**

@@ -2,12 +2,14 @@
 import { looksLikeTable, sorted } from "./catalogue.mjs";
 import { collectionView, headlineOf, withRoom } from "./collection.mjs";
 import { at, el } from "./elements.mjs";
+import { KIND } from "./kinds.mjs";
 import { Pane } from "./pane.mjs";
 import { unfoldOnPaper } from "./printing.mjs";
 import { pageOf, save } from "./saving.mjs";
 import { say } from "./say.mjs";
 import { Trial } from "./trial.mjs";
 import { titleOf, view } from "./view.mjs";
+import { count, TRIAL } from "./words.mjs";
 import { Work } from "./work.mjs";
 
 /** @typedef {import("./work.mjs").Done} Done */
@@ -20,13 +22,15 @@ const PAUSE = 250, PATIENCE = 400;
 /** What is added to the name of a log whose text was changed here. */
 const EDITED = " (edited)";
 const PASTE = "Paste a log here";
+const TOGETHER = "Press one to see it. For one answer about all of them, open them together with a catalogue (CSV).";
 
 const field = /** @type {HTMLTextAreaElement} */ (at("text")), files = /** @type {HTMLInputElement} */ (at("files"));
-const stop = at("stop"), shown = at("told"), list = at("logs"), status = at("status"), saves = at("save");
+const stop = at("stop"), shown = at("told"), several = at("several"), each = at("each"), list = at("logs"), status = at("status"), saves = at("save");
 const beside = at("beside"), pane = new Pane(field, shown, PASTE);
 
 /** @type {Entry[]} */
 let entries = [];
+/** Which is shown; none of several, until one is pressed. */
 let current = 0;
 /** @type {number | undefined} */
 let patience;
@@ -59,7 +63,7 @@ stop.addEventListener("click", () => work.stop());
 /** @param {Entry[]} taken */
 function take(taken) {
   entries = taken;
-  current = 0;
+  current = taken.length > 1 ? -1 : 0;
   // also of a file with the same name nothing is known yet
   shown.dataset.name = "";
   entries.filter((entry) => !entry.error).forEach(ask);
@@ -68,13 +72,13 @@ function take(taken) {
 }
 
 /**
- * Tables alone belong to the logs that are here.
+ * Tables alone belong to the logs that are here, also in place of a catalogue that was opened with them.
  * @param {Iterable<File>} chosen
  */
 async function open(chosen) {
   const taken = await Promise.all([...chosen].map(read)), isRead = taken.every((entry) => !entry.error);
-  const here = isRead && taken.every(looksLikeTable) ? entries.filter((entry) => !entry.error && !entry.given) : [];
-  const { expected, places, logs } = sorted([...here, ...taken].filter((entry) => !entry.error));
+  const here = isRead && taken.every(looksLikeTable) ? entries.flatMap((entry) => entry.given?.logs ?? (entry.error ? [] : [entry])) : [];
+  const { expected, places, logs } = sorted([...here, ...taken.filter((entry) => !entry.error)]);
   if (expected && logs.length && isRead) {
     take([{ name: expected.name, text: new Uint8Array(), given: { expected, places, logs } }]);
   } else if (taken.length) take(taken);
@@ -103,12 +107,11 @@ function edit() {
 function show() {
   document.body.classList.toggle("empty", !entries.length);
   const entry = entries[current];
-  list.replaceChildren(...entries.length > 1 ? entries.map(item) : []);
-  list.hidden = entries.length < 2;
+  overview();
   saves.hidden = !entry?.told && !entry?.collection;
-  beside.hidden = entry?.given !== undefined;
+  beside.hidden = entry?.given !== undefined || current < 0;
   if (entry?.error) {
-    const words = `${entry.name}: no answer (${entry.error}).`;
+    const words = unanswered(entry.name, entry.error);
     shown.replaceChildren(el("h1", { class: "error" }, words));
     headed(words);
   } else if (entry?.told) {
@@ -129,6 +132,27 @@ function show() {
   shown.dataset.name = entry?.name ?? "";
 }
 
+/** Shows several logs with what each says. Of all together nothing is said but how many are complete, once all are judged. */
+function overview() {
+  several.hidden = entries.length < 2;
+  list.replaceChildren(...several.hidden ? [] : entries.map(item));
+  if (several.hidden) return;
+  const many = entries.length, isJudged = entries.every(({ told, error }) => told ?? error);
+  const whole = entries.filter(({ told, name }) => told?.object.kind === KIND.COMPLETE && !TRIAL.test(name)).length;
+  const words = `${count(many, "log")}, each with its own answer.${isJudged ? ` Complete: ${whole.toLocaleString("en")} of ${many.toLocaleString("en")}.` : ""}`;
+  each.replaceChildren(el(current < 0 ? "h1" : "p", {}, words), el("p", { class: "hint" }, TOGETHER));
+  if (current >= 0) return;
+  shown.replaceChildren();
+  headed(words);
+}
+
+/**
+ * Why there is no answer. What is wrong with a catalogue begins with its name.
+ * @param {string} name
+ * @param {string} error
+ */
+const unanswered = (name, error) => error.startsWith(name) ? `No answer: ${error}.` : `${name}: no answer (${error}).`;
+
 /** @param {Entry} entry */
 function titleOfEntry({ told, collection, name }) {
   return told ? titleOf(told) : collection ? `${headlineOf(collection)} ${collection.name}` : name;
@@ -140,7 +164,7 @@ function titleOfEntry({ told, collection, name }) {
  */
 function headed(title) {
   document.title = title;
-  at("said").textContent = shown.querySelector("h1")?.textContent ?? "";
+  at("said").textContent = document.querySelector("#each h1, #told h1")?.textContent ?? "";
 }
 
 /**
@@ -150,7 +174,12 @@ function headed(title) {
 function item(entry, index) {
   const said = entry.told && say(entry.told), words = said ? `${said.sign} ${said.headline}` : entry.error ?? "..";
   const button = el("button", { type: "button", "aria-pressed": String(index === current) }, el("b", {}, entry.name), ` ${words}`);
-  button.addEventListener("click", () => { current = index; edit(); show(); });
+  button.addEventListener("click", () => {
+    current = index;
+    edit();
+    show();
+    list.querySelectorAll("button")[index].focus();
+  });
   return el("li", {}, button);
 }
 

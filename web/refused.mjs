@@ -1,6 +1,7 @@
 /** What a person is told of a text that isn't a log. */
 import { advice } from "./faults.mjs";
 import { crcOf, CRC_DIGITS } from "./frames.mjs";
+import { isSpreadsheet, SAVE_AS_CSV } from "./tables.mjs";
 
 /** @typedef {import("./told.mjs").Told} Told */
 
@@ -8,7 +9,8 @@ const COUNT = "Count again, to a new log. If that is refused too, no count will 
   "to whoever maintains the software that writes it.";
 const COPY = "The file may have been cut off, by a full disk or because it was copied while it was written: copy it again.";
 const NO_LIST = "Open the log, not a list: a list of UIDs isn't enough.";
-const BOTH = "To compare this table with what the logs show, open it together with them.";
+const BOTH = "To compare this table with what the logs show, name its column of UIDs 'uid', and open it together with them.";
+const UNPACK = "If it is a ZIP file with logs in it, unpack it, and open these.";
 const ANOTHER = "Choose another file, or count again.";
 /** How a text begins that somebody meant as a log: with a header, or with a line of it. */
 const OF_A_LOG = /^(vicinity-log|[TRHU] [0-9A-F]|[SCDNF]$|#)/i;
@@ -20,6 +22,9 @@ export function refused(told) {
   const { line = 0, fault = "", ended } = told.object, { wrong, fix } = advice(fault, told.faulty);
   const last = line === told.counts.lines && line > 1;
   if (told.counts.lines === 0) return { headline: "The text is empty.", shelf: [ANOTHER], causes: [] };
+  if (isSpreadsheet(told.faulty)) {
+    return { headline: `This file isn't a log, but a spreadsheet: ${SAVE_AS_CSV}.`, shelf: [NO_LIST, BOTH, UNPACK], causes: [] };
+  }
   const foreign = line === 1 && !OF_A_LOG.test(told.faulty.replace(CODING, "")), table = foreign && isTable(told.faulty);
   return { headline: table ? "This file isn't a log, but a table." : `This text isn't a log. Line ${line}: ${wrong}.`,
     shelf: table ? [NO_LIST, BOTH] : foreign ? [NO_LIST] : last ? [COPY, COUNT] : [COUNT],

@@ -45,9 +45,9 @@ const NOT_CLAIMED = "If the list is what the reader found: its software has to w
 
 /** What a complete answer speaks of. */
 export const HOLDS = "This is said of tags that had power, heard the reader, and were heard when they answered.";
-/** Whether an answer about tags would also be that of a log whose replies may have hidden others. */
-export const ALSO = "Would also hold if a strong reply hid a weaker one: ";
-export const TO_KNOW = "silence each tag that was heard, and ask all in one slot, until none answers";
+/** How it is said whether an answer about tags would also be that of a log whose replies may have hidden others. */
+const IF_HIDDEN = "If a strong reply hid a weaker one, the answer ";
+const TO_KNOW = "silence each tag that was heard, and ask all in one slot, until none answers";
 const NO_CONFLICT = "If strong replies may have hidden weaker ones (each R read as H), the log doesn't contradict itself.";
 
 /** How many rounds are named as causes. */
@@ -216,16 +216,33 @@ function because(cause) {
 }
 
 /**
- * Whether the answer would also hold if a strong reply had hidden a weaker one, and else what to ask; of an answer that counts
- * on it. It is no part of the answer.
+ * Whether the answer also holds if a strong reply hid a weaker one, and how sure it is then, or else what to ask; of an answer
+ * that counts on it. It is no part of the answer.
  * @param {Told} told
  */
-export function alsoHolds({ object: { kind, captured }, counts, requests }) {
+export function alsoHolds({ object: { kind, captured, margin }, counts, requests }) {
   const certain = /** @type {string[]} */ ([KIND.COMPLETE, KIND.ABSENT, KIND.UNLISTED]);
   if (!captured || !counts.heard) return null;
   if (!certain.includes(kind)) return null;
-  return captured.holds ? { words: `${ALSO}yes.`, ask: "" } : { words: `${ALSO}no. To know, ${TO_KNOW}:`, ask: requests.all };
+  return captured.holds ? { words: stillHolds(margin, captured.margin), ask: "" } : { words: `${mayBeWrong("")}:`, ask: requests.all };
 }
+
+/**
+ * An answer that also holds then: beside the margin that it has, the one that it has then, if that is known.
+ * @param {number | undefined} margin
+ * @param {number} [then]
+ */
+export function stillHolds(margin, then) {
+  const slots = count(then ?? 0, "slot"), missed = then === undefined ? "but fewer slots may be enough"
+    : then === margin ? `and a tag would still have had to be missed in ${slots}` : `but a tag would have had to be missed in only ${slots}`;
+  return `${IF_HIDDEN}still holds${margin ? `, ${missed}` : ""}.`;
+}
+
+/**
+ * An answer that may not hold then, and what to do in which fields.
+ * @param {string} where
+ */
+export const mayBeWrong = (where) => `${IF_HIDDEN}may be wrong. To know,${where} ${TO_KNOW}`;
 
 /**
  * How sure it is that no other tag is here; of no answer but a complete one.
@@ -234,7 +251,7 @@ export function alsoHolds({ object: { kind, captured }, counts, requests }) {
  */
 export function missed({ margin, weakest }, where = "") {
   if (!margin || !weakest) return [];
-  return [`A tag would have had to be missed in ${count(margin, "slot")}${where}; weakest: ${ending(maskOf(weakest))}.`];
+  return [`To go unnoticed, a tag would have had to be missed in ${count(margin, "slot")}${where}; weakest: ${ending(maskOf(weakest))}.`];
 }
 
 /**

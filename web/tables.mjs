@@ -9,6 +9,17 @@ const SAYS_SEPARATOR = /^"?sep=(.)"?[ \t]*\r?\n/i;
 /** A cell, with what ends it: in quotes, or not. */
 const QUOTED = /"((?:[^"]|"")*)"/y;
 
+/** How a file of a spreadsheet program begins, read as UTF-8: packed as ZIP (.xlsx, .ods, .numbers), or as OLE has it (.xls). */
+const SPREADSHEET = /^(?:PK\x03\x04|\uFFFD\uFFFD\x11[\u0871\uFFFD])/;
+/** What to do with such a file. */
+export const SAVE_AS_CSV = "save it as CSV, and drop that";
+
+/**
+ * Whether a text was that of a spreadsheet.
+ * @param {string} text
+ */
+export const isSpreadsheet = (text) => SPREADSHEET.test(text);
+
 /** Why a file isn't what it should be. */
 export class Wrong extends Error {}
 

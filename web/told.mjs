@@ -56,6 +56,7 @@ import { strip } from "./strip.mjs";
  * @typedef {Object} Captured
  * @property {boolean} holds whether the answer also holds if strong replies hid weaker ones
  * @property {string} [kind] of the answer that does, if it doesn't
+ * @property {number} [margin] of a complete list, if they did
  */
 /**
  * @typedef {Object} Told

@@ -88,6 +88,13 @@ class Screen:
     def drop_files(self, files):
         self.run(DROP, [[name, text.decode()] for name, text in files.items()])
 
+    def choose(self, folder, files):
+        """Opens files that are written into a folder, byte for byte."""
+        for name, content in files.items():
+            (folder / name).write_bytes(content)
+        names = "\n".join(str(folder / name) for name in files)
+        self.driver.find_element("id", "files").send_keys(names)
+
     def texts(self, selector):
         return self.run(TEXTS, selector)
 
