@@ -1,0 +1,65 @@
+"""What examples/nightly/check-shelves prints, and that its status is never taken for another."""
+import os
+
+import pytest
+
+from helpers.lines import log_of
+from helpers.program import TOP, Program
+
+COMPLETE, OPEN, BROKEN, REFUSED = map(log_of, ("I1 S", "I1 C", "I1 S I1 RA", "UA UA"))
+NO_ANSWER = 4
+# A Python that has only its own modules.
+BARE = "#!/bin/sh\nexec /usr/bin/python3 -ISB \"$@\"\n"
+
+
+@pytest.fixture
+def check(release):
+    """Runs it over a folder with these variables besides: its status, and the lines printed."""
+    def ask(folder, **environment):
+        found = {"PYTHONPATH": "python", "LIBVICINITY": str(release / "libvicinity.so")}
+        script = Program("/bin/bash", TOP / "examples/nightly/check-shelves",
+                         **found | environment)
+        said = script.run(str(folder))
+        return said.status, said.out.decode().splitlines()
+    return ask
+
+
+def written(folder, *logs):
+    for number, log in enumerate(logs):
+        (folder / f"{number}.log").write_bytes(log)
+    return folder
+
+
+@pytest.mark.parametrize(("logs", "status"), [
+    ([COMPLETE, COMPLETE], 0), ([OPEN, COMPLETE], 1), ([BROKEN, OPEN], 2), ([REFUSED, OPEN], 3)])
+def test_the_worst_status(check, tmp_path, logs, status):
+    found, lines = check(written(tmp_path, *logs))
+    assert (found, len(lines)) == (status, sum(log != COMPLETE for log in logs))
+
+
+def test_a_folder_is_no_log(check, tmp_path):
+    (tmp_path / "old.log").mkdir()
+    assert check(written(tmp_path, COMPLETE)) == (0, [])
+
+
+@pytest.mark.parametrize("log", [COMPLETE, OPEN])
+def test_without_the_module(check, tmp_path, log):
+    """Python ends with 1 then, as it does for a log that isn't complete."""
+    (tmp_path / "bin").mkdir()
+    (tmp_path / "bin/python3").write_text(BARE)
+    (tmp_path / "bin/python3").chmod(0o755)
+    path = f"{tmp_path}/bin:{os.environ['PATH']}"
+    assert check(written(tmp_path, log), PATH=path) == (NO_ANSWER, [])
+
+
+def test_without_the_library(check, tmp_path):
+    (tmp_path / "libvicinity.so").write_bytes(b"")
+    assert check(written(tmp_path, OPEN))[0] == 1
+    library = str(tmp_path / "libvicinity.so")
+    assert check(tmp_path, LIBVICINITY=library) == (NO_ANSWER, [])
+
+
+@pytest.mark.parametrize("folder", ["empty", "nowhere"])
+def test_without_a_log(check, tmp_path, folder):
+    (tmp_path / "empty").mkdir()
+    assert check(tmp_path / folder) == (NO_ANSWER, [])
