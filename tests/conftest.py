@@ -6,6 +6,7 @@ that asks for what this machine can't build or run is skipped, and says what tes
 install.
 """
 import os
+import random
 import subprocess
 import sys
 
@@ -44,6 +45,16 @@ def pytest_terminal_summary(terminalreporter):
     skipped = number("skipped")
     terminalreporter.write_line(f"{number('passed')} passed, {number('failed', 'error')} failed"
                                 + (f", {skipped} skipped" if skipped else ""))
+
+
+@pytest.fixture
+def logs(request, pytestconfig):
+    """How many random logs a part of a module's test has, of its NUMBER, and their seed."""
+    module = request.module
+    number, seed = pytestconfig.getoption("--logs"), pytestconfig.getoption("--seed")
+    if seed is None:
+        seed = module.SEED if number is None else random.randrange(10**9)
+    return (number or module.NUMBER) // module.PARTS, seed
 
 
 @pytest.fixture

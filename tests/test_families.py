@@ -58,27 +58,23 @@ def answer(program, tmp_path):
     return ask
 
 
-def cases_of(options, part):
+def cases_of(number, seed, part):
     """The cases of a part, each with its seed."""
-    number, seed = options.getoption("--logs"), options.getoption("--seed")
-    if seed is None:
-        seed = SEED if number is None else random.randrange(10**9)
-    for index in range(part, number or NUMBER, PARTS):
+    for index in range(part, number * PARTS, PARTS):
         yield f"{seed} {index}", *case_of(random.Random(f"{seed} {index}"))
 
 
 @pytest.mark.slow
 @pytest.mark.parametrize("part", range(PARTS))
-def test_random_logs(vicinity, answer, pytestconfig, part):
-    seen, number = collections.Counter(), 0
-    for seed, uids, expected, logs in cases_of(pytestconfig, part):
-        texts = [text_of(version, lines) for version, lines in logs]
-        wanted = Families(uids, expected, logs).answer()
+def test_random_logs(vicinity, answer, logs, part):
+    number, seen = logs[0], collections.Counter()
+    for seed, uids, expected, given in cases_of(*logs, part):
+        texts = [text_of(version, lines) for version, lines in given]
+        wanted = Families(uids, expected, given).answer()
         assert same(answer(expected, texts), wanted), seed
         # of no log at all Python says nothing
-        assert not logs or by_surveys(vicinity, expected, texts) == plain(wanted), seed
+        assert not given or by_surveys(vicinity, expected, texts) == plain(wanted), seed
         seen.update(line.split()[0] for line in wanted)
-        number += 1
     if number >= NUMBER // PARTS:
         assert not [kind for kind in KINDS if not seen[kind]]
 

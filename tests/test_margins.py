@@ -20,15 +20,6 @@ SMALL, MOST_SLOTS = 60, 8
 PLANTED = 2000
 
 
-@pytest.fixture
-def logs(pytestconfig):
-    """How many logs a part has, and their seed."""
-    number, seed = pytestconfig.getoption("--logs"), pytestconfig.getoption("--seed")
-    if seed is None:
-        seed = SEED if number is None else random.randrange(10**9)
-    return (number or NUMBER) // PARTS, seed
-
-
 @pytest.mark.parametrize("part", [0, *(pytest.param(part, marks=pytest.mark.slow)
                                        for part in range(1, PARTS))])
 def test_random_logs(program, vicinity, logs, part):

@@ -52,15 +52,6 @@ def report(program):
     return ask
 
 
-@pytest.fixture
-def logs(pytestconfig):
-    """How many logs a part has, and their seed."""
-    number, seed = pytestconfig.getoption("--logs"), pytestconfig.getoption("--seed")
-    if seed is None:
-        seed = SEED if number is None else random.randrange(10**9)
-    return (number or NUMBER) // PARTS, seed
-
-
 @pytest.mark.slow
 @pytest.mark.parametrize("part", range(PARTS))
 def test_random_logs(answer, report, logs, part):

@@ -52,14 +52,14 @@ function surveyed(library, text) {
 }
 
 /**
- * The margin of a log, and how often UIDs were overlooked, before a number that stays as it was.
+ * The margin of a log, and how often UIDs were overlooked.
  * @param {Library} library
  * @param {Uint8Array} text
  */
 function measured(library, text) {
   const { answer, weakest } = library.margin(text), overlooked = library.overlooked(text, EXPECTED);
   const { margin, maskLen, maskValue } = weakest ?? { margin: 0, maskLen: 0, maskValue: 0n };
-  return [shown(answer), `${margin} ${maskLen} ${hex(maskValue)}\n`, shown(overlooked.answer), `${overlooked.list.join(" ")} 7\n`].join("");
+  return [shown(answer), `${margin} ${maskLen} ${hex(maskValue)}\n`, shown(overlooked.answer), `${overlooked.list.join(" ")}\n`].join("");
 }
 
 /**
