@@ -343,6 +343,19 @@ def test_a_contradiction_that_hidden_replies_explain(page):
     page.until("#told", "(each R read as H), the log doesn't contradict itself.")
 
 
+@pytest.mark.parametrize(("names", "holds"), [
+    ("I1 RA QA I1 S UA", True), ("I16 S RA RB S13 UA UB", False), ("I1 S", True), ("I1 RA", False),
+    ("I1 S UA", False)])
+def test_what_is_not_needed_is_not_taken_for_granted(page, names, holds):
+    """That no reply was hidden, where a complete answer also holds if one was."""
+    page.drop(log=log_of(names))
+    page.until("details:last-of-type", "What this takes for granted (7)")
+    said = page.run("return [...document.querySelectorAll('details:last-of-type li')]"
+                    ".map((it) => it.textContent)")
+    assert ("Every reply came from a tag." in said) == holds
+    assert any("No strong reply hid a weaker one" in it for it in said) != holds
+
+
 @pytest.mark.parametrize(("names", "conditions"), [
     ("I1 RA UA", 1), ("I1 S", 1), ("I1 RA", 0), ("I1 C UA", 0), ("I1 RA I1 S", 0)])
 def test_what_a_complete_answer_is_said_of(page, names, conditions):

@@ -2,7 +2,7 @@
 import { el, folded } from "./elements.mjs";
 import { KIND } from "./kinds.mjs";
 import { Pane } from "./pane.mjs";
-import { GRANTED, HOLDS, mayBeWrong, missed, notSure, stillHolds } from "./say.mjs";
+import { granted, HOLDS, mayBeWrong, missed, notSure, stillHolds } from "./say.mjs";
 import { maskOf, tell } from "./told.mjs";
 import { banner, signed, view } from "./view.mjs";
 import { count, ending, listing, printable } from "./words.mjs";
@@ -291,7 +291,7 @@ function saidOf({ list, certain, open, more_open, object }) {
 
 /** @param {CollectionObject} object */
 function grantedOfAll(object) {
-  const all = [...OF_LOGS, ...GRANTED];
+  const all = [...OF_LOGS, ...granted(isWhole(object) && object.logs.every((log) => log.captured?.holds))];
   return [folded(`What this takes for granted (${all.length})`, !object.status, el("ul", {}, all.map((it) => el("li", {}, it))))];
 }
 

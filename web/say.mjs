@@ -53,14 +53,17 @@ const NO_CONFLICT = "If strong replies may have hidden weaker ones (each R read 
 /** How many rounds are named as causes. */
 const MOST_CAUSES = 24;
 
-/** What no program can check. If one of these fails, an answer may be wrong. */
-export const GRANTED = [
+/**
+ * What no program can check. If one of these fails, an answer may be wrong.
+ * @param {boolean} holds whether it holds also if strong replies hid weaker ones, so that this isn't taken for granted
+ */
+export const granted = (holds) => [
   "Each tag has power, hears the reader, and is heard: none is shielded, on metal, at a bad angle, stacked on another, or at " +
     "the edge of the field. A tag that never answers is in no log.",
   "The log is true: it says what was sent and what each logged slot held, in the order in which it happened.",
   "Nothing else was sent that changes which tags answer, by this reader or another: no Select, no Reset to Ready, no quiet " +
     "command of a manufacturer.",
-  "No strong reply hid a weaker one, and every reply came from a tag.",
+  holds ? "Every reply came from a tag." : "No strong reply hid a weaker one, and every reply came from a tag.",
   "The tags conform to ISO/IEC 15693-3, and no two have the same UID.",
   "No tag came or went during the log, all were ready when it began, and the field stayed on, except where the log says that " +
     "it was switched off and on.",

@@ -5,7 +5,7 @@ import { maintainer } from "./maintainer.mjs";
 import { KIND } from "./kinds.mjs";
 import { noted } from "./notes.mjs";
 import { rounds } from "./rounds.mjs";
-import { alsoHolds, GRANTED, HOLDS, missed, say, silentIn } from "./say.mjs";
+import { alsoHolds, granted, HOLDS, missed, say, silentIn } from "./say.mjs";
 import { count, lines, printable, TRIAL, whom } from "./words.mjs";
 
 /** @typedef {import("./told.mjs").Told} Told */
@@ -28,7 +28,7 @@ export function view(told, heading = "h1", names = new Map()) {
   const rests = conditions(told), isWhole = told.object.kind === KIND.COMPLETE;
   return [banner({ ...said, ...trial }, what, heading), ...isWhole ? [...rests, shelf(said)] : [shelf(said), ...rests],
     ...findings(told, names), ...tags(told, names), ...conflict(told), ...rounds(told, names),
-    ...maintainer(told, said), ...notes(told), ...granted(told.object.status), record(told)];
+    ...maintainer(told, said), ...notes(told), ...takenForGranted(told.object), record(told)];
 }
 
 /** @param {Told} told */
@@ -134,11 +134,12 @@ function notes(told) {
 
 /**
  * What an answer about tags takes for granted; open where there is nothing else to do.
- * @param {number} status
+ * @param {import("./told.mjs").LogObject} object
  */
-export function granted(status) {
+function takenForGranted({ kind, status, captured }) {
   if (status > 1) return [];
-  return [folded(`What this takes for granted (${GRANTED.length})`, !status, el("ul", {}, GRANTED.map((it) => el("li", {}, it))))];
+  const all = granted(kind === KIND.COMPLETE && captured?.holds === true);
+  return [folded(`What this takes for granted (${all.length})`, !status, el("ul", {}, all.map((it) => el("li", {}, it))))];
 }
 
 /** @param {Told} told */
