@@ -810,6 +810,7 @@ def test_a_better_catalogue_is_compared_with_the_same_logs(page, tmp_path, name,
     """Also if it comes alone, as after a page that says what to do with the first one."""
     page.choose(tmp_path, {name: content, "one.log": log_of("I1 RA QA I1 S")})
     page.until(".error", words)
+    assert "The log is still here: the next catalogue will be compared with it." in page.said()
     page.choose(tmp_path, {"better.csv": b"uid\nE0040100000000A1\n"})
     page.until(".banner.yes h1", "The one expected item is here, and no other.")
 

@@ -112,7 +112,7 @@ function show() {
   beside.hidden = entry?.given !== undefined || current < 0;
   if (entry?.error) {
     const words = unanswered(entry.name, entry.error);
-    shown.replaceChildren(el("h1", { class: "error" }, words));
+    shown.replaceChildren(el("h1", { class: "error" }, words), ...entry.given ? [el("p", {}, kept(entry.given.logs.length))] : []);
     headed(words);
   } else if (entry?.told) {
     shown.replaceChildren(...view(entry.told));
@@ -152,6 +152,13 @@ function overview() {
  * @param {string} error
  */
 const unanswered = (name, error) => error.startsWith(name) ? `No answer: ${error}.` : `${name}: no answer (${error}).`;
+
+/**
+ * What becomes of the logs of a collection that has no answer.
+ * @param {number} logs
+ */
+const kept = (logs) => logs === 1 ? "The log is still here: the next catalogue will be compared with it."
+  : `The ${count(logs, "log")} are still here: the next catalogue will be compared with them.`;
 
 /** @param {Entry} entry */
 function titleOfEntry({ told, collection, name }) {
