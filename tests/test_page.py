@@ -84,7 +84,9 @@ SAID = (
 FOREIGN = (("\uFEFFvicinity-log 1\n", "byte order mark"), ("v\0i\0c\0\n\0", "UTF-16"),
            ("uid,title\nE004,Emma\n", "a table (CSV)"),
            ("uid,title\nE004,Emma\n", "Open the log, not a list"),
-           ("uid,title\nE004,Emma\n", "open it together with them"),
+           ("uid,title\nE004,Emma\n", "what the logs show, open it together with them"),
+           ("title;\"UID\"\nEmma;E004\n", "what the logs show, open it together with them"),
+           ("Tag UID,title\nE004,Emma\n", "name its column of UIDs 'uid', and open it together"),
            ("vicinity-log 1\nT 260100F60B\n", "have the CRC F60A, and the line has F60B"),
            ("vicinity-log 1\rT 260100F60A\rS\r", "CR alone"),
            ("vicinity-log 1 \n", "vicinity-log 1‹space›"),
@@ -670,7 +672,9 @@ def also_hidden(told, vicinity):
     if told["kind"] == "complete" and told["captured"]["holds"]:
         weakest = vicinity.margin(vicinity.captured(told["text"].encode())).weakest
         mask = {"mask_len": weakest.mask.length, "mask_value": weakest.mask.digits}
-        told["captured"] = {"holds": True, "margin": weakest.margin, "weakest": mask}
+        captured = {"holds": True, "margin": weakest.margin, "weakest": mask}
+        assert {**captured, **told["captured"]} == captured
+        told["captured"] = captured
     return told
 
 

@@ -9,7 +9,10 @@ const COUNT = "Count again, to a new log. If that is refused too, no count will 
   "to whoever maintains the software that writes it.";
 const COPY = "The file may have been cut off, by a full disk or because it was copied while it was written: copy it again.";
 const NO_LIST = "Open the log, not a list: a list of UIDs isn't enough.";
-const BOTH = "To compare this table with what the logs show, name its column of UIDs 'uid', and open it together with them.";
+const BOTH = "To compare this table with what the logs show, open it together with them.";
+const NAMED = "To compare this table with what the logs show, name its column of UIDs 'uid', and open it together with them.";
+/** A first line in which a column has this name. */
+const HAS_UID = /(?:^|[,;\t|"])uid(?:$|[,;\t|"])/i;
 const UNPACK = "If it is a ZIP file with logs in it, unpack it, and open these.";
 const ANOTHER = "Choose another file, or count again.";
 /** How a text begins that somebody meant as a log: with a header, or with a line of it. */
@@ -23,11 +26,11 @@ export function refused(told) {
   const last = line === told.counts.lines && line > 1;
   if (told.counts.lines === 0) return { headline: "The text is empty.", shelf: [ANOTHER], causes: [] };
   if (isSpreadsheet(told.faulty)) {
-    return { headline: `This file isn't a log, but a spreadsheet: ${SAVE_AS_CSV}.`, shelf: [NO_LIST, BOTH, UNPACK], causes: [] };
+    return { headline: `This file isn't a log, but a spreadsheet: ${SAVE_AS_CSV}.`, shelf: [NO_LIST, NAMED, UNPACK], causes: [] };
   }
   const foreign = line === 1 && !OF_A_LOG.test(told.faulty.replace(CODING, "")), table = foreign && isTable(told.faulty);
   return { headline: table ? "This file isn't a log, but a table." : `This text isn't a log. Line ${line}: ${wrong}.`,
-    shelf: table ? [NO_LIST, BOTH] : foreign ? [NO_LIST] : last ? [COPY, COUNT] : [COUNT],
+    shelf: table ? [NO_LIST, HAS_UID.test(told.faulty) ? BOTH : NAMED] : foreign ? [NO_LIST] : last ? [COPY, COUNT] : [COUNT],
     causes: [...last && !ended ? ["The file may end in the middle of this line: it was cut off, or the software was still writing."] : [],
       ...line === 1 ? ofFirst(told.faulty, foreign) : [], ...fault === "Crc" ? [rightCrc(told.faulty)] : [], ...table ? [] : [fix]] };
 }
