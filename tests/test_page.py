@@ -557,8 +557,11 @@ def test_an_edit_stays_with_its_log(page):
     """Also if another log is shown before it is judged."""
     page.drop(one=log_of("I1 RA UA"), two=log_of("I1 S UA"))
     page.press("#logs button")
-    page.until("#logs", "1 listed tag can't be here")
-    type_in(page, log_of("I1 RA").decode())
+    page.until("#each", "Complete: 1 of 2.")
+    # until it is judged, it isn't counted
+    before = page.run(f"(() => {{ {TYPE} }})(); return document.getElementById('each').innerText;",
+                      log_of("I1 RA").decode())
+    assert before.startswith("2 logs, each with its own answer.") and "Complete" not in before
     page.press("#logs button", 1)
     page.until("#logs", "one (edited)")
     page.until("#logs", "no list to compare with")

@@ -202,6 +202,7 @@ function changed(name, pause) {
   const entry = { name, text: new TextEncoder().encode(field.value) };
   entries[current] = entry;
   shown.dataset.name = name;
+  overview();
   entry.pause = window.setTimeout(() => ask(entry), pause);
 }
 
