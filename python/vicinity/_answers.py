@@ -19,6 +19,10 @@ class Mask(NamedTuple):
         or - if there is none."""
         return f"{self.value:0{2 * ((self.length + 7) // 8)}X}" if self.length else "-"
 
+    def has(self, uid: int) -> bool:
+        """Whether a UID is among them."""
+        return (self.value ^ uid) & (1 << self.length) - 1 == 0
+
     def __str__(self) -> str:
         """The last digits of these UIDs, with bits in parentheses if they don't fill a digit."""
         digits, bits = divmod(self.length, 4)

@@ -107,7 +107,7 @@ def _encoded(text: str) -> bytes:
     return text.encode("utf-8", "backslashreplace")
 
 
-def shown(name: str) -> str:
+def shown(name: Union[str, bytes]) -> str:
     """A name on one line, without anything that a terminal would interpret: a backslash is `\\\\`,
     a tab `\\t`, a line end `\\n`, and each byte of another character that can't be printed,
     or that isn't UTF-8, `\\x` and two hex digits."""

@@ -35,9 +35,9 @@ class FrameFault(ValueError):
     """The first fault of a frame."""
 
     def __init__(self, fault: Fault):
-        from .sessions.faults import ADVICE  # needed only here
+        from .sessions.faults import WRONG  # needed only here
 
-        super().__init__(f"{fault.word}: {ADVICE[fault].wrong}")
+        super().__init__(f"{fault.word}: {WRONG[fault]}")
         self.fault = fault
 
 

@@ -75,7 +75,7 @@ def check_all(asked: argparse.Namespace) -> int:
 
 def report_all(asked: argparse.Namespace) -> int:
     """Writes every finding of each file, and returns the worst status."""
-    from .listing import lines_of_report, object_of_report, reported  # loaded only for reports
+    from ..sessions.report import lines_of_report, object_of_report, reported  # only here
 
     library()
     worst = 0

@@ -1,34 +1,37 @@
-"""The answer as a person would say it, in one sentence."""
+"""The answer as a person would say it, in one sentence, and what it is said under."""
 from __future__ import annotations
 
 from typing import Iterator
 
 from .._answers import Kind, Mask, Weakest
-from .conflict import ask, contradiction
-from .faults import ADVICE
+from .faults import WRONG
 from .findings import Told
-from .session import Session
+from .session import Session, ask
 from .words import count, ending, listing
 
-ALL = Mask(0, 0)
 HEARD = ("This is said of tags that had power, heard the reader, "
          "and were heard when they answered: one that never answers is in no log.")
 ASK_AGAIN = "Silence each tag that was heard, and ask all in one slot, until none answers"
 ALSO = "Would also hold if a strong reply hid a weaker one:"
+#: How many lines of a contradiction a sentence names.
+MOST_NAMED = 4
 
 
 def sentence(session: Session, told: Told) -> str:
     """What is known about the list."""
-    kind = told.answer.kind
-    if kind is Kind.REFUSED:
+    answer = told.answer
+    if answer.kind is Kind.REFUSED:
         cut = " The text ends in the middle of this line: was it cut?" * session.is_cut
-        wrong = ADVICE[told.answer.fault].wrong
-        return f"This text isn't a valid log. Line {told.answer.line}: {wrong}.{cut}"
-    if kind is Kind.IMPOSSIBLE:
-        return f"The log contradicts itself: {contradiction(session, told).sentence}"
-    if kind is Kind.COMPLETE:
-        return _complete(told.answer.count)
-    return f"Not complete: {listing(_missing(told))}."
+        return f"This text isn't a valid log. Line {answer.line}: {WRONG[answer.fault]}.{cut}"
+    if answer.kind is Kind.IMPOSSIBLE:
+        return f"The log contradicts itself: {_contradiction(told)}."
+    if answer.kind is not Kind.COMPLETE:
+        return f"Not complete: {listing(list(_missing(told)))}."
+    if not answer.count:
+        return "Complete: the field is empty, and nothing is listed."
+    if answer.count == 1:
+        return "Complete: the one tag in the field is listed, and no other."
+    return f"Complete: all {answer.count:,} tags in the field are listed, and no others."
 
 
 def conditions(session: Session, told: Told) -> Iterator[str]:
@@ -42,12 +45,16 @@ def conditions(session: Session, told: Told) -> Iterator[str]:
     if reread is None:
         return
     if reread == answer:
-        yield f"{ALSO} yes."
+        least = told.weakest_reread
+        then = "" if least is None else (
+            f"; a tag would then have had to be missed in {count(least.margin, 'slot')}")
+        yield f"{ALSO} yes{then}."
     elif answer.kind is Kind.IMPOSSIBLE:
         yield (f"{ALSO} no, '{reread}'. "
                "If replies may hide others, write H in place of R, in a log of version 3.")
     else:
-        yield f"{ALSO} no, '{reread}'. {ASK_AGAIN} ({ask(session.link, 1, ALL)})."
+        all_tags = ask(session.link, 1, Mask(0, 0))
+        yield f"{ALSO} no, '{reread}'. {ASK_AGAIN} ({all_tags})."
 
 
 def missed(weakest: Weakest, where: str = "") -> str:
@@ -61,33 +68,26 @@ def silent(slots: int) -> str:
     return f"asked in {count(slots, 'slot')}, silent {'there' if slots == 1 else 'in each'}"
 
 
-def _complete(number: int) -> str:
-    if not number:
-        return "Complete: the field is empty, and nothing is listed."
-    return f"Complete: {'the one tag' if number == 1 else f'all {number:,} tags'} in the field " + (
-        "is listed, and no other." if number == 1 else "are listed, and no others.")
+def _contradiction(told: Told) -> str:
+    """Which lines contradict each other."""
+    lines = sorted({*told.conflict, told.silenced} - {0})
+    if len(lines) == 1:
+        return f"line {lines[0]} can't be true"
+    if len(lines) > MOST_NAMED:
+        return f"{len(lines):,} lines from {lines[0]} to {lines[-1]} can't all be true"
+    return f"lines {listing(list(map(str, lines)))} can't {'all' if lines[2:] else 'both'} be true"
 
 
-def _missing(told: Told) -> list[str]:
+def _missing(told: Told) -> Iterator[str]:
     """Why a list isn't complete."""
-    said = []
     if told.absent.uids:
-        said.append(count(len(told.absent.uids), "listed tag isn't there",
-                          "listed tags aren't there"))
+        yield count(len(told.absent.uids), "listed tag isn't there", "listed tags aren't there")
     if told.unlisted.uids:
-        said.append(count(len(told.unlisted.uids), "tag isn't listed", "tags aren't listed"))
-    if told.open_masks:
-        said.append(masks_left(told))
+        yield count(len(told.unlisted.uids), "tag isn't listed", "tags aren't listed")
+    if Mask(0, 0) in told.open_masks:
+        yield "all UIDs are still to be asked for"
+    elif told.open_masks:
+        left, more = len(told.open_masks), "or more " * told.has_more_open
+        yield f"{left} {more}mask{'s are' if left > 1 else ' is'} still to be asked"
     if told.doubtful:
-        said.append(count(len(told.doubtful), "listed tag may be missing",
-                          "listed tags may be missing"))
-    return said
-
-
-def masks_left(told: Told) -> str:
-    """How much is still to be asked."""
-    if told.open_masks[0].length == 0:
-        return "all UIDs are still to be asked for"
-    some = "or more " if told.has_more_open else ""
-    left = len(told.open_masks)
-    return f"{left} {some}mask{'s are' if left > 1 else ' is'} still to be asked"
+        yield count(len(told.doubtful), "listed tag may be missing", "listed tags may be missing")

@@ -1,11 +1,11 @@
-"""Numbers, UIDs, masks and lines in words."""
+"""Numbers, masks and lines in words."""
 from __future__ import annotations
 
-from typing import Iterable, Sequence
+from typing import Sequence
 
 from .._answers import Mask
 from ..frames import uid_text
-from .session import Reading
+from .session import Reading, Session
 
 #: What was read in a slot; a UID that was heard takes the place of the braces.
 READ = {
@@ -18,7 +18,6 @@ READ = {
 }
 #: The bits in which UIDs differ; the others are those of E0.
 UID_BITS = 56
-uid = uid_text
 
 
 def count(number: int, one: str, many: str = "") -> str:
@@ -31,23 +30,8 @@ def span(first: int, last: int) -> str:
     return f"{first}" if first == last else f"{first} to {last}"
 
 
-def lines(numbers: Sequence[int], most: int = 4) -> str:
-    """Lines by their numbers: line 4; lines 3, 6 and 8; 600 lines from 5 to 900."""
-    if len(numbers) > most:
-        return f"{len(numbers):,} lines from {numbers[0]} to {numbers[-1]}"
-    return f"line{'s' * (len(numbers) > 1)} {listing([str(number) for number in numbers])}"
-
-
 def listing(items: Sequence[str], last: str = "and") -> str:
     return f" {last} ".join(filter(None, [", ".join(items[:-1]), *items[-1:]]))
-
-
-def short(number: int, others: Iterable[int] = ()) -> str:
-    """The last digits of a UID: four, or as many as distinguish it from others."""
-    digits = next(it for it in (4, 6, 8, 12, 16)
-                  if it == 16 or all((number ^ other) & (1 << 4 * it) - 1
-                                     for other in others if other != number))
-    return ("" if digits == 16 else "..") + uid(number)[-digits:]
 
 
 def ending(mask: Mask) -> str:
@@ -56,7 +40,8 @@ def ending(mask: Mask) -> str:
     if not mask.length:
         return "all UIDs"
     if mask.length >= UID_BITS:
-        return uid(mask.value | 0xE0 << UID_BITS) if mask.length == UID_BITS else f"the UID {mask}"
+        whole = uid_text(mask.value | 0xE0 << UID_BITS)
+        return whole if mask.length == UID_BITS else f"the UID {mask}"
     low = f"{mask.value & (1 << 4 * digits) - 1:0{digits}X}" if digits else ""
     if bits == 1:
         parity = "odd" if mask.value >> 4 * digits else "even"
@@ -66,17 +51,11 @@ def ending(mask: Mask) -> str:
     return f"UIDs ending in {listing([f'{head:X}{low}' for head in heads] or [low], 'or')}"
 
 
-def digits_heard(asked: Mask, number: int) -> str:
-    """Of a UID that was heard, the last two digits that the asked mask leaves open."""
-    return f"{number >> min(asked.length // 4 * 4, UID_BITS) & 0xFF:02X}"
-
-
-def printable(line: bytes) -> str:
-    """A line of any text, without anything that a terminal would interpret."""
-    text = line.rstrip(b"\r").decode("utf-8", "backslashreplace")
-    return "".join(it if it.isprintable() else f"\\x{ord(it):02x}" for it in text) or "(empty)"
-
-
-def of_uid(number: int) -> Mask:
-    """The mask of one UID."""
-    return Mask(UID_BITS, number & (1 << UID_BITS) - 1)
+def meaning(session: Session, line: int) -> str:
+    """What a line of a row says."""
+    row = session.row(session.place(line))
+    for slot in row.slots:
+        if slot.line == line:
+            read = READ[slot.reading].format("" if slot.uid is None else uid_text(slot.uid))
+            return f"{read}; asked: {ending(slot.mask)}"
+    return f"Stay Quiet to {uid_text(row.request.uid)}" if row.request else "field off and on"
