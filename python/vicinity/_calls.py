@@ -15,8 +15,8 @@ if TYPE_CHECKING:
     from ._native import BytesLike
 
 FIRST_ROOM = 64
-#: struct vicinity_mask.
-PACKED_MASK = struct.Struct("IIQ")
+#: struct vicinity_mask and struct vicinity_finding.
+PACKED_MASK, PACKED_FINDING = struct.Struct("IIQ"), struct.Struct("IIIIQQ")
 NO_ANSWER = 4
 #: The kind of the answer to a list.
 LISTED = 12
@@ -97,9 +97,10 @@ def _explanation(name: str, given: Sequence[Any]) -> Explanation:
 
 def _report(name: str, given: Sequence[Any]) -> Report:
     told, room, count = _filled(FindingStruct, FIRST_ROOM, name, given)
+    findings = memoryview(room).cast("B")[:count * PACKED_FINDING.size]
     return Report(_answer(told), [
-        Finding(FindingKind(it.kind), it.line, it.mask_len, it.mask_value, it.uid)
-        for it in room[:count]])
+        Finding(FindingKind(kind), line, mask_len, mask_value, uid)
+        for kind, line, mask_len, _, mask_value, uid in PACKED_FINDING.iter_unpack(findings)])
 
 
 def _margin(name: str, given: Sequence[Any]) -> Margin:
@@ -153,14 +154,6 @@ def report(text: BytesLike) -> Report:
 def report_listed(text: BytesLike, uids: Iterable[int]) -> Report:
     """The answer of `check_listed`, and every finding. Raises what `check_listed` raises."""
     return _report("report_listed", _text_and_list(text, uids))
-
-
-def report_records(text: bytes) -> tuple[Answer, memoryview]:
-    """What `report` returns, with the findings as the bytes of structs vicinity_finding,
-    of which there may be two million: at most two UIDs per line."""
-    places = FIRST_ROOM + 2 * text.count(b"\n")
-    told, room, count = _filled(FindingStruct, places, "report", _text(text))
-    return _answer(told), memoryview(room).cast("B")[:count * ctypes.sizeof(FindingStruct)]
 
 
 def margin(text: BytesLike) -> Margin:

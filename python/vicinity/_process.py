@@ -25,6 +25,8 @@ NO_ANSWER = 4
 #: With more logs than this, a terminal is told how many have been read, each time after so many.
 MOST_UNCOUNTED, TOLD_EACH = 50, 10
 
+ESCAPED = {"\t": "\\t", "\n": "\\n"}
+
 T = TypeVar("T")
 
 
@@ -36,7 +38,10 @@ def run(command: Callable[[], int]) -> int:
     """The status of a command, which is 4 if it has no answer."""
     signal.signal(signal.SIGINT, signal.SIG_DFL)  # also while the library judges
     sys.unraisablehook = lambda _: None  # failures while something is released as memory runs out
-    _bytes_on_windows()
+    if sys.platform == "win32":
+        import msvcrt
+        for file in (0, 1):  # line ends stay as they are
+            msvcrt.setmode(file, os.O_BINARY)
     try:
         return command()
     except NoAnswer as why:
@@ -48,14 +53,6 @@ def run(command: Callable[[], int]) -> int:
     except Exception as error:
         # a defect: Python itself would end with 1, which means 'not complete'
         return complain(shown(f"{type(error).__name__}: {error}"))
-
-
-def _bytes_on_windows() -> None:
-    """Windows would change line ends that are read and written."""
-    if sys.platform == "win32":
-        import msvcrt
-        for file in (0, 1):
-            msvcrt.setmode(file, os.O_BINARY)
 
 
 def complain(why: str) -> int:
@@ -85,6 +82,29 @@ def read(name: str) -> bytes:
         raise NoAnswer(f"cannot read {shown(name)}: {error.strerror}") from None
 
 
+def tried(name: str, call: Callable[[bytes], T]) -> Union[T, str]:
+    """What a call returns for the contents of a file, or why there is no answer."""
+    try:
+        return call(read(name))
+    except NoAnswer as why:
+        return str(why)
+    except MemoryError:
+        return f"out of memory: {shown(name)}"
+
+
+def names_of(asked: argparse.Namespace, are_needed: bool = True) -> list[str]:
+    """The names of logs among the words, and those in a file, separated by NUL if there is any,
+    else by line ends."""
+    names = list(asked.names)
+    if asked.logs_from is not None:
+        listed = read(asked.logs_from)
+        separator = b"\0" if b"\0" in listed else b"\n"
+        names += map(os.fsdecode, filter(None, listed.split(separator)))
+    if are_needed and not names:
+        raise NoAnswer("no logs: name at least one, or a file that lists them by --logs-from")
+    return names
+
+
 def write(pieces: Iterable[Union[str, bytes]]) -> None:
     """Writes bytes, and text as UTF-8, to standard output as it comes."""
     waiting = bytearray()
@@ -112,12 +132,8 @@ def shown(name: Union[str, bytes]) -> str:
     a tab `\\t`, a line end `\\n`, and each byte of another character that can't be printed,
     or that isn't UTF-8, `\\x` and two hex digits."""
     text = os.fsencode(name).replace(b"\\", b"\\\\").decode("utf-8", "backslashreplace")
-    return "".join(it if it.isprintable() else _escaped(it) for it in text)
-
-
-def _escaped(character: str) -> str:
-    short = {"\t": "\\t", "\n": "\\n"}.get(character)
-    return short or "".join(f"\\x{byte:02x}" for byte in character.encode())
+    return "".join(it if it.isprintable() else ESCAPED.get(it) or
+                   "".join(f"\\x{byte:02x}" for byte in it.encode()) for it in text)
 
 
 def counted(things: Iterable[T], total: int) -> Generator[T, None, None]:

@@ -174,13 +174,12 @@ class Collection:
         by_log: dict[int, list[int]] = {}
         for item in self.of(State.UNEXPECTED):
             by_log.setdefault(item.certain_in[0], []).append(item.uid or 0)
-        found = {}
+        found: dict[int, tuple[int, int]] = {}
         for index, uids in sorted(by_log.items()):
-            shown_there = self._read.shown_by(index)
-            for uid in uids:
-                found[uid] = index, shown_there.line_of(uid)
-                if not found[uid][1]:
-                    raise self._changed(index)
+            lines = self._read.shown_by(index)
+            if not lines.keys() >= set(uids):
+                raise self._changed(index)
+            found.update((uid, (index, lines[uid])) for uid in uids)
         return found
 
     def _changed(self, index: int) -> NoAnswer:

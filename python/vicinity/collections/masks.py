@@ -6,7 +6,7 @@ from heapq import heappop, heappush
 from typing import Iterable, Sequence
 
 from .._answers import Mask
-from ..sessions.words import UID_BITS
+from .._fields import UID_BITS
 
 
 class Under:

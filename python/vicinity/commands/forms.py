@@ -7,15 +7,15 @@ import os
 from collections import Counter
 from typing import Any, Callable, Iterable, Iterator, Mapping, Sequence, Union
 
-from .._answers import Finding, FindingKind
+from .._answers import Answer, Finding, FindingKind
 from .._fields import SCHEMA, fields, margin_fields, mask_fields, small, small_fields
-from .._process import NO_ANSWER, shown
+from .._process import shown
 from ..collections.collection import Collection, Item, Left, State
 from ..collections.surveys import Log
 from ..frames import uid_text
 from ..pages.document import document, version
-from ..pages.log import object_of
-from ..sessions.findings import tell_people
+from ..pages.log import page_object
+from ..sessions.findings import tell
 from ..sessions.sentence import ALSO, ASK_AGAIN, HEARD, missed
 from ..sessions.words import count, listing
 
@@ -139,15 +139,15 @@ def as_page(found: Collection) -> Iterator[str]:
 def _objects(found: Collection) -> dict[int, dict[str, Any]]:
     """Logs with all that a page draws of them, by their places."""
     left, objects, room = list(found.left()), {}, MOST_TEXT
-    judged = [index for index, log in enumerate(found.logs) if log.answer is not None]
+    judged = [index for index, log in enumerate(found.logs) if isinstance(log.answer, Answer)]
     for index in sorted(judged, key=lambda it: not left[it].masks):
         log, text = found.logs[index], found.text(index)
         room -= len(text or b"")
         if room < 0:
             break
-        told = None if text is None else tell_people(text)
+        told = None if text is None else tell(text)
         if text is not None and told is not None and told.answer == log.answer:
-            objects[index] = object_of(shown(os.path.basename(log.name)), text, told)
+            objects[index] = page_object(shown(os.path.basename(log.name)), text, told)
     return objects
 
 
@@ -172,13 +172,7 @@ def _margin(found: Collection) -> dict[str, object]:
 
 
 def _of_aside(log: Log) -> dict[str, object]:
-    return {"file": log.name, **_of_answer(log)}
-
-
-def _of_answer(log: Log) -> dict[str, object]:
-    if log.answer is None:
-        return {"status": NO_ANSWER, "kind": "no answer", "error": log.error}
-    return fields(log.answer)
+    return {"file": log.name, **fields(log.answer)}
 
 
 def _of_item(found: Collection, item: Item, overlooked: Mapping[int, int]) -> dict[str, object]:
@@ -194,7 +188,7 @@ def _of_item(found: Collection, item: Item, overlooked: Mapping[int, int]) -> di
 def _of_log(log: Log, left: Left) -> dict[str, object]:
     return {"file": log.name, "certain": len(log.certain),
             "open": [mask_fields(mask) for mask in left.masks],
-            "more_open": left.has_more, "list": _of_answer(log),
+            "more_open": left.has_more, "list": fields(log.answer),
             **margin_fields(log.weakest),
             **({"captured": log.captured} if log.captured else {})}
 

@@ -3,18 +3,17 @@ from __future__ import annotations
 
 import argparse
 import json
-from typing import Iterator, Optional
+from typing import Iterator
 
-from .._fields import SCHEMA, fields
+from .._fields import object_of
 from .._native import library
-from .._process import NoAnswer, complain, counted, read, tell_terminal, write
+from .._process import NoAnswer, complain, counted, names_of, read, tell_terminal, write
 from ..collections.catalogue import Catalogue, How, catalogue
 from ..collections.collection import Collection
 from ..collections.places import Places, places_of
-from ..collections.surveys import Log, Surveys, certain_lines, record, records
+from ..collections.surveys import Log, Surveys, certain_lines, record, records, survey_file
 from ..collections.tables import Wrong
 from .forms import FORMS, notes, set_aside, small_margin
-from .names import names_of
 
 REFUSED = 3
 
@@ -36,9 +35,12 @@ def reconcile(asked: argparse.Namespace) -> int:
         return REFUSED
     logs = Surveys(names, asked.jobs, asked.strict, recorded)
     broken = next((log for log in logs.all if log.status), None)
-    if asked.strict and broken is not None and (asked.form != "page" or broken.answer is None):
-        write(_ended(asked.form, broken))
-        return broken.status
+    if asked.strict and broken is not None:
+        if isinstance(broken.answer, str):
+            raise NoAnswer(broken.answer)
+        if asked.form != "page":
+            write(_ended(asked.form, broken))
+            return broken.status
     found = Collection(expected, logs, places, asked.margin)
     if asked.form == "csv":
         for log in found.aside:
@@ -67,10 +69,8 @@ def _places(asked: argparse.Namespace, expected: Catalogue, names: list[str]) ->
 def _ended(form: str, log: Log) -> Iterator[str]:
     """What is written where a log that is refused or impossible ends it.
     In CSV it has no place, and a page shows the logs as far as that one, which is set aside."""
-    if log.answer is None:
-        raise NoAnswer(log.error)
     if form == "json":
-        yield json.dumps({"schema": SCHEMA, **fields(log.answer), "file": log.name}) + "\n"
+        yield json.dumps(object_of(log.name, log.answer)) + "\n"
     elif form == "lines":
         yield f"{log.why}\n"
     else:
@@ -83,21 +83,11 @@ def survey(asked: argparse.Namespace) -> int:
     library()
     names, worst = names_of(asked), 0
     for name in counted(names, len(names)):
-        log, lines = _surveyed(name)
+        texts: list[bytes] = []
+        log = survey_file(name, texts.append)
         worst = max(worst, log.status)
-        if log.answer is None:
-            complain(log.error)
+        if isinstance(log.answer, str):
+            complain(log.answer)
+        lines = None if log.status else list(certain_lines(texts[0]).values())
         write([record(log, lines)])
     return worst
-
-
-def _surveyed(name: str) -> tuple[Log, Optional[list[int]]]:
-    """The survey of a log, with the lines that show its certain UIDs."""
-    try:
-        text = read(name)
-    except (NoAnswer, MemoryError) as error:
-        return Log.unread(name, error), None
-    log = Log.of(name, text)
-    if log.status:
-        return log, None
-    return log, list(certain_lines(text).lines)

@@ -5,40 +5,40 @@ import json
 from hashlib import sha256
 from typing import Any, Iterator, Optional
 
-from .._answers import Answer, Kind
+from .._answers import Answer, FindingKind, Kind
 from .._calls import explain, survey
-from .._fields import SCHEMA, captured_fields, fields, margin_fields, mask_fields
+from .._fields import mask_fields, object_of
 from ..frames import uid_text
-from ..sessions.findings import Told, tell_people
+from ..sessions.findings import WORDS, Told, tell
 from ..sessions.session import MOST_QUOTED, ask, link_of
 from ..sessions.show import show
 from .document import document, version
 
 #: How many findings and open masks are told, and how many tags are listed.
 MOST_TOLD, MOST_LISTED = 1000, 10_000
-#: Of the findings, those that are told as what is open.
+#: Of the findings, those that are told as what is open, and those that are counted.
 OF_MASKS = ("unsettled", "open", "more open")
+COUNTED = (FindingKind.ABSENT, FindingKind.UNLISTED, FindingKind.DOUBTFUL)
 
 
 def of_log(text: bytes, name: str) -> tuple[Answer, Iterator[str]]:
     """The answer to a log, and the parts of its page."""
-    told = tell_people(text)
-    said = json.dumps(object_of(name, text, told))
+    told = tell(text)
+    said = json.dumps(page_object(name, text, told))
     return told.answer, document(f"{told.answer}: {name}", [said], show(text, told))
 
 
-def object_of(name: str, text: bytes, told: Told) -> dict[str, Any]:
+def page_object(name: str, text: bytes, told: Told) -> dict[str, Any]:
     """All that a page draws of a log."""
     answer, left, link = told.answer, survey(text), link_of(text)
     return {
-        "schema": SCHEMA, "version": version(), "file": name, **fields(answer),
-        **margin_fields(told.weakest), **captured_fields(answer, told.reread),
-        "answer": answer.text,
+        **object_of(name, answer, told.weakest, told.reread),
+        "version": version(), "answer": answer.text,
         "lines": text.count(b"\n") + (not text.endswith(b"\n") and bool(text)),
         "ended": text.endswith(b"\n"),
         "sha256": sha256(text).hexdigest(),
         "findings": [it for it in told.objects(MOST_TOLD) if it["kind"] not in OF_MASKS],
-        "found": {kind: told.counts[kind] for kind in ("absent", "unlisted", "doubtful")},
+        "found": {WORDS[kind]: len(told.of(kind)) for kind in COUNTED},
         "certain": {"count": len(left.certain),
                     "uids": list(map(uid_text, left.certain[:MOST_LISTED]))},
         "open": {"count": len(left.open_masks),

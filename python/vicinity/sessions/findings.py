@@ -1,128 +1,75 @@
-"""A report as columns of numbers: as small in memory as in the library,
-since a log may have a million findings."""
+"""What a report says of a log, and how sure it is."""
 from __future__ import annotations
 
-import struct
-from array import array
-from bisect import bisect_left
-from typing import Iterator, Mapping, NamedTuple, Optional, Sequence
+from itertools import groupby
+from typing import Any, Iterator, Mapping, NamedTuple, Optional, Sequence
 
-from .._answers import Answer, FindingKind, Kind, Mask, Weakest
-from .._calls import margin, overlooked, report_records
+from .._answers import Answer, Finding, FindingKind, Kind, Weakest
+from .._calls import margin, overlooked, report
 from .._captured import if_captured, with_captures
 from .._fields import mask_fields
 from ..frames import uid_text
 
-#: struct vicinity_finding of vicinity.h.
-FINDING = struct.Struct("IIIIQQ")
+#: The findings, in the order in which they are told, each with its word.
+WORDS = {FindingKind.SILENCED_BY: "silenced by", FindingKind.CONFLICT_LINE: "conflict",
+         FindingKind.ABSENT: "absent", FindingKind.UNLISTED: "unlisted",
+         FindingKind.UNSETTLED: "unsettled", FindingKind.OPEN_MASK: "open",
+         FindingKind.MORE_OPEN_MASKS: "more open", FindingKind.DOUBTFUL: "doubtful"}
 
 
-class Shown(NamedTuple):
-    """UIDs in rising order, each with the line that shows it."""
-
-    uids: array[int]
-    lines: array[int]
-
-    def line_of(self, uid: int) -> int:
-        """The line that shows a UID, or 0 if it isn't among them."""
-        place = bisect_left(self.uids, uid)
-        return self.lines[place] if place < len(self.uids) and self.uids[place] == uid else 0
-
-
-class Told:
+class Told(NamedTuple):
     """What `vicinity report` says about a log."""
 
-    def __init__(self, answer: Answer, records: memoryview):
-        self.answer = answer
-        #: The answer if any reply may have hidden others.
-        self.reread: Optional[Answer] = None
-        #: The margin of a complete list, and that margin if the answer is the same.
-        self.weakest: Optional[Weakest] = None
-        self.weakest_reread: Optional[Weakest] = None
-        self.absent = Shown(array("Q"), array("I"))
-        #: In how many slots each absent UID was overlooked.
-        self.overlooked: Sequence[int] = []
-        self.unlisted = Shown(array("Q"), array("I"))
-        self.doubtful: array[int] = array("Q")
-        #: The widest open mask without a listed UID.
-        self.unsettled: Optional[Mask] = None
-        #: What is still to be asked, at most sixteen masks.
-        self.open_masks: list[Mask] = []
-        self.has_more_open = False
-        #: The lines that contradict each other.
-        self.conflict: array[int] = array("I")
-        #: The line that silenced a tag which answered nevertheless, or 0.
-        self.silenced = 0
-        for kind, line, length, _, value, uid in FINDING.iter_unpack(records):
-            self._add(kind, line, Mask(length, value), uid)
+    answer: Answer
+    findings: Mapping[FindingKind, Sequence[Finding]]
+    reread: Optional[Answer]
+    """The answer if any reply may have hidden others; nothing if the text is refused."""
+    overlooked: Sequence[int]
+    """In how many slots each absent UID was overlooked."""
+    weakest: Optional[Weakest]
+    """The margin of a complete list."""
+    weakest_reread: Optional[Weakest]
+    """The margin of one that is also complete if any reply may have hidden others."""
 
-    def _add(self, kind: int, line: int, mask: Mask, uid: int) -> None:
-        if kind == FindingKind.ABSENT or kind == FindingKind.UNLISTED:
-            shown = self.absent if kind == FindingKind.ABSENT else self.unlisted
-            shown.uids.append(uid)
-            shown.lines.append(line)
-        elif kind == FindingKind.CONFLICT_LINE:
-            self.conflict.append(line)
-        elif kind == FindingKind.DOUBTFUL:
-            self.doubtful.append(uid)
-        elif kind == FindingKind.OPEN_MASK:
-            self.open_masks.append(mask)
-        elif kind == FindingKind.UNSETTLED:
-            self.unsettled = mask
-        elif kind == FindingKind.SILENCED_BY:
-            self.silenced = line
-        else:
-            self.has_more_open = True
+    def of(self, kind: FindingKind) -> Sequence[Finding]:
+        return self.findings.get(kind, ())
 
     @property
     def refused_line(self) -> int:
         """The refused line, or 0."""
         return self.answer.line if self.answer.kind is Kind.REFUSED else 0
 
-    @property
-    def counts(self) -> Mapping[str, int]:
-        """How many findings there are of those kinds of which there may be many."""
-        return {"absent": len(self.absent.uids), "unlisted": len(self.unlisted.uids),
-                "doubtful": len(self.doubtful), "conflict": len(self.conflict)}
-
     def lines(self, most: int) -> set[int]:
         """The lines of the log that the report names, the first `most` of each kind."""
-        named = {self.answer.line, self.silenced, *self.conflict[:most], *self.absent.lines[:most],
-                 *self.unlisted.lines[:most]}
-        return named - {0, self.refused_line}
+        named = {it.line for kind in WORDS for it in self.of(kind)[:most]}
+        return named.union([self.answer.line]) - {0, self.refused_line}
 
-    def objects(self, most: Optional[int] = None) -> Iterator[Mapping[str, object]]:
-        """The findings as JSON has them, the first `most` of UIDs of each kind."""
-        if self.silenced:
-            yield {"kind": "silenced by", "line": self.silenced}
-        yield from ({"kind": "conflict", "line": line} for line in self.conflict)
-        yield from ({"kind": "absent", "uid": uid_text(uid), "line": line, "overlooked": slots}
-                    for uid, line, slots in zip(self.absent.uids[:most], self.absent.lines,
-                                                self.overlooked))
-        yield from ({"kind": "unlisted", "uid": uid_text(uid), "line": line}
-                    for uid, line in zip(self.unlisted.uids[:most], self.unlisted.lines))
-        if self.unsettled:
-            yield {"kind": "unsettled", **mask_fields(self.unsettled)}
-        yield from ({"kind": "open", **mask_fields(mask)} for mask in self.open_masks)
-        if self.has_more_open:
-            yield {"kind": "more open"}
-        yield from ({"kind": "doubtful", "uid": uid_text(uid)} for uid in self.doubtful[:most])
+    def objects(self, most: Optional[int] = None) -> Iterator[Mapping[str, Any]]:
+        """The findings as JSON has them, the first `most` of each kind;
+        the lines of a contradiction are all there."""
+        for kind, word in WORDS.items():
+            found = self.of(kind) if kind is FindingKind.CONFLICT_LINE else self.of(kind)[:most]
+            slots = iter(self.overlooked)
+            for it in found:
+                said: dict[str, Any] = {"kind": word}
+                if it.uid:
+                    said["uid"] = uid_text(it.uid)
+                if it.line:
+                    said["line"] = it.line
+                if kind is FindingKind.ABSENT:
+                    said["overlooked"] = next(slots)
+                if kind in (FindingKind.UNSETTLED, FindingKind.OPEN_MASK):
+                    said.update(mask_fields(it.mask))
+                yield said
 
 
 def tell(text: bytes) -> Told:
     """What `vicinity report` says about a text. Raises what `report` raises."""
-    return Told(*report_records(text))
-
-
-def tell_people(text: bytes) -> Told:
-    """The same, the answer if any reply may have hidden others, and how sure these are:
-    in how many slots a tag would have had to be missed, or was silent."""
-    told = tell(text)
-    told.reread = if_captured(text, told.answer)
-    if told.answer.is_complete:
-        told.weakest = margin(text).weakest
-        if told.reread == told.answer:
-            told.weakest_reread = margin(with_captures(text)).weakest
-    if told.absent.uids:
-        told.overlooked = overlooked(text, told.absent.uids)
-    return told
+    answer, all_findings = report(text)
+    findings = {kind: list(these) for kind, these in groupby(all_findings, lambda it: it.kind)}
+    absent = [it.uid for it in findings.get(FindingKind.ABSENT, ())]
+    reread, is_complete = if_captured(text, answer), answer.is_complete
+    return Told(
+        answer, findings, reread, overlooked(text, absent) if absent else [],
+        margin(text).weakest if is_complete else None,
+        margin(with_captures(text)).weakest if is_complete and reread == answer else None)

@@ -5,6 +5,7 @@ import re
 from itertools import islice
 from typing import Iterator, NamedTuple
 
+from .._answers import FindingKind
 from ..frames import uid_text
 from .findings import Told
 from .session import Session
@@ -52,14 +53,14 @@ def _first(found: Iterator[Note]) -> Iterator[Note]:
 
 def _unheard(session: Session, told: Told) -> Iterator[Note]:
     """The Stay Quiets to tags that are never heard, the first to each."""
-    text = session.text
+    text, absent = session.text, {it.uid: it.line for it in told.of(FindingKind.ABSENT)}
     heard = {digits.upper() for digits in HEARD.findall(text)}
     for found in SILENCED.finditer(text):
         digits = found[1].upper()
         if digits not in heard:
             heard.add(digits)
             uid = int.from_bytes(bytes.fromhex(digits.decode()), "little")
-            line, ruled_out = text.count(b"\n", 0, found.start()) + 1, told.absent.line_of(uid)
+            line, ruled_out = text.count(b"\n", 0, found.start()) + 1, absent.get(uid, 0)
             lost = f": its reply may have been lost in line {ruled_out}"
             yield Note(line, f"{uid_text(uid)} was silenced here but never heard"
                        + lost * (0 < ruled_out < line))

@@ -3,7 +3,7 @@ from __future__ import annotations
 
 from typing import Iterator
 
-from .._answers import Kind, Mask, Weakest
+from .._answers import FindingKind, Kind, Mask, Weakest
 from .faults import WRONG
 from .findings import Told
 from .session import Session, ask
@@ -70,7 +70,8 @@ def silent(slots: int) -> str:
 
 def _contradiction(told: Told) -> str:
     """Which lines contradict each other."""
-    lines = sorted({*told.conflict, told.silenced} - {0})
+    lines = sorted({it.line for kind in (FindingKind.CONFLICT_LINE, FindingKind.SILENCED_BY)
+                    for it in told.of(kind)})
     if len(lines) == 1:
         return f"line {lines[0]} can't be true"
     if len(lines) > MOST_NAMED:
@@ -80,14 +81,16 @@ def _contradiction(told: Told) -> str:
 
 def _missing(told: Told) -> Iterator[str]:
     """Why a list isn't complete."""
-    if told.absent.uids:
-        yield count(len(told.absent.uids), "listed tag isn't there", "listed tags aren't there")
-    if told.unlisted.uids:
-        yield count(len(told.unlisted.uids), "tag isn't listed", "tags aren't listed")
-    if Mask(0, 0) in told.open_masks:
+    absent, unlisted, left, doubtful = (len(told.of(kind)) for kind in (
+        FindingKind.ABSENT, FindingKind.UNLISTED, FindingKind.OPEN_MASK, FindingKind.DOUBTFUL))
+    if absent:
+        yield count(absent, "listed tag isn't there", "listed tags aren't there")
+    if unlisted:
+        yield count(unlisted, "tag isn't listed", "tags aren't listed")
+    if left and not told.of(FindingKind.OPEN_MASK)[0].mask.length:
         yield "all UIDs are still to be asked for"
-    elif told.open_masks:
-        left, more = len(told.open_masks), "or more " * told.has_more_open
+    elif left:
+        more = "or more " * bool(told.of(FindingKind.MORE_OPEN_MASKS))
         yield f"{left} {more}mask{'s are' if left > 1 else ' is'} still to be asked"
-    if told.doubtful:
-        yield count(len(told.doubtful), "listed tag may be missing", "listed tags may be missing")
+    if doubtful:
+        yield count(doubtful, "listed tag may be missing", "listed tags may be missing")

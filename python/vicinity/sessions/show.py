@@ -6,13 +6,15 @@ from itertools import groupby
 from textwrap import wrap
 from typing import Iterable, Iterator, NamedTuple, Union
 
+from .._answers import FindingKind
+from .._fields import UID_BITS
 from .._process import shown
 from ..frames import uid_text
-from .findings import Told
+from .findings import WORDS, Told
 from .report import found
 from .sentence import conditions, sentence
 from .session import Reading, Row, Session, Slot
-from .words import UID_BITS, count, meaning, span
+from .words import count, meaning, span
 
 SIGNS = {Reading.SILENT: "·", Reading.COLLISION: "╳", Reading.GARBLED: "?", Reading.UNKNOWN: "-"}
 #: What replaces a sign outside ASCII.
@@ -132,15 +134,15 @@ def _found(session: Session, told: Told, look: Look) -> Iterator[str]:
     if told.refused_line:
         refused = shown(session.refused.removesuffix(b"\r")) or "(empty)"
         yield f"{told.refused_line:>8} | {refused}"
-    for word, findings in groupby(found(session, told, MOST_LINES), lambda it: it.word):
-        for line, group in groupby(findings, lambda it: it.line):
-            for it in group:
-                yield from look.wrapped(f"{word}: {it.said}", "  ") if it.said else []
-            if line:
-                by = "silenced by" if line == told.silenced else "by"
-                yield from look.wrapped(f"{by} line {line}: {meaning(session, line)}", "  ")
-                text = session.row(session.place(line)).lines[line]
-                yield f"{line:>8} | {text.decode()}"
-        more = told.counts.get(word, 0) - MOST_LINES
+    for (kind, line), findings in groupby(found(session, told, MOST_LINES), lambda it: it[:2]):
+        for it in findings:
+            said = f"{WORDS[kind]}: {it.said}" if it.said else WORDS[kind] * (not line)
+            yield from look.wrapped(said, "  ")
+        if line:
+            by = "silenced by" if kind is FindingKind.SILENCED_BY else "by"
+            yield from look.wrapped(f"{by} line {line}: {meaning(session, line)}", "  ")
+            yield f"{line:>8} | {session.row(session.place(line)).lines[line].decode()}"
+    for kind, word in WORDS.items():
+        more = len(told.of(kind)) - MOST_LINES
         if more > 0:
             yield f"⋮ {more:,} more {word}"

@@ -4,6 +4,7 @@ from __future__ import annotations
 from typing import Sequence
 
 from .._answers import Mask
+from .._fields import UID_BITS
 from ..frames import uid_text
 from .session import Reading, Session
 
@@ -16,8 +17,6 @@ READ = {
     Reading.CAPTURED: "{} answered, perhaps with others",
     Reading.UNKNOWN: "nothing is known of this slot",
 }
-#: The bits in which UIDs differ; the others are those of E0.
-UID_BITS = 56
 
 
 def count(number: int, one: str, many: str = "") -> str:
