@@ -3,21 +3,22 @@ from __future__ import annotations
 
 import ctypes
 import mmap
+import re
 import struct
 from array import array
-from typing import TYPE_CHECKING, Any, Iterable, Sequence
+from typing import Any, Iterable, Optional, Sequence
 
 from ._answers import (Answer, Explanation, Fault, Finding, FindingKind, Kind, ListFault, Margin,
                        Mask, Report, Simulation, Survey, Weakest)
-from ._native import AnswerStruct, FindingStruct, MaskStruct, WeakestStruct, bytes_of, library
-
-if TYPE_CHECKING:
-    from ._native import BytesLike
+from ._native import (AnswerStruct, BytesLike, FindingStruct, MaskStruct, WeakestStruct, bytes_of,
+                      library)
 
 FIRST_ROOM = 64
 #: struct vicinity_mask and struct vicinity_finding.
 PACKED_MASK, PACKED_FINDING = struct.Struct("IIQ"), struct.Struct("IIIIQQ")
 NO_ANSWER = 4
+#: The header of version 3, and a line that it has otherwise in a text read under capture.
+HEADER, REPLY = b"vicinity-log 3", re.compile(rb"^R ", re.MULTILINE)
 #: The kind of the answer to a list.
 LISTED = 12
 
@@ -260,3 +261,21 @@ def simulate(text: BytesLike) -> Simulation:
         if needed <= places:
             return Simulation(status, bytes(memoryview(room)[:needed]))
         places = needed
+
+
+def captured(text: BytesLike) -> bytes:
+    """The text with each R line as an H line, under the header of version 3;
+    a text that is refused as it is. Raises what `check` raises."""
+    text = bytes_of(text)
+    return text if check(text).kind is Kind.REFUSED else with_captures(text)
+
+
+def with_captures(text: bytes) -> bytes:
+    """The same for a text that isn't refused. The answer to it says whether that to the text also
+    holds if strong replies hid weaker ones (capture)."""
+    return HEADER + REPLY.sub(b"H ", text[len(HEADER):])
+
+
+def if_captured(text: bytes, answer: Answer) -> Optional[Answer]:
+    """The answer if any reply may have hidden others; nothing if the text is refused."""
+    return None if answer.kind is Kind.REFUSED else check(with_captures(text))

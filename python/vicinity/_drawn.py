@@ -1,12 +1,7 @@
 """The page of a log, for programs and notebooks."""
 from __future__ import annotations
 
-from typing import TYPE_CHECKING
-
-from ._native import bytes_of
-
-if TYPE_CHECKING:
-    from ._native import BytesLike
+from ._native import BytesLike, bytes_of
 
 
 class Page(str):

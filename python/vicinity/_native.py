@@ -3,15 +3,12 @@ from __future__ import annotations
 
 import ctypes
 import functools
+import mmap
 import os
 import platform
-from typing import TYPE_CHECKING, Any, Sequence, Union
+from typing import Any, Sequence, Union
 
-if TYPE_CHECKING:
-    import mmap
-
-    BytesLike = Union[bytes, bytearray, memoryview, mmap.mmap]
-
+BytesLike = Union[bytes, bytearray, memoryview, mmap.mmap]
 INTERFACE = 1
 #: The library's file.
 NAME = "vicinity.dll" if os.name == "nt" else "libvicinity.so.1"

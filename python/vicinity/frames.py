@@ -3,21 +3,19 @@ library calls that allocate no memory."""
 from __future__ import annotations
 
 import ctypes
-from typing import TYPE_CHECKING, Callable, NamedTuple, Union
+import re
+from typing import Callable, NamedTuple, Union
 
 from ._answers import Fault, Mask
-from ._native import (FrameStruct, LineStruct, MaskStruct, ReplyStruct, RequestStruct, bytes_of,
-                      library, name_of)
-
-if TYPE_CHECKING:
-    from ._native import BytesLike
+from ._native import (BytesLike, FrameStruct, LineStruct, MaskStruct, ReplyStruct, RequestStruct,
+                      bytes_of, library, name_of)
 
 HEADER_LINE = b"vicinity-log 3\n"
 """The first line of a log."""
-HEX = frozenset("0123456789ABCDEFabcdef")
-#: What may be among the digits of a UID beside spaces,
-#: as spreadsheets and library systems write it.
-BETWEEN_DIGITS = "-:\u2010\u2011\u2012\u2013"
+#: A UID in a text, and what may be among its digits,
+#: as spreadsheets and library systems write them.
+DIGITS = re.compile("'?(?:0[xX])?([0-9A-Fa-f]{16})")
+BETWEEN_DIGITS = re.compile("[\\s:\u2010-\u2013-]")
 #: What is asked of a frame or a line that can't be made, by the name of the refusal.
 WANTED = {
     "WrongLink": "a link is 0 to 3", "WrongSlots": "a round has 1 or 16 slots",
@@ -35,9 +33,7 @@ class FrameFault(ValueError):
     """The first fault of a frame."""
 
     def __init__(self, fault: Fault):
-        from .sessions.faults import WRONG  # needed only here
-
-        super().__init__(f"{fault.word}: {WRONG[fault]}")
+        super().__init__(f"{fault.word}: {fault.wrong}")
         self.fault = fault
 
 
@@ -50,15 +46,12 @@ def parse_uid(text: str) -> int:
     """The UID in a text: 16 hex digits in either case, E0 first.
     Colons, dashes and spaces may be among them, 0x or an apostrophe before them.
     Raises ValueError if it isn't one."""
-    digits = "".join(it for it in text if not (it.isspace() or it in BETWEEN_DIGITS))
-    digits = digits.removeprefix("'")
-    digits = digits[2:] if digits[:2] in ("0x", "0X") else digits
-    is_long = len(digits) == 16 and HEX.issuperset(digits)
-    if is_long and digits[:2] in ("E0", "e0"):
+    found = DIGITS.fullmatch(BETWEEN_DIGITS.sub("", text))
+    digits = found[1].upper() if found else ""
+    if digits.startswith("E0"):
         return int(digits, 16)
-    is_turned = is_long and digits[-2:] in ("E0", "e0")
     raise ValueError(f"{text!r} isn't a UID: 16 hex digits that begin with E0"
-                     + "; its bytes seem to be in the opposite order" * is_turned)
+                     + "; its bytes seem to be in the opposite order" * digits.endswith("E0"))
 
 
 class Request(NamedTuple):
@@ -80,20 +73,22 @@ class Reply(NamedTuple):
 
 def read_request(frame: BytesLike) -> Request:
     """The fields of a request's frame, CRC included. Raises FrameFault if it isn't one."""
-    frame, told = bytes_of(frame), RequestStruct()
-    fault = library().vicinity_read_request(frame, len(frame), ctypes.byref(told))
-    if fault:
-        raise FrameFault(Fault(fault))
+    told = _read("request", frame, RequestStruct())
     return Request(told.link, told.slots, Mask(told.mask_len, told.mask_value), told.uid)
 
 
 def read_response(frame: BytesLike) -> Reply:
     """The fields of a reply's frame, CRC included. Raises FrameFault if it isn't one."""
-    frame, told = bytes_of(frame), ReplyStruct()
-    fault = library().vicinity_read_response(frame, len(frame), ctypes.byref(told))
+    told = _read("response", frame, ReplyStruct())
+    return Reply(told.flags, told.dsfid, told.uid)
+
+
+def _read(kind: str, frame: BytesLike, told: ctypes.Structure) -> ctypes.Structure:
+    frame = bytes_of(frame)
+    fault = getattr(library(), f"vicinity_read_{kind}")(frame, len(frame), ctypes.byref(told))
     if fault:
         raise FrameFault(Fault(fault))
-    return Reply(told.flags, told.dsfid, told.uid)
+    return told
 
 
 def write_inventory(link: int, slots: int, mask: Mask = Mask(0, 0)) -> bytes:

@@ -18,7 +18,7 @@ COLUMN = "uid"
 #: Where an earlier run has written them they are replaced, and its unexpected tags left out.
 ADDED, TWIN, UNEXPECTED = ("state", "certain in", "may be in"), " (found)", "unexpected"
 NO_TAG: list[Optional[int]] = [None]
-NAMES_IT = "--column NAME names the one with the UIDs"
+NAMES_IT = "name the one with the UIDs uid, or say by --column NAME which it is"
 NAMES_KEY = "--column NAME names the one by which --tags has the UIDs"
 
 
@@ -88,22 +88,19 @@ def catalogue(name: str, text: bytes, how: How = How()) -> Catalogue:
         return _of_list(name, text)
     table, is_ours = _without_added(read_table(name, text, how.encoding))
     if how.tags is not None:
-        found_by = _tagged(table, is_ours, how, read_table(*how.tags, how.encoding))
+        found = _tagged(table, is_ours, how, read_table(*how.tags, how.encoding))
     else:
         at = table.named(how.column, COLUMN, NAMES_IT)
         entries = [Entry(row, _uid(table, row, cells[at]), cells) for row, cells in table.rows]
-        found_by = Catalogue(name, table.form, table.heads, entries, at)
+        found = Catalogue(name, table.form, table.heads, entries, at)
     rows: dict[int, int] = {}
-    for entry in found_by.entries:
-        if entry.uid is None:
-            continue
-        if entry.uid in rows:
-            table.wrong(entry.row, f"{uid_text(entry.uid)} is also in row {rows[entry.uid]}")
-        rows[entry.uid] = entry.row
+    for row, uid, _ in found.entries:
+        if uid is not None and rows.setdefault(uid, row) != row:
+            table.wrong(row, f"{uid_text(uid)} is also in row {rows[uid]}")
     if how.place is None:
-        return found_by
+        return found
     place_at = table.named(how.place, "", "--place NAME names the one with the places")
-    return found_by._replace(place_at=place_at)
+    return found._replace(place_at=place_at)
 
 
 def _of_list(name: str, text: bytes) -> Catalogue:

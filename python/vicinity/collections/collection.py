@@ -5,11 +5,11 @@ from enum import Enum
 from functools import cached_property
 from typing import Iterable, Iterator, NamedTuple, Optional, Sequence
 
-from .._answers import FindingKind, Mask, Weakest
+from .._answers import FindingKind, Weakest
 from .._calls import margin_listed, overlooked, reconcile_parts
 from .._process import NoAnswer, shown
 from .catalogue import Catalogue
-from .masks import Under, are_all, without
+from .masks import Left, Under, are_all, without
 from .places import Places
 from .surveys import ALL, Surveys, without_list
 
@@ -46,14 +46,6 @@ class Item(NamedTuple):
     may_be_in: Sequence[int] = ()
     belongs: str = ""
     row: int = 0
-
-
-class Left(NamedTuple):
-    """What is left to ask for in a log: the first masks, and whether there are more.
-    If there are none, the log was read completely."""
-
-    masks: list[Mask]
-    has_more: bool
 
 
 class Least(NamedTuple):
@@ -98,37 +90,25 @@ class Collection:
         """The items with a state."""
         return [item for item in self.items if item.state is state]
 
-    def uids(self, kind: FindingKind) -> list[int]:
-        """Of which UIDs there is a finding of a kind."""
-        return [it.uid for it in self.findings if it.kind is kind]
-
-    def _where_certain(self, uids: Iterable[int]) -> dict[int, list[int]]:
-        """The logs in which each UID is certain."""
-        found: dict[int, list[int]] = {uid: [] for uid in uids}
-        for index, log in enumerate(self.logs):
-            for uid in found.keys() & log.certain:
-                found[uid].append(index)
-        return found
-
-    def _where_open(self, uids: Iterable[int]) -> dict[int, list[int]]:
-        """The logs in which each UID is possible and not certain."""
-        found: dict[int, list[int]] = {uid: [] for uid in uids}
-        among = Under(found)
-        for index, log in enumerate(self.logs if found else ()):
+    def _where(self, uids: Iterable[int]) -> tuple[dict[int, list[int]], dict[int, list[int]]]:
+        """The logs in which each UID is certain, and those in which it is only possible."""
+        certain: dict[int, list[int]] = {uid: [] for uid in uids}
+        possible: dict[int, list[int]] = {uid: [] for uid in certain}
+        among = Under(certain)
+        for index, log in enumerate(self.logs if certain else ()):
+            for uid in certain.keys() & log.certain:
+                certain[uid].append(index)
             for mask in log.open_masks:
                 for uid in among.of(mask):
-                    found[uid].append(index)
-        return found
+                    possible[uid].append(index)
+        return certain, possible
 
     def left(self) -> Iterator[Left]:
         """What is left to ask for in each log, without UIDs that another one makes certain:
         everything in one that is set aside."""
         certain = Under(uid for log in self.logs for uid in log.certain)
         for log in self.logs:
-            if log.status:
-                yield Left([ALL], False)
-            else:
-                yield Left(*without(log.open_masks, certain, MOST_OPEN))
+            yield Left([ALL]) if log.status else without(log.open_masks, certain, MOST_OPEN)
 
     @cached_property
     def least(self) -> Optional[Least]:
@@ -189,10 +169,9 @@ class Collection:
         """Each row of the catalogue, in its order, and then the unexpected UIDs.
         An item that is certain somewhere may also be in any log that is set aside:
         this is said only if that is its own."""
-        unlisted = self.uids(FindingKind.UNLISTED)
+        unlisted = [it.uid for it in self.findings if it.kind is FindingKind.UNLISTED]
         states = {it.uid: STATES[it.kind] for it in self.findings if it.kind in STATES}
-        uids = [*self.expected.uids, *unlisted]
-        certain, possible = self._where_certain(uids), self._where_open(uids)
+        certain, possible = self._where([*self.expected.uids, *unlisted])
         for entry in self.expected.entries:
             belongs = self.expected.place(entry)
             if entry.uid is None:

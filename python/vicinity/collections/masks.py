@@ -3,7 +3,7 @@ from __future__ import annotations
 
 from bisect import bisect_left
 from heapq import heappop, heappush
-from typing import Iterable, Sequence
+from typing import Iterable, NamedTuple, Sequence
 
 from .._answers import Mask
 from .._fields import UID_BITS
@@ -16,25 +16,32 @@ class Under:
     def __init__(self, uids: Iterable[int]):
         self._pairs = sorted((_turned(uid), uid) for uid in set(uids))
 
-    def _start(self, turned: int) -> int:
-        return bisect_left(self._pairs, (turned,))
+    def _range(self, mask: Mask) -> tuple[int, int]:
+        first = _turned(mask.value)
+        behind = first + (1 << UID_BITS - mask.length)
+        return bisect_left(self._pairs, (first,)), bisect_left(self._pairs, (behind,))
 
     def of(self, mask: Mask) -> list[int]:
         """Those that have a mask of at most 56 bits."""
-        first = _turned(mask.value)
-        behind = first + (1 << UID_BITS - mask.length)
-        return [uid for _, uid in self._pairs[self._start(first):self._start(behind)]]
+        return [uid for _, uid in self._pairs[slice(*self._range(mask))]]
 
     def any_of(self, mask: Mask) -> bool:
         """Whether one has it."""
-        first = _turned(mask.value)
-        return self._start(first) < self._start(first + (1 << UID_BITS - mask.length))
+        start, behind = self._range(mask)
+        return start < behind
+
+
+class Left(NamedTuple):
+    """What is left to ask for: the first masks, and whether there are more."""
+
+    masks: Sequence[Mask]
+    has_more: bool = False
 
 
 def are_all(uids: Sequence[int], mask: Mask) -> bool:
     """Whether these UIDs, each once, have all that have a mask among them."""
-    size, low = 1 << UID_BITS - mask.length, (1 << mask.length) - 1
-    return size <= len(uids) and sum((uid ^ mask.value) & low == 0 for uid in uids) == size
+    size = 1 << UID_BITS - mask.length
+    return size <= len(uids) and sum(map(mask.has, uids)) == size
 
 
 def _turned(number: int) -> int:
@@ -42,9 +49,9 @@ def _turned(number: int) -> int:
     return int(f"{number & (1 << UID_BITS) - 1:0{UID_BITS}b}"[::-1], 2)
 
 
-def without(masks: Sequence[Mask], taken: Under, most: int) -> tuple[list[Mask], bool]:
-    """The widest masks of the UIDs that have one of these masks and aren't taken: the first ones
-    by length and then by value, and whether there are more. The given masks are in this order."""
+def without(masks: Sequence[Mask], taken: Under, most: int) -> Left:
+    """The widest masks of the UIDs that have one of these masks and aren't taken,
+    by length and then by value. The given masks are in this order."""
     left = list(masks)
     found: list[Mask] = []
     while left and len(found) <= most:
@@ -54,4 +61,4 @@ def without(masks: Sequence[Mask], taken: Under, most: int) -> tuple[list[Mask],
         elif mask.length < UID_BITS:
             heappush(left, Mask(mask.length + 1, mask.value))
             heappush(left, Mask(mask.length + 1, mask.value | 1 << mask.length))
-    return found[:most], len(found) > most
+    return Left(found[:most], len(found) > most)

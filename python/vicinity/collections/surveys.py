@@ -12,8 +12,7 @@ from functools import partial
 from typing import Any, Callable, Iterator, Mapping, NamedTuple, Optional, Sequence
 
 from .._answers import FindingKind, Kind, Mask, Survey, Weakest
-from .._calls import margin_listed, report, survey
-from .._captured import with_captures
+from .._calls import margin_listed, report, survey, with_captures
 from .._fields import (SCHEMA, Judged, answer_of, captured_fields, fields, margin_fields,
                        mask_fields, mask_of, number_of, object_of, refusal, weakest_of)
 from .._process import NO_ANSWER, NoAnswer, counted, read, shown, tried

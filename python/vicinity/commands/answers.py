@@ -6,8 +6,7 @@ import argparse
 import json
 from typing import Any, Callable, Mapping
 
-from .._calls import check, explain, margin, simulate
-from .._captured import if_captured
+from .._calls import check, explain, if_captured, margin, simulate
 from .._fields import NOT_COMPLETE, object_of, small, small_fields
 from .._native import library
 from .._process import NO_ANSWER, complain, names_of, read, shown, tried, write

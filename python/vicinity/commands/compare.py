@@ -4,7 +4,7 @@ from __future__ import annotations
 import argparse
 import json
 import os
-from typing import Any, Iterator, Mapping, NamedTuple, Optional, Sequence
+from typing import Any, Callable, Mapping, NamedTuple, Optional, Sequence
 
 from .._fields import SCHEMA
 from .._process import complain, read, shown, write
@@ -45,12 +45,22 @@ class Answer(NamedTuple):
 def compare(asked: argparse.Namespace) -> int:
     """Writes what has changed, and returns 1 if anything has."""
     try:
-        old, new = (_answer(name) for name in asked.names)
+        old, new = map(_answer, asked.names)
     except Wrong as wrong:
         complain(str(wrong))
         return REFUSED
-    name = _Namer(old, new)
-    changes = sorted(_changes(old, new, name), key=lambda it: (CHANGES.index(it.what), it.uid))
+    # folders are often named after the day: without them if that tells the logs apart
+    is_short = all(len({os.path.basename(log) for log in it.logs}) == len(set(it.logs))
+                   for it in (old, new))
+
+    def name(log: str) -> str:
+        return os.path.basename(log) if is_short else log
+
+    items = ((uid, old.items.get(uid), new.items.get(uid))
+             for uid in old.items.keys() | new.items.keys())
+    changes = [Change(what, uid, was, now) for uid, was, now in items
+               if (what := _change(was, now, name))]
+    changes.sort(key=lambda it: (CHANGES.index(it.what), it.uid))
     aside, counted = set(map(name, old.aside)), set(map(name, new.logs))
     logs = [("newly set aside", log) for log in new.aside if name(log) not in aside]
     logs += [("no longer counted", log) for log in old.logs if name(log) not in counted]
@@ -68,12 +78,12 @@ def _answer(name: str) -> Answer:
     """The answer in a file. Raises Wrong."""
     try:
         said = json.loads(read(name))
-        if said["schema"] != SCHEMA:
-            raise ValueError
         items = {uid_text(parse_uid(it["uid"])): it
                  for it in said["items"] if it["uid"] is not None}
         for item in items.values():
             State(item["state"]), item["columns"].values(), _names(item["certain_in"])
+        if said["schema"] != SCHEMA:
+            raise ValueError
         return Answer(items, *(_names([it["file"] for it in said[key]])
                                for key in ("logs", "set_aside")))
     except (ValueError, KeyError, TypeError, AttributeError):
@@ -87,33 +97,15 @@ def _names(said: Any) -> list[str]:
     return said
 
 
-class _Namer:
-    """Logs by their names without folders, if that tells the logs of each answer apart:
-    folders are often named after the day."""
-
-    def __init__(self, *answers: Answer):
-        self.is_short = all(len({os.path.basename(log) for log in it.logs}) == len(set(it.logs))
-                            for it in answers)
-
-    def __call__(self, log: str) -> str:
-        return os.path.basename(log) if self.is_short else log
-
-
-def _changes(old: Answer, new: Answer, name: _Namer) -> Iterator[Change]:
-    for uid in old.items.keys() | new.items.keys():
-        before, now = old.items.get(uid), new.items.get(uid)
-        what = _change(before, now, name)
-        if what:
-            yield Change(what, uid, before, now)
-
-
-def _change(old: Optional[Said], new: Optional[Said], name: _Namer) -> str:
+def _change(old: Optional[Said], new: Optional[Said], name: Callable[[str], str]) -> str:
+    """What has changed of an item, or nothing."""
     if old is None or new is None:
-        state = str((new or old or {})["state"])
-        of_missing = "missing" if new else "expected"
-        there = {UNEXPECTED: "unexpected", MISSING: of_missing}.get(state, "expected")
-        return f"{'newly' if new else 'no longer'} {there}"
-    was, now = str(old["state"]), str(new["state"])
+        state = (new or old or {})["state"]
+        if new and state == MISSING:
+            return "newly missing"
+        of_state = "unexpected" if state == UNEXPECTED else "expected"
+        return f"{'newly' if new else 'no longer'} {of_state}"
+    was, now = old["state"], new["state"]
     if now == was or now in FOUND and was in FOUND:
         before, after = ({name(log) for log in it["certain_in"]} for it in (old, new))
         return "moved" if before and after and before.isdisjoint(after) else ""

@@ -5,12 +5,12 @@ from __future__ import annotations
 import json
 import os
 from collections import Counter
-from typing import Any, Callable, Iterable, Iterator, Mapping, Sequence, Union
+from typing import Any, Callable, Iterable, Iterator, Mapping, Union
 
 from .._answers import Answer, Finding, FindingKind
 from .._fields import SCHEMA, fields, margin_fields, mask_fields, small, small_fields
 from .._process import shown
-from ..collections.collection import Collection, Item, Left, State
+from ..collections.collection import Collection, Item, State
 from ..collections.surveys import Log
 from ..frames import uid_text
 from ..pages.document import document, version
@@ -104,26 +104,8 @@ def as_csv(found: Collection) -> Iterator[bytes]:
     return found.expected.form.written(row for part in ([head], rows) for row in part)
 
 
-def as_json(found: Collection, more: Mapping[str, object] = {},
-            of_log: Mapping[int, object] = {}) -> Iterator[str]:
-    """One object on one line: the answer, how many items there are of each state,
-    the widest mask of which any UID may be there, each item, and each log;
-    with more fields, and with objects of some logs."""
-    unsettled = [mask_fields(it.mask) for it in found.findings if it.kind is FindingKind.UNSETTLED]
-    counts, overlooked = Counter(item.state for item in found.items), found.overlooked()
-    head = json.dumps({
-        "schema": SCHEMA, **_answer(found), **_margin(found), **more,
-        "counts": {state.value: counts[state] for state in State},
-        "unsettled": unsettled[0] if unsettled else None,
-        "set_aside": [{**_of_aside(log), "do": log.advice} for log in found.aside]})
-    yield head[:-1] + ', "items": ['
-    for index, item in enumerate(found.items):
-        yield ", " * (index > 0) + json.dumps(_of_item(found, item, overlooked))
-    yield '], "logs": ['
-    for index, (log, left) in enumerate(zip(found.logs, found.left())):
-        its_own = {"object": of_log[index]} if index in of_log else {}
-        yield ", " * (index > 0) + json.dumps({**_of_log(log, left), **its_own})
-    yield "]}\n"
+def as_json(found: Collection) -> Iterator[str]:
+    yield json.dumps(_object(found)) + "\n"
 
 
 def as_page(found: Collection) -> Iterator[str]:
@@ -131,24 +113,45 @@ def as_page(found: Collection) -> Iterator[str]:
     of many the first that have to be counted again."""
     name = "standard input" if found.expected.name == "-" else os.path.basename(found.expected.name)
     plain = [line.rstrip("\n") for line in as_lines(found) if line]
+    said: dict[str, Any] = {**_object(found), "version": version(), "name": name}
+    for index, its_own in _objects(found):
+        said["logs"][index]["object"] = its_own
     answer = plain[0] if found.status else found.answer
-    return document(f"{shown(name)}: {answer}",
-                    as_json(found, {"version": version(), "name": name}, _objects(found)), plain)
+    return document(f"{shown(name)}: {answer}", [json.dumps(said)], plain)
 
 
-def _objects(found: Collection) -> dict[int, dict[str, Any]]:
+def _objects(found: Collection) -> Iterator[tuple[int, dict[str, Any]]]:
     """Logs with all that a page draws of them, by their places."""
-    left, objects, room = list(found.left()), {}, MOST_TEXT
+    left, room = list(found.left()), MOST_TEXT
     judged = [index for index, log in enumerate(found.logs) if isinstance(log.answer, Answer)]
     for index in sorted(judged, key=lambda it: not left[it].masks):
         log, text = found.logs[index], found.text(index)
-        room -= len(text or b"")
+        if text is None:
+            continue
+        room -= len(text)
         if room < 0:
             break
-        told = None if text is None else tell(text)
-        if text is not None and told is not None and told.answer == log.answer:
-            objects[index] = page_object(shown(os.path.basename(log.name)), text, told)
-    return objects
+        told = tell(text)
+        if told.answer == log.answer:
+            yield index, page_object(shown(os.path.basename(log.name)), text, told)
+
+
+def _object(found: Collection) -> dict[str, Any]:
+    """The answer, how many items there are of each state,
+    the widest mask of which any UID may be there, each item, and each log."""
+    unsettled = [mask_fields(it.mask) for it in found.findings if it.kind is FindingKind.UNSETTLED]
+    counts, overlooked = Counter(item.state for item in found.items), found.overlooked()
+    return {
+        "schema": SCHEMA, **_answer(found), **_margin(found),
+        "counts": {state.value: counts[state] for state in State},
+        "unsettled": unsettled[0] if unsettled else None,
+        "set_aside": [{**_of_aside(log), "do": log.advice} for log in found.aside],
+        "items": [_of_item(found, item, overlooked) for item in found.items],
+        "logs": [{"file": log.name, "certain": len(log.certain),
+                  "open": list(map(mask_fields, left.masks)), "more_open": left.has_more,
+                  "list": fields(log.answer), **margin_fields(log.weakest),
+                  **({"captured": log.captured} if log.captured else {})}
+                 for log, left in zip(found.logs, found.left())]}
 
 
 def _answer(found: Collection) -> dict[str, object]:
@@ -179,22 +182,11 @@ def _of_item(found: Collection, item: Item, overlooked: Mapping[int, int]) -> di
     said: dict[str, object] = {
         "uid": None if item.uid is None else uid_text(item.uid), "state": item.state.value,
         "columns": {found.expected.heads[at]: item.cells[at] for at in found.expected.beside()},
-        "certain_in": _named(found, item.certain_in), "may_be_in": _named(found, item.may_be_in)}
+        "certain_in": [found.logs[log].name for log in item.certain_in],
+        "may_be_in": [found.logs[log].name for log in item.may_be_in]}
     if item.uid is not None and item.uid in overlooked:
         said["overlooked"] = overlooked[item.uid]
     return {**said, "belongs": item.belongs} if item.belongs else said
-
-
-def _of_log(log: Log, left: Left) -> dict[str, object]:
-    return {"file": log.name, "certain": len(log.certain),
-            "open": [mask_fields(mask) for mask in left.masks],
-            "more_open": left.has_more, "list": fields(log.answer),
-            **margin_fields(log.weakest),
-            **({"captured": log.captured} if log.captured else {})}
-
-
-def _named(found: Collection, logs: Sequence[int]) -> list[str]:
-    return [found.logs[log].name for log in logs]
 
 
 FORMS: dict[str, Callable[[Collection], Iterator[Union[str, bytes]]]] = {

@@ -8,7 +8,7 @@ from typing import Any, Callable
 from .._answers import Mask
 from .._native import library
 from .._process import write
-from ..frames import (HEX, FrameFault, read_request, read_response, uid_text, write_inventory,
+from ..frames import (FrameFault, read_request, read_response, uid_text, write_inventory,
                       write_response, write_stay_quiet)
 
 REFUSED = 3
@@ -26,7 +26,7 @@ def frame(asked: argparse.Namespace) -> int:
     """Writes a frame in words, and returns the status."""
     library()
     (digits,) = asked.names
-    if len(digits) > MOST_DIGITS or len(digits) % 2 or not HEX.issuperset(digits):
+    if len(digits) > MOST_DIGITS or not re.fullmatch("([0-9A-Fa-f]{2})*", digits):
         write([f"refused {'LineTooLong' if len(digits) > MOST_DIGITS else 'Hex'}\n"])
         return REFUSED
     content = bytes.fromhex(digits)
@@ -103,7 +103,7 @@ def _decimal(word: str, most: int = (1 << NUMBER_BITS) - 1) -> int:
 
 def _hex(word: str, digits: int) -> int:
     """A number of so many digits, in upper case."""
-    if len(word) != digits or not digits or not HEX.issuperset(word) or word != word.upper():
+    if not digits or not re.fullmatch(f"[0-9A-F]{{{digits}}}", word):
         raise _Refused(WORDS)
     return int(word, 16)
 

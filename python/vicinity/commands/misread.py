@@ -8,8 +8,7 @@ from collections import defaultdict
 from io import BytesIO
 from typing import Iterator, Mapping, NamedTuple, Sequence
 
-from .._calls import check, listed, simulate
-from .._captured import HEADER
+from .._calls import HEADER, check, listed, simulate
 from .._process import read, write
 from ..frames import read_response, write_line, write_response
 

@@ -5,8 +5,7 @@ from itertools import groupby
 from typing import Any, Iterator, Mapping, NamedTuple, Optional, Sequence
 
 from .._answers import Answer, Finding, FindingKind, Kind, Weakest
-from .._calls import margin, overlooked, report
-from .._captured import if_captured, with_captures
+from .._calls import if_captured, margin, overlooked, report, with_captures
 from .._fields import mask_fields
 from ..frames import uid_text
 

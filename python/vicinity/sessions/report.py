@@ -7,7 +7,6 @@ from typing import Iterator, NamedTuple, Optional
 from .._answers import FindingKind, Mask
 from .._fields import UID_BITS, object_of
 from ..frames import uid_text
-from .faults import WRONG
 from .findings import WORDS, Told, tell
 from .notes import notes
 from .sentence import sentence, silent
@@ -55,7 +54,7 @@ def lines_of_report(name: str, session: Session, told: Told) -> Iterator[str]:
     of the log that shows it, or of the one after which further requests go.
     There is no finding if the list is complete."""
     if told.answer.status > 1:
-        fault = f"{told.answer.fault.word}: {WRONG[told.answer.fault]}" if told.refused_line else ""
+        fault = f"{told.answer.fault.word}: {told.answer.fault.wrong}" if told.refused_line else ""
         yield (f"{name}:{told.answer.line}: {told.answer.kind.word}: "
                f"{fault or sentence(session, told)}\n")
     quoted = {line: meaning(session, line) for line in told.lines(MOST)}

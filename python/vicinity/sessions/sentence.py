@@ -4,7 +4,6 @@ from __future__ import annotations
 from typing import Iterator
 
 from .._answers import FindingKind, Kind, Mask, Weakest
-from .faults import WRONG
 from .findings import Told
 from .session import Session, ask
 from .words import count, ending, listing
@@ -22,7 +21,7 @@ def sentence(session: Session, told: Told) -> str:
     answer = told.answer
     if answer.kind is Kind.REFUSED:
         cut = " The text ends in the middle of this line: was it cut?" * session.is_cut
-        return f"This text isn't a valid log. Line {answer.line}: {WRONG[answer.fault]}.{cut}"
+        return f"This text isn't a valid log. Line {answer.line}: {answer.fault.wrong}.{cut}"
     if answer.kind is Kind.IMPOSSIBLE:
         return f"The log contradicts itself: {_contradiction(told)}."
     if answer.kind is not Kind.COMPLETE:
