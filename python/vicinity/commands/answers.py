@@ -4,18 +4,13 @@ from __future__ import annotations
 
 import argparse
 import json
-from typing import Any, Callable, Mapping
+from typing import Any
 
 from .._calls import check, explain, if_captured, margin, simulate
 from .._fields import NOT_COMPLETE, object_of, small, small_fields
 from .._native import library
 from .._process import NO_ANSWER, complain, names_of, read, shown, tried, write
 from ..frames import uid_text
-
-FORMS: Mapping[str, Callable[[str, int, str], str]] = {
-    "lines": lambda name, status, answer: f"{name}: {answer}\n" * (status != NO_ANSWER),
-    "tabs": lambda name, status, answer: f"{name}\t{status}\t{answer}\n",
-}
 
 
 def _judge(name: str, text: bytes, wanted: int, form: str) -> tuple[int, str, dict[str, Any]]:
@@ -45,8 +40,9 @@ def check_all(asked: argparse.Namespace) -> int:
         else:
             status, answer, said = judged
         worst = max(worst, status)
-        write([json.dumps(said) + "\n" if asked.form == "json" else
-               FORMS[asked.form](shown(name), status, answer)])
+        write([{"json": json.dumps(said) + "\n",
+                "tabs": f"{shown(name)}\t{status}\t{answer}\n",
+                "lines": f"{shown(name)}: {answer}\n" * (status != NO_ANSWER)}[asked.form]])
     return worst
 
 

@@ -16,8 +16,7 @@ from ..frames import uid_text
 from ..pages.document import document, version
 from ..pages.log import page_object
 from ..sessions.findings import tell
-from ..sessions.sentence import ALSO, ASK_AGAIN, HEARD, missed
-from ..sessions.words import count, listing
+from ..sessions.words import ALSO, ASK_AGAIN, HEARD, count, listing, missed
 
 #: How much text of logs stands in a page.
 MOST_TEXT = 4_000_000

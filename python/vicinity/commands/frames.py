@@ -3,12 +3,12 @@ from __future__ import annotations
 
 import argparse
 import re
-from typing import Any, Callable
+from typing import Any, Callable, Union
 
 from .._answers import Mask
 from .._native import library
 from .._process import write
-from ..frames import (FrameFault, read_request, read_response, uid_text, write_inventory,
+from ..frames import (FrameFault, Reply, Request, read_request, read_response, uid_text, write_inventory,
                       write_response, write_stay_quiet)
 
 REFUSED = 3
@@ -30,27 +30,22 @@ def frame(asked: argparse.Namespace) -> int:
         write([f"refused {'LineTooLong' if len(digits) > MOST_DIGITS else 'Hex'}\n"])
         return REFUSED
     content = bytes.fromhex(digits)
-    said = [_request(content), _response(content)]
+    said = [_said("request", read_request, content), _said("response", read_response, content)]
     write(f"{it}\n" for it in said)
     return REFUSED * all(" refused " in it for it in said)
 
 
-def _request(content: bytes) -> str:
+def _said(kind: str, read: Callable[[bytes], Union[Request, Reply]], content: bytes) -> str:
     try:
-        link, slots, mask, uid = read_request(content)
+        fields = read(content)
     except FrameFault as error:
-        return f"request refused {error.fault.word}"
+        return f"{kind} refused {error.fault.word}"
+    if isinstance(fields, Reply):
+        return f"{kind} flags {fields.flags:02X} dsfid {fields.dsfid:02X} uid {uid_text(fields.uid)}"
+    link, slots, mask, uid = fields
     if not slots:
-        return f"request stay-quiet link {link} uid {uid_text(uid)}"
-    return f"request inventory link {link} slots {slots} mask {mask.length} {mask.digits}"
-
-
-def _response(content: bytes) -> str:
-    try:
-        flags, dsfid, uid = read_response(content)
-    except FrameFault as error:
-        return f"response refused {error.fault.word}"
-    return f"response flags {flags:02X} dsfid {dsfid:02X} uid {uid_text(uid)}"
+        return f"{kind} stay-quiet link {link} uid {uid_text(uid)}"
+    return f"{kind} inventory link {link} slots {slots} mask {mask.length} {mask.digits}"
 
 
 def spell(asked: argparse.Namespace) -> int:

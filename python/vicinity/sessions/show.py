@@ -4,7 +4,7 @@ from __future__ import annotations
 
 from itertools import groupby
 from textwrap import wrap
-from typing import Iterable, Iterator, NamedTuple, Union
+from typing import Iterable, Iterator, NamedTuple, Sequence, Union
 
 from .._answers import FindingKind
 from .._fields import UID_BITS
@@ -12,13 +12,12 @@ from .._process import shown
 from ..frames import uid_text
 from .findings import WORDS, Told
 from .report import found
-from .sentence import conditions, sentence
 from .session import Reading, Row, Session, Slot
-from .words import count, meaning, span
+from .words import conditions, count, meaning, sentence, span
 
 SIGNS = {Reading.SILENT: "·", Reading.COLLISION: "╳", Reading.GARBLED: "?", Reading.UNKNOWN: "-"}
 #: What replaces a sign outside ASCII.
-ASCII = {ord("·"): ".", ord("╳"): "X", ord("×"): "x", ord("⋮"): ":"}
+ASCII = {ord("·"): ".", ord("╳"): "X", ord("⋮"): ":"}
 COLOURS = {Reading.SILENT: "2", Reading.HEARD: "32", Reading.COLLISION: "33", Reading.GARBLED: "35",
            Reading.CAPTURED: "36", Reading.UNKNOWN: "35"}
 ANSWER_COLOURS = ("1;32", "1;33", "1;31", "1;35")
@@ -28,7 +27,8 @@ MOST_LINES = 20
 #: A session of at most so many rows is drawn completely. Of a longer one the rows
 #: with a named line are drawn, and so many at each end, or so many if no line is named.
 ALL, ENDS, ENDS_ALONE = 40, 2, 8
-SLOTS = 16
+#: The slots of a round, and how many columns each takes.
+SLOTS, CELL = 16, 3
 #: Where more is said than here.
 MORE = "Causes, and what to do: python3 -m vicinity page LOG, and docs/VERDICTS.md."
 
@@ -60,31 +60,34 @@ def show(text: bytes, told: Told, look: Look = Look()) -> Iterator[str]:
 
 
 def _picture(session: Session, told: Told, look: Look) -> Iterator[str]:
-    """The rows that matter, one line each, or in a shorter form if these don't fit."""
+    """The rows that matter, one line each, or more where the slots don't fit into one."""
     named = told.lines(MOST_LINES)
     rows = list(_chosen(session, named))
     drawn = [row for row in rows if isinstance(row, Row)]
     labels = max([5, len(span(*session.list_lines)),
                   *(len(span(row.line, row.end)) for row in drawn)])
     masks = max([5, *(len(str(row.request.mask)) for row in drawn if row.slots and row.request)])
-    is_wide = labels + masks + 2 + 3 * SLOTS <= look.columns
-    if is_wide and any(row.slots for row in drawn):
-        slots = "".join(f"{slot:>2X} " for slot in range(SLOTS)).rstrip()
-        yield f"{'lines':>{labels}}  {'asked':<{masks}}{slots}"
+    width = labels + 2 + masks
+    most = max(1, (look.columns - width) // CELL)
+
+    def lines(head: str, cells: Sequence[str]) -> Iterator[str]:
+        for start in range(0, len(cells) or 1, most):
+            yield f"{'' if start else head:<{width}}{''.join(cells[start:start + most])}".rstrip()
+
+    if any(row.slots for row in drawn):
+        yield from lines(f"{'lines':>{labels}}  asked", [f"{slot:>2X} " for slot in range(SLOTS)])
     for row in rows:
         if isinstance(row, int):
             yield f"{'⋮':>{labels}}  {count(row, 'row')}"
             continue
         head = f"{span(row.line, row.end):>{labels}}{'!' if row.line in named else ' '} "
-        if row.request is None or not row.request.slots:
-            what = f"Stay Quiet {uid_text(row.request.uid)}" if row.request else "field off and on"
-            yield f"{head}{what}"
-        elif is_wide:
-            cells = "".join(_cell(row, slot, named, look) for slot in row.slots)
-            yield f"{head}{str(row.request.mask):<{masks}}{cells}".rstrip()
+        if row.request is None:
+            yield f"{head}field off and on"
+        elif row.request.slots:
+            yield from lines(f"{head}{row.request.mask}",
+                             [_cell(row, slot, named, look) for slot in row.slots])
         else:
-            yield f"{head}{row.request.mask}"
-            yield from (f"  {line}" for line in wrap(_cells(row, named), max(look.columns - 2, 20)))
+            yield f"{head}Stay Quiet {uid_text(row.request.uid)}"
     if session.listed:
         yield f"{span(*session.list_lines):>{labels}}  {session.listed:,} listed"
 
@@ -102,30 +105,19 @@ def _chosen(session: Session, named: set[int]) -> Iterator[Union[Row, int]]:
         after = index + 1
 
 
-def _sign(row: Row, slot: Slot, named: set[int]) -> str:
+def _cell(row: Row, slot: Slot, named: set[int], look: Look) -> str:
     """What was read in a slot, of a UID two digits behind those of the asked mask, and a mark:
     ! beside a named line, q beside a tag that was silenced afterwards,
     + beside one that may not have been alone."""
     mark = ("!" if slot.line in named else "q" if slot.uid in row.quiets
             else "+" if slot.reading is Reading.CAPTURED else " ")
     if slot.uid is None or row.request is None:
-        return SIGNS[slot.reading] + mark
-    return f"{slot.uid >> min(row.request.mask.length // 4 * 4, UID_BITS) & 0xFF:02X}{mark}"
-
-
-def _cell(row: Row, slot: Slot, named: set[int], look: Look) -> str:
+        sign = SIGNS[slot.reading]
+    else:
+        behind = min(row.request.mask.length // 4 * 4, UID_BITS)
+        sign = f"{slot.uid >> behind & 0xFF:02X}"
     colour = COLOURS[slot.reading] + f";{NAMED}" * (slot.line in named)
-    return look.painted(f"{_sign(row, slot, named):>3}", colour)
-
-
-def _cells(row: Row, named: set[int]) -> str:
-    """The slots of a round for a narrow terminal: those that are named or not silent,
-    and how many others are silent."""
-    told = [slot for slot in row.slots
-            if slot.reading is not Reading.SILENT or slot.line in named]
-    silent = len(row.slots) - len(told)
-    signs = [f"{slot.place:X}:{_sign(row, slot, named)}".rstrip() for slot in told]
-    return " ".join([*signs, *[f"·×{silent}"] * bool(silent)])
+    return look.painted(f"{sign:>2}{mark}", colour)
 
 
 def _found(session: Session, told: Told, look: Look) -> Iterator[str]:

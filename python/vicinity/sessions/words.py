@@ -1,12 +1,14 @@
-"""Numbers, masks and lines in words."""
+"""What is said to people: numbers, masks and lines in words, the answer in one sentence,
+and what it is said under."""
 from __future__ import annotations
 
-from typing import Sequence
+from typing import Iterator, Sequence
 
-from .._answers import Mask
+from .._answers import FindingKind, Kind, Mask, Weakest
 from .._fields import UID_BITS
 from ..frames import uid_text
-from .session import Reading, Session
+from .findings import Told
+from .session import Reading, Session, ask
 
 #: What was read in a slot; a UID that was heard takes the place of the braces.
 READ = {
@@ -17,6 +19,12 @@ READ = {
     Reading.CAPTURED: "{} answered, perhaps with others",
     Reading.UNKNOWN: "nothing is known of this slot",
 }
+HEARD = ("This is said of tags that had power, heard the reader, "
+         "and were heard when they answered: one that never answers is in no log.")
+ASK_AGAIN = "Silence each tag that was heard, and ask all in one slot, until none answers"
+ALSO = "Would also hold if a strong reply hid a weaker one:"
+#: How many lines of a contradiction a sentence names.
+MOST_NAMED = 4
 
 
 def count(number: int, one: str, many: str = "") -> str:
@@ -58,3 +66,82 @@ def meaning(session: Session, line: int) -> str:
             read = READ[slot.reading].format("" if slot.uid is None else uid_text(slot.uid))
             return f"{read}; asked: {ending(slot.mask)}"
     return f"Stay Quiet to {uid_text(row.request.uid)}" if row.request else "field off and on"
+
+
+def sentence(session: Session, told: Told) -> str:
+    """What is known about the list."""
+    answer = told.answer
+    if answer.kind is Kind.REFUSED:
+        cut = " The text ends in the middle of this line: was it cut?" * session.is_cut
+        return f"This text isn't a valid log. Line {answer.line}: {answer.fault.wrong}.{cut}"
+    if answer.kind is Kind.IMPOSSIBLE:
+        return f"The log contradicts itself: {_contradiction(told)}."
+    if answer.kind is not Kind.COMPLETE:
+        return f"Not complete: {listing(list(_missing(told)))}."
+    if not answer.count:
+        return "Complete: the field is empty, and nothing is listed."
+    if answer.count == 1:
+        return "Complete: the one tag in the field is listed, and no other."
+    return f"Complete: all {answer.count:,} tags in the field are listed, and no others."
+
+
+def conditions(session: Session, told: Told) -> Iterator[str]:
+    """What an answer is said under: of a complete list which tags it speaks of,
+    and how often one would have had to be missed; and whether it also holds under capture."""
+    answer, reread = told.answer, told.reread
+    if answer.kind is Kind.COMPLETE:
+        yield HEARD
+    if told.weakest is not None:
+        yield missed(told.weakest)
+    if reread is None:
+        return
+    if reread == answer:
+        least = told.weakest_reread
+        then = "" if least is None else (
+            f"; a tag would then have had to be missed in {count(least.margin, 'slot')}")
+        yield f"{ALSO} yes{then}."
+    elif answer.kind is Kind.IMPOSSIBLE:
+        yield (f"{ALSO} no, '{reread}'. "
+               "If replies may hide others, write H in place of R, in a log of version 3.")
+    else:
+        all_tags = ask(session.link, 1, Mask(0, 0))
+        yield f"{ALSO} no, '{reread}'. {ASK_AGAIN} ({all_tags})."
+
+
+def missed(weakest: Weakest, where: str = "") -> str:
+    """How sure it is that no other tag is there."""
+    return (f"A tag would have had to be missed in {count(weakest.margin, 'slot')}{where}; "
+            f"weakest: {ending(weakest.mask)}.")
+
+
+def silent(slots: int) -> str:
+    """How sure it is that a tag isn't there."""
+    return f"asked in {count(slots, 'slot')}, silent {'there' if slots == 1 else 'in each'}"
+
+
+def _contradiction(told: Told) -> str:
+    """Which lines contradict each other."""
+    lines = sorted({it.line for kind in (FindingKind.CONFLICT_LINE, FindingKind.SILENCED_BY)
+                    for it in told.of(kind)})
+    if len(lines) == 1:
+        return f"line {lines[0]} can't be true"
+    if len(lines) > MOST_NAMED:
+        return f"{len(lines):,} lines from {lines[0]} to {lines[-1]} can't all be true"
+    return f"lines {listing(list(map(str, lines)))} can't {'all' if lines[2:] else 'both'} be true"
+
+
+def _missing(told: Told) -> Iterator[str]:
+    """Why a list isn't complete."""
+    absent, unlisted, left, doubtful = (len(told.of(kind)) for kind in (
+        FindingKind.ABSENT, FindingKind.UNLISTED, FindingKind.OPEN_MASK, FindingKind.DOUBTFUL))
+    if absent:
+        yield count(absent, "listed tag isn't there", "listed tags aren't there")
+    if unlisted:
+        yield count(unlisted, "tag isn't listed", "tags aren't listed")
+    if left and not told.of(FindingKind.OPEN_MASK)[0].mask.length:
+        yield "all UIDs are still to be asked for"
+    elif left:
+        more = "or more " * bool(told.of(FindingKind.MORE_OPEN_MASKS))
+        yield f"{left} {more}mask{'s are' if left > 1 else ' is'} still to be asked"
+    if doubtful:
+        yield count(doubtful, "listed tag may be missing", "listed tags may be missing")
