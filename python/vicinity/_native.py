@@ -44,6 +44,7 @@ POPULATION = [*UIDS, POINTER(SIZE)]
 FINDINGS = [POINTER(FindingStruct), SIZE, POINTER(SIZE)]
 
 CALLS = {
+    "interface": [],
     "version": [],
     "check": [*TEXT, ANSWER],
     "explain": [*TEXT, ANSWER, *POPULATION],
@@ -116,22 +117,15 @@ def library() -> ctypes.CDLL:
         raise OSError(f"the library {name} can't be loaded ({error}): "
                       "install vicinity or the package libvicinity1, or "
                       "name the file in the environment variable LIBVICINITY") from None
-    try:
-        lib.vicinity_interface.restype = ctypes.c_uint32
-        lib.vicinity_interface.argtypes = []
-        interface = lib.vicinity_interface()
-    except AttributeError:
-        raise OSError(f"{name} isn't the library of vicinity") from None
-    if interface != INTERFACE:
-        raise OSError(f"the library {name} has the interface {interface}, "
-                      f"and this package needs {INTERFACE}")
     for call_name, arguments in CALLS.items():
         call = getattr(lib, f"vicinity_{call_name}", None)
         if call is None:
-            raise OSError(f"the library {name} is older than this package: "
-                          f"it has no vicinity_{call_name}")
-        call.restype = ctypes.c_uint32
-        call.argtypes = arguments
+            raise OSError(f"the library {name} isn't that of vicinity, or is older than "
+                          f"this package: it has no vicinity_{call_name}")
+        call.restype, call.argtypes = U32, arguments
+    if lib.vicinity_interface() != INTERFACE:
+        raise OSError(f"the library {name} has the interface {lib.vicinity_interface()}, "
+                      f"and this package needs {INTERFACE}")
     return lib
 
 

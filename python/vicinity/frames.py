@@ -4,7 +4,7 @@ from __future__ import annotations
 
 import ctypes
 import re
-from typing import Callable, NamedTuple, Union
+from typing import NamedTuple, Union
 
 from ._answers import Fault, Mask
 from ._native import (BytesLike, FrameStruct, LineStruct, MaskStruct, ReplyStruct, RequestStruct,
@@ -96,41 +96,36 @@ def write_inventory(link: int, slots: int, mask: Mask = Mask(0, 0)) -> bytes:
 
     Raises ValueError, with the name of the refusal and what is asked,
     if there is no such request."""
-    return _frame(library().vicinity_write_inventory, _number(link), _number(slots),
-                  _number(mask.length), _number(mask.value, 64))
+    return _frame("write_inventory", link, slots, mask.length, mask.value)
 
 
 def write_stay_quiet(link: int, uid: int) -> bytes:
     """The frame of a Stay Quiet request, CRC included.
     Raises ValueError as `write_inventory` does."""
-    return _frame(library().vicinity_write_stay_quiet, _number(link), _number(uid, 64))
+    return _frame("write_stay_quiet", link, uid)
 
 
 def write_response(flags: int, dsfid: int, uid: int) -> bytes:
     """The frame of a reply, CRC included, for a simulated field.
     Raises ValueError as `write_inventory` does."""
-    return _frame(library().vicinity_write_response, _number(flags), _number(dsfid),
-                  _number(uid, 64))
+    return _frame("write_response", flags, dsfid, uid)
 
 
 def add_crc(content: BytesLike) -> bytes:
     """At most 14 bytes with their CRC after them: a frame whose CRC the reader's chip removed.
     Raises ValueError if there are more."""
     content = bytes_of(content)
-    return _frame(library().vicinity_add_crc, content, len(content))
+    return _frame("add_crc", content, len(content))
 
 
 def write_line(letter: str, frame: BytesLike = b"", uid: int = 0) -> bytes:
     """A line of a log, with its LF: "T", "R" or "H" with a frame of at most 63 bytes,
     which isn't judged, "U" with a UID, or only "S", "C", "D", "N" or "F".
     Raises ValueError, with the name of the refusal and what is asked, if there is no such line."""
-    frame, told = bytes_of(frame), LineStruct()
+    frame = bytes_of(frame)
     if not (isinstance(letter, str) and len(letter) == 1 and letter.isascii()):
         raise ValueError(f"WrongLetter: {WANTED['WrongLetter']}, not {letter!r}")
-    code = ord(letter)
-    _refuse(library().vicinity_write_line(code, frame, len(frame), _number(uid, 64),
-                                          ctypes.byref(told)))
-    return bytes(told.text)
+    return bytes(_made("write_line", LineStruct(), ord(letter), frame, len(frame), uid).text)
 
 
 def slot_mask(slots: int, mask: Mask, slot: int) -> Mask:
@@ -138,31 +133,30 @@ def slot_mask(slots: int, mask: Mask, slot: int) -> Mask:
     of an Inventory request with 1 or 16 slots and a mask.
 
     Raises ValueError if there is no such request or slot."""
-    told = MaskStruct()
-    _refuse(library().vicinity_slot_mask(_number(slots), _number(mask.length),
-                                         _number(mask.value, 64), _number(slot),
-                                         ctypes.byref(told)))
+    told = _made("slot_mask", MaskStruct(), slots, mask.length, mask.value, slot)
     return Mask(told.len, told.value)
 
 
-def _frame(call: Callable[..., int], *given: Union[int, bytes]) -> bytes:
+def _frame(name: str, *given: Union[int, bytes]) -> bytes:
     """The frame that a call writes."""
-    told = FrameStruct()
-    _refuse(call(*given, ctypes.byref(told)))
+    told = _made(name, FrameStruct(), *given)
     return bytes(told.bytes)[:told.len]
 
 
-def _refuse(fault: int) -> None:
+def _made(name: str, told: ctypes.Structure, *given: Union[int, bytes]) -> ctypes.Structure:
+    """What a call writes of bytes, and of numbers that fit what C takes."""
+    call = getattr(library(), f"vicinity_{name}")
+    for number, kind in zip(given, call.argtypes):
+        if isinstance(number, bytes):
+            continue
+        if not isinstance(number, int):
+            raise TypeError(f"{number!r} isn't a number, but {type(number).__name__}; "
+                            "parse_uid reads a UID from text")
+        bits = 8 * ctypes.sizeof(kind)
+        if not 0 <= number < 1 << bits:
+            raise ValueError(f"{number} isn't a number of {bits} bits")
+    fault = call(*given, ctypes.byref(told))
     if fault:
-        name = name_of("fault", fault)
-        raise ValueError(f"{name}: {WANTED[name]}")
-
-
-def _number(number: int, bits: int = 32) -> int:
-    """A number that fits what C takes."""
-    if not isinstance(number, int):
-        raise TypeError(f"{number!r} isn't a number, but {type(number).__name__}; "
-                        "parse_uid reads a UID from text")
-    if not 0 <= number < 1 << bits:
-        raise ValueError(f"{number} isn't a number of {bits} bits")
-    return number
+        refusal = name_of("fault", fault)
+        raise ValueError(f"{refusal}: {WANTED[refusal]}")
+    return told

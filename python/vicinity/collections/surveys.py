@@ -24,8 +24,9 @@ SHARE, TURNS = 8, 4
 #: Where the list of a log begins, which no call of the library says.
 LIST = re.compile(rb"^U", re.MULTILINE)
 ALL = Mask(0, 0)
-COUNT_AGAIN, CORRECT = "count it again", "correct it, or count it again"
-READABLE = "make it readable, or count it again"
+#: What to do about a log that is set aside, by its status.
+ADVICE = {2: "count it again", 3: "correct it, or count it again",
+          4: "make it readable, or count it again"}
 
 
 class Log(NamedTuple):
@@ -57,13 +58,6 @@ class Log(NamedTuple):
     def why(self) -> str:
         """Why it is set aside, as the program says it."""
         return self.answer if isinstance(self.answer, str) else refusal(self.name, self.answer)
-
-    @property
-    def advice(self) -> str:
-        """What to do about a log that is set aside."""
-        if isinstance(self.answer, str):
-            return READABLE
-        return COUNT_AGAIN if self.answer.kind is Kind.IMPOSSIBLE else CORRECT
 
 
 def survey_file(name: str, keep: Callable[[bytes], object] = bool) -> Log:

@@ -11,7 +11,7 @@ from .._answers import Answer, Finding, FindingKind
 from .._fields import SCHEMA, fields, margin_fields, mask_fields, small, small_fields
 from .._process import shown
 from ..collections.collection import Collection, Item, State
-from ..collections.surveys import Log
+from ..collections.surveys import ADVICE, Log
 from ..frames import uid_text
 from ..pages.document import document, version
 from ..pages.log import page_object
@@ -28,7 +28,7 @@ MOST_NAMES = 20
 
 def set_aside(log: Log) -> str:
     """A log that is set aside, and what to do about it."""
-    return f"set aside: {log.why} ({log.advice})"
+    return f"set aside: {log.why} ({ADVICE[log.status]})"
 
 
 def as_lines(found: Collection) -> Iterator[str]:
@@ -144,7 +144,8 @@ def _object(found: Collection) -> dict[str, Any]:
         "schema": SCHEMA, **_answer(found), **_margin(found),
         "counts": {state.value: counts[state] for state in State},
         "unsettled": unsettled[0] if unsettled else None,
-        "set_aside": [{**_of_aside(log), "do": log.advice} for log in found.aside],
+        "set_aside": [{"file": log.name, **fields(log.answer), "do": ADVICE[log.status]}
+                      for log in found.aside],
         "items": [_of_item(found, item, overlooked) for item in found.items],
         "logs": [{"file": log.name, "certain": len(log.certain),
                   "open": list(map(mask_fields, left.masks)), "more_open": left.has_more,
@@ -157,7 +158,8 @@ def _answer(found: Collection) -> dict[str, object]:
     """The answer, or the first of the worst logs that are set aside,
     or the first misplaced item."""
     if found.aside:
-        return _of_aside(max(found.aside, key=lambda log: log.status))
+        worst = max(found.aside, key=lambda log: log.status)
+        return {"file": worst.name, **fields(worst.answer)}
     if not found.findings and found.misplaced:
         return {"status": found.status, "kind": State.MISPLACED.value,
                 "uid": uid_text(found.misplaced[0].uid or 0)}
@@ -171,10 +173,6 @@ def _margin(found: Collection) -> dict[str, object]:
         return {}
     return {"margin": least.weakest.margin,
             "weakest": {"file": found.logs[least.log].name, **mask_fields(least.weakest.mask)}}
-
-
-def _of_aside(log: Log) -> dict[str, object]:
-    return {"file": log.name, **fields(log.answer)}
 
 
 def _of_item(found: Collection, item: Item, overlooked: Mapping[int, int]) -> dict[str, object]:

@@ -8,8 +8,8 @@ from typing import Any, Callable, Union
 from .._answers import Mask
 from .._native import library
 from .._process import write
-from ..frames import (FrameFault, Reply, Request, read_request, read_response, uid_text, write_inventory,
-                      write_response, write_stay_quiet)
+from ..frames import (FrameFault, Reply, Request, read_request, read_response, uid_text,
+                      write_inventory, write_response, write_stay_quiet)
 
 REFUSED = 3
 #: The bytes of a frame of at most so many digits.
@@ -41,7 +41,8 @@ def _said(kind: str, read: Callable[[bytes], Union[Request, Reply]], content: by
     except FrameFault as error:
         return f"{kind} refused {error.fault.word}"
     if isinstance(fields, Reply):
-        return f"{kind} flags {fields.flags:02X} dsfid {fields.dsfid:02X} uid {uid_text(fields.uid)}"
+        flags, dsfid, uid = fields
+        return f"{kind} flags {flags:02X} dsfid {dsfid:02X} uid {uid_text(uid)}"
     link, slots, mask, uid = fields
     if not slots:
         return f"{kind} stay-quiet link {link} uid {uid_text(uid)}"

@@ -10,7 +10,7 @@ from .._calls import explain, survey
 from .._fields import mask_fields, object_of
 from ..frames import uid_text
 from ..sessions.findings import WORDS, Told, tell
-from ..sessions.session import MOST_QUOTED, ask, link_of
+from ..sessions.session import MOST_QUOTED, ask
 from ..sessions.show import show
 from .document import document, version
 
@@ -30,7 +30,7 @@ def of_log(text: bytes, name: str) -> tuple[Answer, Iterator[str]]:
 
 def page_object(name: str, text: bytes, told: Told) -> dict[str, Any]:
     """All that a page draws of a log."""
-    answer, left, link = told.answer, survey(text), link_of(text)
+    answer, left = told.answer, survey(text)
     return {
         **object_of(name, answer, told.weakest, told.reread),
         "version": version(), "answer": answer.text,
@@ -45,7 +45,7 @@ def page_object(name: str, text: bytes, told: Told) -> dict[str, Any]:
                  "share": sum(2.0 ** -mask.length for mask in left.open_masks),
                  # all tags are asked first in sixteen slots
                  "masks": [{**mask_fields(mask),
-                            "ask": [ask(link, slots, mask)
+                            "ask": [ask(text, slots, mask)
                                     for slots in ((1,) if mask.length else (16, 1))]}
                            for mask in left.open_masks[:MOST_TOLD]]},
         "unnoticed": _unnoticed(text, answer),

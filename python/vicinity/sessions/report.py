@@ -43,10 +43,10 @@ def found(session: Session, told: Told, most: Optional[int] = None) -> Iterator[
             elif kind is FindingKind.UNLISTED:
                 said = uid
             elif kind is FindingKind.OPEN_MASK:
-                said = f"{ending(it.mask)} may be there: send {ask(session.link, 1, it.mask)}"
+                said = f"{ending(it.mask)} may be there: send {ask(session.text, 1, it.mask)}"
             elif kind is FindingKind.DOUBTFUL:
                 of_one = Mask(UID_BITS, it.uid & (1 << UID_BITS) - 1)
-                said = f"{uid} may be missing: send {ask(session.link, 1, of_one)}"
+                said = f"{uid} may be missing: send {ask(session.text, 1, of_one)}"
             yield Found(kind, it.line, said)
 
 

@@ -7,7 +7,6 @@ import io
 import re
 from array import array
 from bisect import bisect_right
-from enum import Enum
 from functools import cached_property
 from typing import Container, NamedTuple, Optional
 
@@ -23,15 +22,23 @@ STAY_QUIET = b"02"
 MOST_QUOTED = 160
 
 
-class Reading(Enum):
-    """What was read in a slot, by the letter of its line."""
+class Reading(NamedTuple):
+    """What was read in a slot, by the letter of its line: its sign and colour in a terminal,
+    and in words, in which a UID that was heard takes the place of the braces."""
 
-    SILENT = "S"
-    HEARD = "R"
-    COLLISION = "C"
-    GARBLED = "D"
-    CAPTURED = "H"
-    UNKNOWN = "N"
+    letter: str
+    sign: str
+    colour: str
+    words: str
+
+
+READINGS = {it.letter: it for it in (
+    Reading("S", "·", "2", "no tag answered"),
+    Reading("R", "", "32", "{} answered alone"),
+    Reading("C", "╳", "33", "two or more tags answered"),
+    Reading("D", "?", "35", "one or more tags answered, unreadable"),
+    Reading("H", "", "36", "{} answered, perhaps with others"),
+    Reading("N", "-", "35", "nothing is known of this slot"))}
 
 
 class Slot(NamedTuple):
@@ -67,7 +74,7 @@ class Row:
         assert self.request
         mask = slot_mask(self.request.slots, self.request.mask, place)
         uid = read_response(_frame(text)).uid if text[1:] else None
-        return Slot(line, place, mask, Reading(text[:1].decode()), uid)
+        return Slot(line, place, mask, READINGS[text[:1].decode()], uid)
 
 
 class Session:
@@ -121,19 +128,11 @@ class Session:
         """The index of the row that a line belongs to."""
         return bisect_right(self.lines, line) - 1
 
-    @property
-    def link(self) -> int:
-        return link_of(self.text)
 
-
-def link_of(text: bytes) -> int:
-    """The link of the requests of a log, for further requests."""
+def ask(text: bytes, slots: int, mask: Mask) -> str:
+    """The line that asks a mask, with the link of the requests of a log."""
     first = FIRST_REQUEST.search(text)
-    return int(first[1], 16) & LINK if first else ANY_LINK
-
-
-def ask(link: int, slots: int, mask: Mask) -> str:
-    """The line of the request that asks a mask."""
+    link = int(first[1], 16) & LINK if first else ANY_LINK
     return write_line("T", write_inventory(link, slots, mask)).decode().rstrip()
 
 

@@ -12,14 +12,11 @@ from .._process import shown
 from ..frames import uid_text
 from .findings import WORDS, Told
 from .report import found
-from .session import Reading, Row, Session, Slot
+from .session import Row, Session, Slot
 from .words import conditions, count, meaning, sentence, span
 
-SIGNS = {Reading.SILENT: "·", Reading.COLLISION: "╳", Reading.GARBLED: "?", Reading.UNKNOWN: "-"}
 #: What replaces a sign outside ASCII.
 ASCII = {ord("·"): ".", ord("╳"): "X", ord("⋮"): ":"}
-COLOURS = {Reading.SILENT: "2", Reading.HEARD: "32", Reading.COLLISION: "33", Reading.GARBLED: "35",
-           Reading.CAPTURED: "36", Reading.UNKNOWN: "35"}
 ANSWER_COLOURS = ("1;32", "1;33", "1;31", "1;35")
 NAMED = "7"
 #: How many findings of each kind are written.
@@ -110,13 +107,13 @@ def _cell(row: Row, slot: Slot, named: set[int], look: Look) -> str:
     ! beside a named line, q beside a tag that was silenced afterwards,
     + beside one that may not have been alone."""
     mark = ("!" if slot.line in named else "q" if slot.uid in row.quiets
-            else "+" if slot.reading is Reading.CAPTURED else " ")
+            else "+" if slot.reading.letter == "H" else " ")
     if slot.uid is None or row.request is None:
-        sign = SIGNS[slot.reading]
+        sign = slot.reading.sign
     else:
         behind = min(row.request.mask.length // 4 * 4, UID_BITS)
         sign = f"{slot.uid >> behind & 0xFF:02X}"
-    colour = COLOURS[slot.reading] + f";{NAMED}" * (slot.line in named)
+    colour = slot.reading.colour + f";{NAMED}" * (slot.line in named)
     return look.painted(f"{sign:>2}{mark}", colour)
 
 

@@ -8,17 +8,8 @@ from .._answers import FindingKind, Kind, Mask, Weakest
 from .._fields import UID_BITS
 from ..frames import uid_text
 from .findings import Told
-from .session import Reading, Session, ask
+from .session import Session, ask
 
-#: What was read in a slot; a UID that was heard takes the place of the braces.
-READ = {
-    Reading.SILENT: "no tag answered",
-    Reading.HEARD: "{} answered alone",
-    Reading.COLLISION: "two or more tags answered",
-    Reading.GARBLED: "one or more tags answered, unreadable",
-    Reading.CAPTURED: "{} answered, perhaps with others",
-    Reading.UNKNOWN: "nothing is known of this slot",
-}
 HEARD = ("This is said of tags that had power, heard the reader, "
          "and were heard when they answered: one that never answers is in no log.")
 ASK_AGAIN = "Silence each tag that was heard, and ask all in one slot, until none answers"
@@ -63,7 +54,7 @@ def meaning(session: Session, line: int) -> str:
     row = session.row(session.place(line))
     for slot in row.slots:
         if slot.line == line:
-            read = READ[slot.reading].format("" if slot.uid is None else uid_text(slot.uid))
+            read = slot.reading.words.format(uid_text(slot.uid or 0))
             return f"{read}; asked: {ending(slot.mask)}"
     return f"Stay Quiet to {uid_text(row.request.uid)}" if row.request else "field off and on"
 
@@ -104,7 +95,7 @@ def conditions(session: Session, told: Told) -> Iterator[str]:
         yield (f"{ALSO} no, '{reread}'. "
                "If replies may hide others, write H in place of R, in a log of version 3.")
     else:
-        all_tags = ask(session.link, 1, Mask(0, 0))
+        all_tags = ask(session.text, 1, Mask(0, 0))
         yield f"{ALSO} no, '{reread}'. {ASK_AGAIN} ({all_tags})."
 
 
