@@ -19,8 +19,6 @@ from typing import Any, Callable, Generator, Iterable, NoReturn, Sequence, TypeV
 # 1,000,000 lines of 130 bytes, plus one.
 MOST_BYTES = 1_000_000 * 130 + 1
 PIECE = 1 << 16
-#: How a file is opened: read as it is, also on Windows, and not left open to other programs.
-AS_BYTES = os.O_RDONLY | getattr(os, "O_CLOEXEC", 0) | getattr(os, "O_BINARY", 0)
 NO_ANSWER = 4
 #: With more logs than this, a terminal is told how many have been read, each time after so many.
 MOST_UNCOUNTED, TOLD_EACH = 50, 10
@@ -64,20 +62,13 @@ def complain(why: str) -> int:
 def read(name: str) -> bytes:
     """The contents of a file, as far as they can matter; - is standard input."""
     try:
-        file = os.dup(0) if name == "-" else os.open(name, AS_BYTES)
-        try:
-            pieces, left, wanted = [], MOST_BYTES, max(PIECE, os.fstat(file).st_size)
-            while left > 0:
-                # a file in one piece: joining pieces takes the memory twice
-                piece = os.read(file, min(wanted, left))
-                wanted = PIECE
-                if not piece:
-                    break
+        with open(os.dup(0) if name == "-" else name, "rb", buffering=0) as file:
+            pieces, left, wanted = [], MOST_BYTES, max(PIECE, os.fstat(file.fileno()).st_size)
+            # a file in one piece: joining pieces takes the memory twice
+            while left > 0 and (piece := file.read(min(wanted, left))):
                 pieces.append(piece)
-                left -= len(piece)
+                left, wanted = left - len(piece), PIECE
             return b"".join(pieces)
-        finally:
-            os.close(file)
     except OSError as error:
         raise NoAnswer(f"cannot read {shown(name)}: {error.strerror}") from None
 

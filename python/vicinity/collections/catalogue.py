@@ -34,16 +34,17 @@ class How(NamedTuple):
 
 class Entry(NamedTuple):
     """A row of the catalogue, with the UID of its tag, if it has one,
-    and a cell for each column."""
+    a cell for each column, and where it belongs, if that is known."""
 
     row: int
     uid: Optional[int]
     cells: Sequence[str]
+    belongs: str = ""
 
 
 class Catalogue(NamedTuple):
     """What is expected, and how it was written: the columns, and which of them has the UIDs,
-    the key of --tags, and the places. `keys` has what --tags says of UIDs."""
+    and the key of --tags. `keys` has what --tags says of UIDs."""
 
     name: str
     form: Form
@@ -51,16 +52,11 @@ class Catalogue(NamedTuple):
     entries: Sequence[Entry]
     uid_at: int = 0
     key_at: Optional[int] = None
-    place_at: Optional[int] = None
     keys: dict[int, str] = {}
 
     @property
     def uids(self) -> list[int]:
         return [entry.uid for entry in self.entries if entry.uid is not None]
-
-    def place(self, entry: Entry) -> str:
-        """Where an item belongs, or nothing."""
-        return "" if self.place_at is None else entry.cells[self.place_at].strip()
 
     def unexpected(self, uid: int) -> list[str]:
         """The cells of a tag that isn't expected."""
@@ -69,10 +65,6 @@ class Catalogue(NamedTuple):
         if self.key_at is not None:
             cells[self.key_at] = self.keys.get(uid, "")
         return cells
-
-    def beside(self) -> list[int]:
-        """The columns that have a name, other than that of the UIDs."""
-        return [at for at, head in enumerate(self.heads) if head and at != self.uid_at]
 
     def added(self) -> list[str]:
         """The names of the columns that are written behind those of the catalogue."""
@@ -94,13 +86,14 @@ def catalogue(name: str, text: bytes, how: How = How()) -> Catalogue:
         entries = [Entry(row, _uid(table, row, cells[at]), cells) for row, cells in table.rows]
         found = Catalogue(name, table.form, table.heads, entries, at)
     rows: dict[int, int] = {}
-    for row, uid, _ in found.entries:
+    for row, uid, *_ in found.entries:
         if uid is not None and rows.setdefault(uid, row) != row:
             table.wrong(row, f"{uid_text(uid)} is also in row {rows[uid]}")
     if how.place is None:
         return found
-    place_at = table.named(how.place, "", "--place NAME names the one with the places")
-    return found._replace(place_at=place_at)
+    at = table.named(how.place, "", "--place NAME names the one with the places")
+    return found._replace(entries=[entry._replace(belongs=entry.cells[at].strip())
+                                   for entry in found.entries])
 
 
 def _of_list(name: str, text: bytes) -> Catalogue:

@@ -35,23 +35,22 @@ STATES = {FindingKind.ABSENT: State.MISSING, FindingKind.DOUBTFUL: State.NOT_PRO
 
 
 class Item(NamedTuple):
-    """A row of the catalogue or a tag that isn't in it: its UID, if it has one, its cells,
-    its state, and in which logs it is certain, and possible without being certain.
-    Where it belongs is nothing if that isn't known."""
+    """A row of the catalogue or a tag that isn't in it: as Entry has it, with its state,
+    and in which logs it is certain, and possible without being certain."""
 
+    row: int
     uid: Optional[int]
     cells: Sequence[str]
+    belongs: str
     state: State
     certain_in: Sequence[int] = ()
     may_be_in: Sequence[int] = ()
-    belongs: str = ""
-    row: int = 0
 
 
 class Least(NamedTuple):
-    """The margin of a collection, and the first log in whose field it is so small."""
+    """The margin of a collection, and the name of the first log in whose field it is so small."""
 
-    log: int
+    name: str
     weakest: Weakest
 
 
@@ -64,7 +63,7 @@ class Collection:
         self.answer, self.findings = reconcile_parts(
             expected.uids, (uid for log in self.logs for uid in log.certain),
             (mask for log in self.logs for mask in log.open_masks))
-        self._read, self.wanted = read, wanted
+        self.read, self.wanted = read, wanted
         self.aside = [log for log in self.logs if log.status]
         self.items = list(self._items())
 
@@ -121,11 +120,11 @@ class Collection:
         for index, log in enumerate(self.logs):
             weakest = log.weakest
             if weakest and are_all(expected, weakest.mask):
-                text = self.text(index)
+                text = self.read.text(index)
                 weakest = margin_listed(without_list(text), expected).weakest if text else None
             if weakest is None:
                 return None
-            found.append(Least(index, weakest))
+            found.append(Least(log.name, weakest))
         return min(found, key=lambda it: it.weakest.margin)
 
     def overlooked(self) -> dict[int, int]:
@@ -134,7 +133,7 @@ class Collection:
         missing = [item.uid for item in self.of(State.MISSING) if item.uid is not None]
         least: list[int] = []
         for index in range(len(self.logs) if missing else 0):
-            text = self.text(index)
+            text = self.read.text(index)
             if text is None:
                 return {}
             try:
@@ -144,10 +143,6 @@ class Collection:
             least = [min(pair) for pair in zip(least, found)] if least else found
         return dict(zip(missing, least))
 
-    def text(self, index: int) -> Optional[bytes]:
-        """The text of a log, if it is still there."""
-        return self._read.text(index)
-
     def shown_by(self) -> dict[int, tuple[int, int]]:
         """For each unlisted UID the first log in which it is certain,
         and the line that shows it."""
@@ -156,7 +151,7 @@ class Collection:
             by_log.setdefault(item.certain_in[0], []).append(item.uid or 0)
         found: dict[int, tuple[int, int]] = {}
         for index, uids in sorted(by_log.items()):
-            lines = self._read.shown_by(index)
+            lines = self.read.shown_by(index)
             if not lines.keys() >= set(uids):
                 raise self._changed(index)
             found.update((uid, (index, lines[uid])) for uid in uids)
@@ -173,18 +168,17 @@ class Collection:
         states = {it.uid: STATES[it.kind] for it in self.findings if it.kind in STATES}
         certain, possible = self._where([*self.expected.uids, *unlisted])
         for entry in self.expected.entries:
-            belongs = self.expected.place(entry)
             if entry.uid is None:
-                yield Item(None, entry.cells, State.NO_TAG, belongs=belongs, row=entry.row)
+                yield Item(*entry, State.NO_TAG)
                 continue
             state, where = states.get(entry.uid, State.THERE), certain[entry.uid]
-            its_own = set(self.places.get(belongs.casefold(), ()))
-            if state is State.THERE and belongs and its_own.isdisjoint(where):
+            its_own = set(self.places.get(entry.belongs.casefold(), ()))
+            if state is State.THERE and entry.belongs and its_own.isdisjoint(where):
                 state = State.MISPLACED
             may_be_in = [log for log in possible[entry.uid]
                          if not where or log in its_own or not self.logs[log].status]
-            yield Item(entry.uid, entry.cells, state, where, may_be_in, belongs, entry.row)
+            yield Item(*entry, state, where, may_be_in)
         for uid in unlisted:
             may_be_in = [log for log in possible[uid] if not self.logs[log].status]
             cells = self.expected.unexpected(uid)
-            yield Item(uid, cells, State.UNEXPECTED, certain[uid], may_be_in)
+            yield Item(0, uid, cells, "", State.UNEXPECTED, certain[uid], may_be_in)

@@ -29,7 +29,7 @@ def places_of(expected: Catalogue, names: Sequence[str], file: Optional[tuple[st
         for _, cells in table.rows:
             its_own = by_name.get(cells[log_at].strip().casefold(), [])
             places.setdefault(cells[place_at].strip().casefold(), []).extend(its_own)
-    belongs = {place.casefold(): place for place in map(expected.place, expected.entries) if place}
+    belongs = {it.belongs.casefold(): it.belongs for it in expected.entries if it.belongs}
     for key, place in belongs.items():
         if file is None and len(places.get(key, [])) > 1:
             one, other = (shown(names[log]) for log in places[key][:2])

@@ -51,8 +51,7 @@ def small_margin(found: Collection) -> str:
     least = found.least
     if least is None:
         return small(None, found.wanted)
-    where = f" in {shown(found.logs[least.log].name)}"
-    return small(least.weakest, found.wanted, where)
+    return small(least.weakest, found.wanted, f" in {shown(least.name)}")
 
 
 def _findings(found: Collection) -> Iterator[str]:
@@ -80,7 +79,7 @@ def notes(found: Collection) -> Iterator[str]:
         yield HEARD
     least = found.least
     if least is not None:
-        yield missed(least.weakest, f" in the field of {shown(found.logs[least.log].name)}")
+        yield missed(least.weakest, f" in the field of {shown(least.name)}")
     names = [shown(log.name) for log in found.logs if log.captured.get("holds") is False]
     if names:
         more = [count(len(names) - MOST_NAMES, "other log")] * (len(names) > MOST_NAMES)
@@ -124,7 +123,7 @@ def _objects(found: Collection) -> Iterator[tuple[int, dict[str, Any]]]:
     left, room = list(found.left()), MOST_TEXT
     judged = [index for index, log in enumerate(found.logs) if isinstance(log.answer, Answer)]
     for index in sorted(judged, key=lambda it: not left[it].masks):
-        log, text = found.logs[index], found.text(index)
+        log, text = found.logs[index], found.read.text(index)
         if text is None:
             continue
         room -= len(text)
@@ -140,8 +139,12 @@ def _object(found: Collection) -> dict[str, Any]:
     the widest mask of which any UID may be there, each item, and each log."""
     unsettled = [mask_fields(it.mask) for it in found.findings if it.kind is FindingKind.UNSETTLED]
     counts, overlooked = Counter(item.state for item in found.items), found.overlooked()
+    least = found.least
     return {
-        "schema": SCHEMA, **_answer(found), **_margin(found),
+        "schema": SCHEMA, **_answer(found),
+        **({} if least is None else {
+            "margin": least.weakest.margin,
+            "weakest": {"file": least.name, **mask_fields(least.weakest.mask)}}),
         "counts": {state.value: counts[state] for state in State},
         "unsettled": unsettled[0] if unsettled else None,
         "set_aside": [{"file": log.name, **fields(log.answer), "do": ADVICE[log.status]}
@@ -166,19 +169,12 @@ def _answer(found: Collection) -> dict[str, object]:
     return small_fields(found.answer, found.wanted) if found.is_small else fields(found.answer)
 
 
-def _margin(found: Collection) -> dict[str, object]:
-    """The margin of a complete collection, and in which log a tag would have been missed."""
-    least = found.least
-    if least is None:
-        return {}
-    return {"margin": least.weakest.margin,
-            "weakest": {"file": found.logs[least.log].name, **mask_fields(least.weakest.mask)}}
-
-
 def _of_item(found: Collection, item: Item, overlooked: Mapping[int, int]) -> dict[str, object]:
+    cells = enumerate(zip(found.expected.heads, item.cells))
     said: dict[str, object] = {
         "uid": None if item.uid is None else uid_text(item.uid), "state": item.state.value,
-        "columns": {found.expected.heads[at]: item.cells[at] for at in found.expected.beside()},
+        "columns": {head: cell for at, (head, cell) in cells
+                    if head and at != found.expected.uid_at},
         "certain_in": [found.logs[log].name for log in item.certain_in],
         "may_be_in": [found.logs[log].name for log in item.may_be_in]}
     if item.uid is not None and item.uid in overlooked:
