@@ -89,8 +89,7 @@ class Said(Command):
                  f"{also} no, 'unsettled 1 00'. {ask} ({other.decode().strip()})."),
                 (SILENCE_B + ALL + HEARD_A + LIST_A,
                  f"{also} no, 'unsettled 1 00'. {ask} (T 260100F60A)."),
-                (OVER, f"{also} no, 'complete 2'. "
-                 "If replies may hide others, write H in place of R, in a log of version 3.")):
+                (OVER, f"{also} no, 'complete 2'.")):
             name = self.write("one.log", log(lines))
             *_, said, answer = within("show", name)[0].decode().strip("\n").split("\n\n")
             self.assertEqual(" ".join(said.split("\n"))[-len(wanted):], wanted)

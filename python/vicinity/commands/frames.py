@@ -3,7 +3,7 @@ from __future__ import annotations
 
 import argparse
 import re
-from typing import Any, Callable, Union
+from typing import Callable, Union
 
 from .._answers import Mask
 from .._native import library
@@ -16,10 +16,8 @@ REFUSED = 3
 MOST_DIGITS = 128
 MOST_LINK, MOST_BITS, NUMBER_BITS = 3, {1: 64, 16: 60}, 64
 WORDS, RANGE = "Words", "Range"
-
-
-class _Refused(Exception):
-    """Why words spell no frame."""
+#: What the program says where the library refuses what words say.
+OF_LIBRARY = {"WrongMask": RANGE, "WrongReply": WORDS}
 
 
 def frame(asked: argparse.Namespace) -> int:
@@ -54,8 +52,9 @@ def spell(asked: argparse.Namespace) -> int:
     library()
     try:
         write([f"{_spelled(asked.names).hex().upper()}\n"])
-    except _Refused as why:
-        write([f"refused {why}\n"])
+    except ValueError as error:
+        why = str(error).partition(":")[0]
+        write([f"refused {OF_LIBRARY.get(why, why)}\n"])
         return REFUSED
     return 0
 
@@ -71,42 +70,34 @@ RESPONSE = _form("response flags * dsfid * uid *")
 
 
 def _spelled(words: list[str]) -> bytes:
-    """The frame that words spell. Raises _Refused for the first of them that doesn't fit."""
+    """The frame that words spell.
+    Raises ValueError, with the refusal, for the first of them that doesn't fit."""
     said = "\0".join(words)
     if found := INVENTORY.fullmatch(said):
         link, slots = _decimal(found[1], MOST_LINK), _decimal(found[2])
         if slots not in MOST_BITS:
-            raise _Refused(WORDS)
+            raise ValueError(WORDS)
         bits = _decimal(found[3], MOST_BITS[slots])
         value = 0 if (bits, found[4]) == (0, "-") else _hex(found[4], (bits + 7) // 8 * 2)
-        return _made(RANGE, write_inventory, link, slots, Mask(bits, value))
+        return write_inventory(link, slots, Mask(bits, value))
     if found := STAY_QUIET.fullmatch(said):
         return write_stay_quiet(_decimal(found[1], MOST_LINK), _hex(found[2], 16))
     if found := RESPONSE.fullmatch(said):
-        return _made(WORDS, write_response, _hex(found[1], 2), _hex(found[2], 2),
-                     _hex(found[3], 16))
-    raise _Refused(WORDS)
+        return write_response(_hex(found[1], 2), _hex(found[2], 2), _hex(found[3], 16))
+    raise ValueError(WORDS)
 
 
 def _decimal(word: str, most: int = (1 << NUMBER_BITS) - 1) -> int:
     """A number as `frame` writes it."""
     if not re.fullmatch("0|[1-9][0-9]{0,19}", word) or int(word) >> NUMBER_BITS:
-        raise _Refused(WORDS)
+        raise ValueError(WORDS)
     if int(word) > most:
-        raise _Refused(RANGE)
+        raise ValueError(RANGE)
     return int(word)
 
 
 def _hex(word: str, digits: int) -> int:
     """A number of so many digits, in upper case."""
     if not digits or not re.fullmatch(f"[0-9A-F]{{{digits}}}", word):
-        raise _Refused(WORDS)
+        raise ValueError(WORDS)
     return int(word, 16)
-
-
-def _made(why: str, call: Callable[..., bytes], *given: Any) -> bytes:
-    """What a call makes; if there is no such frame, that is why the words are refused."""
-    try:
-        return call(*given)
-    except ValueError:
-        raise _Refused(why) from None

@@ -3,14 +3,14 @@ from __future__ import annotations
 
 import argparse
 import json
-from typing import Iterator
+from typing import Iterator, Optional
 
 from .._fields import object_of
 from .._native import library
 from .._process import NoAnswer, complain, counted, names_of, read, tell_terminal, write
-from ..collections.catalogue import Catalogue, How, catalogue
+from ..collections.catalogue import How, catalogue
 from ..collections.collection import Collection
-from ..collections.places import Places, places_of
+from ..collections.places import places_of
 from ..collections.surveys import Log, Surveys, certain_lines, record, records, survey_file
 from ..collections.tables import Wrong
 from .forms import FORMS, notes, set_aside, small_margin
@@ -24,9 +24,11 @@ def reconcile(asked: argparse.Namespace) -> int:
     names = names_of(asked, not asked.surveys)
     try:
         said = [(name, read(name)) for name in asked.surveys]
-        expected = catalogue(asked.expected, read(asked.expected), _how(asked))
-        recorded = records(said)
-        places = _places(asked, expected, [*(log.name for log in recorded), *names])
+        how = How(asked.column, asked.place, asked.encoding, _file(asked.tags))
+        expected, recorded = catalogue(asked.expected, read(asked.expected), how), records(said)
+        places = {} if asked.place is None else places_of(
+            expected, [*(log.name for log in recorded), *names], _file(asked.places),
+            asked.encoding)
     except Wrong as wrong:
         if wrong.is_list and asked.form == "lines":
             write([f"{wrong}\n"])
@@ -53,17 +55,9 @@ def reconcile(asked: argparse.Namespace) -> int:
     return found.status
 
 
-def _how(asked: argparse.Namespace) -> How:
-    tags = None if asked.tags is None else (asked.tags, read(asked.tags))
-    return How(asked.column, asked.place, asked.encoding, tags)
-
-
-def _places(asked: argparse.Namespace, expected: Catalogue, names: list[str]) -> Places:
-    """The logs of each place; none if no column has places."""
-    if asked.place is None:
-        return {}
-    file = None if asked.places is None else (asked.places, read(asked.places))
-    return places_of(expected, names, file, asked.encoding)
+def _file(name: Optional[str]) -> Optional[tuple[str, bytes]]:
+    """A file that may not be named, with its name."""
+    return None if name is None else (name, read(name))
 
 
 def _ended(form: str, log: Log) -> Iterator[str]:

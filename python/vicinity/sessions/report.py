@@ -4,7 +4,6 @@ from __future__ import annotations
 
 import json
 import re
-from itertools import islice
 from typing import Iterator, NamedTuple, Optional
 
 from .._answers import FindingKind, Mask
@@ -92,11 +91,15 @@ def notes(session: Session, told: Told) -> Iterator[Note]:
     """The notes on a log, of many of a kind the first. A refused text has none."""
     if told.refused_line:
         return
-    yield from _first(_unheard(session, told))
     rounds = list(_rounds(session))
-    yield from _first(Note(line, f"this round was cut short after {slots} of {count(of, 'slot')}"
-                           if slots else "none of this round's slots is logged")
-                      for line, slots, of, _ in rounds if slots < of)
+    cut = [Note(line, f"this round was cut short after {slots} of {count(of, 'slot')}" if slots
+                else "none of this round's slots is logged")
+           for line, slots, of, _ in rounds if slots < of]
+    for found in list(_unheard(session, told)), cut:
+        yield from found[:MOST_NOTES]
+        if found[MOST_NOTES:]:
+            more = count(len(found) - MOST_NOTES, "more note")
+            yield Note(found[MOST_NOTES].line, f"{more} like these")
     has_asked_all = any(asked_all for *_, asked_all in rounds)
     also_holds = told.answer.is_complete and told.reread == told.answer
     none_is_missed = has_asked_all and (also_holds or not re.search(rb"^R", session.text, re.M))
@@ -106,26 +109,20 @@ def notes(session: Session, told: Told) -> Iterator[Note]:
                    f"the last round didn't ask all tags: one that {missed} would go unnoticed")
 
 
-def _first(found: Iterator[Note]) -> Iterator[Note]:
-    """The first notes of a kind, and how many more there are."""
-    yield from islice(found, MOST_NOTES)
-    for note in found:
-        yield Note(note.line, f"{count(1 + sum(1 for _ in found), 'more note')} like these")
-
-
 def _unheard(session: Session, told: Told) -> Iterator[Note]:
     """The Stay Quiets to tags that are never heard, the first to each."""
     text, absent = session.text, {it.uid: it.line for it in told.of(FindingKind.ABSENT)}
     heard = {digits.upper() for digits in HEARD.findall(text)}
+    line, start = 1, 0
     for found in SILENCED.finditer(text):
+        line, start = line + text.count(b"\n", start, found.start()), found.start()
         digits = found[1].upper()
         if digits not in heard:
             heard.add(digits)
             uid = int.from_bytes(bytes.fromhex(digits.decode()), "little")
-            line, ruled_out = text.count(b"\n", 0, found.start()) + 1, absent.get(uid, 0)
-            lost = f": its reply may have been lost in line {ruled_out}"
+            lost = f": its reply may have been lost in line {absent.get(uid)}"
             yield Note(line, f"{uid_text(uid)} was silenced here but never heard"
-                       + lost * (0 < ruled_out < line))
+                       + lost * (absent.get(uid, line) < line))
 
 
 def _rounds(session: Session) -> Iterator[tuple[int, int, int, bool]]:

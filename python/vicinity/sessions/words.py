@@ -92,8 +92,7 @@ def conditions(session: Session, told: Told) -> Iterator[str]:
             f"; a tag would then have had to be missed in {count(least.margin, 'slot')}")
         yield f"{ALSO} yes{then}."
     elif answer.kind is Kind.IMPOSSIBLE:
-        yield (f"{ALSO} no, '{reread}'. "
-               "If replies may hide others, write H in place of R, in a log of version 3.")
+        yield f"{ALSO} no, '{reread}'."
     else:
         all_tags = ask(session.text, 1, Mask(0, 0))
         yield f"{ALSO} no, '{reread}'. {ASK_AGAIN} ({all_tags})."
