@@ -180,22 +180,21 @@ def test_random_pictures(vicinity):
     """Every log has a picture: random ones, possible and impossible, each with a sentence and what
     was found."""
     from vicinity.pages import log
-    from vicinity.sessions import report, show, words
+    from vicinity.sessions import findings, report, show, words
 
     rng, kinds = random.Random(1), set()
     for _ in range(RANDOM_LOGS):
         version = rng.randint(1, 3)
         _, lines = random_logs.random_log(rng, version)
         text = random_logs.text_of(version, lines)
-        session, found = report.reported(text)
+        found = findings.Told(text)
         kinds.add(found.answer.kind.word)
-        parts = [words.sentence(session, found), *show.show(text, found),
-                 *report.lines_of_report("log", session, found)]
-        told = json.loads("".join(report.object_of_report("log", session, found)))
+        parts = [words.sentence(found), *show.show(found), *report.lines_of_report("log", found)]
+        told = json.loads("".join(report.object_of_report("log", found)))
         absent = [it["uid"] for it in told["findings"] if it["kind"] == "absent"]
         wanted = [vicinity.uid_text(it.uid) for it in found.of(vicinity.FindingKind.ABSENT)]
         assert absent == wanted, text
-        json.dumps(log.page_object("log", text, found))
+        json.dumps(log.page_object("log", found))
         assert all(parts[:2]), text
     assert kinds >= {"complete", "impossible", "unsettled", "unlisted"}
 

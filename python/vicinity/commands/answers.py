@@ -48,19 +48,20 @@ def check_all(asked: argparse.Namespace) -> int:
 
 def report_all(asked: argparse.Namespace) -> int:
     """Writes every finding of each file, and returns the worst status."""
-    from ..sessions.report import lines_of_report, object_of_report, reported  # only here
+    from ..sessions.findings import Told  # loaded only for reports
+    from ..sessions.report import lines_of_report, object_of_report
 
     library()
     worst = 0
     for name in names_of(asked):
-        found = tried(name, reported)
+        found = tried(name, Told)
         if isinstance(found, str):
             worst = complain(found)
             write([json.dumps(object_of(name, found)) + "\n"] if asked.form == "json" else [])
             continue
-        worst = max(worst, found[1].answer.status)
-        write(object_of_report(name, *found) if asked.form == "json" else
-              lines_of_report(shown(name), *found))
+        worst = max(worst, found.answer.status)
+        write(object_of_report(name, found) if asked.form == "json" else
+              lines_of_report(shown(name), found))
     return worst
 
 

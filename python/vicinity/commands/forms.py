@@ -15,7 +15,7 @@ from ..collections.surveys import ADVICE, Log
 from ..frames import uid_text
 from ..pages.document import document, version
 from ..pages.log import page_object
-from ..sessions.findings import tell
+from ..sessions.findings import Told
 from ..sessions.words import ALSO, ASK_AGAIN, HEARD, count, listing, missed
 
 #: How much text of logs stands in a page.
@@ -129,9 +129,9 @@ def _objects(found: Collection) -> Iterator[tuple[int, dict[str, Any]]]:
         room -= len(text)
         if room < 0:
             break
-        told = tell(text)
+        told = Told(text)
         if told.answer == log.answer:
-            yield index, page_object(shown(os.path.basename(log.name)), text, told)
+            yield index, page_object(shown(os.path.basename(log.name)), told)
 
 
 def _object(found: Collection) -> dict[str, Any]:

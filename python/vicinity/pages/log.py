@@ -9,8 +9,8 @@ from .._answers import Answer, FindingKind, Kind
 from .._calls import explain, survey
 from .._fields import mask_fields, object_of
 from ..frames import uid_text
-from ..sessions.findings import WORDS, Told, tell
-from ..sessions.session import MOST_QUOTED, ask
+from ..sessions.findings import WORDS, Told
+from ..sessions.session import ask
 from ..sessions.show import show
 from .document import document, version
 
@@ -23,14 +23,15 @@ COUNTED = (FindingKind.ABSENT, FindingKind.UNLISTED, FindingKind.DOUBTFUL)
 
 def of_log(text: bytes, name: str) -> tuple[Answer, Iterator[str]]:
     """The answer to a log, and the parts of its page."""
-    told = tell(text)
-    said = json.dumps(page_object(name, text, told))
-    return told.answer, document(f"{told.answer}: {name}", [said], show(text, told))
+    told = Told(text)
+    said = json.dumps(page_object(name, told))
+    return told.answer, document(f"{told.answer}: {name}", [said], show(told))
 
 
-def page_object(name: str, text: bytes, told: Told) -> dict[str, Any]:
+def page_object(name: str, told: Told) -> dict[str, Any]:
     """All that a page draws of a log."""
-    answer, left = told.answer, survey(text)
+    answer, text = told.answer, told.session.text
+    left = survey(text)
     return {
         **object_of(name, answer, told.weakest, told.reread),
         "version": version(), "answer": answer.text,
@@ -49,7 +50,7 @@ def page_object(name: str, text: bytes, told: Told) -> dict[str, Any]:
                                     for slots in ((1,) if mask.length else (16, 1))]}
                            for mask in left.open_masks[:MOST_TOLD]]},
         "unnoticed": _unnoticed(text, answer),
-        "text": _until_refused(text, told.refused_line).decode("utf-8", "replace")}
+        "text": told.session.until_refused.decode("utf-8", "replace")}
 
 
 def _unnoticed(text: bytes, answer: Answer) -> Optional[str]:
@@ -57,13 +58,3 @@ def _unnoticed(text: bytes, answer: Answer) -> Optional[str]:
     if answer.kind is not Kind.UNSETTLED:
         return None
     return next((uid_text(uid) for uid in explain(text).population if answer.mask.has(uid)), None)
-
-
-def _until_refused(text: bytes, refused: int) -> bytes:
-    """A text as far as it is told: one that is refused until its refused line."""
-    if not refused:
-        return text
-    lines = text.split(b"\n", refused)
-    before = sum(len(line) + 1 for line in lines[:refused - 1])
-    end = before + len(lines[refused - 1]) + 1
-    return text[:min(end, before + MOST_QUOTED)]

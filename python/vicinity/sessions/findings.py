@@ -2,36 +2,49 @@
 from __future__ import annotations
 
 from itertools import groupby
-from typing import Any, Iterator, Mapping, NamedTuple, Optional, Sequence
+from typing import Any, Iterator, Mapping, Optional, Sequence
 
 from .._answers import Answer, Finding, FindingKind, Kind, Weakest
 from .._calls import if_captured, margin, overlooked, report, with_captures
 from .._fields import mask_fields
 from ..frames import uid_text
+from .session import Session
 
 #: The findings, in the order in which they are told, each with its word.
 WORDS = {FindingKind.SILENCED_BY: "silenced by", FindingKind.CONFLICT_LINE: "conflict",
          FindingKind.ABSENT: "absent", FindingKind.UNLISTED: "unlisted",
          FindingKind.UNSETTLED: "unsettled", FindingKind.OPEN_MASK: "open",
          FindingKind.MORE_OPEN_MASKS: "more open", FindingKind.DOUBTFUL: "doubtful"}
+#: How many findings of each kind are shown in a terminal.
+MOST_LINES = 20
 
 
-class Told(NamedTuple):
-    """What `vicinity report` says about a log."""
+class Told:
+    """What `vicinity report` says about a log, and what a person wants to know beside it.
+    Raises what `report` raises."""
 
-    answer: Answer
-    findings: Mapping[FindingKind, Sequence[Finding]]
-    reread: Optional[Answer]
-    """The answer if any reply may have hidden others; nothing if the text is refused."""
-    overlooked: Sequence[int]
-    """In how many slots each absent UID was overlooked."""
-    weakest: Optional[Weakest]
-    """The margin of a complete list."""
-    weakest_reread: Optional[Weakest]
-    """The margin of one that is also complete if any reply may have hidden others."""
+    def __init__(self, text: bytes):
+        self.answer, findings = report(text)
+        self._findings: Mapping[FindingKind, Sequence[Finding]] = {
+            kind: list(these) for kind, these in groupby(findings, lambda it: it.kind)}
+        #: The answer if any reply may have hidden others; nothing if the text is refused.
+        self.reread: Optional[Answer] = if_captured(text, self.answer)
+        #: In how many slots each absent UID was overlooked.
+        absent = [it.uid for it in self.of(FindingKind.ABSENT)]
+        self.overlooked: Sequence[int] = overlooked(text, absent) if absent else []
+        #: The margin of a complete list, and that of one that is also complete if any reply
+        #: may have hidden others.
+        self.weakest: Optional[Weakest] = None
+        self.weakest_reread: Optional[Weakest] = None
+        if self.answer.is_complete:
+            self.weakest = margin(text).weakest
+            if self.reread == self.answer:
+                self.weakest_reread = margin(with_captures(text)).weakest
+        self.session = Session(text, self.refused_line, self.lines(MOST_LINES))
 
     def of(self, kind: FindingKind) -> Sequence[Finding]:
-        return self.findings.get(kind, ())
+        """The findings of a kind."""
+        return self._findings.get(kind, ())
 
     @property
     def refused_line(self) -> int:
@@ -60,15 +73,3 @@ class Told(NamedTuple):
                 if kind in (FindingKind.UNSETTLED, FindingKind.OPEN_MASK):
                     said.update(mask_fields(it.mask))
                 yield said
-
-
-def tell(text: bytes) -> Told:
-    """What `vicinity report` says about a text. Raises what `report` raises."""
-    answer, all_findings = report(text)
-    findings = {kind: list(these) for kind, these in groupby(all_findings, lambda it: it.kind)}
-    absent = [it.uid for it in findings.get(FindingKind.ABSENT, ())]
-    reread, is_complete = if_captured(text, answer), answer.is_complete
-    return Told(
-        answer, findings, reread, overlooked(text, absent) if absent else [],
-        margin(text).weakest if is_complete else None,
-        margin(with_captures(text)).weakest if is_complete and reread == answer else None)

@@ -9,12 +9,13 @@ from typing import Iterator, NamedTuple, Optional
 from .._answers import FindingKind, Mask
 from .._fields import UID_BITS, object_of
 from ..frames import uid_text
-from .findings import WORDS, Told, tell
+from .findings import WORDS, Told
 from .session import Session, ask
 from .words import count, ending, meaning, sentence, silent
 
 SILENCED = re.compile(rb"^T ..02(.{16})", re.MULTILINE)
 HEARD = re.compile(rb"^[RH] ....(.{16})", re.MULTILINE)
+ALONE = re.compile(rb"^R", re.MULTILINE)
 SLOT = re.compile(rb"^[SRHCDN]", re.MULTILINE)
 INVENTORY, ONE_SLOT, NO_MASK = b"01", 0x20, b"00"
 #: How many notes of one kind are written separately.
@@ -31,7 +32,7 @@ class Found(NamedTuple):
     said: str
 
 
-def found(session: Session, told: Told, most: Optional[int] = None) -> Iterator[Found]:
+def found(told: Told, most: Optional[int] = None) -> Iterator[Found]:
     """The findings, the first `most` of each kind; the unsettled mask is one of the open ones."""
     slots = iter(told.overlooked)
     for kind in WORDS:
@@ -42,42 +43,36 @@ def found(session: Session, told: Told, most: Optional[int] = None) -> Iterator[
             elif kind is FindingKind.UNLISTED:
                 said = uid
             elif kind is FindingKind.OPEN_MASK:
-                said = f"{ending(it.mask)} may be there: send {ask(session.text, 1, it.mask)}"
+                said = f"{ending(it.mask)} may be there: send {ask(told.session.text, 1, it.mask)}"
             elif kind is FindingKind.DOUBTFUL:
                 of_one = Mask(UID_BITS, it.uid & (1 << UID_BITS) - 1)
-                said = f"{uid} may be missing: send {ask(session.text, 1, of_one)}"
+                said = f"{uid} may be missing: send {ask(told.session.text, 1, of_one)}"
             yield Found(kind, it.line, said)
 
 
-def reported(text: bytes) -> tuple[Session, Told]:
-    """A text as a report needs it."""
-    told = tell(text)
-    return Session(text, told.refused_line, told.lines(MOST)), told
-
-
-def lines_of_report(name: str, session: Session, told: Told) -> Iterator[str]:
+def lines_of_report(name: str, told: Told) -> Iterator[str]:
     """A line for each finding and note, like a compiler's: with the number of the line
     of the log that shows it, or of the one after which further requests go.
     There is no finding if the list is complete."""
     if told.answer.status > 1:
         fault = f"{told.answer.fault.word}: {told.answer.fault.wrong}" if told.refused_line else ""
         yield (f"{name}:{told.answer.line}: {told.answer.kind.word}: "
-               f"{fault or sentence(session, told)}\n")
-    quoted = {line: meaning(session, line) for line in told.lines(MOST)}
-    for it in found(session, told):
+               f"{fault or sentence(told)}\n")
+    quoted = {line: meaning(told.session, line) for line in told.lines(MOST)}
+    for it in found(told):
         said = ": ".join(filter(None, (WORDS[it.kind], it.said, quoted.get(it.line))))
-        yield f"{name}:{it.line or session.asked_until}: {said}\n"
-    yield from (f"{name}:{it.line}: note: {it.text}\n" for it in notes(session, told))
+        yield f"{name}:{it.line or told.session.asked_until}: {said}\n"
+    yield from (f"{name}:{it.line}: note: {it.text}\n" for it in notes(told))
 
 
-def object_of_report(name: str, session: Session, told: Told) -> Iterator[str]:
+def object_of_report(name: str, told: Told) -> Iterator[str]:
     """One object on one line: what `--json` says about a log, with all findings and notes."""
     head = object_of(name, told.answer, told.weakest, told.reread)
-    yield json.dumps({**head, "sentence": sentence(session, told)})[:-1]
+    yield json.dumps({**head, "sentence": sentence(told)})[:-1]
     yield ', "findings": ['
     for index, finding in enumerate(told.objects()):
         yield (", " if index else "") + json.dumps(finding)
-    yield '], "notes": ' + json.dumps([note._asdict() for note in notes(session, told)]) + "}\n"
+    yield '], "notes": ' + json.dumps([note._asdict() for note in notes(told)]) + "}\n"
 
 
 class Note(NamedTuple):
@@ -87,31 +82,30 @@ class Note(NamedTuple):
     text: str
 
 
-def notes(session: Session, told: Told) -> Iterator[Note]:
+def notes(told: Told) -> Iterator[Note]:
     """The notes on a log, of many of a kind the first. A refused text has none."""
     if told.refused_line:
         return
-    rounds = list(_rounds(session))
+    rounds = list(_rounds(told.session))
     cut = [Note(line, f"this round was cut short after {slots} of {count(of, 'slot')}" if slots
                 else "none of this round's slots is logged")
            for line, slots, of, _ in rounds if slots < of]
-    for found in list(_unheard(session, told)), cut:
+    for found in list(_unheard(told)), cut:
         yield from found[:MOST_NOTES]
         if found[MOST_NOTES:]:
             more = count(len(found) - MOST_NOTES, "more note")
             yield Note(found[MOST_NOTES].line, f"{more} like these")
     has_asked_all = any(asked_all for *_, asked_all in rounds)
-    also_holds = told.answer.is_complete and told.reread == told.answer
-    none_is_missed = has_asked_all and (also_holds or not re.search(rb"^R", session.text, re.M))
-    if rounds and not rounds[-1][3] and not none_is_missed:
+    none_was_hidden = told.weakest_reread or not ALONE.search(told.session.text)
+    if rounds and not rounds[-1][3] and not (has_asked_all and none_was_hidden):
         missed = "stronger replies hid" if has_asked_all else "no earlier round asked"
         yield Note(rounds[-1][0],
                    f"the last round didn't ask all tags: one that {missed} would go unnoticed")
 
 
-def _unheard(session: Session, told: Told) -> Iterator[Note]:
+def _unheard(told: Told) -> Iterator[Note]:
     """The Stay Quiets to tags that are never heard, the first to each."""
-    text, absent = session.text, {it.uid: it.line for it in told.of(FindingKind.ABSENT)}
+    text, absent = told.session.text, {it.uid: it.line for it in told.of(FindingKind.ABSENT)}
     heard = {digits.upper() for digits in HEARD.findall(text)}
     line, start = 1, 0
     for found in SILENCED.finditer(text):

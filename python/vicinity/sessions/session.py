@@ -112,8 +112,9 @@ class Session:
                     self._starts.append(start)
                     heard = set()
             start += len(line)
-        #: The refused line, and whether the text ends in it.
-        self.refused = self.text[start:start + MOST_QUOTED].split(b"\n")[0]
+        line, end, _ = self.text[start:start + MOST_QUOTED].partition(b"\n")
+        #: The refused line, whether the text ends in it, and the text until its end.
+        self.refused, self.until_refused = line, self.text[:start] + line + end
         self.is_cut = start < len(self.text) and self.text.find(b"\n", start) < 0
 
     def bytes_of(self, index: int) -> bytes:

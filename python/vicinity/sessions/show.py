@@ -10,7 +10,7 @@ from .._answers import FindingKind
 from .._fields import UID_BITS
 from .._process import shown
 from ..frames import uid_text
-from .findings import WORDS, Told
+from .findings import MOST_LINES, WORDS, Told
 from .report import found
 from .session import Row, Session, Slot
 from .words import conditions, count, meaning, sentence, span
@@ -19,8 +19,6 @@ from .words import conditions, count, meaning, sentence, span
 ASCII = {ord("·"): ".", ord("╳"): "X", ord("⋮"): ":"}
 ANSWER_COLOURS = ("1;32", "1;33", "1;31", "1;35")
 NAMED = "7"
-#: How many findings of each kind are written.
-MOST_LINES = 20
 #: A session of at most so many rows is drawn completely. Of a longer one the rows
 #: with a named line are drawn, and so many at each end, or so many if no line is named.
 ALL, ENDS, ENDS_ALONE = 40, 2, 8
@@ -44,21 +42,20 @@ class Look(NamedTuple):
         return wrap(text, max(self.columns, 20), subsequent_indent=indent, break_on_hyphens=False)
 
 
-def show(text: bytes, told: Told, look: Look = Look()) -> Iterator[str]:
+def show(told: Told, look: Look = Look()) -> Iterator[str]:
     """The lines of a picture, of what was found, and of the answer, which is first and last."""
-    session = Session(text, told.refused_line, told.lines(MOST_LINES))
     answer = look.painted(told.answer.text, ANSWER_COLOURS[told.answer.status])
     parts: list[Iterable[str]] = [
-        [answer, *look.wrapped(sentence(session, told))], _picture(session, told, look),
-        _found(session, told, look), look.wrapped(MORE) if told.answer.status else [],
-        [line for said in conditions(session, told) for line in look.wrapped(said)], [answer]]
+        [answer, *look.wrapped(sentence(told))], _picture(told, look),
+        _found(told, look), look.wrapped(MORE) if told.answer.status else [],
+        [line for said in conditions(told) for line in look.wrapped(said)], [answer]]
     lines = "\n\n".join(filter(None, map("\n".join, parts))).split("\n")
     yield from (line if look.utf8 else line.translate(ASCII) for line in lines)
 
 
-def _picture(session: Session, told: Told, look: Look) -> Iterator[str]:
+def _picture(told: Told, look: Look) -> Iterator[str]:
     """The rows that matter, one line each, or more where the slots don't fit into one."""
-    named = told.lines(MOST_LINES)
+    session, named = told.session, told.lines(MOST_LINES)
     rows = list(_chosen(session, named))
     drawn = [row for row in rows if isinstance(row, Row)]
     labels = max([5, len(span(*session.list_lines)),
@@ -117,13 +114,14 @@ def _cell(row: Row, slot: Slot, named: set[int], look: Look) -> str:
     return look.painted(f"{sign:>2}{mark}", colour)
 
 
-def _found(session: Session, told: Told, look: Look) -> Iterator[str]:
+def _found(told: Told, look: Look) -> Iterator[str]:
     """What `report` says, the first of each kind, with the lines of the log that show it
     and the requests to send."""
+    session = told.session
     if told.refused_line:
         refused = shown(session.refused.removesuffix(b"\r")) or "(empty)"
         yield f"{told.refused_line:>8} | {refused}"
-    for (kind, line), findings in groupby(found(session, told, MOST_LINES), lambda it: it[:2]):
+    for (kind, line), findings in groupby(found(told, MOST_LINES), lambda it: it[:2]):
         for it in findings:
             said = f"{WORDS[kind]}: {it.said}" if it.said else WORDS[kind] * (not line)
             yield from look.wrapped(said, "  ")

@@ -59,11 +59,11 @@ def meaning(session: Session, line: int) -> str:
     return f"Stay Quiet to {uid_text(row.request.uid)}" if row.request else "field off and on"
 
 
-def sentence(session: Session, told: Told) -> str:
+def sentence(told: Told) -> str:
     """What is known about the list."""
     answer = told.answer
     if answer.kind is Kind.REFUSED:
-        cut = " The text ends in the middle of this line: was it cut?" * session.is_cut
+        cut = " The text ends in the middle of this line: was it cut?" * told.session.is_cut
         return f"This text isn't a valid log. Line {answer.line}: {answer.fault.wrong}.{cut}"
     if answer.kind is Kind.IMPOSSIBLE:
         return f"The log contradicts itself: {_contradiction(told)}."
@@ -76,7 +76,7 @@ def sentence(session: Session, told: Told) -> str:
     return f"Complete: all {answer.count:,} tags in the field are listed, and no others."
 
 
-def conditions(session: Session, told: Told) -> Iterator[str]:
+def conditions(told: Told) -> Iterator[str]:
     """What an answer is said under: of a complete list which tags it speaks of,
     and how often one would have had to be missed; and whether it also holds under capture."""
     answer, reread = told.answer, told.reread
@@ -94,7 +94,7 @@ def conditions(session: Session, told: Told) -> Iterator[str]:
     elif answer.kind is Kind.IMPOSSIBLE:
         yield f"{ALSO} no, '{reread}'."
     else:
-        all_tags = ask(session.text, 1, Mask(0, 0))
+        all_tags = ask(told.session.text, 1, Mask(0, 0))
         yield f"{ALSO} no, '{reread}'. {ASK_AGAIN} ({all_tags})."
 
 
