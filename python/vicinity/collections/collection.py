@@ -17,7 +17,7 @@ from .surveys import ALL, Surveys, without_list
 MOST_OPEN = 16
 
 
-class State(Enum):
+class State(str, Enum):
     """What is known of an item."""
 
     THERE = "there"

@@ -4,7 +4,7 @@ from __future__ import annotations
 import argparse
 import json
 import os
-from typing import Any, Callable, Mapping, NamedTuple, Optional, Sequence
+from typing import Any, Callable, Mapping, NamedTuple, Sequence
 
 from .._fields import SCHEMA
 from .._process import complain, read, shown, write
@@ -13,15 +13,14 @@ from ..collections.tables import Wrong
 from ..frames import parse_uid, uid_text
 
 REFUSED = 3
-FOUND = (State.THERE.value, State.MISPLACED.value)
-MISSING, NOT_PROVABLE = State.MISSING.value, State.NOT_PROVABLE.value
-UNEXPECTED = State.UNEXPECTED.value
+FOUND = State.THERE, State.MISPLACED
 #: The changes of items in the order in which they are written.
 CHANGES = ("newly missing", "no longer provable", "moved", "back again", "provable again",
            "newly unexpected", "no longer unexpected", "newly expected", "no longer expected")
 
-#: An item of an answer, as JSON has it.
+#: An item of an answer, as JSON has it, and one that isn't there.
 Said = Mapping[str, Any]
+NONE: Said = {"state": None, "certain_in": [], "columns": {}}
 
 
 class Change(NamedTuple):
@@ -29,8 +28,8 @@ class Change(NamedTuple):
 
     what: str
     uid: str
-    old: Optional[Said]
-    new: Optional[Said]
+    old: Said
+    new: Said
 
 
 class Answer(NamedTuple):
@@ -56,7 +55,7 @@ def compare(asked: argparse.Namespace) -> int:
     def name(log: str) -> str:
         return os.path.basename(log) if is_short else log
 
-    items = ((uid, old.items.get(uid), new.items.get(uid))
+    items = ((uid, old.items.get(uid, NONE), new.items.get(uid, NONE))
              for uid in old.items.keys() | new.items.keys())
     changes = [Change(what, uid, was, now) for uid, was, now in items
                if (what := _change(was, now, name))]
@@ -97,41 +96,41 @@ def _names(said: Any) -> list[str]:
     return said
 
 
-def _change(old: Optional[Said], new: Optional[Said], name: Callable[[str], str]) -> str:
+def _change(old: Said, new: Said, name: Callable[[str], str]) -> str:
     """What has changed of an item, or nothing."""
-    if old is None or new is None:
-        state = (new or old or {})["state"]
-        if new and state == MISSING:
-            return "newly missing"
-        of_state = "unexpected" if state == UNEXPECTED else "expected"
-        return f"{'newly' if new else 'no longer'} {of_state}"
     was, now = old["state"], new["state"]
+    if was is None and now == State.MISSING:
+        return "newly missing"
+    if was is None or now is None:
+        of_state = "unexpected" if State.UNEXPECTED in (was, now) else "expected"
+        return f"{'newly' if was is None else 'no longer'} {of_state}"
     if now == was or now in FOUND and was in FOUND:
         before, after = ({name(log) for log in it["certain_in"]} for it in (old, new))
         return "moved" if before and after and before.isdisjoint(after) else ""
     if now in FOUND:
-        return {MISSING: "back again", NOT_PROVABLE: "provable again"}.get(was, "newly expected")
-    gone = {MISSING: "newly missing", NOT_PROVABLE: "no longer provable"}
+        back = {State.MISSING: "back again", State.NOT_PROVABLE: "provable again"}
+        return back.get(was, "newly expected")
+    gone = {State.MISSING: "newly missing", State.NOT_PROVABLE: "no longer provable"}
     return gone.get(now, "newly unexpected")
 
 
-def _where(item: Optional[Said]) -> list[str]:
-    return list(item["certain_in"]) if item else []
-
-
 def _line(change: Change) -> str:
-    was_in, is_in = (" and ".join(map(shown, _where(item))) for item in (change.old, change.new))
+    was_in, is_in = (" and ".join(map(shown, item["certain_in"]))
+                     for item in (change.old, change.new))
     where = ""
     if was_in != is_in:
         where = f" from {was_in}" * bool(was_in)
         where += f" {'to' if was_in else 'in'} {is_in}" * bool(is_in)
-    cells = ", ".join(filter(None, map(str, (change.new or change.old or {})["columns"].values())))
+    cells = ", ".join(filter(None, map(str, _columns(change).values())))
     return f"{change.what} {change.uid}{where}{': ' * bool(cells)}{shown(cells)}\n"
 
 
 def _object(change: Change) -> dict[str, object]:
-    old, new = change.old or {}, change.new or {}
-    return {"change": change.what, "uid": change.uid,
-            "was": old.get("state"), "is": new.get("state"),
-            "was_in": _where(change.old), "is_in": _where(change.new),
-            "columns": (new or old)["columns"]}
+    old, new = change.old, change.new
+    return {"change": change.what, "uid": change.uid, "was": old["state"], "is": new["state"],
+            "was_in": old["certain_in"], "is_in": new["certain_in"], "columns": _columns(change)}
+
+
+def _columns(change: Change) -> Said:
+    columns: Said = (change.old if change.new is NONE else change.new)["columns"]
+    return columns

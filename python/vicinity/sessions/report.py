@@ -10,14 +10,13 @@ from .._answers import FindingKind, Mask
 from .._fields import UID_BITS, object_of
 from ..frames import uid_text
 from .findings import WORDS, Told
-from .session import Session, ask
+from .session import STAY_QUIET, Session, ask
 from .words import count, ending, meaning, sentence, silent
 
-SILENCED = re.compile(rb"^T ..02(.{16})", re.MULTILINE)
-HEARD = re.compile(rb"^[RH] ....(.{16})", re.MULTILINE)
-ALONE = re.compile(rb"^R", re.MULTILINE)
-SLOT = re.compile(rb"^[SRHCDN]", re.MULTILINE)
-INVENTORY, ONE_SLOT, NO_MASK = b"01", 0x20, b"00"
+REPLY = re.compile(rb"^[RH] ....(.{16})", re.MULTILINE)
+ALONE, SLOT = re.compile(rb"^R", re.MULTILINE), re.compile(rb"^[SRHCDN]", re.MULTILINE)
+#: The bit of the flags of an Inventory request of one slot, and its length of a mask of all tags.
+ONE_SLOT, NO_MASK = 0x20, b"00"
 #: How many notes of one kind are written separately.
 MOST_NOTES = 5
 #: Of how many findings of each kind it is said what their line says.
@@ -86,31 +85,34 @@ def notes(told: Told) -> Iterator[Note]:
     """The notes on a log, of many of a kind the first. A refused text has none."""
     if told.refused_line:
         return
-    rounds = list(_rounds(told.session))
-    cut = [Note(line, f"this round was cut short after {slots} of {count(of, 'slot')}" if slots
-                else "none of this round's slots is logged")
-           for line, slots, of, _ in rounds if slots < of]
-    for found in list(_unheard(told)), cut:
+    unheard, cut = list(_unheard(told)), []
+    last, has_asked_all = 0, False
+    for line, text in _rows(told.session, is_quiet=False):
+        slots, of = SLOT.findall(text), 1 if int(text[2:4], 16) & ONE_SLOT else 16
+        if len(slots) < of:
+            cut.append(Note(line, f"this round was cut short after {len(slots)} of "
+                                  f"{count(of, 'slot')}" if slots else
+                                  "none of this round's slots is logged"))
+        asked_all = text[6:8] == NO_MASK and len(slots) == of and b"N" not in slots
+        last, has_asked_all = 0 if asked_all else line, has_asked_all or asked_all
+    for found in unheard, cut:
         yield from found[:MOST_NOTES]
         if found[MOST_NOTES:]:
             more = count(len(found) - MOST_NOTES, "more note")
             yield Note(found[MOST_NOTES].line, f"{more} like these")
-    has_asked_all = any(asked_all for *_, asked_all in rounds)
     none_was_hidden = told.weakest_reread or not ALONE.search(told.session.text)
-    if rounds and not rounds[-1][3] and not (has_asked_all and none_was_hidden):
+    if last and not (has_asked_all and none_was_hidden):
         missed = "stronger replies hid" if has_asked_all else "no earlier round asked"
-        yield Note(rounds[-1][0],
-                   f"the last round didn't ask all tags: one that {missed} would go unnoticed")
+        yield Note(last, "the last round didn't ask all tags: "
+                         f"one that {missed} would go unnoticed")
 
 
 def _unheard(told: Told) -> Iterator[Note]:
     """The Stay Quiets to tags that are never heard, the first to each."""
-    text, absent = told.session.text, {it.uid: it.line for it in told.of(FindingKind.ABSENT)}
-    heard = {digits.upper() for digits in HEARD.findall(text)}
-    line, start = 1, 0
-    for found in SILENCED.finditer(text):
-        line, start = line + text.count(b"\n", start, found.start()), found.start()
-        digits = found[1].upper()
+    absent = {it.uid: it.line for it in told.of(FindingKind.ABSENT)}
+    heard = {digits.upper() for digits in REPLY.findall(told.session.text)}
+    for line, text in _rows(told.session, is_quiet=True):
+        digits = text[6:22].upper()
         if digits not in heard:
             heard.add(digits)
             uid = int.from_bytes(bytes.fromhex(digits.decode()), "little")
@@ -119,12 +121,9 @@ def _unheard(told: Told) -> Iterator[Note]:
                        + lost * (absent.get(uid, line) < line))
 
 
-def _rounds(session: Session) -> Iterator[tuple[int, int, int, bool]]:
-    """The line of each round, how many slots are logged, how many it has,
-    and whether it asked all tags, to its end, and something is known of each slot."""
+def _rows(session: Session, is_quiet: bool) -> Iterator[tuple[int, bytes]]:
+    """The lines and texts of the rounds, or of the Stay Quiets that are rows of their own."""
     for index, line in enumerate(session.lines):
         text = session.bytes_of(index)
-        if text[:1] == b"T" and text[4:6] == INVENTORY:
-            slots, of = SLOT.findall(text), 1 if int(text[2:4], 16) & ONE_SLOT else 16
-            is_known = len(slots) == of and b"N" not in slots
-            yield line, len(slots), of, text[6:8] == NO_MASK and is_known
+        if text[:1] == b"T" and (text[4:6] == STAY_QUIET) == is_quiet:
+            yield line, text
