@@ -1,6 +1,8 @@
 """The page of a log, for programs and notebooks."""
 from __future__ import annotations
 
+from html import escape
+
 from ._native import BytesLike, bytes_of
 
 
@@ -8,8 +10,6 @@ class Page(str):
     """A page as HTML, which a notebook shows."""
 
     def _repr_html_(self) -> str:
-        from html import escape  # needed only here
-
         return f'<iframe srcdoc="{escape(self)}" style="width: 100%; height: 40em"></iframe>'
 
 

@@ -19,7 +19,8 @@ from typing import Any, Callable, Generator, Iterable, NoReturn, Sequence, TypeV
 # 1,000,000 lines of 130 bytes, plus one.
 MOST_BYTES = 1_000_000 * 130 + 1
 PIECE = 1 << 16
-NO_ANSWER = 4
+#: Statuses: an input is refused, and there is no answer.
+REFUSED, NO_ANSWER = 3, 4
 #: With more logs than this, a terminal is told how many have been read, each time after so many.
 MOST_UNCOUNTED, TOLD_EACH = 50, 10
 

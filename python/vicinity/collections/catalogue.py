@@ -17,7 +17,6 @@ COLUMN = "uid"
 #: with TWIN where it has one of that name itself.
 #: Where an earlier run has written them they are replaced, and its unexpected tags left out.
 ADDED, TWIN, UNEXPECTED = ("state", "certain in", "may be in"), " (found)", "unexpected"
-NO_TAG: list[Optional[int]] = [None]
 NAMES_IT = "name the one with the UIDs uid, or say by --column NAME which it is"
 NAMES_KEY = "--column NAME names the one by which --tags has the UIDs"
 
@@ -65,11 +64,6 @@ class Catalogue(NamedTuple):
         if self.key_at is not None:
             cells[self.key_at] = self.keys.get(uid, "")
         return cells
-
-    def added(self) -> list[str]:
-        """The names of the columns that are written behind those of the catalogue."""
-        taken = {head.casefold() for head in self.heads}
-        return [name + TWIN * (name in taken) for name in ADDED]
 
 
 def catalogue(name: str, text: bytes, how: How = How()) -> Catalogue:
@@ -150,7 +144,7 @@ def _tagged(table: Table, is_ours: bool, how: How, tags: Table) -> Catalogue:
         by_key.setdefault(keys[uid].casefold(), []).append(uid)
     entries = [Entry(row, uid, [*cells, "" if uid is None else uid_text(uid)])
                for row, cells in table.rows
-               for uid in by_key.get(cells[key_at].strip().casefold(), NO_TAG)]
+               for uid in by_key.get(cells[key_at].strip().casefold(), [None])]
     return Catalogue(table.name, table.form, [*table.heads, head], entries, len(table.heads),
                      key_at, keys=keys)
 

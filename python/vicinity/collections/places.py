@@ -8,8 +8,6 @@ from .._process import shown
 from .catalogue import Catalogue
 from .tables import Wrong, read_table
 
-#: The columns of a file with the logs of places.
-PLACE, LOG = "place", "log"
 NAMES_PLACES = "it has the columns place and log"
 SAYS_PLACES = "--places FILE says which logs are of which place"
 
@@ -24,7 +22,7 @@ def places_of(expected: Catalogue, names: Sequence[str], file: Optional[tuple[st
     places = _by_names(names)
     if file is not None:
         table = read_table(*file, encoding)
-        place_at, log_at = table.column(PLACE, NAMES_PLACES), table.column(LOG, NAMES_PLACES)
+        place_at, log_at = (table.column(it, NAMES_PLACES) for it in ("place", "log"))
         by_name, places = places, {}
         for _, cells in table.rows:
             its_own = by_name.get(cells[log_at].strip().casefold(), [])

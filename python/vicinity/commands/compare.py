@@ -7,12 +7,11 @@ import os
 from typing import Any, Callable, Mapping, NamedTuple, Sequence
 
 from .._fields import SCHEMA
-from .._process import complain, read, shown, write
+from .._process import REFUSED, complain, read, shown, write
 from ..collections.collection import State
 from ..collections.tables import Wrong
 from ..frames import parse_uid, uid_text
 
-REFUSED = 3
 FOUND = State.THERE, State.MISPLACED
 #: The changes of items in the order in which they are written.
 CHANGES = ("newly missing", "no longer provable", "moved", "back again", "provable again",

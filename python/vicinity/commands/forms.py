@@ -10,6 +10,7 @@ from typing import Any, Callable, Iterable, Iterator, Mapping, Union
 from .._answers import Answer, Finding, FindingKind
 from .._fields import SCHEMA, fields, margin_fields, mask_fields, small, small_fields
 from .._process import shown
+from ..collections.catalogue import ADDED, TWIN
 from ..collections.collection import Collection, Item, State
 from ..collections.surveys import ADVICE, Log
 from ..frames import uid_text
@@ -98,7 +99,9 @@ def as_csv(found: Collection) -> Iterator[bytes]:
 
     rows = ([*item.cells, item.state.value, where(item.certain_in), where(item.may_be_in)]
             for item in found.items)
-    head = [*found.expected.heads, *found.expected.added()]
+    heads = found.expected.heads
+    taken = {head.casefold() for head in heads}
+    head = [*heads, *(name + TWIN * (name in taken) for name in ADDED)]
     return found.expected.form.written(row for part in ([head], rows) for row in part)
 
 

@@ -7,11 +7,10 @@ from typing import Callable, Union
 
 from .._answers import Mask
 from .._native import library
-from .._process import write
+from .._process import REFUSED, write
 from ..frames import (FrameFault, Reply, Request, read_request, read_response, uid_text,
                       write_inventory, write_response, write_stay_quiet)
 
-REFUSED = 3
 #: The bytes of a frame of at most so many digits.
 MOST_DIGITS = 128
 MOST_LINK, MOST_BITS, NUMBER_BITS = 3, {1: 64, 16: 60}, 64

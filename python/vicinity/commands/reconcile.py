@@ -7,15 +7,14 @@ from typing import Iterator, Optional
 
 from .._fields import object_of
 from .._native import library
-from .._process import NoAnswer, complain, counted, names_of, read, tell_terminal, write
+from .._process import (REFUSED, NoAnswer, complain, counted, names_of, read, tell_terminal,
+                        write)
 from ..collections.catalogue import How, catalogue
 from ..collections.collection import Collection
 from ..collections.places import places_of
 from ..collections.surveys import Log, Surveys, certain_lines, record, records, survey_file
 from ..collections.tables import Wrong
 from .forms import FORMS, notes, set_aside, small_margin
-
-REFUSED = 3
 
 
 def reconcile(asked: argparse.Namespace) -> int:
