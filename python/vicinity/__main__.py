@@ -34,28 +34,31 @@ def words() -> tuple[Words, Mapping[str, Words]]:
     top.add_argument("--version", action="version", version=__version__)
     commands = top.add_subparsers(metavar="COMMAND", parser_class=Words)
 
-    def add(name: str, does: str, what: str, names: str = "LOG", least: int = 1,
-            most: int = 1) -> Words:
+    def add(name: str, does: str, what: str, names: str = "LOG", least: int = 1, most: int = 1,
+            **forms: str) -> Words:
         """A command, with the function that does it as MODULE.FUNCTION, and what it does
-        for people. It takes so many names."""
+        for people. It takes so many names, and writes in one of these forms,
+        of which the first is meant where none is asked for."""
         command: Words = commands.add_parser(name, help=what, description=what, **LOOK)
-        command.set_defaults(does=does, number=(least, most))
+        command.set_defaults(does=does, number=(least, most), form=next(iter(forms), ""))
         command.add_argument("names", metavar=names, nargs="*")
+        group = command.add_mutually_exclusive_group() if forms else command
+        for form, text in forms.items():
+            group.add_argument(f"--{form}", dest="form", action="store_const", const=form,
+                               help=text)
         return command
 
     check = add("check", "answers.check_all", "whether the list of each log is complete", "LOG",
-                0, ANY)
-    _forms(check, lines="FILE: answer", tabs="file, status and answer, separated by tabs",
-           json="an object a line")
-    report = add("report", "answers.report_all", "every finding of each log", "LOG", 0, ANY)
-    _forms(report, lines="FILE:LINE: text, like a compiler",
-           json="an object a line, with the findings")
+                0, ANY, lines="FILE: answer", json="an object a line",
+                tabs="file, status and answer, separated by tabs")
+    report = add("report", "answers.report_all", "every finding of each log", "LOG", 0, ANY,
+                 lines="FILE:LINE: text, like a compiler",
+                 json="an object a line, with the findings")
     reconcile = add("reconcile", "reconcile.reconcile",
                     "compares many logs with a list or catalogue of what should be there", "LOG",
-                    0, ANY)
-    _forms(reconcile, lines="lines like those of `vicinity reconcile`",
-           csv="the catalogue, with the state of each item",
-           json="one object: the answer, each item and each log", page="one HTML file")
+                    0, ANY, lines="lines like those of `vicinity reconcile`",
+                    csv="the catalogue, with the state of each item", page="one HTML file",
+                    json="one object: the answer, each item and each log")
     _of_collections(reconcile)
     survey = add("survey", "reconcile.survey", "what each log says of its field, an object a line, "
                  "for reconcile --surveys", "LOG", 0, ANY)
@@ -66,9 +69,8 @@ def words() -> tuple[Words, Mapping[str, Words]]:
         command.add_argument("--margin", metavar="K", type=_number(MOST_MARGIN), default=0,
                              help="a list is complete only if a tag that isn't on it would have "
                                   "had to be missed in K slots or more")
-    compare = add("compare", "compare.compare", "what has changed between two answers of "
-                  "reconcile --json", "OLD NEW", 2, 2)
-    _forms(compare, lines="a line for each item that has changed", json="one object")
+    add("compare", "compare.compare", "what has changed between two answers of reconcile --json",
+        "OLD NEW", 2, 2, lines="a line for each item that has changed", json="one object")
     show = add("show", "draw.draw", "draws the rounds of a log for a terminal")
     show.add_argument("--ascii", action="store_true", help="only ASCII characters")
     add("page", "draw.page", "the same as one HTML file")
@@ -88,14 +90,6 @@ def words() -> tuple[Words, Mapping[str, Words]]:
     add("frame", "frames.frame", "a frame in words, as the program does", "HEX")
     add("spell", "frames.spell", "words as a frame, as the program does", "WORD", 1, ANY)
     return top, commands.choices
-
-
-def _forms(command: Words, **forms: str) -> None:
-    """The forms in which a command writes, of which the first is meant where none is asked for."""
-    group = command.add_mutually_exclusive_group()
-    for form, what in forms.items():
-        group.add_argument(f"--{form}", dest="form", action="store_const", const=form, help=what)
-    command.set_defaults(form=next(iter(forms)))
 
 
 def _of_collections(reconcile: Words) -> None:

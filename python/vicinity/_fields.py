@@ -73,14 +73,6 @@ def small_fields(answer: Answer, wanted: int) -> dict[str, Any]:
     return {"status": NOT_COMPLETE, "kind": SMALL, "count": answer.count, "wanted": wanted}
 
 
-def weakest_of(said: Mapping[str, Any]) -> Optional[Weakest]:
-    """The margin and the mask that these fields have, if they have any.
-    Raises ValueError, KeyError or TypeError if they are wrong."""
-    if "margin" not in said:
-        return None
-    return Weakest(number_of(said["margin"]), mask_of(said["weakest"]))
-
-
 def answer_of(said: Mapping[str, Any]) -> Answer:
     """The answer that has these fields, without its line.
     Raises ValueError, KeyError or TypeError if there is none."""
@@ -118,7 +110,9 @@ def number_of(value: object) -> int:
     return value
 
 
-def refusal(name: str, answer: Answer) -> str:
-    """The line of the program for a text that is refused or impossible."""
+def refusal(name: str, answer: Judged) -> str:
+    """The line of the program for a text that is refused or impossible; else why there is none."""
+    if isinstance(answer, str):
+        return answer
     fault = f": {answer.fault.word}" if answer.fault else ""
     return f"{answer.kind.word} at line {answer.line} of {shown(name)}{fault}"

@@ -14,7 +14,7 @@ from typing import Any, Callable, Iterator, Mapping, NamedTuple, Optional, Seque
 from .._answers import FindingKind, Kind, Mask, Survey, Weakest
 from .._calls import margin_listed, report, survey, with_captures
 from .._fields import (SCHEMA, Judged, answer_of, captured_fields, fields, margin_fields,
-                       mask_fields, mask_of, number_of, object_of, refusal, weakest_of)
+                       mask_fields, mask_of, number_of, object_of)
 from .._process import NO_ANSWER, NoAnswer, counted, read, shown, tried
 from ..frames import parse_uid, uid_text
 from .tables import Wrong
@@ -53,11 +53,6 @@ class Log(NamedTuple):
         if isinstance(self.answer, str):
             return NO_ANSWER
         return self.answer.status if self.answer.status > 1 else 0
-
-    @property
-    def why(self) -> str:
-        """Why it is set aside, as the program says it."""
-        return self.answer if isinstance(self.answer, str) else refusal(self.name, self.answer)
 
 
 def survey_file(name: str, keep: Callable[[bytes], object] = bool) -> Log:
@@ -204,8 +199,10 @@ def _recorded(said: dict[str, Any]) -> Log:
     if answer.status > 1:
         return Log(name, answer, captured=captured)
     pairs = sorted((parse_uid(it["uid"]), number_of(it["line"])) for it in said["certain"])
+    weakest = (Weakest(number_of(said["margin"]), mask_of(said["weakest"]))
+               if "margin" in said else None)
     return Log(name, answer, [uid for uid, _ in pairs], [mask_of(it) for it in said["open"]],
-               [line for _, line in pairs], captured, weakest_of(said))
+               [line for _, line in pairs], captured, weakest)
 
 
 def _captured_of(said: Mapping[str, Any]) -> dict[str, Any]:

@@ -34,11 +34,8 @@ def check_all(asked: argparse.Namespace) -> int:
     worst = 0
     for name in names_of(asked):
         judged = tried(name, lambda text: _judge(name, text, asked.margin, asked.form))
-        if isinstance(judged, str):
-            complain(judged)
-            status, answer, said = NO_ANSWER, "no answer", object_of(name, judged)
-        else:
-            status, answer, said = judged
+        status, answer, said = judged if isinstance(judged, tuple) else (
+            complain(judged), "no answer", object_of(name, judged))
         worst = max(worst, status)
         write([{"json": json.dumps(said) + "\n",
                 "tabs": f"{shown(name)}\t{status}\t{answer}\n",

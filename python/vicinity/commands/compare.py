@@ -120,16 +120,13 @@ def _line(change: Change) -> str:
     if was_in != is_in:
         where = f" from {was_in}" * bool(was_in)
         where += f" {'to' if was_in else 'in'} {is_in}" * bool(is_in)
-    cells = ", ".join(filter(None, map(str, _columns(change).values())))
+    columns = (change.old if change.new is NONE else change.new)["columns"]
+    cells = ", ".join(filter(None, map(str, columns.values())))
     return f"{change.what} {change.uid}{where}{': ' * bool(cells)}{shown(cells)}\n"
 
 
 def _object(change: Change) -> dict[str, object]:
     old, new = change.old, change.new
     return {"change": change.what, "uid": change.uid, "was": old["state"], "is": new["state"],
-            "was_in": old["certain_in"], "is_in": new["certain_in"], "columns": _columns(change)}
-
-
-def _columns(change: Change) -> Said:
-    columns: Said = (change.old if change.new is NONE else change.new)["columns"]
-    return columns
+            "was_in": old["certain_in"], "is_in": new["certain_in"],
+            "columns": (old if new is NONE else new)["columns"]}

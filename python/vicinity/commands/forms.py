@@ -8,7 +8,8 @@ from collections import Counter
 from typing import Any, Callable, Iterable, Iterator, Mapping, Union
 
 from .._answers import Answer, Finding, FindingKind
-from .._fields import SCHEMA, fields, margin_fields, mask_fields, small, small_fields
+from .._fields import (SCHEMA, fields, margin_fields, mask_fields, refusal, small,
+                       small_fields)
 from .._process import shown
 from ..collections.catalogue import ADDED, TWIN
 from ..collections.collection import Collection, Item, State
@@ -29,7 +30,7 @@ MOST_NAMES = 20
 
 def set_aside(log: Log) -> str:
     """A log that is set aside, and what to do about it."""
-    return f"set aside: {log.why} ({ADVICE[log.status]})"
+    return f"set aside: {refusal(log.name, log.answer)} ({ADVICE[log.status]})"
 
 
 def as_lines(found: Collection) -> Iterator[str]:
@@ -103,10 +104,6 @@ def as_csv(found: Collection) -> Iterator[bytes]:
     taken = {head.casefold() for head in heads}
     head = [*heads, *(name + TWIN * (name in taken) for name in ADDED)]
     return found.expected.form.written(row for part in ([head], rows) for row in part)
-
-
-def as_json(found: Collection) -> Iterator[str]:
-    yield json.dumps(_object(found)) + "\n"
 
 
 def as_page(found: Collection) -> Iterator[str]:
@@ -185,5 +182,6 @@ def _of_item(found: Collection, item: Item, overlooked: Mapping[int, int]) -> di
     return {**said, "belongs": item.belongs} if item.belongs else said
 
 
-FORMS: dict[str, Callable[[Collection], Iterator[Union[str, bytes]]]] = {
-    "lines": as_lines, "csv": as_csv, "json": as_json, "page": as_page}
+FORMS: dict[str, Callable[[Collection], Iterable[Union[str, bytes]]]] = {
+    "lines": as_lines, "csv": as_csv, "page": as_page,
+    "json": lambda found: [json.dumps(_object(found)) + "\n"]}

@@ -5,7 +5,7 @@ import argparse
 import json
 from typing import Iterator, Optional
 
-from .._fields import object_of
+from .._fields import object_of, refusal
 from .._native import library
 from .._process import (REFUSED, NoAnswer, complain, counted, names_of, read, tell_terminal,
                         write)
@@ -65,9 +65,9 @@ def _ended(form: str, log: Log) -> Iterator[str]:
     if form == "json":
         yield json.dumps(object_of(log.name, log.answer)) + "\n"
     elif form == "lines":
-        yield f"{log.why}\n"
+        yield f"{refusal(log.name, log.answer)}\n"
     else:
-        complain(log.why)
+        complain(refusal(log.name, log.answer))
 
 
 def survey(asked: argparse.Namespace) -> int:

@@ -42,11 +42,10 @@ READINGS = {it.letter: it for it in (
 
 
 class Slot(NamedTuple):
-    """A logged slot: its line and number, which tags answer in it, what was read,
+    """A logged slot: its line, which tags answer in it, what was read,
     and the UID that was heard."""
 
     line: int
-    place: int
     mask: Mask
     reading: Reading
     uid: Optional[int]
@@ -67,14 +66,13 @@ class Row:
 
     @cached_property
     def slots(self) -> list[Slot]:
-        read = [(number, text) for number, text in self.lines.items() if text[:1] not in b"TF"]
-        return [self._slot(place, *line) for place, line in enumerate(read)]
-
-    def _slot(self, place: int, line: int, text: bytes) -> Slot:
-        assert self.request
-        mask = slot_mask(self.request.slots, self.request.mask, place)
-        uid = read_response(_frame(text)).uid if text[1:] else None
-        return Slot(line, place, mask, READINGS[text[:1].decode()], uid)
+        found: list[Slot] = []
+        for line, text in self.lines.items():
+            if self.request and text[:1] not in b"TF":
+                mask = slot_mask(self.request.slots, self.request.mask, len(found))
+                uid = read_response(_frame(text)).uid if text[1:] else None
+                found.append(Slot(line, mask, READINGS[text[:1].decode()], uid))
+        return found
 
 
 class Session:
