@@ -76,7 +76,7 @@ def catalogue(name: str, text: bytes, how: How = How()) -> Catalogue:
     if how.tags is not None:
         found = _tagged(table, is_ours, how, read_table(*how.tags, how.encoding))
     else:
-        at = table.named(how.column, COLUMN, NAMES_IT)
+        at = table.column(how.column or COLUMN, NAMES_IT, bool(how.column))
         entries = [Entry(row, _uid(table, row, cells[at]), cells) for row, cells in table.rows]
         found = Catalogue(name, table.form, table.heads, entries, at)
     rows: dict[int, int] = {}
@@ -85,7 +85,7 @@ def catalogue(name: str, text: bytes, how: How = How()) -> Catalogue:
             table.wrong(row, f"{uid_text(uid)} is also in row {rows[uid]}")
     if how.place is None:
         return found
-    at = table.named(how.place, "", "--place NAME names the one with the places")
+    at = table.column(how.place, "--place NAME names the one with the places", True)
     return found._replace(entries=[entry._replace(belongs=entry.cells[at].strip())
                                    for entry in found.entries])
 

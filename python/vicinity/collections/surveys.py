@@ -39,7 +39,7 @@ class Log(NamedTuple):
     certain: Sequence[int] = ()
     open_masks: Sequence[Mask] = (ALL,)
     lines: Optional[Sequence[int]] = None
-    """The lines that show the certain UIDs, if a record has them."""
+    """The lines that show the certain UIDs, if they are known."""
     captured: Mapping[str, Any] = {}
     """Whether it says the same of its field if strong replies hid weaker ones, as JSON has it;
     nothing if that isn't known."""
@@ -55,25 +55,24 @@ class Log(NamedTuple):
         return self.answer.status if self.answer.status > 1 else 0
 
 
-def survey_file(name: str, keep: Callable[[bytes], object] = bool) -> Log:
-    """What the log in a file says; its text is given to `keep`, too."""
-    def of(text: bytes) -> Log:
-        keep(text)
-        return _survey(name, text)
-
-    log = tried(name, of)
+def survey_file(name: str, keep: Callable[[bytes], object] = bool, has_lines: bool = False) -> Log:
+    """What the log in a file says, if asked for with the lines that show it;
+    its text is given to `keep`, too."""
+    log = tried(name, lambda text: _survey(name, text, keep, has_lines))
     return Log(name, log) if isinstance(log, str) else log
 
 
-def _survey(name: str, text: bytes) -> Log:
+def _survey(name: str, text: bytes, keep: Callable[[bytes], object], has_lines: bool) -> Log:
+    keep(text)
     found = survey(text)
     if found.answer.kind is Kind.REFUSED:
         return Log(name, found.answer)
     captured = _captured(found, survey(with_captures(text)))
     if found.answer.status > 1:
         return Log(name, found.answer, captured=captured)
-    return Log(name, *found, captured=captured,
-               weakest=margin_listed(without_list(text), found.certain).weakest)
+    lines = list(certain_lines(text).values()) if has_lines else None
+    return Log(name, *found, lines, captured,
+               margin_listed(without_list(text), found.certain).weakest)
 
 
 def _captured(found: Survey, reread: Survey) -> dict[str, Any]:
@@ -156,14 +155,14 @@ def _is_lasting(name: str) -> bool:
     return os.path.isfile(name) and not name.startswith(("/dev/", "/proc/"))
 
 
-def record(log: Log, lines: Optional[Sequence[int]]) -> str:
+def record(log: Log) -> str:
     """What a log says of its field, as a line of JSON for `--surveys`."""
     said = object_of(log.name, log.answer)
     if log.captured:
         said["captured"] = log.captured
-    if lines is not None:
+    if log.lines is not None:
         said["certain"] = [{"uid": uid_text(uid), "line": line}
-                           for uid, line in zip(log.certain, lines)]
+                           for uid, line in zip(log.certain, log.lines)]
         said["open"] = [mask_fields(mask) for mask in log.open_masks]
     return json.dumps({**said, **margin_fields(log.weakest)}) + "\n"
 

@@ -65,8 +65,11 @@ class Table(NamedTuple):
     def wrong(self, row: int, why: str) -> NoReturn:
         raise Wrong(f"{shown(self.name)}, row {row}: {why}")
 
-    def column(self, name: str, what: str) -> int:
-        """The place of the only column with a name, in any case."""
+    def column(self, name: str, what: str, is_exact: bool = False) -> int:
+        """The place of the only column with a name, in any case,
+        or if it may be exact of the one with exactly this name."""
+        if is_exact and name in self.heads:
+            return self.heads.index(name)
         places = [at for at, head in enumerate(self.heads)
                   if head.casefold() == name.strip().casefold()]
         if len(places) != 1:
@@ -74,12 +77,6 @@ class Table(NamedTuple):
             heads = ", ".join(map(shown, self.heads)) or "none"
             self.wrong(1, f"{number} named {shown(name)}; the columns are: {heads}; {what}")
         return places[0]
-
-    def named(self, name: Optional[str], otherwise: str, what: str) -> int:
-        """The place of the column with exactly this name, or the only one with it in any case."""
-        if name in self.heads:
-            return self.heads.index(name)
-        return self.column(name or otherwise, what)
 
 
 def read_table(name: str, text: bytes, encoding: Optional[str]) -> Table:

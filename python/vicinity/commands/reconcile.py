@@ -12,7 +12,7 @@ from .._process import (REFUSED, NoAnswer, complain, counted, names_of, read, te
 from ..collections.catalogue import How, catalogue
 from ..collections.collection import Collection
 from ..collections.places import places_of
-from ..collections.surveys import Log, Surveys, certain_lines, record, records, survey_file
+from ..collections.surveys import Log, Surveys, record, records, survey_file
 from ..collections.tables import Wrong
 from .forms import FORMS, notes, set_aside, small_margin
 
@@ -76,11 +76,9 @@ def survey(asked: argparse.Namespace) -> int:
     library()
     names, worst = names_of(asked), 0
     for name in counted(names, len(names)):
-        texts: list[bytes] = []
-        log = survey_file(name, texts.append)
+        log = survey_file(name, has_lines=True)
         worst = max(worst, log.status)
         if isinstance(log.answer, str):
             complain(log.answer)
-        lines = None if log.status else list(certain_lines(texts[0]).values())
-        write([record(log, lines)])
+        write([record(log)])
     return worst
