@@ -23,16 +23,9 @@ MOST_NOTES = 5
 MOST = 2000
 
 
-class Found(NamedTuple):
-    """A finding: its kind, the line that shows it, or 0, and what is said of it."""
-
-    kind: FindingKind
-    line: int
-    said: str
-
-
-def found(told: Told, most: Optional[int] = None) -> Iterator[Found]:
-    """The findings, the first `most` of each kind; the unsettled mask is one of the open ones."""
+def found(told: Told, most: Optional[int] = None) -> Iterator[tuple[FindingKind, int, str]]:
+    """The findings, the first `most` of each kind: the kind, the line that shows it, or 0,
+    and what is said of it. The unsettled mask is one of the open ones."""
     slots = iter(told.overlooked)
     for kind in WORDS:
         for it in told.of(kind)[:most] if kind is not FindingKind.UNSETTLED else ():
@@ -46,7 +39,7 @@ def found(told: Told, most: Optional[int] = None) -> Iterator[Found]:
             elif kind is FindingKind.DOUBTFUL:
                 of_one = Mask(UID_BITS, it.uid & (1 << UID_BITS) - 1)
                 said = f"{uid} may be missing: send {ask(told.session.text, 1, of_one)}"
-            yield Found(kind, it.line, said)
+            yield kind, it.line, said
 
 
 def lines_of_report(name: str, told: Told) -> Iterator[str]:
@@ -58,9 +51,9 @@ def lines_of_report(name: str, told: Told) -> Iterator[str]:
         yield (f"{name}:{told.answer.line}: {told.answer.kind.word}: "
                f"{fault or sentence(told)}\n")
     quoted = {line: meaning(told.session, line) for line in told.lines(MOST)}
-    for it in found(told):
-        said = ": ".join(filter(None, (WORDS[it.kind], it.said, quoted.get(it.line))))
-        yield f"{name}:{it.line or told.session.asked_until}: {said}\n"
+    for kind, line, said in found(told):
+        text = ": ".join(filter(None, (WORDS[kind], said, quoted.get(line))))
+        yield f"{name}:{line or told.session.asked_until}: {text}\n"
     yield from (f"{name}:{it.line}: note: {it.text}\n" for it in notes(told))
 
 

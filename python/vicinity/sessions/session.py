@@ -20,34 +20,25 @@ LINK, ANY_LINK = 3, 2
 STAY_QUIET = b"02"
 #: How much of a refused line is kept.
 MOST_QUOTED = 160
-
-
-class Reading(NamedTuple):
-    """What was read in a slot, by the letter of its line: its sign and colour in a terminal,
-    and in words, in which a UID that was heard takes the place of the braces."""
-
-    letter: str
-    sign: str
-    colour: str
-    words: str
-
-
-READINGS = {it.letter: it for it in (
-    Reading("S", "·", "2", "no tag answered"),
-    Reading("R", "", "32", "{} answered alone"),
-    Reading("C", "╳", "33", "two or more tags answered"),
-    Reading("D", "?", "35", "one or more tags answered, unreadable"),
-    Reading("H", "", "36", "{} answered, perhaps with others"),
-    Reading("N", "-", "35", "nothing is known of this slot"))}
+#: What may be read in a slot, by the letter of its line: its sign and colour in a terminal,
+#: and in words, in which a UID that was heard takes the place of the braces.
+READINGS = {
+    "S": ("·", "2", "no tag answered"),
+    "R": ("", "32", "{} answered alone"),
+    "C": ("╳", "33", "two or more tags answered"),
+    "D": ("?", "35", "one or more tags answered, unreadable"),
+    "H": ("", "36", "{} answered, perhaps with others"),
+    "N": ("-", "35", "nothing is known of this slot"),
+}
 
 
 class Slot(NamedTuple):
-    """A logged slot: its line, which tags answer in it, what was read,
+    """A logged slot: its line, which tags answer in it, the letter of what was read,
     and the UID that was heard."""
 
     line: int
     mask: Mask
-    reading: Reading
+    letter: str
     uid: Optional[int]
 
 
@@ -71,7 +62,7 @@ class Row:
             if self.request and text[:1] not in b"TF":
                 mask = slot_mask(self.request.slots, self.request.mask, len(found))
                 uid = read_response(_frame(text)).uid if text[1:] else None
-                found.append(Slot(line, mask, READINGS[text[:1].decode()], uid))
+                found.append(Slot(line, mask, text[:1].decode(), uid))
         return found
 
 

@@ -12,7 +12,7 @@ from .._process import shown
 from ..frames import uid_text
 from .findings import MOST_LINES, WORDS, Told
 from .report import found
-from .session import Row, Session, Slot
+from .session import READINGS, Row, Session, Slot
 from .words import conditions, count, meaning, sentence, span
 
 #: What replaces a sign outside ASCII.
@@ -104,14 +104,12 @@ def _cell(row: Row, slot: Slot, named: set[int], look: Look) -> str:
     ! beside a named line, q beside a tag that was silenced afterwards,
     + beside one that may not have been alone."""
     mark = ("!" if slot.line in named else "q" if slot.uid in row.quiets
-            else "+" if slot.reading.letter == "H" else " ")
-    if slot.uid is None or row.request is None:
-        sign = slot.reading.sign
-    else:
+            else "+" if slot.letter == "H" else " ")
+    sign, colour, _ = READINGS[slot.letter]
+    if slot.uid is not None and row.request:
         behind = min(row.request.mask.length // 4 * 4, UID_BITS)
         sign = f"{slot.uid >> behind & 0xFF:02X}"
-    colour = slot.reading.colour + f";{NAMED}" * (slot.line in named)
-    return look.painted(f"{sign:>2}{mark}", colour)
+    return look.painted(f"{sign:>2}{mark}", colour + f";{NAMED}" * (slot.line in named))
 
 
 def _found(told: Told, look: Look) -> Iterator[str]:
@@ -122,9 +120,9 @@ def _found(told: Told, look: Look) -> Iterator[str]:
         refused = shown(session.refused.removesuffix(b"\r")) or "(empty)"
         yield f"{told.refused_line:>8} | {refused}"
     for (kind, line), findings in groupby(found(told, MOST_LINES), lambda it: it[:2]):
-        for it in findings:
-            said = f"{WORDS[kind]}: {it.said}" if it.said else WORDS[kind] * (not line)
-            yield from look.wrapped(said, "  ")
+        for _, _, said in findings:
+            yield from look.wrapped(f"{WORDS[kind]}: {said}" if said else WORDS[kind] * (not line),
+                                    "  ")
         if line:
             by = "silenced by" if kind is FindingKind.SILENCED_BY else "by"
             yield from look.wrapped(f"{by} line {line}: {meaning(session, line)}", "  ")

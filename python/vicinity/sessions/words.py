@@ -8,7 +8,7 @@ from .._answers import FindingKind, Kind, Mask, Weakest
 from .._fields import UID_BITS
 from ..frames import uid_text
 from .findings import Told
-from .session import Session, ask
+from .session import READINGS, Session, ask
 
 HEARD = ("This is said of tags that had power, heard the reader, "
          "and were heard when they answered: one that never answers is in no log.")
@@ -54,7 +54,7 @@ def meaning(session: Session, line: int) -> str:
     row = session.row(session.place(line))
     for slot in row.slots:
         if slot.line == line:
-            read = slot.reading.words.format(uid_text(slot.uid or 0))
+            read = READINGS[slot.letter][2].format(uid_text(slot.uid or 0))
             return f"{read}; asked: {ending(slot.mask)}"
     return f"Stay Quiet to {uid_text(row.request.uid)}" if row.request else "field off and on"
 
