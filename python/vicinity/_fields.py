@@ -22,8 +22,10 @@ def object_of(name: str, answer: Judged, weakest: Optional[Weakest] = None,
               reread: Optional[Answer] = None) -> dict[str, Any]:
     """What every object says of a log: its answer, and if they are known its margin
     and the answer under capture."""
-    captured = {} if isinstance(answer, str) else captured_fields(answer, reread)
-    return {"schema": SCHEMA, "file": name, **fields(answer), **margin_fields(weakest), **captured}
+    said = {"schema": SCHEMA, "file": name, **fields(answer), **margin_fields(weakest)}
+    if reread is not None and not isinstance(answer, str):
+        said["captured"] = captured_of(answer, reread)
+    return said
 
 
 def fields(answer: Judged) -> dict[str, Any]:
@@ -44,12 +46,9 @@ def fields(answer: Judged) -> dict[str, Any]:
     return said
 
 
-def captured_fields(answer: Answer, reread: Optional[Answer]) -> dict[str, Any]:
-    """Whether an answer also holds under capture, and if not, the answer that does;
-    nothing if that isn't known."""
-    if reread is None:
-        return {}
-    return {"captured": {"holds": True} if reread == answer else {"holds": False, **fields(reread)}}
+def captured_of(answer: Answer, reread: Answer) -> dict[str, Any]:
+    """Whether an answer also holds under capture, and if not, the answer that does."""
+    return {"holds": True} if reread == answer else {"holds": False, **fields(reread)}
 
 
 def margin_fields(weakest: Optional[Weakest]) -> dict[str, Any]:

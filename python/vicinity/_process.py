@@ -24,8 +24,6 @@ REFUSED, NO_ANSWER = 3, 4
 #: With more logs than this, a terminal is told how many have been read, each time after so many.
 MOST_UNCOUNTED, TOLD_EACH = 50, 10
 
-ESCAPED = {"\t": "\\t", "\n": "\\n"}
-
 T = TypeVar("T")
 
 
@@ -124,7 +122,7 @@ def shown(name: Union[str, bytes]) -> str:
     a tab `\\t`, a line end `\\n`, and each byte of another character that can't be printed,
     or that isn't UTF-8, `\\x` and two hex digits."""
     text = os.fsencode(name).replace(b"\\", b"\\\\").decode("utf-8", "backslashreplace")
-    return "".join(it if it.isprintable() else ESCAPED.get(it) or
+    return "".join(it if it.isprintable() else {"\t": "\\t", "\n": "\\n"}.get(it) or
                    "".join(f"\\x{byte:02x}" for byte in it.encode()) for it in text)
 
 

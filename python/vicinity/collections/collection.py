@@ -5,11 +5,11 @@ from enum import Enum
 from functools import cached_property
 from typing import Iterable, Iterator, NamedTuple, Optional, Sequence
 
-from .._answers import FindingKind, Weakest
+from .._answers import FindingKind, Mask, Weakest
 from .._calls import margin_listed, overlooked, reconcile_parts
 from .._process import NoAnswer, shown
 from .catalogue import Catalogue
-from .masks import Left, Under, are_all, without
+from .masks import Under, are_all, without
 from .places import Places
 from .surveys import ALL, Surveys, without_list
 
@@ -47,13 +47,6 @@ class Item(NamedTuple):
     may_be_in: Sequence[int] = ()
 
 
-class Least(NamedTuple):
-    """The margin of a collection, and the name of the first log in whose field it is so small."""
-
-    name: str
-    weakest: Weakest
-
-
 class Collection:
     """What many logs say together. Logs go by their positions.
     If it is complete with a margin below `wanted`, it counts as not complete."""
@@ -68,14 +61,10 @@ class Collection:
         self.items = list(self._items())
 
     @property
-    def misplaced(self) -> list[Item]:
-        return self.of(State.MISPLACED)
-
-    @property
     def status(self) -> int:
         """The highest status: that of the answer, 1 if an item is misplaced or the margin small,
         and that of each log that is set aside."""
-        differs = bool(self.misplaced) or self.is_small
+        differs = bool(self.of(State.MISPLACED)) or self.is_small
         return max([self.answer.status, int(differs), *(log.status for log in self.aside)])
 
     @property
@@ -83,7 +72,7 @@ class Collection:
         """Whether it is complete, and its margin is less than was asked for, or isn't known."""
         if not self.wanted or not self.answer.is_complete:
             return False
-        return self.least is None or self.least.weakest.margin < self.wanted
+        return self.least is None or self.least[1].margin < self.wanted
 
     def of(self, state: State) -> list[Item]:
         """The items with a state."""
@@ -102,16 +91,17 @@ class Collection:
                     possible[uid].append(index)
         return certain, possible
 
-    def left(self) -> Iterator[Left]:
+    def left(self) -> Iterator[tuple[list[Mask], bool]]:
         """What is left to ask for in each log, without UIDs that another one makes certain:
-        everything in one that is set aside."""
+        the first masks, and whether there are more; everything in one that is set aside."""
         certain = Under(uid for log in self.logs for uid in log.certain)
         for log in self.logs:
-            yield Left([ALL]) if log.status else without(log.open_masks, certain, MOST_OPEN)
+            yield ([ALL], False) if log.status else without(log.open_masks, certain, MOST_OPEN)
 
     @cached_property
-    def least(self) -> Optional[Least]:
-        """The margin of a complete collection: of its logs against what is expected, the least.
+    def least(self) -> Optional[tuple[str, Weakest]]:
+        """The margin of a complete collection: of its logs against what is expected, the least,
+        with the name of the first log that has it.
         It is that against the UIDs that the log proves, unless all that are weakest are expected.
         Nothing if the collection isn't complete, or that of a log isn't known."""
         if not self.answer.is_complete:
@@ -124,8 +114,8 @@ class Collection:
                 weakest = margin_listed(without_list(text), expected).weakest if text else None
             if weakest is None:
                 return None
-            found.append(Least(log.name, weakest))
-        return min(found, key=lambda it: it.weakest.margin)
+            found.append((log.name, weakest))
+        return min(found, key=lambda it: it[1].margin)
 
     def overlooked(self) -> dict[int, int]:
         """In how many slots each missing tag was overlooked, in the field of the log in which these

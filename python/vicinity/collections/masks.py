@@ -3,7 +3,7 @@ from __future__ import annotations
 
 from bisect import bisect_left
 from heapq import heappop, heappush
-from typing import Iterable, NamedTuple, Sequence
+from typing import Iterable, Sequence
 
 from .._answers import Mask
 from .._fields import UID_BITS
@@ -31,13 +31,6 @@ class Under:
         return start < behind
 
 
-class Left(NamedTuple):
-    """What is left to ask for: the first masks, and whether there are more."""
-
-    masks: Sequence[Mask]
-    has_more: bool = False
-
-
 def are_all(uids: Sequence[int], mask: Mask) -> bool:
     """Whether these UIDs, each once, have all that have a mask among them."""
     size = 1 << UID_BITS - mask.length
@@ -49,9 +42,9 @@ def _turned(number: int) -> int:
     return int(f"{number & (1 << UID_BITS) - 1:0{UID_BITS}b}"[::-1], 2)
 
 
-def without(masks: Sequence[Mask], taken: Under, most: int) -> Left:
-    """The widest masks of the UIDs that have one of these masks and aren't taken,
-    by length and then by value. The given masks are in this order."""
+def without(masks: Sequence[Mask], taken: Under, most: int) -> tuple[list[Mask], bool]:
+    """The widest masks of the UIDs that have one of these masks and aren't taken: the first ones
+    by length and then by value, and whether there are more. The given masks are in this order."""
     left = list(masks)
     found: list[Mask] = []
     while left and len(found) <= most:
@@ -61,4 +54,4 @@ def without(masks: Sequence[Mask], taken: Under, most: int) -> Left:
         elif mask.length < UID_BITS:
             heappush(left, Mask(mask.length + 1, mask.value))
             heappush(left, Mask(mask.length + 1, mask.value | 1 << mask.length))
-    return Left(found[:most], len(found) > most)
+    return found[:most], len(found) > most

@@ -13,7 +13,7 @@ from typing import Any, Callable, Iterator, Mapping, NamedTuple, Optional, Seque
 
 from .._answers import FindingKind, Kind, Mask, Survey, Weakest
 from .._calls import margin_listed, report, survey, with_captures
-from .._fields import (SCHEMA, Judged, answer_of, captured_fields, fields, margin_fields,
+from .._fields import (SCHEMA, Judged, answer_of, captured_of, fields, margin_fields,
                        mask_fields, mask_of, number_of, object_of)
 from .._process import NO_ANSWER, NoAnswer, counted, read, shown, tried
 from ..frames import parse_uid, uid_text
@@ -79,8 +79,7 @@ def _captured(found: Survey, reread: Survey) -> dict[str, Any]:
     """Whether two surveys of a log say the same; if not, the first mask
     that only the second leaves open, or, of an impossible log, the second answer."""
     if max(found.answer.status, reread.answer.status) > 1:
-        captured: dict[str, Any] = captured_fields(found.answer, reread.answer)["captured"]
-        return captured
+        return captured_of(found.answer, reread.answer)
     known = set(found.open_masks)
     opened = next((mask for mask in reread.open_masks if mask not in known), None)
     return {"holds": False, **mask_fields(opened)} if opened else {"holds": True}
@@ -194,7 +193,11 @@ def _recorded(said: dict[str, Any]) -> Log:
     if said["status"] == NO_ANSWER:
         return Log(name, str(said["error"]))
     answer = answer_of(said)
-    captured = _captured_of(said["captured"]) if "captured" in said else {}
+    captured: dict[str, Any] = {}
+    if "captured" in said:
+        other = said["captured"]
+        captured = {"holds": True} if other["holds"] is True else {"holds": False, **(
+            fields(answer_of(other)) if "kind" in other else mask_fields(mask_of(other)))}
     if answer.status > 1:
         return Log(name, answer, captured=captured)
     pairs = sorted((parse_uid(it["uid"]), number_of(it["line"])) for it in said["certain"])
@@ -202,11 +205,3 @@ def _recorded(said: dict[str, Any]) -> Log:
                if "margin" in said else None)
     return Log(name, answer, [uid for uid, _ in pairs], [mask_of(it) for it in said["open"]],
                [line for _, line in pairs], captured, weakest)
-
-
-def _captured_of(said: Mapping[str, Any]) -> dict[str, Any]:
-    """What a record says of captures. Raises ValueError, KeyError or TypeError if it is wrong."""
-    if said["holds"] is True:
-        return {"holds": True}
-    return {"holds": False,
-            **(fields(answer_of(said)) if "kind" in said else mask_fields(mask_of(said)))}

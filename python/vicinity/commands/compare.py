@@ -4,7 +4,7 @@ from __future__ import annotations
 import argparse
 import json
 import os
-from typing import Any, Callable, Mapping, NamedTuple, Sequence
+from typing import Any, Callable, Mapping, NamedTuple
 
 from .._fields import SCHEMA
 from .._process import REFUSED, complain, read, shown, write
@@ -31,37 +31,27 @@ class Change(NamedTuple):
     new: Said
 
 
-class Answer(NamedTuple):
-    """An answer of `reconcile`: its items by their UIDs, its logs,
-    and those of them that are set aside."""
-
-    items: Mapping[str, Said]
-    logs: Sequence[str]
-    aside: Sequence[str]
-
-
 def compare(asked: argparse.Namespace) -> int:
     """Writes what has changed, and returns 1 if anything has."""
     try:
-        old, new = map(_answer, asked.names)
+        (old, old_logs, old_aside), (new, new_logs, new_aside) = map(_answer, asked.names)
     except Wrong as wrong:
         complain(str(wrong))
         return REFUSED
     # folders are often named after the day: without them if that tells the logs apart
-    is_short = all(len({os.path.basename(log) for log in it.logs}) == len(set(it.logs))
-                   for it in (old, new))
+    is_short = all(len({os.path.basename(log) for log in logs}) == len(set(logs))
+                   for logs in (old_logs, new_logs))
 
     def name(log: str) -> str:
         return os.path.basename(log) if is_short else log
 
-    items = ((uid, old.items.get(uid, NONE), new.items.get(uid, NONE))
-             for uid in old.items.keys() | new.items.keys())
+    items = ((uid, old.get(uid, NONE), new.get(uid, NONE)) for uid in old.keys() | new.keys())
     changes = [Change(what, uid, was, now) for uid, was, now in items
                if (what := _change(was, now, name))]
     changes.sort(key=lambda it: (CHANGES.index(it.what), it.uid))
-    aside, counted = set(map(name, old.aside)), set(map(name, new.logs))
-    logs = [("newly set aside", log) for log in new.aside if name(log) not in aside]
-    logs += [("no longer counted", log) for log in old.logs if name(log) not in counted]
+    aside, counted = set(map(name, old_aside)), set(map(name, new_logs))
+    logs = [("newly set aside", log) for log in new_aside if name(log) not in aside]
+    logs += [("no longer counted", log) for log in old_logs if name(log) not in counted]
     status = int(bool(changes or logs))
     if asked.form == "json":
         said = {"schema": SCHEMA, "status": status, "changes": list(map(_object, changes)),
@@ -72,8 +62,9 @@ def compare(asked: argparse.Namespace) -> int:
     return status
 
 
-def _answer(name: str) -> Answer:
-    """The answer in a file. Raises Wrong."""
+def _answer(name: str) -> tuple[Mapping[str, Said], list[str], list[str]]:
+    """The answer of `reconcile` in a file: its items by their UIDs, its logs,
+    and those of them that are set aside. Raises Wrong."""
     try:
         said = json.loads(read(name))
         items = {uid_text(parse_uid(it["uid"])): it
@@ -82,8 +73,8 @@ def _answer(name: str) -> Answer:
             State(item["state"]), item["columns"].values(), _names(item["certain_in"])
         if said["schema"] != SCHEMA:
             raise ValueError
-        return Answer(items, *(_names([it["file"] for it in said[key]])
-                               for key in ("logs", "set_aside")))
+        logs, aside = (_names([it["file"] for it in said[key]]) for key in ("logs", "set_aside"))
+        return items, logs, aside
     except (ValueError, KeyError, TypeError, AttributeError):
         raise Wrong(f"{shown(name)} isn't an answer as `reconcile --json` writes it") from None
 

@@ -38,22 +38,22 @@ def as_lines(found: Collection) -> Iterator[str]:
     and the rows without a tag."""
     yield from (f"{set_aside(log)}\n" for log in found.aside)
     yield from _findings(found)
-    for item in found.misplaced:
+    for item in found.of(State.MISPLACED):
         where = " and ".join(shown(found.logs[log].name) for log in item.certain_in)
         yield f"misplaced {uid_text(item.uid or 0)} in {where}, belongs to {shown(item.belongs)}\n"
     yield from (f"no tag in row {item.row}\n" for item in found.of(State.NO_TAG))
     if found.is_small:
         yield f"{small_margin(found)}\n"
-    elif not found.findings and not found.misplaced:
+    elif not found.findings and not found.of(State.MISPLACED):
         yield f"{found.answer}\n"
 
 
 def small_margin(found: Collection) -> str:
     """The line of a complete collection of which a greater margin was asked for."""
-    least = found.least
-    if least is None:
+    if found.least is None:
         return small(None, found.wanted)
-    return small(least.weakest, found.wanted, f" in {shown(least.name)}")
+    name, weakest = found.least
+    return small(weakest, found.wanted, f" in {shown(name)}")
 
 
 def _findings(found: Collection) -> Iterator[str]:
@@ -68,10 +68,10 @@ def _findings(found: Collection) -> Iterator[str]:
             log, line = shown_by[finding.uid]
             yield f"by line {line} of {names[log]}\n"
         elif finding.kind is FindingKind.UNSETTLED:
-            for name, left in zip(names, found.left()):
+            for name, (masks, has_more) in zip(names, found.left()):
                 yield from (f"{Finding(FindingKind.OPEN_MASK, 0, *mask, 0)} in {name}\n"
-                            for mask in left.masks)
-                yield f"more open in {name}\n" if left.has_more else ""
+                            for mask in masks)
+                yield f"more open in {name}\n" * has_more
 
 
 def notes(found: Collection) -> Iterator[str]:
@@ -79,9 +79,9 @@ def notes(found: Collection) -> Iterator[str]:
     how sure it is, and which logs don't hold under capture."""
     if not found.findings and not found.aside:
         yield HEARD
-    least = found.least
-    if least is not None:
-        yield missed(least.weakest, f" in the field of {shown(least.name)}")
+    if found.least is not None:
+        name, weakest = found.least
+        yield missed(weakest, f" in the field of {shown(name)}")
     names = [shown(log.name) for log in found.logs if log.captured.get("holds") is False]
     if names:
         more = [count(len(names) - MOST_NAMES, "other log")] * (len(names) > MOST_NAMES)
@@ -122,7 +122,7 @@ def _objects(found: Collection) -> Iterator[tuple[int, dict[str, Any]]]:
     """Logs with all that a page draws of them, by their places."""
     left, room = list(found.left()), MOST_TEXT
     judged = [index for index, log in enumerate(found.logs) if isinstance(log.answer, Answer)]
-    for index in sorted(judged, key=lambda it: not left[it].masks):
+    for index in sorted(judged, key=lambda it: not left[it][0]):
         log, text = found.logs[index], found.read.text(index)
         if text is None:
             continue
@@ -139,22 +139,22 @@ def _object(found: Collection) -> dict[str, Any]:
     the widest mask of which any UID may be there, each item, and each log."""
     unsettled = [mask_fields(it.mask) for it in found.findings if it.kind is FindingKind.UNSETTLED]
     counts, overlooked = Counter(item.state for item in found.items), found.overlooked()
-    least = found.least
+    margin: dict[str, Any] = {}
+    if found.least is not None:
+        name, weakest = found.least
+        margin = {"margin": weakest.margin, "weakest": {"file": name, **mask_fields(weakest.mask)}}
     return {
-        "schema": SCHEMA, **_answer(found),
-        **({} if least is None else {
-            "margin": least.weakest.margin,
-            "weakest": {"file": least.name, **mask_fields(least.weakest.mask)}}),
+        "schema": SCHEMA, **_answer(found), **margin,
         "counts": {state.value: counts[state] for state in State},
         "unsettled": unsettled[0] if unsettled else None,
         "set_aside": [{"file": log.name, **fields(log.answer), "do": ADVICE[log.status]}
                       for log in found.aside],
         "items": [_of_item(found, item, overlooked) for item in found.items],
         "logs": [{"file": log.name, "certain": len(log.certain),
-                  "open": list(map(mask_fields, left.masks)), "more_open": left.has_more,
+                  "open": list(map(mask_fields, masks)), "more_open": has_more,
                   "list": fields(log.answer), **margin_fields(log.weakest),
                   **({"captured": log.captured} if log.captured else {})}
-                 for log, left in zip(found.logs, found.left())]}
+                 for log, (masks, has_more) in zip(found.logs, found.left())]}
 
 
 def _answer(found: Collection) -> dict[str, object]:
@@ -163,9 +163,9 @@ def _answer(found: Collection) -> dict[str, object]:
     if found.aside:
         worst = max(found.aside, key=lambda log: log.status)
         return {"file": worst.name, **fields(worst.answer)}
-    if not found.findings and found.misplaced:
+    if not found.findings and found.of(State.MISPLACED):
         return {"status": found.status, "kind": State.MISPLACED.value,
-                "uid": uid_text(found.misplaced[0].uid or 0)}
+                "uid": uid_text(found.of(State.MISPLACED)[0].uid or 0)}
     return small_fields(found.answer, found.wanted) if found.is_small else fields(found.answer)
 
 

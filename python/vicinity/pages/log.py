@@ -3,7 +3,7 @@ from __future__ import annotations
 
 import json
 from hashlib import sha256
-from typing import Any, Iterator, Optional
+from typing import Any, Iterator
 
 from .._answers import Answer, FindingKind, Kind
 from .._calls import explain, survey
@@ -32,6 +32,7 @@ def page_object(name: str, told: Told) -> dict[str, Any]:
     """All that a page draws of a log."""
     answer, text = told.answer, told.session.text
     left = survey(text)
+    shown_by = explain(text).population if answer.kind is Kind.UNSETTLED else []
     return {
         **object_of(name, answer, told.weakest, told.reread),
         "version": version(), "answer": answer.text,
@@ -49,12 +50,6 @@ def page_object(name: str, told: Told) -> dict[str, Any]:
                             "ask": [ask(text, slots, mask)
                                     for slots in ((1,) if mask.length else (16, 1))]}
                            for mask in left.open_masks[:MOST_TOLD]]},
-        "unnoticed": _unnoticed(text, answer),
+        # a UID that isn't listed, and could be there
+        "unnoticed": next((uid_text(uid) for uid in shown_by if answer.mask.has(uid)), None),
         "text": told.session.until_refused.decode("utf-8", "replace")}
-
-
-def _unnoticed(text: bytes, answer: Answer) -> Optional[str]:
-    """A UID that isn't listed, and could be there."""
-    if answer.kind is not Kind.UNSETTLED:
-        return None
-    return next((uid_text(uid) for uid in explain(text).population if answer.mask.has(uid)), None)

@@ -25,6 +25,8 @@ class Told:
 
     def __init__(self, text: bytes):
         self.answer, findings = report(text)
+        #: The refused line, or 0.
+        self.refused_line = self.answer.line if self.answer.kind is Kind.REFUSED else 0
         self._findings: Mapping[FindingKind, Sequence[Finding]] = {
             kind: list(these) for kind, these in groupby(findings, lambda it: it.kind)}
         #: The answer if any reply may have hidden others; nothing if the text is refused.
@@ -45,11 +47,6 @@ class Told:
     def of(self, kind: FindingKind) -> Sequence[Finding]:
         """The findings of a kind."""
         return self._findings.get(kind, ())
-
-    @property
-    def refused_line(self) -> int:
-        """The refused line, or 0."""
-        return self.answer.line if self.answer.kind is Kind.REFUSED else 0
 
     def lines(self, most: int) -> set[int]:
         """The lines of the log that the report names, the first `most` of each kind."""

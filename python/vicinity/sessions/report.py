@@ -4,14 +4,14 @@ from __future__ import annotations
 
 import json
 import re
-from typing import Iterator, NamedTuple, Optional
+from typing import Iterator, Optional
 
 from .._answers import FindingKind, Mask
 from .._fields import UID_BITS, object_of
 from ..frames import uid_text
 from .findings import WORDS, Told
 from .session import STAY_QUIET, Session, ask
-from .words import count, ending, meaning, sentence, silent
+from .words import count, ending, meaning, sentence
 
 REPLY = re.compile(rb"^[RH] ....(.{16})", re.MULTILINE)
 ALONE, SLOT = re.compile(rb"^R", re.MULTILINE), re.compile(rb"^[SRHCDN]", re.MULTILINE)
@@ -31,7 +31,9 @@ def found(told: Told, most: Optional[int] = None) -> Iterator[tuple[FindingKind,
         for it in told.of(kind)[:most] if kind is not FindingKind.UNSETTLED else ():
             uid, said = uid_text(it.uid), ""
             if kind is FindingKind.ABSENT:
-                said = f"{uid}, {silent(next(slots))}"
+                number = next(slots)
+                where = "there" if number == 1 else "in each"
+                said = f"{uid}, asked in {count(number, 'slot')}, silent {where}"
             elif kind is FindingKind.UNLISTED:
                 said = uid
             elif kind is FindingKind.OPEN_MASK:
@@ -54,7 +56,7 @@ def lines_of_report(name: str, told: Told) -> Iterator[str]:
     for kind, line, said in found(told):
         text = ": ".join(filter(None, (WORDS[kind], said, quoted.get(line))))
         yield f"{name}:{line or told.session.asked_until}: {text}\n"
-    yield from (f"{name}:{it.line}: note: {it.text}\n" for it in notes(told))
+    yield from (f"{name}:{line}: note: {text}\n" for line, text in notes(told))
 
 
 def object_of_report(name: str, told: Told) -> Iterator[str]:
@@ -64,18 +66,13 @@ def object_of_report(name: str, told: Told) -> Iterator[str]:
     yield ', "findings": ['
     for index, finding in enumerate(told.objects()):
         yield (", " if index else "") + json.dumps(finding)
-    yield '], "notes": ' + json.dumps([note._asdict() for note in notes(told)]) + "}\n"
+    said = [{"line": line, "text": text} for line, text in notes(told)]
+    yield '], "notes": ' + json.dumps(said) + "}\n"
 
 
-class Note(NamedTuple):
-    """A line of the log, and what is worth a look there."""
-
-    line: int
-    text: str
-
-
-def notes(told: Told) -> Iterator[Note]:
-    """The notes on a log, of many of a kind the first. A refused text has none."""
+def notes(told: Told) -> Iterator[tuple[int, str]]:
+    """What is worth a look in lines of a log, and isn't part of the answer,
+    of many of a kind the first. A refused text has none."""
     if told.refused_line:
         return
     unheard, cut = list(_unheard(told)), []
@@ -83,24 +80,23 @@ def notes(told: Told) -> Iterator[Note]:
     for line, text in _rows(told.session, is_quiet=False):
         slots, of = SLOT.findall(text), 1 if int(text[2:4], 16) & ONE_SLOT else 16
         if len(slots) < of:
-            cut.append(Note(line, f"this round was cut short after {len(slots)} of "
-                                  f"{count(of, 'slot')}" if slots else
-                                  "none of this round's slots is logged"))
+            cut.append((line, f"this round was cut short after {len(slots)} of "
+                              f"{count(of, 'slot')}" if slots else
+                              "none of this round's slots is logged"))
         asked_all = text[6:8] == NO_MASK and len(slots) == of and b"N" not in slots
         last, has_asked_all = 0 if asked_all else line, has_asked_all or asked_all
     for found in unheard, cut:
         yield from found[:MOST_NOTES]
         if found[MOST_NOTES:]:
             more = count(len(found) - MOST_NOTES, "more note")
-            yield Note(found[MOST_NOTES].line, f"{more} like these")
+            yield found[MOST_NOTES][0], f"{more} like these"
     none_was_hidden = told.weakest_reread or not ALONE.search(told.session.text)
     if last and not (has_asked_all and none_was_hidden):
         missed = "stronger replies hid" if has_asked_all else "no earlier round asked"
-        yield Note(last, "the last round didn't ask all tags: "
-                         f"one that {missed} would go unnoticed")
+        yield last, f"the last round didn't ask all tags: one that {missed} would go unnoticed"
 
 
-def _unheard(told: Told) -> Iterator[Note]:
+def _unheard(told: Told) -> Iterator[tuple[int, str]]:
     """The Stay Quiets to tags that are never heard, the first to each."""
     absent = {it.uid: it.line for it in told.of(FindingKind.ABSENT)}
     heard = {digits.upper() for digits in REPLY.findall(told.session.text)}
@@ -110,8 +106,8 @@ def _unheard(told: Told) -> Iterator[Note]:
             heard.add(digits)
             uid = int.from_bytes(bytes.fromhex(digits.decode()), "little")
             lost = f": its reply may have been lost in line {absent.get(uid)}"
-            yield Note(line, f"{uid_text(uid)} was silenced here but never heard"
-                       + lost * (absent.get(uid, line) < line))
+            yield (line, f"{uid_text(uid)} was silenced here but never heard"
+                   + lost * (absent.get(uid, line) < line))
 
 
 def _rows(session: Session, is_quiet: bool) -> Iterator[tuple[int, bytes]]:

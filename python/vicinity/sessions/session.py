@@ -79,9 +79,6 @@ class Session:
         self.listed, self.list_lines = 0, (0, 0)
         #: The last line that isn't part of the list.
         self.asked_until = 1
-        self._read(refused, named)
-
-    def _read(self, refused: int, named: Container[int]) -> None:
         start = self._end = 0
         heard: set[bytes] = set()
         for number, line in enumerate(io.BytesIO(self.text), 1):

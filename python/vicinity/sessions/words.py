@@ -104,11 +104,6 @@ def missed(weakest: Weakest, where: str = "") -> str:
             f"weakest: {ending(weakest.mask)}.")
 
 
-def silent(slots: int) -> str:
-    """How sure it is that a tag isn't there."""
-    return f"asked in {count(slots, 'slot')}, silent {'there' if slots == 1 else 'in each'}"
-
-
 def _contradiction(told: Told) -> str:
     """Which lines contradict each other."""
     lines = sorted({it.line for kind in (FindingKind.CONFLICT_LINE, FindingKind.SILENCED_BY)
