@@ -113,58 +113,36 @@ ALL, EVEN, ODD = "T 260100F60A", "T 26010100137B", "T 260101019A6A"
 HEARD, SILENCED = {"A1": "R 0000A1000000000104E06745", "B2": "R 0000B2000000000104E0CF94"}, {
     "A1": "T 2202A1000000000104E0662A", "B2": "T 2202B2000000000104E0CEFB"}
 A1, B2 = HEARD["A1"], HEARD["B2"]
-# Contradictions of each form: the lines after the header, the lines that are quoted, the sentence,
-# and the most likely cause.
+# Contradictions of each form: the lines after the header, and those that can't all be true.
 FORMS = {
-    "a lost reply": ((ALL, "S", ALL, A1), [3, 5],
-                     "tag ..00A1 answered in line 5, but not in line 3, where it was also asked.",
-                     "Its reply in line 3 was lost"),
-    "a second reader": ((ALL, A1, SILENCED["A1"], "F", ALL, "S"), [3, 7],
-                        "tag ..00A1 answered in line 3, but not in line 7, where it was also "
-                        "asked.", "A second reader"),
-    "a hidden reply": ((ALL, A1, SILENCED["A1"], ALL, B2), [3, 6],
-                       "tags ..00A1 (line 3) and ..00B2 (line 6) were each read alone, but both "
-                       "should have answered.",
-                       "A strong reply hid a weaker one"),
+    "a lost reply": ((ALL, "S", ALL, A1), [3, 5]),
+    "a second reader": ((ALL, A1, SILENCED["A1"], "F", ALL, "S"), [3, 7]),
+    "a hidden reply": ((ALL, A1, SILENCED["A1"], ALL, B2), [3, 6]),
     "a lost reply of a collision": ((ALL, "C", EVEN, "S", ODD, A1, SILENCED["A1"], SILENCED["B2"]),
-                                    [3, 5, 7],
-                                    "in line 3 two or more tags answered, but lines 5 and 7 leave "
-                                    "at most one.",
-                                    "The reply of E0040100000000B2 in line 5 was lost: line 9 "
-                                    "silences it"),
-    "a tag that left": ((SILENCED["B2"], ALL, "C", EVEN, "S", ODD, A1), [4, 6, 8],
-                        "in line 4 two or more tags answered, but lines 6 and 8 leave at most one.",
-                        "A later reply of a tag of that slot was lost"),
-    "a garbled slot": ((SILENCED["B2"], ALL, "S", ALL, "D"), [4, 6],
-                       "in line 6 a tag answered, but line 4 leaves none.",
-                       "Noise was logged as D"),
-    "a reply to another request": ((EVEN, A1), [3],
-                                   "line 3 is a reply of ..00A1, a tag that the request in line 2 "
-                                   "didn't ask.",
-                                   "Line 3 was logged under the wrong request"),
-    "a collision of one": (("T 260138A1000000000104618F", "C"), [3],
-                           "two or more tags answered in line 3, but the mask asked there has "
-                           "fewer UIDs.",
-                           "Noise was logged as a collision"),
-    "slots that don't adjoin": ((EVEN, "C", "T 060100CD09", *"S" * 16), [3, *range(5, 20, 2)],
-                                "in line 3 two or more tags answered, but 8 lines from 5 to 19 "
-                                "leave at most one.",
-                                "A later reply of a tag of that slot was lost"),
-    "slots that adjoin": ((ALL, "C", "T 060100CD09", *"S" * 16), [3, 5],
-                          "in line 3 two or more tags answered, but 16 lines from 5 to 20 leave at "
-                          "most one.",
-                          "A later reply of a tag of that slot was lost"),
+                                    [3, 5, 7]),
+    "a tag that left": ((SILENCED["B2"], ALL, "C", EVEN, "S", ODD, A1), [4, 6, 8]),
+    "a garbled slot": ((SILENCED["B2"], ALL, "S", ALL, "D"), [4, 6]),
+    "a reply to another request": ((EVEN, A1), [3]),
+    "a collision of one": (("T 260138A1000000000104618F", "C"), [3]),
+    "slots that don't adjoin": ((EVEN, "C", "T 060100CD09", *"S" * 16), [3, *range(5, 20, 2)]),
+    "slots that adjoin": ((ALL, "C", "T 060100CD09", *"S" * 16), [3, *range(5, 21)]),
 }
+# What is said of them, by how many they are.
+SENTENCES = {1: "line {} can't be true.", 2: "lines {} and {} can't both be true.",
+             3: "lines {}, {} and {} can't all be true.",
+             9: "9 lines from 3 to 19 can't all be true.",
+             17: "17 lines from 3 to 20 can't all be true."}
 
 
 @pytest.mark.parametrize("form", FORMS)
 def test_what_is_said_of_a_contradiction(run, form):
-    lines, wanted, sentence, cause = FORMS[form]
+    lines, wanted = FORMS[form]
     text = "".join(f"{line}\n" for line in ("vicinity-log 2", *lines)).encode()
     picture = run("show", "-", input=text).stdout.decode()
-    causes = picture.partition("These causes fit:\n- ")[2].replace("\n  ", " ")
+    sentence = SENTENCES[len(wanted)].format(*wanted)
     assert sentence_in(picture) == f"The log contradicts itself: {sentence}"
-    assert causes[:len(cause)] == cause
+    assert [int(it) for it in re.findall(r"\nby line (\d+): ", picture)] == wanted
+    assert picture.count("python3 -m vicinity page LOG") == 1
     told = run("report", "-", input=text).stdout.decode()
     assert [int(it) for it in re.findall(r":(\d+): conflict", told)] == wanted
 
@@ -201,24 +179,22 @@ def test_report_as_json(run):
 def test_random_pictures(vicinity):
     """Every log has a picture: random ones, possible and impossible, each with a sentence and what
     was found."""
-    from vicinity.commands import listing
     from vicinity.pages import log
-    from vicinity.sessions import findings, reading, sentence, show
+    from vicinity.sessions import findings, report, show, words
 
     rng, kinds = random.Random(1), set()
     for _ in range(RANDOM_LOGS):
         version = rng.randint(1, 3)
         _, lines = random_logs.random_log(rng, version)
         text = random_logs.text_of(version, lines)
-        found = findings.tell_people(text)
-        kept = reading.read_session(text, found, found.lines(20))
+        found = findings.Told(text)
         kinds.add(found.answer.kind.word)
-        parts = [sentence.sentence(kept, found), *show.show(kept, found),
-                 *listing.lines_of_report("log", kept, found)]
-        told = json.loads("".join(listing.object_of_report("log", kept, found)))
+        parts = [words.sentence(found), *show.show(found), *report.lines_of_report("log", found)]
+        told = json.loads("".join(report.object_of_report("log", found)))
         absent = [it["uid"] for it in told["findings"] if it["kind"] == "absent"]
-        assert absent == list(map(vicinity.uid_text, found.absent.uids)), text
-        json.dumps(log.object_of("log", text, found))
+        wanted = [vicinity.uid_text(it.uid) for it in found.of(vicinity.FindingKind.ABSENT)]
+        assert absent == wanted, text
+        json.dumps(log.page_object("log", found))
         assert all(parts[:2]), text
     assert kinds >= {"complete", "impossible", "unsettled", "unlisted"}
 

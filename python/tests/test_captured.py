@@ -82,14 +82,14 @@ class Said(Command):
         ask = "Silence each tag that was heard, and ask all in one slot, until none answers"
         other = vicinity.write_line("T", vicinity.write_inventory(0, 1))
         for lines, wanted in (
-                (ALONE, f"{also} yes."), (ALL + HEARD_A, f"{also} yes."),
+                (ALONE, f"{also} yes; a tag would then have had to be missed in 1 slot."),
+                (ALL + HEARD_A, f"{also} yes."),
                 (ALL + HEARD_A + LIST_A, f"{also} no, 'unsettled 1 00'. {ask} (T 260100F60A)."),
                 (other + HEARD_A + LIST_A,
                  f"{also} no, 'unsettled 1 00'. {ask} ({other.decode().strip()})."),
                 (SILENCE_B + ALL + HEARD_A + LIST_A,
                  f"{also} no, 'unsettled 1 00'. {ask} (T 260100F60A)."),
-                (OVER, f"{also} no, 'complete 2'. "
-                 "If replies may hide others, write H in place of R, in a log of version 3.")):
+                (OVER, f"{also} no, 'complete 2'.")):
             name = self.write("one.log", log(lines))
             *_, said, answer = within("show", name)[0].decode().strip("\n").split("\n\n")
             self.assertEqual(" ".join(said.split("\n"))[-len(wanted):], wanted)
@@ -186,41 +186,30 @@ class Sessions(Command):
                       "asked: all UIDs\n", said)
 
     def test_contradictions(self):
+        """The lines that can't be true are named; their causes are said on the page."""
         short = vicinity.write_line("T", vicinity.write_inventory(2, 1, vicinity.Mask(8, 0xB2)))
-        hid = "- A strong reply hid a weaker one: the stronger of the two was read over the other."
-        for lines, sentence, cause in (
-                (ALL + CAPTURED_A + ALL + HEARD_B,
-                 "tags ..00A1 (line 3) and ..00B2 (line 5) were read, one of them alone, "
-                 "but both should have answered.", hid),
-                (ALL + HEARD_B + ALL + CAPTURED_A,
-                 "tags ..00B2 (line 3) and ..00A1 (line 5) were read, one of them alone, "
-                 "but both should have answered.", hid),
-                (ALL + b"S\n" + ALL + CAPTURED_A,
-                 "tag ..00A1 answered in line 5, but not in line 3, where it was also asked.",
-                 "- Its reply in line 3 was lost"),
-                (ALL + CAPTURED_A + SILENCE_A + ALL + CAPTURED_A,
-                 "tag ..00A1 was silenced in line 4, but answered in line 6.",
-                 "- The tag lost power for a moment"),
-                (short + CAPTURED_A,
-                 "line 3 is a reply of ..00A1, a tag that the request in line 2 didn't ask.",
-                 "- Line 3 was logged under the wrong request")):
-            said = " ".join(self.shown(lines).split("\n"))
-            self.assertIn(f"The log contradicts itself: {sentence}", said)
-            self.assertIn(f"These causes fit: {cause}", said.replace("   ", " "))
-
-    def test_a_reply_that_several_lines_may_have_hidden(self):
-        """In line 3 two or more answered; A and B were heard,
-        each where it may have hidden another."""
         even, odd = b"T 26010100137B\n", b"T 260101019A6A\n"
-        lines = ALL + b"C\n" + even + b"S\n" + odd + HEARD_A + SILENCE_A
-        said = within("show", self.write("one.log", log(lines)))[0].decode()
-        self.assertIn("- A strong reply in line 7 hid a weaker one.", said)
+        for lines, sentence in (
+                (ALL + CAPTURED_A + ALL + HEARD_B, "lines 3 and 5 can't both be true."),
+                (ALL + HEARD_B + ALL + CAPTURED_A, "lines 3 and 5 can't both be true."),
+                (ALL + b"S\n" + ALL + CAPTURED_A, "lines 3 and 5 can't both be true."),
+                (ALL + CAPTURED_A + SILENCE_A + ALL + CAPTURED_A,
+                 "lines 4 and 6 can't both be true."),
+                (ALL + b"C\n" + even + b"S\n" + odd + HEARD_A + SILENCE_A,
+                 "lines 3, 5 and 7 can't all be true."),
+                (short + CAPTURED_A, "line 3 can't be true.")):
+            said = self.shown(lines)
+            self.assertIn(f"The log contradicts itself: {sentence}", said)
+            self.assertIn("Causes, and what to do: python3 -m vicinity page LOG", said)
+
+    def noted(self, lines):
+        return within("report", self.write("one.log", third(lines)))[0].decode()
 
     def test_a_silenced_tag_that_was_heard_is_not_noted(self):
-        self.assertNotIn("never heard", self.shown(ALONE.replace(b"R ", b"H ")))
+        self.assertNotIn("never heard", self.noted(ALONE.replace(b"R ", b"H ")))
+        self.assertIn("never heard", self.noted(SILENCE_B + ALONE))
 
     def test_a_round_with_a_slot_of_which_nothing_is_known_did_not_ask_all(self):
         for last, noted in ((b"N\n", True), (b"S\n", False)):
-            said = self.shown(SIXTEEN + b"S\n" * 15 + last).replace("\n  ", " ")
             note = "the last round didn't ask all tags: one that no earlier round asked"
-            self.assertEqual(note in said, noted)
+            self.assertEqual(note in self.noted(SIXTEEN + b"S\n" * 15 + last), noted)

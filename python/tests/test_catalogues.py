@@ -242,7 +242,9 @@ class Catalogues(Command):
                 (first + "E0040100000000B2,b,c\n", None, 3, "it has 3 cells"),
                 (first, "shelf", 1, "no column is named shelf"),
                 (first, "tag", 1, "no column is named tag; the columns are: uid, title;"),
-                ("tag,title\nE0040100000000A1,a\n", None, 1, "no column is named uid"),
+                ("tag,title\nE0040100000000A1,a\n", None, 1,
+                 "no column is named uid; the columns are: tag, title; "
+                 "name the one with the UIDs uid, or say by --column NAME which it is"),
                 ("", None, 1, "the columns are: none"),
                 ("uid,UID\n", None, 1, "two columns are named uid"),
                 ("uid,x,x\n", None, 1, "two columns are named x"),
@@ -259,6 +261,9 @@ class Catalogues(Command):
             with self.assertRaisesRegex(Wrong, rf"\Aa\.csv, row {row}: .*{why}.*\Z", msg=content):
                 text = content if isinstance(content, bytes) else content.encode()
                 catalogue("a.csv", text, How(column))
+        for begin in (b"PK\x03\x04", b"\xd0\xcf\x11\xe0\xa1\xb1\x1a\xe1"):
+            with self.assertRaisesRegex(Wrong, r"\Aa: this is a spreadsheet: save it as CSV\Z"):
+                catalogue("a", begin + first.encode())
         for encoding in ("x", "base64", "idna", "undefined"):
             with self.assertRaisesRegex(Wrong, rf"\Ano encoding is named {encoding}\Z"):
                 catalogue("a.csv", first.encode(), How(encoding=encoding))

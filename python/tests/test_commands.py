@@ -180,7 +180,7 @@ class Memory(Command):
                              (b"", b"vicinity: out of memory\n", 4))
 
     def test_it_is_refused_while_a_file_is_judged_or_drawn(self):
-        for form, rounds in (([], 400_000), (["show"], 30_000), (["page"], 30_000)):
+        for form, rounds in (([], 400_000), (["show"], 100_000), (["page"], 100_000)):
             large = self.write("large.log", log((ALL + b"S\n") * rounds))
             statuses = []
             for more in (2_000, 4_000, 6_000, 8_000, 10_000, 30_000):

@@ -135,8 +135,8 @@ class Said(Command):
                 (ALL + b"S\n", f"{SAID} 1 slot; weakest: all UIDs."),
                 (ONCE_B + LIST_A, f"{SAID} 1 slot; weakest: E0040100000000B2."),
                 (OFTEN + LIST_A + LIST_B,
-                 "absent E0040100000000A1 asked in 4 slots, silent in each"),
-                (ALL + b"S\n" + LIST_A, "absent E0040100000000A1 asked in 1 slot, silent there")):
+                 "absent: E0040100000000A1, asked in 4 slots, silent in each"),
+                (ALL + b"S\n" + LIST_A, "absent: E0040100000000A1, asked in 1 slot, silent there")):
             said = within("show", self.write("one.log", log(lines)))[0].decode()
             self.assertIn(wanted, " ".join(said.split()))
             self.assertEqual(SAID in said, said.startswith("complete"))

@@ -16,10 +16,9 @@ of what should be there.
 """
 from ._answers import (Answer, Explanation, Fault, Finding, FindingKind, Kind, ListFault, Margin,
                        Mask, Report, Simulation, Survey, Weakest)
-from ._calls import (check, check_listed, explain, explain_into, explain_listed, listed, margin,
-                     margin_listed, overlooked, reconcile, report, report_listed, simulate,
-                     simulate_into, survey)
-from ._captured import captured
+from ._calls import (captured, check, check_listed, explain, explain_into, explain_listed, listed,
+                     margin, margin_listed, overlooked, reconcile, report, report_listed,
+                     simulate, simulate_into, survey)
 from ._drawn import page
 from .frames import (HEADER_LINE, FrameFault, Reply, Request, add_crc, parse_uid, read_request,
                      read_response, slot_mask, uid_text, write_inventory, write_line,

@@ -7,7 +7,7 @@ import os
 import sys
 from contextlib import suppress
 from importlib import import_module
-from typing import Mapping
+from typing import Any, Callable, Mapping
 
 from . import __version__
 from ._process import Words, run
@@ -20,90 +20,80 @@ STATUSES = """\
 The exit status is the worst of all: 0 complete, 1 not complete, 2 impossible,
 3 refused, 4 no answer. Standard error says why there is no answer; other logs
 are still judged."""
+LOOK: Mapping[str, Any] = {"epilog": STATUSES, "allow_abbrev": False,
+                           "formatter_class": argparse.RawDescriptionHelpFormatter}
 ANY = sys.maxsize
 #: A log has fewer slots than this.
 MOST_MARGIN = 999_999
 
 
-class _Commands:
-    """The commands, each with its words."""
-
-    def __init__(self, top: Words):
-        self.all = top.add_subparsers(metavar="COMMAND", parser_class=Words)
-
-    def add(self, name: str, what: str, does: str, names: str, least: int, most: int) -> Words:
-        """A command, with what it does for people, and the function that does it
-        as MODULE.FUNCTION. It takes so many names."""
-        command: Words = self.all.add_parser(
-            name, help=what, description=what, epilog=STATUSES, allow_abbrev=False,
-            formatter_class=argparse.RawDescriptionHelpFormatter)
-        command.set_defaults(does=does, number=(least, most))
-        command.add_argument("names", metavar=names, nargs="*")
-        return command
-
-
-def _forms(command: Words, **forms: str) -> None:
-    """The forms in which a command writes, of which the first is meant where none is asked for."""
-    group = command.add_mutually_exclusive_group()
-    for form, what in forms.items():
-        group.add_argument(f"--{form}", dest="form", action="store_const", const=form, help=what)
-    command.set_defaults(form=next(iter(forms)))
-
-
-def _logs_from(command: Words) -> None:
-    command.add_argument("--logs-from", metavar="FILE",
-                         help="a file that lists more logs, separated by NUL or line ends")
-
-
-def _margin_of(command: Words) -> None:
-    command.add_argument("--margin", metavar="K", type=_margin, default=0,
-                         help="a list is complete only if a tag that isn't on it would have had "
-                              "to be missed in K slots or more")
-
-
 def words() -> tuple[Words, Mapping[str, Words]]:
     """The words of all commands, and of each."""
     is_module = os.path.basename(sys.argv[0]) == "__main__.py"
-    top = Words(prog="python3 -m vicinity" if is_module else None, description=ABOUT,
-                epilog=STATUSES, allow_abbrev=False,
-                formatter_class=argparse.RawDescriptionHelpFormatter)
+    top = Words(prog="python3 -m vicinity" if is_module else None, description=ABOUT, **LOOK)
     top.add_argument("--version", action="version", version=__version__)
-    commands = _Commands(top)
-    check = commands.add("check", "whether the list of each log is complete", "answers.check_all",
-                         "LOG", 0, ANY)
-    _forms(check, lines="FILE: answer", tabs="file, status and answer, separated by tabs",
-           json="an object a line")
-    _margin_of(check)
-    _logs_from(check)
-    report = commands.add("report", "every finding of each log", "answers.report_all",
-                          "LOG", 0, ANY)
-    _forms(report, lines="FILE:LINE: text, like a compiler",
-           json="an object a line, with the findings")
-    _logs_from(report)
-    _of_collections(commands)
-    show = commands.add("show", "draws the rounds of a log for a terminal",
-                        "draw.draw", "LOG", 1, 1)
+    commands = top.add_subparsers(metavar="COMMAND", parser_class=Words)
+
+    def add(name: str, does: str, what: str, names: str = "LOG", least: int = 1, most: int = 1,
+            **forms: str) -> Words:
+        """A command, with the function that does it as MODULE.FUNCTION, and what it does
+        for people. It takes so many names, and writes in one of these forms,
+        of which the first is meant where none is asked for."""
+        command: Words = commands.add_parser(name, help=what, description=what, **LOOK)
+        command.set_defaults(does=does, number=(least, most), form=next(iter(forms), ""))
+        command.add_argument("names", metavar=names, nargs="*")
+        group = command.add_mutually_exclusive_group() if forms else command
+        for form, text in forms.items():
+            group.add_argument(f"--{form}", dest="form", action="store_const", const=form,
+                               help=text)
+        return command
+
+    check = add("check", "answers.check_all", "whether the list of each log is complete", "LOG",
+                0, ANY, lines="FILE: answer", json="an object a line",
+                tabs="file, status and answer, separated by tabs")
+    report = add("report", "answers.report_all", "every finding of each log", "LOG", 0, ANY,
+                 lines="FILE:LINE: text, like a compiler",
+                 json="an object a line, with the findings")
+    reconcile = add("reconcile", "reconcile.reconcile",
+                    "compares many logs with a list or catalogue of what should be there", "LOG",
+                    0, ANY, lines="lines like those of `vicinity reconcile`",
+                    csv="the catalogue, with the state of each item", page="one HTML file",
+                    json="one object: the answer, each item and each log")
+    _of_collections(reconcile)
+    survey = add("survey", "reconcile.survey", "what each log says of its field, an object a line, "
+                 "for reconcile --surveys", "LOG", 0, ANY)
+    for command in (check, report, reconcile, survey):
+        command.add_argument("--logs-from", metavar="FILE",
+                             help="a file that lists more logs, separated by NUL or line ends")
+    for command in (check, reconcile):
+        command.add_argument("--margin", metavar="K", type=_number(MOST_MARGIN), default=0,
+                             help="a list is complete only if a tag that isn't on it would have "
+                                  "had to be missed in K slots or more")
+    add("compare", "compare.compare", "what has changed between two answers of reconcile --json",
+        "OLD NEW", 2, 2, lines="a line for each item that has changed", json="one object")
+    show = add("show", "draw.draw", "draws the rounds of a log for a terminal")
     show.add_argument("--ascii", action="store_true", help="only ASCII characters")
-    commands.add("page", "the same as one HTML file", "draw.page", "LOG", 1, 1)
-    for name, what in (("explain", "the answer to a log, and tags that show it"),
-                       ("margin", "the answer to a log, and how often a tag would have had to be "
-                                  "missed"),
-                       ("simulate", "the log that listed tags would produce for given requests")):
-        commands.add(name, f"{what}, as the program does", f"answers.{name}_one", "LOG", 1, 1)
-    _misread(commands)
-    commands.add("frame", "a frame in words, as the program does", "frames.frame", "HEX", 1, 1)
-    commands.add("spell", "words as a frame, as the program does", "frames.spell", "WORD", 1, ANY)
-    return top, commands.all.choices
+    add("page", "draw.page", "the same as one HTML file")
+    add("explain", "answers.explain_one",
+        "the answer to a log, and tags that show it, as the program does")
+    add("margin", "answers.margin_one", "the answer to a log, and how often a tag would have had "
+        "to be missed, as the program does")
+    add("simulate", "answers.simulate_one",
+        "the log that listed tags would produce for given requests, as the program does")
+    misread = add("misread", "misread.misread", "a true log as a reader would have written it "
+                  "that misses, hides or mistakes replies")
+    for chance, what in (("capture", "one reply is read over the others of its slot"),
+                         ("miss", "a reply isn't noticed"), ("noise", "noise covers a slot")):
+        misread.add_argument(f"--{chance}", metavar="P", type=_chance, default=0.0,
+                             help=f"the probability that {what}")
+    misread.add_argument("--seed", metavar="N", type=int, default=0, help="of the random numbers")
+    add("frame", "frames.frame", "a frame in words, as the program does", "HEX")
+    add("spell", "frames.spell", "words as a frame, as the program does", "WORD", 1, ANY)
+    return top, commands.choices
 
 
-def _of_collections(commands: _Commands) -> None:
-    """The commands over many logs and a catalogue."""
-    reconcile = commands.add(
-        "reconcile", "compares many logs with a list or catalogue of what should be there",
-        "reconcile.reconcile", "LOG", 0, ANY)
-    _forms(reconcile, lines="lines like those of `vicinity reconcile`",
-           csv="the catalogue, with the state of each item",
-           json="one object: the answer, each item and each log", page="one HTML file")
+def _of_collections(reconcile: Words) -> None:
+    """The options of the command over many logs and a catalogue."""
     catalogue = reconcile.add_argument_group("the catalogue")
     for option, metavar, what in (
             ("--expected", "FILE",
@@ -120,47 +110,22 @@ def _of_collections(commands: _Commands) -> None:
              "of the CSV files, if they aren't UTF-8: windows-1252, utf-16-le, ..")):
         catalogue.add_argument(option, metavar=metavar, help=what, required=option == "--expected")
     logs = reconcile.add_argument_group("the logs")
-    _logs_from(reconcile)
     logs.add_argument("--surveys", metavar="FILE", nargs="+", default=[],
                       help="what `survey` has written of logs, here or on other machines")
     logs.add_argument("--strict", action="store_true",
                       help="end at the first log that is impossible, refused or unreadable, "
                            "as the program does")
-    _margin_of(reconcile)
-    logs.add_argument("--jobs", metavar="N", type=_jobs, default=1,
+    logs.add_argument("--jobs", metavar="N", type=_number(), default=1,
                       help="how many processes read logs")
-    survey = commands.add(
-        "survey", "what each log says of its field, an object a line, for reconcile --surveys",
-        "reconcile.survey", "LOG", 0, ANY)
-    _logs_from(survey)
-    compare = commands.add("compare", "what has changed between two answers of reconcile --json",
-                           "compare.compare", "OLD NEW", 2, 2)
-    _forms(compare, lines="a line for each item that has changed", json="one object")
 
 
-def _misread(commands: _Commands) -> None:
-    """The command that writes a log as another reader would have written it."""
-    misread = commands.add(
-        "misread",
-        "a true log as a reader would have written it that misses, hides or mistakes replies",
-        "misread.misread", "LOG", 1, 1)
-    for chance, what in (("capture", "one reply is read over the others of its slot"),
-                         ("miss", "a reply isn't noticed"), ("noise", "noise covers a slot")):
-        misread.add_argument(f"--{chance}", metavar="P", type=_chance, default=0.0,
-                             help=f"the probability that {what}")
-    misread.add_argument("--seed", metavar="N", type=int, default=0, help="of the random numbers")
-
-
-def _jobs(word: str) -> int:
-    if not word.isdecimal() or not int(word):
-        raise argparse.ArgumentTypeError("a number from 1")
-    return int(word)
-
-
-def _margin(word: str) -> int:
-    if not word.isdecimal() or not 0 < int(word) <= MOST_MARGIN:
-        raise argparse.ArgumentTypeError(f"a number from 1 to {MOST_MARGIN:,}")
-    return int(word)
+def _number(most: int = ANY) -> Callable[[str], int]:
+    """What reads a number from 1."""
+    def number(word: str) -> int:
+        if word.isdecimal() and 0 < int(word) <= most:
+            return int(word)
+        raise argparse.ArgumentTypeError("a number from 1" + f" to {most:,}" * (most < ANY))
+    return number
 
 
 def _chance(word: str) -> float:

@@ -3,29 +3,37 @@ from __future__ import annotations
 
 import ctypes
 import mmap
+import re
 import struct
 from array import array
-from typing import TYPE_CHECKING, Any, Callable, Iterable
+from typing import Any, Iterable, Optional, Sequence
 
 from ._answers import (Answer, Explanation, Fault, Finding, FindingKind, Kind, ListFault, Margin,
                        Mask, Report, Simulation, Survey, Weakest)
-from ._native import AnswerStruct, FindingStruct, MaskStruct, WeakestStruct, bytes_of, library
-
-if TYPE_CHECKING:
-    from ._native import BytesLike
+from ._native import (AnswerStruct, BytesLike, FindingStruct, MaskStruct, WeakestStruct, bytes_of,
+                      library)
 
 FIRST_ROOM = 64
-#: struct vicinity_mask.
-PACKED_MASK = struct.Struct("IIQ")
+#: struct vicinity_mask and struct vicinity_finding.
+PACKED_MASK, PACKED_FINDING = struct.Struct("IIQ"), struct.Struct("IIIIQQ")
 NO_ANSWER = 4
+#: The header of version 3, and a line that it has otherwise in a text read under capture.
+HEADER, REPLY = b"vicinity-log 3", re.compile(rb"^R ", re.MULTILINE)
 #: The kind of the answer to a list.
 LISTED = 12
 
 
-def _without_list(text: BytesLike) -> bytes:
-    """The bytes of a text with a separate list, with an LF after its last line."""
+def _text(text: BytesLike) -> tuple[bytes, int]:
+    """A text as a call takes it."""
     text = bytes_of(text)
-    return text if text.endswith(b"\n") else text + b"\n"
+    return text, len(text)
+
+
+def _text_and_list(text: BytesLike, uids: Iterable[int]) -> Sequence[Any]:
+    """A text with a separate list, with an LF after its last line."""
+    text, listed = bytes_of(text), _numbers(uids)
+    text = text if text.endswith(b"\n") else text + b"\n"
+    return text, len(text), listed, len(listed)
 
 
 def _numbers(uids: Iterable[int]) -> ctypes.Array[ctypes.c_uint64]:
@@ -36,7 +44,7 @@ def _numbers(uids: Iterable[int]) -> ctypes.Array[ctypes.c_uint64]:
     return place.from_buffer(numbers) if numbers else place()
 
 
-def _masks(masks: Iterable[Mask]) -> ctypes.Array[MaskStruct]:
+def _masks(masks: Iterable[Mask]) -> ctypes.Array[ctypes.Structure]:
     """Masks as a C array.
     Raises OverflowError if a number of one doesn't fit into 32 or 64 bits."""
     try:
@@ -47,33 +55,18 @@ def _masks(masks: Iterable[Mask]) -> ctypes.Array[MaskStruct]:
     return place.from_buffer(bytearray(b"".join(structs))) if structs else place()
 
 
-def _answer(told: AnswerStruct) -> Answer:
+def _asked(name: str, given: Sequence[Any], *filled: Any) -> ctypes.Structure:
+    """What a call answers, beside what it fills."""
+    told = AnswerStruct()
+    getattr(library(), f"vicinity_{name}")(*given, ctypes.byref(told), *filled)
+    return told
+
+
+def _answer(told: ctypes.Structure) -> Answer:
     if told.kind == 0:
         raise MemoryError("vicinity: out of memory")
     return Answer(Kind(told.kind), told.status, told.count, told.line, Fault(told.fault),
                   told.mask_len, told.mask_value, told.uid, told.text.decode("ascii").rstrip("\n"))
-
-
-def check(text: BytesLike) -> Answer:
-    """The answer to a text. Any number of threads may call at once.
-
-    Raises TypeError if the text isn't bytes or similar, MemoryError if memory is refused,
-    and OSError if the shared library can't be loaded."""
-    text = bytes_of(text)
-    told = AnswerStruct()
-    library().vicinity_check(text, len(text), ctypes.byref(told))
-    return _answer(told)
-
-
-def explain_into(text: BytesLike, room: ctypes.Array[ctypes.c_uint64]) -> tuple[Answer, int]:
-    """The answer to a text, and the number of UIDs in the counterexample.
-    They are put at the start of the buffer `room` if they fit; otherwise it stays as it is.
-    Raises what `check` raises."""
-    text = bytes_of(text)
-    told, needed = AnswerStruct(), ctypes.c_size_t()
-    library().vicinity_explain(text, len(text), ctypes.byref(told), room, len(room),
-                               ctypes.byref(needed))
-    return _answer(told), needed.value
 
 
 def _room(place: Any, places: int) -> Any:
@@ -86,48 +79,45 @@ def _room(place: Any, places: int) -> Any:
         raise MemoryError("vicinity: out of memory") from error
 
 
-def _filled(place: Any, places: int, call: Callable[..., int],
-            *given: Any) -> tuple[Answer, Any, int]:
+def _filled(place: Any, places: int, name: str,
+            given: Sequence[Any]) -> tuple[ctypes.Structure, Any, int]:
     """Makes a call that fills a buffer, first with that many elements, and again if it needs more:
-    the answer, the buffer, and how many of its elements are filled."""
+    what it answers, the buffer, and how many of its elements are filled."""
     while True:
-        told, room, needed = AnswerStruct(), _room(place, places), ctypes.c_size_t()
-        call(*given, ctypes.byref(told), room, places, ctypes.byref(needed))
+        room, needed = _room(place, places), ctypes.c_size_t()
+        told = _asked(name, given, room, places, ctypes.byref(needed))
         if needed.value <= places:
-            return _answer(told), room, needed.value
+            return told, room, needed.value
         places = needed.value
 
 
-def _in_room(place: Any, call: Callable[..., int], *given: Any) -> tuple[Answer, list[Any]]:
-    """The answer of such a call, and the elements that it filled."""
-    answer, room, count = _filled(place, FIRST_ROOM, call, *given)
-    return answer, room[:count]
+def _explanation(name: str, given: Sequence[Any]) -> Explanation:
+    told, room, count = _filled(ctypes.c_uint64, FIRST_ROOM, name, given)
+    return Explanation(_answer(told), room[:count])
 
 
-def _report(answer: Answer, found: list[FindingStruct]) -> Report:
-    return Report(answer, [
-        Finding(FindingKind(it.kind), it.line, it.mask_len, it.mask_value, it.uid)
-        for it in found])
+def _report(name: str, given: Sequence[Any]) -> Report:
+    told, room, count = _filled(FindingStruct, FIRST_ROOM, name, given)
+    findings = memoryview(room).cast("B")[:count * PACKED_FINDING.size]
+    kinds = {kind.value: kind for kind in FindingKind}  # quicker than a call for each
+    return Report(_answer(told), [
+        Finding(kinds[kind], line, mask_len, mask_value, uid)
+        for kind, line, mask_len, _, mask_value, uid in PACKED_FINDING.iter_unpack(findings)])
 
 
-def explain(text: BytesLike) -> Explanation:
-    """The answer to a text, and the UIDs of tags that show it. Raises what `check` raises."""
-    text = bytes_of(text)
-    return Explanation(*_in_room(ctypes.c_uint64, library().vicinity_explain, text, len(text)))
+def _margin(name: str, given: Sequence[Any]) -> Margin:
+    least = WeakestStruct()
+    answer = _answer(_asked(name, given, ctypes.byref(least)))
+    return Margin(answer, None if answer.status > 1 else
+                  Weakest(least.margin, Mask(least.mask_len, least.mask_value)))
 
 
-def report(text: BytesLike) -> Report:
-    """The answer to a text, and every finding. Raises what `check` raises."""
-    text = bytes_of(text)
-    return _report(*_in_room(FindingStruct, library().vicinity_report, text, len(text)))
+def check(text: BytesLike) -> Answer:
+    """The answer to a text. Any number of threads may call at once.
 
-
-def report_records(text: bytes) -> tuple[Answer, memoryview]:
-    """What `report` returns, with the findings as the bytes of structs vicinity_finding,
-    of which there may be two million: at most two UIDs per line."""
-    places = FIRST_ROOM + 2 * text.count(b"\n")
-    answer, room, count = _filled(FindingStruct, places, library().vicinity_report, text, len(text))
-    return answer, memoryview(room).cast("B")[:count * ctypes.sizeof(FindingStruct)]
+    Raises TypeError if the text isn't bytes or similar, MemoryError if memory is refused,
+    and OSError if the shared library can't be loaded."""
+    return _answer(_asked("check", _text(text)))
 
 
 def check_listed(text: BytesLike, uids: Iterable[int]) -> Answer:
@@ -135,47 +125,49 @@ def check_listed(text: BytesLike, uids: Iterable[int]) -> Answer:
     The last line of the text may lack its LF.
 
     Raises what `check` raises, and OverflowError if a UID doesn't fit into 64 bits."""
-    text, listed = _without_list(text), _numbers(uids)
-    told = AnswerStruct()
-    library().vicinity_check_listed(text, len(text), listed, len(listed), ctypes.byref(told))
-    return _answer(told)
+    return _answer(_asked("check_listed", _text_and_list(text, uids)))
+
+
+def explain(text: BytesLike) -> Explanation:
+    """The answer to a text, and the UIDs of tags that show it. Raises what `check` raises."""
+    return _explanation("explain", _text(text))
 
 
 def explain_listed(text: BytesLike, uids: Iterable[int]) -> Explanation:
     """The answer of `check_listed`, and the UIDs of tags that show it.
     Raises what `check_listed` raises."""
-    text, listed = _without_list(text), _numbers(uids)
-    return Explanation(*_in_room(ctypes.c_uint64, library().vicinity_explain_listed,
-                                 text, len(text), listed, len(listed)))
+    return _explanation("explain_listed", _text_and_list(text, uids))
+
+
+def explain_into(text: BytesLike, room: ctypes.Array[ctypes.c_uint64]) -> tuple[Answer, int]:
+    """The answer to a text, and the number of UIDs in the counterexample.
+    They are put at the start of the buffer `room` if they fit; otherwise it stays as it is.
+    Raises what `check` raises."""
+    needed = ctypes.c_size_t()
+    told = _asked("explain", _text(text), room, len(room), ctypes.byref(needed))
+    return _answer(told), needed.value
+
+
+def report(text: BytesLike) -> Report:
+    """The answer to a text, and every finding. Raises what `check` raises."""
+    return _report("report", _text(text))
 
 
 def report_listed(text: BytesLike, uids: Iterable[int]) -> Report:
     """The answer of `check_listed`, and every finding. Raises what `check_listed` raises."""
-    text, listed = _without_list(text), _numbers(uids)
-    return _report(*_in_room(FindingStruct, library().vicinity_report_listed,
-                             text, len(text), listed, len(listed)))
-
-
-def _margin(call: Callable[..., int], *given: Any) -> Margin:
-    told, least = AnswerStruct(), WeakestStruct()
-    call(*given, ctypes.byref(told), ctypes.byref(least))
-    answer = _answer(told)
-    return Margin(answer, None if answer.status > 1 else
-                  Weakest(least.margin, Mask(least.mask_len, least.mask_value)))
+    return _report("report_listed", _text_and_list(text, uids))
 
 
 def margin(text: BytesLike) -> Margin:
     """The answer to a text, and in how many slots a tag that isn't listed
     would have had to be missed. Raises what `check` raises."""
-    text = bytes_of(text)
-    return _margin(library().vicinity_margin, text, len(text))
+    return _margin("margin", _text(text))
 
 
 def margin_listed(text: BytesLike, uids: Iterable[int]) -> Margin:
     """The answer of `check_listed`, and the margin against this list.
     Raises what `check_listed` raises."""
-    text, listed = _without_list(text), _numbers(uids)
-    return _margin(library().vicinity_margin_listed, text, len(text), listed, len(listed))
+    return _margin("margin_listed", _text_and_list(text, uids))
 
 
 def overlooked(text: BytesLike, uids: Iterable[int]) -> list[int]:
@@ -185,11 +177,9 @@ def overlooked(text: BytesLike, uids: Iterable[int]) -> list[int]:
 
     Raises ValueError, with the line of the refusal, if the text is refused or a UID doesn't begin
     E0, what `check` raises, and OverflowError if a UID doesn't fit into 64 bits."""
-    text, asked = bytes_of(text), _numbers(uids)
-    told, places = AnswerStruct(), (ctypes.c_uint32 * len(asked))()
-    library().vicinity_overlooked(text, len(text), asked, len(asked), ctypes.byref(told), places,
-                                  len(places))
-    answer = _answer(told)
+    asked = _numbers(uids)
+    places = (ctypes.c_uint32 * len(asked))()
+    answer = _answer(_asked("overlooked", [*_text(text), asked, len(asked)], places, len(places)))
     if answer.kind is Kind.REFUSED:
         raise ValueError(answer.text)
     return list(places)
@@ -199,16 +189,16 @@ def survey(text: BytesLike) -> Survey:
     """What a log says of its field: the UIDs that must be there, and all masks whose UIDs may be.
     Raises what `check` raises."""
     text = bytes_of(text)
-    places = FIRST_ROOM + 2 * text.count(b"\n")
-    uids, masks = _room(ctypes.c_uint64, places), _room(MaskStruct, places)
+    places = most = FIRST_ROOM + 2 * text.count(b"\n")
     while True:
-        told, count, left = AnswerStruct(), ctypes.c_size_t(), ctypes.c_size_t()
-        library().vicinity_survey(text, len(text), ctypes.byref(told), uids, len(uids),
-                                  ctypes.byref(count), masks, len(masks), ctypes.byref(left))
-        if count.value <= len(uids) and left.value <= len(masks):
+        uids, count = _room(ctypes.c_uint64, places), ctypes.c_size_t()
+        masks, left = _room(MaskStruct, most), ctypes.c_size_t()
+        told = _asked("survey", _text(text), uids, places, ctypes.byref(count),
+                      masks, most, ctypes.byref(left))
+        if count.value <= places and left.value <= most:
             return Survey(_answer(told), uids[:count.value],
                           [Mask(it.len, it.value) for it in masks[:left.value]])
-        uids, masks = _room(ctypes.c_uint64, count.value), _room(MaskStruct, left.value)
+        places, most = count.value, left.value
 
 
 def listed(text: BytesLike) -> list[int]:
@@ -217,16 +207,11 @@ def listed(text: BytesLike) -> list[int]:
     Raises ListFault if the text is not a log or has other entries, and what `check` raises."""
     text = bytes_of(text)
     places = FIRST_ROOM + text.count(b"\n")
-    while True:
-        told, uids, needed = AnswerStruct(), _room(ctypes.c_uint64, places), ctypes.c_size_t()
-        library().vicinity_listed(text, len(text), ctypes.byref(told), uids, places,
-                                  ctypes.byref(needed))
-        if told.kind != LISTED:
-            raise ListFault(_answer(told))
-        if needed.value <= places:
-            found: list[int] = uids[:needed.value]
-            return found
-        places = needed.value
+    told, room, count = _filled(ctypes.c_uint64, places, "listed", _text(text))
+    if told.kind != LISTED:
+        raise ListFault(_answer(told))
+    found: list[int] = room[:count]
+    return found
 
 
 def reconcile(expected: Iterable[int], surveys: Iterable[Survey], *, strict: bool = True) -> Report:
@@ -252,17 +237,15 @@ def reconcile_parts(expected: Iterable[int], certain: Iterable[int],
                     masks: Iterable[Mask]) -> Report:
     """What `reconcile` returns for all certain UIDs and open masks of some logs."""
     listed, known, left = _numbers(expected), _numbers(certain), _masks(masks)
-    given = listed, len(listed), known, len(known), left, len(left)
-    return _report(*_in_room(FindingStruct, library().vicinity_reconcile, *given))
+    return _report("reconcile", [listed, len(listed), known, len(known), left, len(left)])
 
 
 def simulate_into(text: BytesLike, room: ctypes.Array[ctypes.c_uint8]) -> tuple[int, int]:
     """The status of `simulate` on a text, and the number of bytes that it writes.
     They are put at the start of the buffer `room` if they fit; otherwise it stays as it is.
     Raises what `check` raises."""
-    text = bytes_of(text)
     needed = ctypes.c_size_t()
-    status = library().vicinity_simulate(text, len(text), room, len(room), ctypes.byref(needed))
+    status = library().vicinity_simulate(*_text(text), room, len(room), ctypes.byref(needed))
     if status == NO_ANSWER:
         raise MemoryError("vicinity: out of memory")
     return status, needed.value
@@ -279,3 +262,21 @@ def simulate(text: BytesLike) -> Simulation:
         if needed <= places:
             return Simulation(status, bytes(memoryview(room)[:needed]))
         places = needed
+
+
+def captured(text: BytesLike) -> bytes:
+    """The text with each R line as an H line, under the header of version 3;
+    a text that is refused as it is. Raises what `check` raises."""
+    text = bytes_of(text)
+    return text if check(text).kind is Kind.REFUSED else with_captures(text)
+
+
+def with_captures(text: bytes) -> bytes:
+    """The same for a text that isn't refused. The answer to it says whether that to the text also
+    holds if strong replies hid weaker ones (capture)."""
+    return HEADER + REPLY.sub(b"H ", text[len(HEADER):])
+
+
+def if_captured(text: bytes, answer: Answer) -> Optional[Answer]:
+    """The answer if any reply may have hidden others; nothing if the text is refused."""
+    return None if answer.kind is Kind.REFUSED else check(with_captures(text))

@@ -1,20 +1,15 @@
 """The page of a log, for programs and notebooks."""
 from __future__ import annotations
 
-from typing import TYPE_CHECKING
+from html import escape
 
-from ._native import bytes_of
-
-if TYPE_CHECKING:
-    from ._native import BytesLike
+from ._native import BytesLike, bytes_of
 
 
 class Page(str):
     """A page as HTML, which a notebook shows."""
 
     def _repr_html_(self) -> str:
-        from html import escape  # needed only here
-
         return f'<iframe srcdoc="{escape(self)}" style="width: 100%; height: 40em"></iframe>'
 
 

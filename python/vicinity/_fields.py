@@ -1,22 +1,37 @@
 """Answers and masks for JSON, and as the line of one text among many."""
 from __future__ import annotations
 
-from typing import Any, Mapping, Optional
+from typing import Any, Mapping, Optional, Union
 
 from ._answers import Answer, Fault, Kind, Mask, Weakest
-from ._process import shown
+from ._process import NO_ANSWER, shown
 from .frames import parse_uid, uid_text
 
+#: The answer to a log, or why there is none.
+Judged = Union[Answer, str]
 #: The form of the objects, which docs/answers.schema.json describes.
 SCHEMA = 1
+#: The bits in which UIDs differ; the others are those of E0.
 UID_BITS = 56
 #: The kind of the answer to a complete list of which a greater margin was asked for,
 #: and its status.
 SMALL, NOT_COMPLETE = "margin", 1
 
 
-def fields(answer: Answer) -> dict[str, Any]:
+def object_of(name: str, answer: Judged, weakest: Optional[Weakest] = None,
+              reread: Optional[Answer] = None) -> dict[str, Any]:
+    """What every object says of a log: its answer, and if they are known its margin
+    and the answer under capture."""
+    said = {"schema": SCHEMA, "file": name, **fields(answer), **margin_fields(weakest)}
+    if reread is not None and not isinstance(answer, str):
+        said["captured"] = captured_of(answer, reread)
+    return said
+
+
+def fields(answer: Judged) -> dict[str, Any]:
     """The fields of an answer, as words and numbers."""
+    if isinstance(answer, str):
+        return {"status": NO_ANSWER, "kind": "no answer", "error": answer}
     said: dict[str, Any] = {"status": answer.status, "kind": answer.kind.word}
     if answer.kind is Kind.COMPLETE:
         said["count"] = answer.count
@@ -31,12 +46,9 @@ def fields(answer: Answer) -> dict[str, Any]:
     return said
 
 
-def captured_fields(answer: Answer, reread: Optional[Answer]) -> dict[str, Any]:
-    """Whether an answer also holds under capture, and if not, the answer that does;
-    nothing if the text is refused."""
-    if reread is None:
-        return {}
-    return {"captured": {"holds": True} if reread == answer else {"holds": False, **fields(reread)}}
+def captured_of(answer: Answer, reread: Answer) -> dict[str, Any]:
+    """Whether an answer also holds under capture, and if not, the answer that does."""
+    return {"holds": True} if reread == answer else {"holds": False, **fields(reread)}
 
 
 def margin_fields(weakest: Optional[Weakest]) -> dict[str, Any]:
@@ -60,42 +72,19 @@ def small_fields(answer: Answer, wanted: int) -> dict[str, Any]:
     return {"status": NOT_COMPLETE, "kind": SMALL, "count": answer.count, "wanted": wanted}
 
 
-def weakest_of(said: Mapping[str, Any]) -> Optional[Weakest]:
-    """The margin and the mask that these fields have, if they have any.
-    Raises ValueError, KeyError or TypeError if they are wrong."""
-    if "margin" not in said:
-        return None
-    return Weakest(number_of(said["margin"]), mask_of(said["weakest"]))
-
-
 def answer_of(said: Mapping[str, Any]) -> Answer:
-    """The answer that has these fields.
+    """The answer that has these fields, without its line.
     Raises ValueError, KeyError or TypeError if there is none."""
-    kind = next((it for it in Kind if it.word == said["kind"]), None)
-    fault = next((it for it in Fault if it.word == said.get("fault", "")), None)
-    if kind is None or fault is None:
-        raise ValueError
+    kind = {it.word: it for it in Kind}[said["kind"]]
+    fault = {it.word: it for it in Fault}[said.get("fault", "")]
     status = {Kind.COMPLETE: 0, Kind.IMPOSSIBLE: 2, Kind.REFUSED: 3}.get(kind, 1)
-    mask = mask_of(said) if kind is Kind.UNSETTLED else Mask(0, 0)
-    uid = parse_uid(said["uid"]) if "uid" in said else 0
     answer = Answer(kind, status, number_of(said.get("count", 0)), number_of(said.get("line", 0)),
-                    fault, *mask, uid, "")
+                    fault, *(mask_of(said) if kind is Kind.UNSETTLED else Mask(0, 0)),
+                    parse_uid(said["uid"]) if "uid" in said else 0, "")
     known = fields(answer)
     if known != {key: said[key] for key in known}:
         raise ValueError
-    return answer._replace(text=_text(answer))
-
-
-def _text(answer: Answer) -> str:
-    """The line of an answer."""
-    word = answer.kind.word
-    if answer.kind is Kind.COMPLETE:
-        return f"{word} {answer.count}"
-    if answer.kind is Kind.UNSETTLED:
-        return f"{word} {answer.mask.length} {answer.mask.digits}"
-    if answer.kind in (Kind.IMPOSSIBLE, Kind.REFUSED):
-        return f"{word} at line {answer.line}" + (f": {answer.fault.word}" if answer.fault else "")
-    return f"{word} {uid_text(answer.uid)}"
+    return answer
 
 
 def mask_fields(mask: Mask) -> dict[str, Any]:
@@ -120,7 +109,9 @@ def number_of(value: object) -> int:
     return value
 
 
-def refusal(name: str, answer: Answer) -> str:
-    """The line of the program for a text that is refused or impossible."""
-    place, *fault = answer.text.split(":")
-    return ":".join([f"{place} of {shown(name)}", *fault])
+def refusal(name: str, answer: Judged) -> str:
+    """The line of the program for a text that is refused or impossible; else why there is none."""
+    if isinstance(answer, str):
+        return answer
+    fault = f": {answer.fault.word}" if answer.fault else ""
+    return f"{answer.kind.word} at line {answer.line} of {shown(name)}{fault}"

@@ -3,144 +3,72 @@ from __future__ import annotations
 
 import ctypes
 import functools
+import mmap
 import os
 import platform
-from typing import TYPE_CHECKING, Sequence, Union
+from typing import Any, Sequence, Union
 
-if TYPE_CHECKING:
-    import mmap
-
-    BytesLike = Union[bytes, bytearray, memoryview, mmap.mmap]
-
+BytesLike = Union[bytes, bytearray, memoryview, mmap.mmap]
 INTERFACE = 1
 #: The library's file.
 NAME = "vicinity.dll" if os.name == "nt" else "libvicinity.so.1"
 X86_64_V2 = ("cx16", "lahf_lm", "popcnt", "sse4_1", "sse4_2", "ssse3")
 
 
-class AnswerStruct(ctypes.Structure):
-    """struct vicinity_answer of vicinity.h."""
-
-    _fields_ = [
-        ("kind", ctypes.c_uint32),
-        ("status", ctypes.c_uint32),
-        ("count", ctypes.c_uint32),
-        ("line", ctypes.c_uint32),
-        ("fault", ctypes.c_uint32),
-        ("mask_len", ctypes.c_uint32),
-        ("mask_value", ctypes.c_uint64),
-        ("uid", ctypes.c_uint64),
-        ("text", ctypes.c_char * 64),
-    ]
+U16, U32, U64 = ctypes.c_uint16, ctypes.c_uint32, ctypes.c_uint64
 
 
-class FindingStruct(ctypes.Structure):
-    """struct vicinity_finding of vicinity.h."""
-
-    _fields_ = [
-        ("kind", ctypes.c_uint32),
-        ("line", ctypes.c_uint32),
-        ("mask_len", ctypes.c_uint32),
-        ("zero", ctypes.c_uint32),
-        ("mask_value", ctypes.c_uint64),
-        ("uid", ctypes.c_uint64),
-    ]
+def _struct(name: str, **fields: Any) -> type[ctypes.Structure]:
+    return type(name, (ctypes.Structure,), {"_fields_": list(fields.items())})
 
 
-class RequestStruct(ctypes.Structure):
-    """struct vicinity_request of vicinity.h."""
+# the structs of vicinity.h
+AnswerStruct = _struct("vicinity_answer", kind=U32, status=U32, count=U32, line=U32, fault=U32,
+                       mask_len=U32, mask_value=U64, uid=U64, text=ctypes.c_char * 64)
+FindingStruct = _struct("vicinity_finding", kind=U32, line=U32, mask_len=U32, zero=U32,
+                        mask_value=U64, uid=U64)
+RequestStruct = _struct("vicinity_request", fault=U32, link=U32, slots=U32, mask_len=U32,
+                        mask_value=U64, uid=U64)
+ReplyStruct = _struct("vicinity_reply", fault=U32, flags=U16, dsfid=U16, uid=U64)
+MaskStruct = _struct("vicinity_mask", fault=U32, len=U32, value=U64)
+WeakestStruct = _struct("vicinity_weakest", margin=U32, mask_len=U32, mask_value=U64)
+FrameStruct = _struct("vicinity_frame", fault=U32, len=U32, bytes=ctypes.c_uint8 * 16)
+LineStruct = _struct("vicinity_line", fault=U32, len=U32, text=ctypes.c_char * 132)
+NameStruct = _struct("vicinity_name", len=U32, text=ctypes.c_char * 28)
 
-    _fields_ = [
-        ("fault", ctypes.c_uint32),
-        ("link", ctypes.c_uint32),
-        ("slots", ctypes.c_uint32),
-        ("mask_len", ctypes.c_uint32),
-        ("mask_value", ctypes.c_uint64),
-        ("uid", ctypes.c_uint64),
-    ]
-
-
-class ReplyStruct(ctypes.Structure):
-    """struct vicinity_reply of vicinity.h."""
-
-    _fields_ = [
-        ("fault", ctypes.c_uint32),
-        ("flags", ctypes.c_uint16),
-        ("dsfid", ctypes.c_uint16),
-        ("uid", ctypes.c_uint64),
-    ]
-
-
-class MaskStruct(ctypes.Structure):
-    """struct vicinity_mask of vicinity.h."""
-
-    _fields_ = [("fault", ctypes.c_uint32), ("len", ctypes.c_uint32), ("value", ctypes.c_uint64)]
-
-
-class WeakestStruct(ctypes.Structure):
-    """struct vicinity_weakest of vicinity.h."""
-
-    _fields_ = [("margin", ctypes.c_uint32), ("mask_len", ctypes.c_uint32),
-                ("mask_value", ctypes.c_uint64)]
-
-
-class FrameStruct(ctypes.Structure):
-    """struct vicinity_frame of vicinity.h."""
-
-    _fields_ = [("fault", ctypes.c_uint32), ("len", ctypes.c_uint32),
-                ("bytes", ctypes.c_uint8 * 16)]
-
-
-class LineStruct(ctypes.Structure):
-    """struct vicinity_line of vicinity.h."""
-
-    _fields_ = [("fault", ctypes.c_uint32), ("len", ctypes.c_uint32), ("text", ctypes.c_char * 132)]
-
-
-class NameStruct(ctypes.Structure):
-    """struct vicinity_name of vicinity.h."""
-
-    _fields_ = [("len", ctypes.c_uint32), ("text", ctypes.c_char * 28)]
-
-
-SIZE = ctypes.c_size_t
+SIZE, POINTER = ctypes.c_size_t, ctypes.POINTER
 TEXT = [ctypes.c_char_p, SIZE]  # bytes, whose address C gets: never None, and read only
-UIDS = [ctypes.POINTER(ctypes.c_uint64), SIZE]
-ANSWER = [ctypes.POINTER(AnswerStruct)]
-POPULATION = [*UIDS, ctypes.POINTER(SIZE)]
-FINDINGS = [ctypes.POINTER(FindingStruct), SIZE, ctypes.POINTER(SIZE)]
-MASKS = [ctypes.POINTER(MaskStruct), SIZE]
-WEAKEST = [ctypes.POINTER(WeakestStruct)]
-NUMBER, VALUE = ctypes.c_uint32, ctypes.c_uint64
-FRAME = ctypes.POINTER(FrameStruct)
+UIDS, MASKS = [POINTER(U64), SIZE], [POINTER(MaskStruct), SIZE]
+ANSWER, WEAKEST, FRAME = POINTER(AnswerStruct), POINTER(WeakestStruct), POINTER(FrameStruct)
+POPULATION = [*UIDS, POINTER(SIZE)]
+FINDINGS = [POINTER(FindingStruct), SIZE, POINTER(SIZE)]
 
 CALLS = {
+    "interface": [],
     "version": [],
-    "check": [*TEXT, *ANSWER],
-    "explain": [*TEXT, *ANSWER, *POPULATION],
-    "report": [*TEXT, *ANSWER, *FINDINGS],
-    "check_listed": [*TEXT, *UIDS, *ANSWER],
-    "explain_listed": [*TEXT, *UIDS, *ANSWER, *POPULATION],
-    "report_listed": [*TEXT, *UIDS, *ANSWER, *FINDINGS],
-    "certain": [*TEXT, *ANSWER, *POPULATION],
-    "open_masks": [*TEXT, *ANSWER, *MASKS, ctypes.POINTER(SIZE)],
-    "survey": [*TEXT, *ANSWER, *POPULATION, *MASKS, ctypes.POINTER(SIZE)],
-    "listed": [*TEXT, *ANSWER, *POPULATION],
-    "reconcile": [*UIDS, *UIDS, *MASKS, *ANSWER, *FINDINGS],
-    "margin": [*TEXT, *ANSWER, *WEAKEST],
-    "margin_listed": [*TEXT, *UIDS, *ANSWER, *WEAKEST],
-    "overlooked": [*TEXT, *UIDS, *ANSWER, ctypes.POINTER(ctypes.c_uint32), SIZE],
-    "simulate": [*TEXT, ctypes.POINTER(ctypes.c_uint8), SIZE, ctypes.POINTER(SIZE)],
-    "kind_name": [NUMBER, ctypes.POINTER(NameStruct)],
-    "fault_name": [NUMBER, ctypes.POINTER(NameStruct)],
-    "write_inventory": [NUMBER, NUMBER, NUMBER, VALUE, FRAME],
-    "write_stay_quiet": [NUMBER, VALUE, FRAME],
-    "write_response": [NUMBER, NUMBER, VALUE, FRAME],
+    "check": [*TEXT, ANSWER],
+    "explain": [*TEXT, ANSWER, *POPULATION],
+    "report": [*TEXT, ANSWER, *FINDINGS],
+    "check_listed": [*TEXT, *UIDS, ANSWER],
+    "explain_listed": [*TEXT, *UIDS, ANSWER, *POPULATION],
+    "report_listed": [*TEXT, *UIDS, ANSWER, *FINDINGS],
+    "survey": [*TEXT, ANSWER, *POPULATION, *MASKS, POINTER(SIZE)],
+    "listed": [*TEXT, ANSWER, *POPULATION],
+    "reconcile": [*UIDS, *UIDS, *MASKS, ANSWER, *FINDINGS],
+    "margin": [*TEXT, ANSWER, WEAKEST],
+    "margin_listed": [*TEXT, *UIDS, ANSWER, WEAKEST],
+    "overlooked": [*TEXT, *UIDS, ANSWER, POINTER(U32), SIZE],
+    "simulate": [*TEXT, POINTER(ctypes.c_uint8), SIZE, POINTER(SIZE)],
+    "kind_name": [U32, POINTER(NameStruct)],
+    "fault_name": [U32, POINTER(NameStruct)],
+    "write_inventory": [U32, U32, U32, U64, FRAME],
+    "write_stay_quiet": [U32, U64, FRAME],
+    "write_response": [U32, U32, U64, FRAME],
     "add_crc": [*TEXT, FRAME],
-    "write_line": [ctypes.c_uint8, *TEXT, VALUE, ctypes.POINTER(LineStruct)],
-    "read_request": [*TEXT, ctypes.POINTER(RequestStruct)],
-    "read_response": [*TEXT, ctypes.POINTER(ReplyStruct)],
-    "slot_mask": [NUMBER, NUMBER, VALUE, NUMBER, ctypes.POINTER(MaskStruct)],
+    "write_line": [ctypes.c_uint8, *TEXT, U64, POINTER(LineStruct)],
+    "read_request": [*TEXT, POINTER(RequestStruct)],
+    "read_response": [*TEXT, POINTER(ReplyStruct)],
+    "slot_mask": [U32, U32, U64, U32, POINTER(MaskStruct)],
 }
 
 
@@ -189,22 +117,15 @@ def library() -> ctypes.CDLL:
         raise OSError(f"the library {name} can't be loaded ({error}): "
                       "install vicinity or the package libvicinity1, or "
                       "name the file in the environment variable LIBVICINITY") from None
-    try:
-        lib.vicinity_interface.restype = ctypes.c_uint32
-        lib.vicinity_interface.argtypes = []
-        interface = lib.vicinity_interface()
-    except AttributeError:
-        raise OSError(f"{name} isn't the library of vicinity") from None
-    if interface != INTERFACE:
-        raise OSError(f"the library {name} has the interface {interface}, "
-                      f"and this package needs {INTERFACE}")
     for call_name, arguments in CALLS.items():
         call = getattr(lib, f"vicinity_{call_name}", None)
         if call is None:
-            raise OSError(f"the library {name} is older than this package: "
-                          f"it has no vicinity_{call_name}")
-        call.restype = ctypes.c_uint32
-        call.argtypes = arguments
+            raise OSError(f"the library {name} isn't that of vicinity, or is older than "
+                          f"this package: it has no vicinity_{call_name}")
+        call.restype, call.argtypes = U32, arguments
+    if lib.vicinity_interface() != INTERFACE:
+        raise OSError(f"the library {name} has the interface {lib.vicinity_interface()}, "
+                      f"and this package needs {INTERFACE}")
     return lib
 
 

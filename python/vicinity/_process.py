@@ -19,9 +19,8 @@ from typing import Any, Callable, Generator, Iterable, NoReturn, Sequence, TypeV
 # 1,000,000 lines of 130 bytes, plus one.
 MOST_BYTES = 1_000_000 * 130 + 1
 PIECE = 1 << 16
-#: How a file is opened: read as it is, also on Windows, and not left open to other programs.
-AS_BYTES = os.O_RDONLY | getattr(os, "O_CLOEXEC", 0) | getattr(os, "O_BINARY", 0)
-NO_ANSWER = 4
+#: Statuses: an input is refused, and there is no answer.
+REFUSED, NO_ANSWER = 3, 4
 #: With more logs than this, a terminal is told how many have been read, each time after so many.
 MOST_UNCOUNTED, TOLD_EACH = 50, 10
 
@@ -36,7 +35,10 @@ def run(command: Callable[[], int]) -> int:
     """The status of a command, which is 4 if it has no answer."""
     signal.signal(signal.SIGINT, signal.SIG_DFL)  # also while the library judges
     sys.unraisablehook = lambda _: None  # failures while something is released as memory runs out
-    _bytes_on_windows()
+    if sys.platform == "win32":
+        import msvcrt
+        for file in (0, 1):  # line ends stay as they are
+            msvcrt.setmode(file, os.O_BINARY)
     try:
         return command()
     except NoAnswer as why:
@@ -50,14 +52,6 @@ def run(command: Callable[[], int]) -> int:
         return complain(shown(f"{type(error).__name__}: {error}"))
 
 
-def _bytes_on_windows() -> None:
-    """Windows would change line ends that are read and written."""
-    if sys.platform == "win32":
-        import msvcrt
-        for file in (0, 1):
-            msvcrt.setmode(file, os.O_BINARY)
-
-
 def complain(why: str) -> int:
     """Writes to standard error why there is no answer, if it can, and returns the status."""
     _note("vicinity: ", why, "\n")
@@ -67,22 +61,38 @@ def complain(why: str) -> int:
 def read(name: str) -> bytes:
     """The contents of a file, as far as they can matter; - is standard input."""
     try:
-        file = os.dup(0) if name == "-" else os.open(name, AS_BYTES)
-        try:
-            pieces, left, wanted = [], MOST_BYTES, max(PIECE, os.fstat(file).st_size)
-            while left > 0:
-                # a file in one piece: joining pieces takes the memory twice
-                piece = os.read(file, min(wanted, left))
-                wanted = PIECE
-                if not piece:
-                    break
+        with open(os.dup(0) if name == "-" else name, "rb", buffering=0) as file:
+            pieces, left, wanted = [], MOST_BYTES, max(PIECE, os.fstat(file.fileno()).st_size)
+            # a file in one piece: joining pieces takes the memory twice
+            while left > 0 and (piece := file.read(min(wanted, left))):
                 pieces.append(piece)
-                left -= len(piece)
+                left, wanted = left - len(piece), PIECE
             return b"".join(pieces)
-        finally:
-            os.close(file)
     except OSError as error:
         raise NoAnswer(f"cannot read {shown(name)}: {error.strerror}") from None
+
+
+def tried(name: str, call: Callable[[bytes], T]) -> Union[T, str]:
+    """What a call returns for the contents of a file, or why there is no answer."""
+    try:
+        return call(read(name))
+    except NoAnswer as why:
+        return str(why)
+    except MemoryError:
+        return f"out of memory: {shown(name)}"
+
+
+def names_of(asked: argparse.Namespace, are_needed: bool = True) -> list[str]:
+    """The names of logs among the words, and those in a file, separated by NUL if there is any,
+    else by line ends."""
+    names = list(asked.names)
+    if asked.logs_from is not None:
+        listed = read(asked.logs_from)
+        separator = b"\0" if b"\0" in listed else b"\n"
+        names += map(os.fsdecode, filter(None, listed.split(separator)))
+    if are_needed and not names:
+        raise NoAnswer("no logs: name at least one, or a file that lists them by --logs-from")
+    return names
 
 
 def write(pieces: Iterable[Union[str, bytes]]) -> None:
@@ -107,17 +117,13 @@ def _encoded(text: str) -> bytes:
     return text.encode("utf-8", "backslashreplace")
 
 
-def shown(name: str) -> str:
+def shown(name: Union[str, bytes]) -> str:
     """A name on one line, without anything that a terminal would interpret: a backslash is `\\\\`,
     a tab `\\t`, a line end `\\n`, and each byte of another character that can't be printed,
     or that isn't UTF-8, `\\x` and two hex digits."""
     text = os.fsencode(name).replace(b"\\", b"\\\\").decode("utf-8", "backslashreplace")
-    return "".join(it if it.isprintable() else _escaped(it) for it in text)
-
-
-def _escaped(character: str) -> str:
-    short = {"\t": "\\t", "\n": "\\n"}.get(character)
-    return short or "".join(f"\\x{byte:02x}" for byte in character.encode())
+    return "".join(it if it.isprintable() else {"\t": "\\t", "\n": "\\n"}.get(it) or
+                   "".join(f"\\x{byte:02x}" for byte in it.encode()) for it in text)
 
 
 def counted(things: Iterable[T], total: int) -> Generator[T, None, None]:

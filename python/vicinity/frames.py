@@ -3,21 +3,19 @@ library calls that allocate no memory."""
 from __future__ import annotations
 
 import ctypes
-from typing import TYPE_CHECKING, Callable, NamedTuple, Union
+import re
+from typing import NamedTuple, Union
 
 from ._answers import Fault, Mask
-from ._native import (FrameStruct, LineStruct, MaskStruct, ReplyStruct, RequestStruct, bytes_of,
-                      library, name_of)
-
-if TYPE_CHECKING:
-    from ._native import BytesLike
+from ._native import (BytesLike, FrameStruct, LineStruct, MaskStruct, ReplyStruct, RequestStruct,
+                      bytes_of, library, name_of)
 
 HEADER_LINE = b"vicinity-log 3\n"
 """The first line of a log."""
-HEX = frozenset("0123456789ABCDEFabcdef")
-#: What may be among the digits of a UID beside spaces,
-#: as spreadsheets and library systems write it.
-BETWEEN_DIGITS = "-:\u2010\u2011\u2012\u2013"
+#: A UID in a text, and what may be among its digits,
+#: as spreadsheets and library systems write them.
+DIGITS = re.compile("'?(?:0[xX])?([0-9A-Fa-f]{16})")
+BETWEEN_DIGITS = re.compile("[\\s:\u2010-\u2013-]")
 #: What is asked of a frame or a line that can't be made, by the name of the refusal.
 WANTED = {
     "WrongLink": "a link is 0 to 3", "WrongSlots": "a round has 1 or 16 slots",
@@ -35,9 +33,7 @@ class FrameFault(ValueError):
     """The first fault of a frame."""
 
     def __init__(self, fault: Fault):
-        from .sessions.faults import ADVICE  # needed only here
-
-        super().__init__(f"{fault.word}: {ADVICE[fault].wrong}")
+        super().__init__(f"{fault.word}: {fault.wrong}")
         self.fault = fault
 
 
@@ -50,15 +46,12 @@ def parse_uid(text: str) -> int:
     """The UID in a text: 16 hex digits in either case, E0 first.
     Colons, dashes and spaces may be among them, 0x or an apostrophe before them.
     Raises ValueError if it isn't one."""
-    digits = "".join(it for it in text if not (it.isspace() or it in BETWEEN_DIGITS))
-    digits = digits.removeprefix("'")
-    digits = digits[2:] if digits[:2] in ("0x", "0X") else digits
-    is_long = len(digits) == 16 and HEX.issuperset(digits)
-    if is_long and digits[:2] in ("E0", "e0"):
+    found = DIGITS.fullmatch(BETWEEN_DIGITS.sub("", text))
+    digits = found[1].upper() if found else ""
+    if digits.startswith("E0"):
         return int(digits, 16)
-    is_turned = is_long and digits[-2:] in ("E0", "e0")
     raise ValueError(f"{text!r} isn't a UID: 16 hex digits that begin with E0"
-                     + "; its bytes seem to be in the opposite order" * is_turned)
+                     + "; its bytes seem to be in the opposite order" * digits.endswith("E0"))
 
 
 class Request(NamedTuple):
@@ -80,20 +73,22 @@ class Reply(NamedTuple):
 
 def read_request(frame: BytesLike) -> Request:
     """The fields of a request's frame, CRC included. Raises FrameFault if it isn't one."""
-    frame, told = bytes_of(frame), RequestStruct()
-    fault = library().vicinity_read_request(frame, len(frame), ctypes.byref(told))
-    if fault:
-        raise FrameFault(Fault(fault))
+    told = _read("request", frame, RequestStruct())
     return Request(told.link, told.slots, Mask(told.mask_len, told.mask_value), told.uid)
 
 
 def read_response(frame: BytesLike) -> Reply:
     """The fields of a reply's frame, CRC included. Raises FrameFault if it isn't one."""
-    frame, told = bytes_of(frame), ReplyStruct()
-    fault = library().vicinity_read_response(frame, len(frame), ctypes.byref(told))
+    told = _read("response", frame, ReplyStruct())
+    return Reply(told.flags, told.dsfid, told.uid)
+
+
+def _read(kind: str, frame: BytesLike, told: ctypes.Structure) -> ctypes.Structure:
+    frame = bytes_of(frame)
+    fault = getattr(library(), f"vicinity_read_{kind}")(frame, len(frame), ctypes.byref(told))
     if fault:
         raise FrameFault(Fault(fault))
-    return Reply(told.flags, told.dsfid, told.uid)
+    return told
 
 
 def write_inventory(link: int, slots: int, mask: Mask = Mask(0, 0)) -> bytes:
@@ -101,41 +96,36 @@ def write_inventory(link: int, slots: int, mask: Mask = Mask(0, 0)) -> bytes:
 
     Raises ValueError, with the name of the refusal and what is asked,
     if there is no such request."""
-    return _frame(library().vicinity_write_inventory, _number(link), _number(slots),
-                  _number(mask.length), _number(mask.value, 64))
+    return _frame("write_inventory", link, slots, mask.length, mask.value)
 
 
 def write_stay_quiet(link: int, uid: int) -> bytes:
     """The frame of a Stay Quiet request, CRC included.
     Raises ValueError as `write_inventory` does."""
-    return _frame(library().vicinity_write_stay_quiet, _number(link), _number(uid, 64))
+    return _frame("write_stay_quiet", link, uid)
 
 
 def write_response(flags: int, dsfid: int, uid: int) -> bytes:
     """The frame of a reply, CRC included, for a simulated field.
     Raises ValueError as `write_inventory` does."""
-    return _frame(library().vicinity_write_response, _number(flags), _number(dsfid),
-                  _number(uid, 64))
+    return _frame("write_response", flags, dsfid, uid)
 
 
 def add_crc(content: BytesLike) -> bytes:
     """At most 14 bytes with their CRC after them: a frame whose CRC the reader's chip removed.
     Raises ValueError if there are more."""
     content = bytes_of(content)
-    return _frame(library().vicinity_add_crc, content, len(content))
+    return _frame("add_crc", content, len(content))
 
 
 def write_line(letter: str, frame: BytesLike = b"", uid: int = 0) -> bytes:
     """A line of a log, with its LF: "T", "R" or "H" with a frame of at most 63 bytes,
     which isn't judged, "U" with a UID, or only "S", "C", "D", "N" or "F".
     Raises ValueError, with the name of the refusal and what is asked, if there is no such line."""
-    frame, told = bytes_of(frame), LineStruct()
+    frame = bytes_of(frame)
     if not (isinstance(letter, str) and len(letter) == 1 and letter.isascii()):
         raise ValueError(f"WrongLetter: {WANTED['WrongLetter']}, not {letter!r}")
-    code = ord(letter)
-    _refuse(library().vicinity_write_line(code, frame, len(frame), _number(uid, 64),
-                                          ctypes.byref(told)))
-    return bytes(told.text)
+    return bytes(_made("write_line", LineStruct(), ord(letter), frame, len(frame), uid).text)
 
 
 def slot_mask(slots: int, mask: Mask, slot: int) -> Mask:
@@ -143,31 +133,30 @@ def slot_mask(slots: int, mask: Mask, slot: int) -> Mask:
     of an Inventory request with 1 or 16 slots and a mask.
 
     Raises ValueError if there is no such request or slot."""
-    told = MaskStruct()
-    _refuse(library().vicinity_slot_mask(_number(slots), _number(mask.length),
-                                         _number(mask.value, 64), _number(slot),
-                                         ctypes.byref(told)))
+    told = _made("slot_mask", MaskStruct(), slots, mask.length, mask.value, slot)
     return Mask(told.len, told.value)
 
 
-def _frame(call: Callable[..., int], *given: Union[int, bytes]) -> bytes:
+def _frame(name: str, *given: Union[int, bytes]) -> bytes:
     """The frame that a call writes."""
-    told = FrameStruct()
-    _refuse(call(*given, ctypes.byref(told)))
+    told = _made(name, FrameStruct(), *given)
     return bytes(told.bytes)[:told.len]
 
 
-def _refuse(fault: int) -> None:
+def _made(name: str, told: ctypes.Structure, *given: Union[int, bytes]) -> ctypes.Structure:
+    """What a call writes of bytes, and of numbers that fit what C takes."""
+    call = getattr(library(), f"vicinity_{name}")
+    for number, kind in zip(given, call.argtypes):
+        if isinstance(number, bytes):
+            continue
+        if not isinstance(number, int):
+            raise TypeError(f"{number!r} isn't a number, but {type(number).__name__}; "
+                            "parse_uid reads a UID from text")
+        bits = 8 * ctypes.sizeof(kind)
+        if not 0 <= number < 1 << bits:
+            raise ValueError(f"{number} isn't a number of {bits} bits")
+    fault = call(*given, ctypes.byref(told))
     if fault:
-        name = name_of("fault", fault)
-        raise ValueError(f"{name}: {WANTED[name]}")
-
-
-def _number(number: int, bits: int = 32) -> int:
-    """A number that fits what C takes."""
-    if not isinstance(number, int):
-        raise TypeError(f"{number!r} isn't a number, but {type(number).__name__}; "
-                        "parse_uid reads a UID from text")
-    if not 0 <= number < 1 << bits:
-        raise ValueError(f"{number} isn't a number of {bits} bits")
-    return number
+        refusal = name_of("fault", fault)
+        raise ValueError(f"{refusal}: {WANTED[refusal]}")
+    return told

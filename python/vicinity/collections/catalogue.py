@@ -17,8 +17,7 @@ COLUMN = "uid"
 #: with TWIN where it has one of that name itself.
 #: Where an earlier run has written them they are replaced, and its unexpected tags left out.
 ADDED, TWIN, UNEXPECTED = ("state", "certain in", "may be in"), " (found)", "unexpected"
-NO_TAG: list[Optional[int]] = [None]
-NAMES_IT = "--column NAME names the one with the UIDs"
+NAMES_IT = "name the one with the UIDs uid, or say by --column NAME which it is"
 NAMES_KEY = "--column NAME names the one by which --tags has the UIDs"
 
 
@@ -34,16 +33,17 @@ class How(NamedTuple):
 
 class Entry(NamedTuple):
     """A row of the catalogue, with the UID of its tag, if it has one,
-    and a cell for each column."""
+    a cell for each column, and where it belongs, if that is known."""
 
     row: int
     uid: Optional[int]
     cells: Sequence[str]
+    belongs: str = ""
 
 
 class Catalogue(NamedTuple):
     """What is expected, and how it was written: the columns, and which of them has the UIDs,
-    the key of --tags, and the places. `keys` has what --tags says of UIDs."""
+    and the key of --tags. `keys` has what --tags says of UIDs."""
 
     name: str
     form: Form
@@ -51,16 +51,11 @@ class Catalogue(NamedTuple):
     entries: Sequence[Entry]
     uid_at: int = 0
     key_at: Optional[int] = None
-    place_at: Optional[int] = None
     keys: dict[int, str] = {}
 
     @property
     def uids(self) -> list[int]:
         return [entry.uid for entry in self.entries if entry.uid is not None]
-
-    def place(self, entry: Entry) -> str:
-        """Where an item belongs, or nothing."""
-        return "" if self.place_at is None else entry.cells[self.place_at].strip()
 
     def unexpected(self, uid: int) -> list[str]:
         """The cells of a tag that isn't expected."""
@@ -69,15 +64,6 @@ class Catalogue(NamedTuple):
         if self.key_at is not None:
             cells[self.key_at] = self.keys.get(uid, "")
         return cells
-
-    def beside(self) -> list[int]:
-        """The columns that have a name, other than that of the UIDs."""
-        return [at for at, head in enumerate(self.heads) if head and at != self.uid_at]
-
-    def added(self) -> list[str]:
-        """The names of the columns that are written behind those of the catalogue."""
-        taken = {head.casefold() for head in self.heads}
-        return [name + TWIN * (name in taken) for name in ADDED]
 
 
 def catalogue(name: str, text: bytes, how: How = How()) -> Catalogue:
@@ -88,22 +74,20 @@ def catalogue(name: str, text: bytes, how: How = How()) -> Catalogue:
         return _of_list(name, text)
     table, is_ours = _without_added(read_table(name, text, how.encoding))
     if how.tags is not None:
-        found_by = _tagged(table, is_ours, how, read_table(*how.tags, how.encoding))
+        found = _tagged(table, is_ours, how, read_table(*how.tags, how.encoding))
     else:
-        at = table.named(how.column, COLUMN, NAMES_IT)
+        at = table.column(how.column or COLUMN, NAMES_IT, bool(how.column))
         entries = [Entry(row, _uid(table, row, cells[at]), cells) for row, cells in table.rows]
-        found_by = Catalogue(name, table.form, table.heads, entries, at)
+        found = Catalogue(name, table.form, table.heads, entries, at)
     rows: dict[int, int] = {}
-    for entry in found_by.entries:
-        if entry.uid is None:
-            continue
-        if entry.uid in rows:
-            table.wrong(entry.row, f"{uid_text(entry.uid)} is also in row {rows[entry.uid]}")
-        rows[entry.uid] = entry.row
+    for row, uid, *_ in found.entries:
+        if uid is not None and rows.setdefault(uid, row) != row:
+            table.wrong(row, f"{uid_text(uid)} is also in row {rows[uid]}")
     if how.place is None:
-        return found_by
-    place_at = table.named(how.place, "", "--place NAME names the one with the places")
-    return found_by._replace(place_at=place_at)
+        return found
+    at = table.column(how.place, "--place NAME names the one with the places", True)
+    return found._replace(entries=[entry._replace(belongs=entry.cells[at].strip())
+                                   for entry in found.entries])
 
 
 def _of_list(name: str, text: bytes) -> Catalogue:
@@ -160,7 +144,7 @@ def _tagged(table: Table, is_ours: bool, how: How, tags: Table) -> Catalogue:
         by_key.setdefault(keys[uid].casefold(), []).append(uid)
     entries = [Entry(row, uid, [*cells, "" if uid is None else uid_text(uid)])
                for row, cells in table.rows
-               for uid in by_key.get(cells[key_at].strip().casefold(), NO_TAG)]
+               for uid in by_key.get(cells[key_at].strip().casefold(), [None])]
     return Catalogue(table.name, table.form, [*table.heads, head], entries, len(table.heads),
                      key_at, keys=keys)
 

@@ -17,7 +17,7 @@ from .surveys import ALL, Surveys, without_list
 MOST_OPEN = 16
 
 
-class State(Enum):
+class State(str, Enum):
     """What is known of an item."""
 
     THERE = "there"
@@ -35,32 +35,16 @@ STATES = {FindingKind.ABSENT: State.MISSING, FindingKind.DOUBTFUL: State.NOT_PRO
 
 
 class Item(NamedTuple):
-    """A row of the catalogue or a tag that isn't in it: its UID, if it has one, its cells,
-    its state, and in which logs it is certain, and possible without being certain.
-    Where it belongs is nothing if that isn't known."""
+    """A row of the catalogue or a tag that isn't in it: as Entry has it, with its state,
+    and in which logs it is certain, and possible without being certain."""
 
+    row: int
     uid: Optional[int]
     cells: Sequence[str]
+    belongs: str
     state: State
     certain_in: Sequence[int] = ()
     may_be_in: Sequence[int] = ()
-    belongs: str = ""
-    row: int = 0
-
-
-class Left(NamedTuple):
-    """What is left to ask for in a log: the first masks, and whether there are more.
-    If there are none, the log was read completely."""
-
-    masks: list[Mask]
-    has_more: bool
-
-
-class Least(NamedTuple):
-    """The margin of a collection, and the first log in whose field it is so small."""
-
-    log: int
-    weakest: Weakest
 
 
 class Collection:
@@ -72,19 +56,15 @@ class Collection:
         self.answer, self.findings = reconcile_parts(
             expected.uids, (uid for log in self.logs for uid in log.certain),
             (mask for log in self.logs for mask in log.open_masks))
-        self._read, self.wanted = read, wanted
+        self.read, self.wanted = read, wanted
         self.aside = [log for log in self.logs if log.status]
         self.items = list(self._items())
-
-    @property
-    def misplaced(self) -> list[Item]:
-        return self.of(State.MISPLACED)
 
     @property
     def status(self) -> int:
         """The highest status: that of the answer, 1 if an item is misplaced or the margin small,
         and that of each log that is set aside."""
-        differs = bool(self.misplaced) or self.is_small
+        differs = bool(self.of(State.MISPLACED)) or self.is_small
         return max([self.answer.status, int(differs), *(log.status for log in self.aside)])
 
     @property
@@ -92,47 +72,36 @@ class Collection:
         """Whether it is complete, and its margin is less than was asked for, or isn't known."""
         if not self.wanted or not self.answer.is_complete:
             return False
-        return self.least is None or self.least.weakest.margin < self.wanted
+        return self.least is None or self.least[1].margin < self.wanted
 
     def of(self, state: State) -> list[Item]:
         """The items with a state."""
         return [item for item in self.items if item.state is state]
 
-    def uids(self, kind: FindingKind) -> list[int]:
-        """Of which UIDs there is a finding of a kind."""
-        return [it.uid for it in self.findings if it.kind is kind]
-
-    def _where_certain(self, uids: Iterable[int]) -> dict[int, list[int]]:
-        """The logs in which each UID is certain."""
-        found: dict[int, list[int]] = {uid: [] for uid in uids}
-        for index, log in enumerate(self.logs):
-            for uid in found.keys() & log.certain:
-                found[uid].append(index)
-        return found
-
-    def _where_open(self, uids: Iterable[int]) -> dict[int, list[int]]:
-        """The logs in which each UID is possible and not certain."""
-        found: dict[int, list[int]] = {uid: [] for uid in uids}
-        among = Under(found)
-        for index, log in enumerate(self.logs if found else ()):
+    def _where(self, uids: Iterable[int]) -> tuple[dict[int, list[int]], dict[int, list[int]]]:
+        """The logs in which each UID is certain, and those in which it is only possible."""
+        certain: dict[int, list[int]] = {uid: [] for uid in uids}
+        possible: dict[int, list[int]] = {uid: [] for uid in certain}
+        among = Under(certain)
+        for index, log in enumerate(self.logs if certain else ()):
+            for uid in certain.keys() & log.certain:
+                certain[uid].append(index)
             for mask in log.open_masks:
                 for uid in among.of(mask):
-                    found[uid].append(index)
-        return found
+                    possible[uid].append(index)
+        return certain, possible
 
-    def left(self) -> Iterator[Left]:
+    def left(self) -> Iterator[tuple[list[Mask], bool]]:
         """What is left to ask for in each log, without UIDs that another one makes certain:
-        everything in one that is set aside."""
+        the first masks, and whether there are more; everything in one that is set aside."""
         certain = Under(uid for log in self.logs for uid in log.certain)
         for log in self.logs:
-            if log.status:
-                yield Left([ALL], False)
-            else:
-                yield Left(*without(log.open_masks, certain, MOST_OPEN))
+            yield ([ALL], False) if log.status else without(log.open_masks, certain, MOST_OPEN)
 
     @cached_property
-    def least(self) -> Optional[Least]:
-        """The margin of a complete collection: of its logs against what is expected, the least.
+    def least(self) -> Optional[tuple[str, Weakest]]:
+        """The margin of a complete collection: of its logs against what is expected, the least,
+        with the name of the first log that has it.
         It is that against the UIDs that the log proves, unless all that are weakest are expected.
         Nothing if the collection isn't complete, or that of a log isn't known."""
         if not self.answer.is_complete:
@@ -141,12 +110,12 @@ class Collection:
         for index, log in enumerate(self.logs):
             weakest = log.weakest
             if weakest and are_all(expected, weakest.mask):
-                text = self.text(index)
+                text = self.read.text(index)
                 weakest = margin_listed(without_list(text), expected).weakest if text else None
             if weakest is None:
                 return None
-            found.append(Least(index, weakest))
-        return min(found, key=lambda it: it.weakest.margin)
+            found.append((log.name, weakest))
+        return min(found, key=lambda it: it[1].margin)
 
     def overlooked(self) -> dict[int, int]:
         """In how many slots each missing tag was overlooked, in the field of the log in which these
@@ -154,7 +123,7 @@ class Collection:
         missing = [item.uid for item in self.of(State.MISSING) if item.uid is not None]
         least: list[int] = []
         for index in range(len(self.logs) if missing else 0):
-            text = self.text(index)
+            text = self.read.text(index)
             if text is None:
                 return {}
             try:
@@ -164,23 +133,18 @@ class Collection:
             least = [min(pair) for pair in zip(least, found)] if least else found
         return dict(zip(missing, least))
 
-    def text(self, index: int) -> Optional[bytes]:
-        """The text of a log, if it is still there."""
-        return self._read.text(index)
-
     def shown_by(self) -> dict[int, tuple[int, int]]:
         """For each unlisted UID the first log in which it is certain,
         and the line that shows it."""
         by_log: dict[int, list[int]] = {}
         for item in self.of(State.UNEXPECTED):
             by_log.setdefault(item.certain_in[0], []).append(item.uid or 0)
-        found = {}
+        found: dict[int, tuple[int, int]] = {}
         for index, uids in sorted(by_log.items()):
-            shown_there = self._read.shown_by(index)
-            for uid in uids:
-                found[uid] = index, shown_there.line_of(uid)
-                if not found[uid][1]:
-                    raise self._changed(index)
+            lines = self.read.shown_by(index)
+            if not lines.keys() >= set(uids):
+                raise self._changed(index)
+            found.update((uid, (index, lines[uid])) for uid in uids)
         return found
 
     def _changed(self, index: int) -> NoAnswer:
@@ -190,23 +154,21 @@ class Collection:
         """Each row of the catalogue, in its order, and then the unexpected UIDs.
         An item that is certain somewhere may also be in any log that is set aside:
         this is said only if that is its own."""
-        unlisted = self.uids(FindingKind.UNLISTED)
+        unlisted = [it.uid for it in self.findings if it.kind is FindingKind.UNLISTED]
         states = {it.uid: STATES[it.kind] for it in self.findings if it.kind in STATES}
-        uids = [*self.expected.uids, *unlisted]
-        certain, possible = self._where_certain(uids), self._where_open(uids)
+        certain, possible = self._where([*self.expected.uids, *unlisted])
         for entry in self.expected.entries:
-            belongs = self.expected.place(entry)
             if entry.uid is None:
-                yield Item(None, entry.cells, State.NO_TAG, belongs=belongs, row=entry.row)
+                yield Item(*entry, State.NO_TAG)
                 continue
             state, where = states.get(entry.uid, State.THERE), certain[entry.uid]
-            its_own = set(self.places.get(belongs.casefold(), ()))
-            if state is State.THERE and belongs and its_own.isdisjoint(where):
+            its_own = set(self.places.get(entry.belongs.casefold(), ()))
+            if state is State.THERE and entry.belongs and its_own.isdisjoint(where):
                 state = State.MISPLACED
             may_be_in = [log for log in possible[entry.uid]
                          if not where or log in its_own or not self.logs[log].status]
-            yield Item(entry.uid, entry.cells, state, where, may_be_in, belongs, entry.row)
+            yield Item(*entry, state, where, may_be_in)
         for uid in unlisted:
             may_be_in = [log for log in possible[uid] if not self.logs[log].status]
             cells = self.expected.unexpected(uid)
-            yield Item(uid, cells, State.UNEXPECTED, certain[uid], may_be_in)
+            yield Item(0, uid, cells, "", State.UNEXPECTED, certain[uid], may_be_in)

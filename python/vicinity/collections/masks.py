@@ -6,7 +6,7 @@ from heapq import heappop, heappush
 from typing import Iterable, Sequence
 
 from .._answers import Mask
-from ..sessions.words import UID_BITS
+from .._fields import UID_BITS
 
 
 class Under:
@@ -16,25 +16,25 @@ class Under:
     def __init__(self, uids: Iterable[int]):
         self._pairs = sorted((_turned(uid), uid) for uid in set(uids))
 
-    def _start(self, turned: int) -> int:
-        return bisect_left(self._pairs, (turned,))
+    def _range(self, mask: Mask) -> tuple[int, int]:
+        first = _turned(mask.value)
+        behind = first + (1 << UID_BITS - mask.length)
+        return bisect_left(self._pairs, (first,)), bisect_left(self._pairs, (behind,))
 
     def of(self, mask: Mask) -> list[int]:
         """Those that have a mask of at most 56 bits."""
-        first = _turned(mask.value)
-        behind = first + (1 << UID_BITS - mask.length)
-        return [uid for _, uid in self._pairs[self._start(first):self._start(behind)]]
+        return [uid for _, uid in self._pairs[slice(*self._range(mask))]]
 
     def any_of(self, mask: Mask) -> bool:
         """Whether one has it."""
-        first = _turned(mask.value)
-        return self._start(first) < self._start(first + (1 << UID_BITS - mask.length))
+        start, behind = self._range(mask)
+        return start < behind
 
 
 def are_all(uids: Sequence[int], mask: Mask) -> bool:
     """Whether these UIDs, each once, have all that have a mask among them."""
-    size, low = 1 << UID_BITS - mask.length, (1 << mask.length) - 1
-    return size <= len(uids) and sum((uid ^ mask.value) & low == 0 for uid in uids) == size
+    size = 1 << UID_BITS - mask.length
+    return size <= len(uids) and sum(map(mask.has, uids)) == size
 
 
 def _turned(number: int) -> int:

@@ -8,8 +8,6 @@ from .._process import shown
 from .catalogue import Catalogue
 from .tables import Wrong, read_table
 
-#: The columns of a file with the logs of places.
-PLACE, LOG = "place", "log"
 NAMES_PLACES = "it has the columns place and log"
 SAYS_PLACES = "--places FILE says which logs are of which place"
 
@@ -24,12 +22,12 @@ def places_of(expected: Catalogue, names: Sequence[str], file: Optional[tuple[st
     places = _by_names(names)
     if file is not None:
         table = read_table(*file, encoding)
-        place_at, log_at = table.column(PLACE, NAMES_PLACES), table.column(LOG, NAMES_PLACES)
+        place_at, log_at = (table.column(it, NAMES_PLACES) for it in ("place", "log"))
         by_name, places = places, {}
         for _, cells in table.rows:
             its_own = by_name.get(cells[log_at].strip().casefold(), [])
             places.setdefault(cells[place_at].strip().casefold(), []).extend(its_own)
-    belongs = {place.casefold(): place for place in map(expected.place, expected.entries) if place}
+    belongs = {it.belongs.casefold(): it.belongs for it in expected.entries if it.belongs}
     for key, place in belongs.items():
         if file is None and len(places.get(key, [])) > 1:
             one, other = (shown(names[log]) for log in places[key][:2])

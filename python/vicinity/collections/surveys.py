@@ -6,19 +6,17 @@ import json
 import os
 import re
 import signal
-from array import array
 from concurrent.futures import ProcessPoolExecutor
-from contextlib import closing
-from typing import Any, Iterator, Mapping, NamedTuple, Optional, Sequence
+from contextlib import ExitStack, closing
+from functools import partial
+from typing import Any, Callable, Iterator, Mapping, NamedTuple, Optional, Sequence
 
-from .._answers import Answer, Kind, Mask, Survey, Weakest
-from .._calls import margin_listed, survey
-from .._captured import with_captures
-from .._fields import (SCHEMA, answer_of, captured_fields, fields, margin_fields, mask_fields,
-                       mask_of, number_of, refusal, weakest_of)
-from .._process import NO_ANSWER, NoAnswer, counted, read, shown
+from .._answers import FindingKind, Kind, Mask, Survey, Weakest
+from .._calls import margin_listed, report, survey, with_captures
+from .._fields import (SCHEMA, Judged, answer_of, captured_of, fields, margin_fields,
+                       mask_fields, mask_of, number_of, object_of)
+from .._process import NO_ANSWER, NoAnswer, counted, read, shown, tried
 from ..frames import parse_uid, uid_text
-from ..sessions.findings import Shown, tell
 from .tables import Wrong
 
 #: How many logs a process takes at once, at most; of few logs each gets so many times some.
@@ -26,8 +24,9 @@ SHARE, TURNS = 8, 4
 #: Where the list of a log begins, which no call of the library says.
 LIST = re.compile(rb"^U", re.MULTILINE)
 ALL = Mask(0, 0)
-COUNT_AGAIN, CORRECT = "count it again", "correct it, or count it again"
-READABLE = "make it readable, or count it again"
+#: What to do about a log that is set aside, by its status.
+ADVICE = {2: "count it again", 3: "correct it, or count it again",
+          4: "make it readable, or count it again"}
 
 
 class Log(NamedTuple):
@@ -35,14 +34,12 @@ class Log(NamedTuple):
     it says nothing, so any UID may be there."""
 
     name: str
-    answer: Optional[Answer]
+    answer: Judged
     """The answer to the log and its own list."""
-    certain: Sequence[int]
-    open_masks: Sequence[Mask]
-    error: str = ""
-    """Why there is no answer."""
+    certain: Sequence[int] = ()
+    open_masks: Sequence[Mask] = (ALL,)
     lines: Optional[Sequence[int]] = None
-    """The lines that show the certain UIDs, if a record has them."""
+    """The lines that show the certain UIDs, if they are known."""
     captured: Mapping[str, Any] = {}
     """Whether it says the same of its field if strong replies hid weaker ones, as JSON has it;
     nothing if that isn't known."""
@@ -50,53 +47,39 @@ class Log(NamedTuple):
     """The margin against its certain UIDs alone, if that is known. With more UIDs on the list
     it isn't less."""
 
-    @classmethod
-    def of(cls, name: str, text: bytes) -> Log:
-        """What a text says."""
-        try:
-            found = survey(text)
-            is_refused = found.answer.kind is Kind.REFUSED
-            captured = {} if is_refused else _captured(found, survey(with_captures(text)))
-            if found.answer.status > 1:
-                return cls(name, found.answer, [], [ALL], captured=captured)
-            weakest = margin_listed(without_list(text), found.certain).weakest
-        except MemoryError as error:
-            return cls.unread(name, error)
-        return cls(name, found.answer, found.certain, found.open_masks, captured=captured,
-                   weakest=weakest)
-
-    @classmethod
-    def unread(cls, name: str, error: Exception) -> Log:
-        """A log that has no answer."""
-        why = str(error) if isinstance(error, NoAnswer) else f"out of memory: {shown(name)}"
-        return cls(name, None, [], [ALL], why)
-
     @property
     def status(self) -> int:
         """0, or the status for which it is set aside."""
-        if self.answer is None:
+        if isinstance(self.answer, str):
             return NO_ANSWER
         return self.answer.status if self.answer.status > 1 else 0
 
-    @property
-    def why(self) -> str:
-        """Why it is set aside, as the program says it."""
-        return self.error if self.answer is None else refusal(self.name, self.answer)
 
-    @property
-    def advice(self) -> str:
-        """What to do about a log that is set aside."""
-        if self.answer is None:
-            return READABLE
-        return COUNT_AGAIN if self.answer.kind is Kind.IMPOSSIBLE else CORRECT
+def survey_file(name: str, keep: Callable[[bytes], object] = bool, has_lines: bool = False) -> Log:
+    """What the log in a file says, if asked for with the lines that show it;
+    its text is given to `keep`, too."""
+    log = tried(name, lambda text: _survey(name, text, keep, has_lines))
+    return Log(name, log) if isinstance(log, str) else log
+
+
+def _survey(name: str, text: bytes, keep: Callable[[bytes], object], has_lines: bool) -> Log:
+    keep(text)
+    found = survey(text)
+    if found.answer.kind is Kind.REFUSED:
+        return Log(name, found.answer)
+    captured = _captured(found, survey(with_captures(text)))
+    if found.answer.status > 1:
+        return Log(name, found.answer, captured=captured)
+    lines = list(certain_lines(text).values()) if has_lines else None
+    return Log(name, *found, lines, captured,
+               margin_listed(without_list(text), found.certain).weakest)
 
 
 def _captured(found: Survey, reread: Survey) -> dict[str, Any]:
     """Whether two surveys of a log say the same; if not, the first mask
     that only the second leaves open, or, of an impossible log, the second answer."""
     if max(found.answer.status, reread.answer.status) > 1:
-        captured: dict[str, Any] = captured_fields(found.answer, reread.answer)["captured"]
-        return captured
+        return captured_of(found.answer, reread.answer)
     known = set(found.open_masks)
     opened = next((mask for mask in reread.open_masks if mask not in known), None)
     return {"holds": False, **mask_fields(opened)} if opened else {"holds": True}
@@ -108,35 +91,49 @@ class Surveys:
 
     def __init__(self, names: Sequence[str], jobs: int = 1, is_strict: bool = False,
                  records: Sequence[Log] = ()):
-        self.texts: dict[int, bytes] = {}
         self.all: list[Log] = list(records)
-        self.first = len(records)
-        with closing(counted(_each(names, jobs, self.texts), len(names))) as logs:
+        #: By their positions, the texts of logs that can't be read again.
+        self._texts: dict[int, bytes] = {}
+        self._first = len(records)
+        with closing(counted(self._each(names, jobs), len(names))) as logs:
             for log in logs:
-                if is_strict and log.answer is None:
-                    raise NoAnswer(log.error)
+                if is_strict and isinstance(log.answer, str):
+                    raise NoAnswer(log.answer)
                 self.all.append(log)
                 if is_strict and log.status:
                     break
 
-    def shown_by(self, index: int) -> Shown:
+    def _each(self, names: Sequence[str], jobs: int) -> Iterator[Log]:
+        lasting = list(map(_is_lasting, names))
+        there = [name for name, is_lasting in zip(names, lasting) if is_lasting]
+        made: Iterator[Log] = map(survey_file, there)
+        with ExitStack() as stack:
+            if jobs > 1 and there:
+                # where a process ends by an interrupt, it says nothing
+                pool = ProcessPoolExecutor(min(jobs, len(there)), initializer=signal.signal,
+                                           initargs=(signal.SIGINT, signal.SIG_DFL))
+                stack.callback(pool.shutdown, cancel_futures=True)
+                made = pool.map(survey_file, there,
+                                chunksize=max(1, min(SHARE, len(there) // (jobs * TURNS))))
+            for index, name in enumerate(names, self._first):
+                yield (next(made) if lasting[index - self._first]
+                       else survey_file(name, partial(self._texts.__setitem__, index)))
+
+    def shown_by(self, index: int) -> Mapping[int, int]:
         """The UIDs that a log makes certain, each with the line that shows it.
         The log is read again."""
         log = self.all[index]
         if log.lines is not None:
-            return Shown(array("Q", log.certain), array("I", log.lines))
-        kept = self.texts.get(index - self.first)
-        return certain_lines(read(log.name) if kept is None else kept)
+            return dict(zip(log.certain, log.lines))
+        return certain_lines(self._texts.get(index) or read(log.name))
 
     def text(self, index: int) -> Optional[bytes]:
         """The text of a log, unless it came as a record, or can't be read again."""
         name = self.all[index].name
-        if index < self.first or index - self.first not in self.texts and not _is_lasting(name):
-            return None
-        try:
-            return self.texts.get(index - self.first) or read(name)
-        except (NoAnswer, MemoryError):
-            return None
+        if index in self._texts or index < self._first or not _is_lasting(name):
+            return self._texts.get(index)
+        text = tried(name, bytes)
+        return None if isinstance(text, str) else text
 
 
 def without_list(text: bytes) -> bytes:
@@ -145,40 +142,10 @@ def without_list(text: bytes) -> bytes:
     return text[:listed.start()] if listed else text
 
 
-def certain_lines(text: bytes) -> Shown:
+def certain_lines(text: bytes) -> Mapping[int, int]:
     """The UIDs that a log makes certain, each with the line that shows it."""
-    return tell(without_list(text)).unlisted
-
-
-def _each(names: Sequence[str], jobs: int, texts: dict[int, bytes]) -> Iterator[Log]:
-    """The surveys of logs; the text of a log that can't be read again is kept."""
-    apart = [jobs > 1 and _is_lasting(name) for name in names]
-    if not any(apart):
-        for index in range(len(names)):
-            yield _here(names, index, texts)
-        return
-    there = [name for name, is_apart in zip(names, apart) if is_apart]
-    # where a process ends by an interrupt, it says nothing
-    pool = ProcessPoolExecutor(min(jobs, len(there)), initializer=signal.signal,
-                               initargs=(signal.SIGINT, signal.SIG_DFL))
-    try:
-        made = pool.map(survey_file, there,
-                        chunksize=max(1, min(SHARE, len(there) // (jobs * TURNS))))
-        for index, is_apart in enumerate(apart):
-            yield next(made) if is_apart else _here(names, index, texts)
-    finally:
-        pool.shutdown(cancel_futures=True)
-
-
-def _here(names: Sequence[str], index: int, texts: dict[int, bytes]) -> Log:
-    name = names[index]
-    if _is_lasting(name):
-        return survey_file(name)
-    try:
-        texts[index] = read(name)
-    except (NoAnswer, MemoryError) as error:
-        return Log.unread(name, error)
-    return Log.of(name, texts[index])
+    return {it.uid: it.line for it in report(without_list(text)).findings
+            if it.kind is FindingKind.UNLISTED}
 
 
 def _is_lasting(name: str) -> bool:
@@ -187,28 +154,16 @@ def _is_lasting(name: str) -> bool:
     return os.path.isfile(name) and not name.startswith(("/dev/", "/proc/"))
 
 
-def survey_file(name: str) -> Log:
-    try:
-        return Log.of(name, read(name))
-    except (NoAnswer, MemoryError) as error:
-        return Log.unread(name, error)
-
-
-def record(log: Log, lines: Optional[Sequence[int]]) -> str:
+def record(log: Log) -> str:
     """What a log says of its field, as a line of JSON for `--surveys`."""
-    said: dict[str, Any] = {"schema": SCHEMA, "file": log.name}
-    if log.answer is None:
-        said.update(status=NO_ANSWER, kind="no answer", error=log.error)
-        return json.dumps(said) + "\n"
-    said.update(fields(log.answer))
+    said = object_of(log.name, log.answer)
     if log.captured:
         said["captured"] = log.captured
-    if lines is not None:
+    if log.lines is not None:
         said["certain"] = [{"uid": uid_text(uid), "line": line}
-                           for uid, line in zip(log.certain, lines)]
+                           for uid, line in zip(log.certain, log.lines)]
         said["open"] = [mask_fields(mask) for mask in log.open_masks]
-    said.update(margin_fields(log.weakest))
-    return json.dumps(said) + "\n"
+    return json.dumps({**said, **margin_fields(log.weakest)}) + "\n"
 
 
 def records(files: Sequence[tuple[str, bytes]]) -> list[Log]:
@@ -236,19 +191,17 @@ def _recorded(said: dict[str, Any]) -> Log:
     if said["schema"] != SCHEMA or not isinstance(name, str):
         raise ValueError
     if said["status"] == NO_ANSWER:
-        return Log(name, None, [], [ALL], str(said["error"]))
+        return Log(name, str(said["error"]))
     answer = answer_of(said)
-    captured = _captured_of(said["captured"]) if "captured" in said else {}
+    captured: dict[str, Any] = {}
+    if "captured" in said:
+        other = said["captured"]
+        captured = {"holds": True} if other["holds"] is True else {"holds": False, **(
+            fields(answer_of(other)) if "kind" in other else mask_fields(mask_of(other)))}
     if answer.status > 1:
-        return Log(name, answer, [], [ALL], captured=captured)
+        return Log(name, answer, captured=captured)
     pairs = sorted((parse_uid(it["uid"]), number_of(it["line"])) for it in said["certain"])
-    return Log(name, answer, [uid for uid, _ in pairs], [mask_of(it) for it in said["open"]], "",
-               [line for _, line in pairs], captured, weakest_of(said))
-
-
-def _captured_of(said: Mapping[str, Any]) -> dict[str, Any]:
-    """What a record says of captures. Raises ValueError, KeyError or TypeError if it is wrong."""
-    if said["holds"] is True:
-        return {"holds": True}
-    return {"holds": False,
-            **(fields(answer_of(said)) if "kind" in said else mask_fields(mask_of(said)))}
+    weakest = (Weakest(number_of(said["margin"]), mask_of(said["weakest"]))
+               if "margin" in said else None)
+    return Log(name, answer, [uid for uid, _ in pairs], [mask_of(it) for it in said["open"]],
+               [line for _, line in pairs], captured, weakest)

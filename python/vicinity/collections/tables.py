@@ -16,6 +16,8 @@ SEPARATORS = ",;\t|"
 #: With which bytes a file begins that says its encoding.
 MARKS = {codecs.BOM_UTF8: "utf-8", codecs.BOM_UTF16_LE: "utf-16-le",
          codecs.BOM_UTF16_BE: "utf-16-be"}
+#: With which bytes files of spreadsheet programs begin: .xlsx and .ods, and .xls.
+SPREADSHEETS = b"PK\x03\x04", b"\xd0\xcf\x11\xe0"
 #: A first line for spreadsheets, which names the separator.
 SAYS_SEPARATOR = re.compile('"?sep=([^"\r\n])"?[ \t]*(\r\n?|\n)', re.IGNORECASE)
 OTHER_ENCODINGS = ("as --encoding names it: windows-1252 is what many spreadsheets save, "
@@ -43,18 +45,12 @@ class Form(NamedTuple):
     quoting: int = csv.QUOTE_MINIMAL
 
     def written(self, rows: Iterable[Sequence[str]]) -> Iterator[bytes]:
-        row = csv.writer(_Line(), delimiter=self.separator, lineterminator=self.line_end,
-                         quoting=self.quoting).writerow
         yield self.mark + self.first.encode(self.encoding)
         for cells in rows:
-            yield str(row(cells)).encode(self.encoding, "backslashreplace")
-
-
-class _Line:
-    """Where a csv.writer writes: it returns each line."""
-
-    def write(self, line: str) -> str:
-        return line
+            line = io.StringIO()
+            csv.writer(line, delimiter=self.separator, lineterminator=self.line_end,
+                       quoting=self.quoting).writerow(cells)
+            yield line.getvalue().encode(self.encoding, "backslashreplace")
 
 
 class Table(NamedTuple):
@@ -69,8 +65,11 @@ class Table(NamedTuple):
     def wrong(self, row: int, why: str) -> NoReturn:
         raise Wrong(f"{shown(self.name)}, row {row}: {why}")
 
-    def column(self, name: str, what: str) -> int:
-        """The place of the only column with a name, in any case."""
+    def column(self, name: str, what: str, is_exact: bool = False) -> int:
+        """The place of the only column with a name, in any case,
+        or if it may be exact of the one with exactly this name."""
+        if is_exact and name in self.heads:
+            return self.heads.index(name)
         places = [at for at, head in enumerate(self.heads)
                   if head.casefold() == name.strip().casefold()]
         if len(places) != 1:
@@ -79,15 +78,11 @@ class Table(NamedTuple):
             self.wrong(1, f"{number} named {shown(name)}; the columns are: {heads}; {what}")
         return places[0]
 
-    def named(self, name: Optional[str], otherwise: str, what: str) -> int:
-        """The place of the column with exactly this name, or the only one with it in any case."""
-        if name in self.heads:
-            return self.heads.index(name)
-        return self.column(name or otherwise, what)
-
 
 def read_table(name: str, text: bytes, encoding: Optional[str]) -> Table:
     """The table in a file. Raises Wrong."""
+    if text.startswith(SPREADSHEETS):
+        raise Wrong(f"{shown(name)}: this is a spreadsheet: save it as CSV")
     form, content = _decoded(name, text, encoding)
     says = SAYS_SEPARATOR.match(content)
     first = says.group() if says else ""
@@ -95,19 +90,23 @@ def read_table(name: str, text: bytes, encoding: Optional[str]) -> Table:
     ended = _lines(content).readline()
     line = ended.rstrip("\r\n")
     separator = says.group(1) if says else max(SEPARATORS, key=lambda it: len(_cells(line, it)))
-    form = form._replace(first=first, separator=separator, line_end=ended[len(line):] or "\n")
-    table = Table(name, form, [], [])
-    for number, row in _rows(table, content):
-        if number == 1:
-            table.heads.extend(head.strip() for head in row)
-            twice = next((it for it in table.heads if it and table.heads.count(it) > 1), None)
-            if twice is not None:
-                table.wrong(1, f"two columns are named {shown(twice)}")
-        elif any(cell.strip() for cell in row):
-            table.rows.append((number, _fitting(table, number, row)))
     is_quoted = line == separator.join('"{}"'.format(cell.replace('"', '""'))
                                        for cell in _cells(line, separator))
-    return table._replace(form=form._replace(quoting=csv.QUOTE_ALL)) if is_quoted else table
+    form = form._replace(first=first, separator=separator, line_end=ended[len(line):] or "\n",
+                         quoting=csv.QUOTE_ALL if is_quoted else csv.QUOTE_MINIMAL)
+    table = Table(name, form, [], [])
+    rows = _rows(table, content)
+    table.heads.extend(head.strip() for head in next(rows, []))
+    twice = [it for it in table.heads if it and table.heads.count(it) > 1]
+    if twice:
+        table.wrong(1, f"two columns are named {shown(twice[0])}")
+    width = len(table.heads)
+    for number, row in enumerate(rows, 2):
+        if any(cell.strip() for cell in row[width:]):
+            table.wrong(number, f"it has {len(row)} cells, and row 1 has {width}")
+        if any(cell.strip() for cell in row):
+            table.rows.append((number, (row + [""] * width)[:width]))
+    return table
 
 
 def _decoded(name: str, text: bytes, encoding: Optional[str]) -> tuple[Form, str]:
@@ -118,22 +117,21 @@ def _decoded(name: str, text: bytes, encoding: Optional[str]) -> tuple[Form, str
         "".encode(named, "backslashreplace")  # base64 and idna, among others, don't take any text
     except (LookupError, UnicodeError):
         raise Wrong(f"no encoding is named {shown(encoding or '')}") from None
-    named = "utf-16-le" if named == "utf-16" else named
+    named, text = "utf-16-le" if named == "utf-16" else named, text[len(mark):]
     try:
-        content = text[len(mark):].decode(named)
+        content = text.decode(named)
         if "\0" in content:
             raise UnicodeDecodeError(named, text, content.index("\0"), 0, "NUL")
         return Form(named, mark), content
     except UnicodeDecodeError as error:
-        before = text[len(mark):len(mark) + error.start].decode(named, "replace")
         row = 1
         with suppress(csv.Error):
-            row = sum(1 for _ in csv.reader(_lines(before + "x")))
+            row = sum(1 for _ in csv.reader(_lines(text[:error.start].decode(named, "replace")
+                                                   + "x")))
         raise Wrong(f"{shown(name)}, row {row}: it isn't {named.upper()}; "
                     f"it may be in another encoding, {OTHER_ENCODINGS}") from None
     except UnicodeError as error:
-        why = shown(str(error))
-        raise Wrong(f"{shown(name)}: it can't be read as {shown(named)}: {why}") from None
+        raise Wrong(f"{shown(name)}: it can't be read as {named}: {shown(str(error))}") from None
 
 
 def _lines(content: str) -> io.StringIO:
@@ -148,18 +146,11 @@ def _cells(line: str, separator: str) -> list[str]:
     return []
 
 
-def _rows(table: Table, content: str) -> Iterator[tuple[int, list[str]]]:
+def _rows(table: Table, content: str) -> Iterator[list[str]]:
     number = 0
     try:
-        rows = csv.reader(_lines(content), delimiter=table.form.separator, strict=True)
-        for number, row in enumerate(rows, 1):
-            yield number, row
+        for number, row in enumerate(csv.reader(_lines(content), delimiter=table.form.separator,
+                                                strict=True), 1):
+            yield row
     except csv.Error as error:
         table.wrong(number + 1, str(error))
-
-
-def _fitting(table: Table, number: int, row: list[str]) -> list[str]:
-    """A row with a cell for each column."""
-    if any(cell.strip() for cell in row[len(table.heads):]):
-        table.wrong(number, f"it has {len(row)} cells, and row 1 has {len(table.heads)}")
-    return (row + [""] * (len(table.heads) - len(row)))[:len(table.heads)]

@@ -4,62 +4,28 @@ from __future__ import annotations
 
 import argparse
 import json
-from typing import Any, Callable, Mapping, Union
+from typing import Any
 
-from .._answers import Answer
-from .._calls import check, explain, margin, simulate
-from .._captured import if_captured
-from .._fields import (NOT_COMPLETE, SCHEMA, captured_fields, fields, margin_fields, small,
-                       small_fields)
+from .._calls import check, explain, if_captured, margin, simulate
+from .._fields import NOT_COMPLETE, object_of, small, small_fields
 from .._native import library
-from .._process import NO_ANSWER, NoAnswer, complain, read, shown, write
+from .._process import NO_ANSWER, complain, names_of, read, shown, tried, write
 from ..frames import uid_text
-from .names import names_of
-
-Fields = Mapping[str, Any]
 
 
-def judge(name: str, wanted: int = 0, has_more: bool = False) -> tuple[Union[Answer, str], Fields]:
-    """The answer to a file, or why there is none; and if more is asked for, its margin,
-    and whether it also holds under capture.
-    A complete list counts as not complete if its margin is less than was wanted."""
-    try:
-        text = read(name)
-        if not wanted and not has_more:
-            return check(text), {}
-        answer, weakest = margin(text)
-        weakest = weakest if answer.is_complete else None
-        more = {**margin_fields(weakest),
-                **(captured_fields(answer, if_captured(text, answer)) if has_more else {})}
-        if weakest is None or weakest.margin >= wanted:
-            return answer, more
-        return (answer._replace(status=NOT_COMPLETE, text=small(weakest, wanted)),
-                {**more, **small_fields(answer, wanted)})
-    except NoAnswer as why:
-        return str(why), {}
-    except MemoryError:
-        return f"out of memory: {shown(name)}", {}
-
-
-def as_lines(name: str, answer: Union[Answer, str], _: Fields) -> str:
-    return "" if isinstance(answer, str) else f"{shown(name)}: {answer}\n"
-
-
-def as_tabs(name: str, answer: Union[Answer, str], _: Fields) -> str:
-    if isinstance(answer, str):
-        return f"{shown(name)}\t{NO_ANSWER}\tno answer\n"
-    return f"{shown(name)}\t{answer.status}\t{answer}\n"
-
-
-def as_json(name: str, answer: Union[Answer, str], more: Fields = {}) -> str:
-    said = ({"status": NO_ANSWER, "kind": "no answer", "error": answer}
-            if isinstance(answer, str) else fields(answer))
-    return json.dumps({"schema": SCHEMA, "file": name, **said, **more}) + "\n"
-
-
-FORMS: Mapping[str, Callable[[str, Union[Answer, str], Fields], str]] = {
-    "lines": as_lines, "tabs": as_tabs, "json": as_json,
-}
+def _judge(name: str, text: bytes, wanted: int, form: str) -> tuple[int, str, dict[str, Any]]:
+    """The status of a text, its answer, and for JSON its object, with the margin, and whether
+    the answer also holds under capture. A complete list counts as not complete if its margin
+    is less than was wanted."""
+    if not wanted and form != "json":
+        answer = check(text)
+        return answer.status, answer.text, {}
+    answer, weakest = margin(text)
+    weakest = weakest if answer.is_complete else None
+    said = object_of(name, answer, weakest, if_captured(text, answer)) if form == "json" else {}
+    if weakest is None or weakest.margin >= wanted:
+        return answer.status, answer.text, said
+    return NOT_COMPLETE, small(weakest, wanted), {**said, **small_fields(answer, wanted)}
 
 
 def check_all(asked: argparse.Namespace) -> int:
@@ -67,29 +33,32 @@ def check_all(asked: argparse.Namespace) -> int:
     library()
     worst = 0
     for name in names_of(asked):
-        answer, more = judge(name, asked.margin, asked.form == "json")
-        worst = max(worst, complain(answer) if isinstance(answer, str) else answer.status)
-        write([FORMS[asked.form](name, answer, more)])
+        judged = tried(name, lambda text: _judge(name, text, asked.margin, asked.form))
+        status, answer, said = judged if isinstance(judged, tuple) else (
+            complain(judged), "no answer", object_of(name, judged))
+        worst = max(worst, status)
+        write([{"json": json.dumps(said) + "\n",
+                "tabs": f"{shown(name)}\t{status}\t{answer}\n",
+                "lines": f"{shown(name)}: {answer}\n" * (status != NO_ANSWER)}[asked.form]])
     return worst
 
 
 def report_all(asked: argparse.Namespace) -> int:
     """Writes every finding of each file, and returns the worst status."""
-    from .listing import lines_of_report, object_of_report, reported  # loaded only for reports
+    from ..sessions.findings import Told  # loaded only for reports
+    from ..sessions.report import lines_of_report, object_of_report
 
     library()
     worst = 0
     for name in names_of(asked):
-        try:
-            session, told = reported(read(name))
-        except (NoAnswer, MemoryError) as error:
-            why = str(error) if isinstance(error, NoAnswer) else f"out of memory: {shown(name)}"
-            worst = complain(why)
-            write([as_json(name, why)] if asked.form == "json" else [])
+        found = tried(name, Told)
+        if isinstance(found, str):
+            worst = complain(found)
+            write([json.dumps(object_of(name, found)) + "\n"] if asked.form == "json" else [])
             continue
-        worst = max(worst, told.answer.status)
-        write(object_of_report(name, session, told) if asked.form == "json" else
-              lines_of_report(shown(name), session, told))
+        worst = max(worst, found.answer.status)
+        write(object_of_report(name, found) if asked.form == "json" else
+              lines_of_report(shown(name), found))
     return worst
 
 

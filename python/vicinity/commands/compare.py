@@ -4,24 +4,22 @@ from __future__ import annotations
 import argparse
 import json
 import os
-from typing import Any, Iterator, Mapping, NamedTuple, Optional, Sequence
+from typing import Any, Callable, Mapping, NamedTuple
 
 from .._fields import SCHEMA
-from .._process import complain, read, shown, write
+from .._process import REFUSED, complain, read, shown, write
 from ..collections.collection import State
 from ..collections.tables import Wrong
 from ..frames import parse_uid, uid_text
 
-REFUSED = 3
-FOUND = (State.THERE.value, State.MISPLACED.value)
-MISSING, NOT_PROVABLE = State.MISSING.value, State.NOT_PROVABLE.value
-UNEXPECTED = State.UNEXPECTED.value
+FOUND = State.THERE, State.MISPLACED
 #: The changes of items in the order in which they are written.
 CHANGES = ("newly missing", "no longer provable", "moved", "back again", "provable again",
            "newly unexpected", "no longer unexpected", "newly expected", "no longer expected")
 
-#: An item of an answer, as JSON has it.
+#: An item of an answer, as JSON has it, and one that isn't there.
 Said = Mapping[str, Any]
+NONE: Said = {"state": None, "certain_in": [], "columns": {}}
 
 
 class Change(NamedTuple):
@@ -29,31 +27,31 @@ class Change(NamedTuple):
 
     what: str
     uid: str
-    old: Optional[Said]
-    new: Optional[Said]
-
-
-class Answer(NamedTuple):
-    """An answer of `reconcile`: its items by their UIDs, its logs,
-    and those of them that are set aside."""
-
-    items: Mapping[str, Said]
-    logs: Sequence[str]
-    aside: Sequence[str]
+    old: Said
+    new: Said
 
 
 def compare(asked: argparse.Namespace) -> int:
     """Writes what has changed, and returns 1 if anything has."""
     try:
-        old, new = (_answer(name) for name in asked.names)
+        (old, old_logs, old_aside), (new, new_logs, new_aside) = map(_answer, asked.names)
     except Wrong as wrong:
         complain(str(wrong))
         return REFUSED
-    name = _Namer(old, new)
-    changes = sorted(_changes(old, new, name), key=lambda it: (CHANGES.index(it.what), it.uid))
-    aside, counted = set(map(name, old.aside)), set(map(name, new.logs))
-    logs = [("newly set aside", log) for log in new.aside if name(log) not in aside]
-    logs += [("no longer counted", log) for log in old.logs if name(log) not in counted]
+    # folders are often named after the day: without them if that tells the logs apart
+    is_short = all(len({os.path.basename(log) for log in logs}) == len(set(logs))
+                   for logs in (old_logs, new_logs))
+
+    def name(log: str) -> str:
+        return os.path.basename(log) if is_short else log
+
+    items = ((uid, old.get(uid, NONE), new.get(uid, NONE)) for uid in old.keys() | new.keys())
+    changes = [Change(what, uid, was, now) for uid, was, now in items
+               if (what := _change(was, now, name))]
+    changes.sort(key=lambda it: (CHANGES.index(it.what), it.uid))
+    aside, counted = set(map(name, old_aside)), set(map(name, new_logs))
+    logs = [("newly set aside", log) for log in new_aside if name(log) not in aside]
+    logs += [("no longer counted", log) for log in old_logs if name(log) not in counted]
     status = int(bool(changes or logs))
     if asked.form == "json":
         said = {"schema": SCHEMA, "status": status, "changes": list(map(_object, changes)),
@@ -64,18 +62,19 @@ def compare(asked: argparse.Namespace) -> int:
     return status
 
 
-def _answer(name: str) -> Answer:
-    """The answer in a file. Raises Wrong."""
+def _answer(name: str) -> tuple[Mapping[str, Said], list[str], list[str]]:
+    """The answer of `reconcile` in a file: its items by their UIDs, its logs,
+    and those of them that are set aside. Raises Wrong."""
     try:
         said = json.loads(read(name))
-        if said["schema"] != SCHEMA:
-            raise ValueError
         items = {uid_text(parse_uid(it["uid"])): it
                  for it in said["items"] if it["uid"] is not None}
         for item in items.values():
             State(item["state"]), item["columns"].values(), _names(item["certain_in"])
-        return Answer(items, *(_names([it["file"] for it in said[key]])
-                               for key in ("logs", "set_aside")))
+        if said["schema"] != SCHEMA:
+            raise ValueError
+        logs, aside = (_names([it["file"] for it in said[key]]) for key in ("logs", "set_aside"))
+        return items, logs, aside
     except (ValueError, KeyError, TypeError, AttributeError):
         raise Wrong(f"{shown(name)} isn't an answer as `reconcile --json` writes it") from None
 
@@ -87,59 +86,38 @@ def _names(said: Any) -> list[str]:
     return said
 
 
-class _Namer:
-    """Logs by their names without folders, if that tells the logs of each answer apart:
-    folders are often named after the day."""
-
-    def __init__(self, *answers: Answer):
-        self.is_short = all(len({os.path.basename(log) for log in it.logs}) == len(set(it.logs))
-                            for it in answers)
-
-    def __call__(self, log: str) -> str:
-        return os.path.basename(log) if self.is_short else log
-
-
-def _changes(old: Answer, new: Answer, name: _Namer) -> Iterator[Change]:
-    for uid in old.items.keys() | new.items.keys():
-        before, now = old.items.get(uid), new.items.get(uid)
-        what = _change(before, now, name)
-        if what:
-            yield Change(what, uid, before, now)
-
-
-def _change(old: Optional[Said], new: Optional[Said], name: _Namer) -> str:
-    if old is None or new is None:
-        state = str((new or old or {})["state"])
-        of_missing = "missing" if new else "expected"
-        there = {UNEXPECTED: "unexpected", MISSING: of_missing}.get(state, "expected")
-        return f"{'newly' if new else 'no longer'} {there}"
-    was, now = str(old["state"]), str(new["state"])
+def _change(old: Said, new: Said, name: Callable[[str], str]) -> str:
+    """What has changed of an item, or nothing."""
+    was, now = old["state"], new["state"]
+    if was is None and now == State.MISSING:
+        return "newly missing"
+    if was is None or now is None:
+        of_state = "unexpected" if State.UNEXPECTED in (was, now) else "expected"
+        return f"{'newly' if was is None else 'no longer'} {of_state}"
     if now == was or now in FOUND and was in FOUND:
         before, after = ({name(log) for log in it["certain_in"]} for it in (old, new))
         return "moved" if before and after and before.isdisjoint(after) else ""
     if now in FOUND:
-        return {MISSING: "back again", NOT_PROVABLE: "provable again"}.get(was, "newly expected")
-    gone = {MISSING: "newly missing", NOT_PROVABLE: "no longer provable"}
+        back = {State.MISSING: "back again", State.NOT_PROVABLE: "provable again"}
+        return back.get(was, "newly expected")
+    gone = {State.MISSING: "newly missing", State.NOT_PROVABLE: "no longer provable"}
     return gone.get(now, "newly unexpected")
 
 
-def _where(item: Optional[Said]) -> list[str]:
-    return list(item["certain_in"]) if item else []
-
-
 def _line(change: Change) -> str:
-    was_in, is_in = (" and ".join(map(shown, _where(item))) for item in (change.old, change.new))
+    was_in, is_in = (" and ".join(map(shown, item["certain_in"]))
+                     for item in (change.old, change.new))
     where = ""
     if was_in != is_in:
         where = f" from {was_in}" * bool(was_in)
         where += f" {'to' if was_in else 'in'} {is_in}" * bool(is_in)
-    cells = ", ".join(filter(None, map(str, (change.new or change.old or {})["columns"].values())))
+    columns = (change.old if change.new is NONE else change.new)["columns"]
+    cells = ", ".join(filter(None, map(str, columns.values())))
     return f"{change.what} {change.uid}{where}{': ' * bool(cells)}{shown(cells)}\n"
 
 
 def _object(change: Change) -> dict[str, object]:
-    old, new = change.old or {}, change.new or {}
-    return {"change": change.what, "uid": change.uid,
-            "was": old.get("state"), "is": new.get("state"),
-            "was_in": _where(change.old), "is_in": _where(change.new),
-            "columns": (new or old)["columns"]}
+    old, new = change.old, change.new
+    return {"change": change.what, "uid": change.uid, "was": old["state"], "is": new["state"],
+            "was_in": old["certain_in"], "is_in": new["certain_in"],
+            "columns": (old if new is NONE else new)["columns"]}

@@ -8,19 +8,16 @@ import shutil
 
 from .._process import has_colours, has_unicode, read, shown, write
 from ..pages.log import of_log
-from ..sessions.findings import tell_people
-from ..sessions.reading import read_session
-from ..sessions.show import MOST_LINES, Look, show
+from ..sessions.findings import Told
+from ..sessions.show import Look, show
 
 
 def draw(asked: argparse.Namespace) -> int:
     """Draws a log for a terminal, and returns the status of its report."""
-    text = read(asked.names[0])
-    told = tell_people(text)
-    session = read_session(text, told, told.lines(MOST_LINES))
+    told = Told(read(asked.names[0]))
     look = Look(has_unicode() and not asked.ascii, has_colours(),
                 shutil.get_terminal_size().columns)
-    write(f"{line}\n" for line in show(session, told, look))
+    write(f"{line}\n" for line in show(told, look))
     return told.answer.status
 
 

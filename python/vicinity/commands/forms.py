@@ -5,19 +5,20 @@ from __future__ import annotations
 import json
 import os
 from collections import Counter
-from typing import Any, Callable, Iterable, Iterator, Mapping, Sequence, Union
+from typing import Any, Callable, Iterable, Iterator, Mapping, Union
 
-from .._answers import Finding, FindingKind
-from .._fields import SCHEMA, fields, margin_fields, mask_fields, small, small_fields
-from .._process import NO_ANSWER, shown
-from ..collections.collection import Collection, Item, Left, State
-from ..collections.surveys import Log
+from .._answers import Answer, Finding, FindingKind
+from .._fields import (SCHEMA, fields, margin_fields, mask_fields, refusal, small,
+                       small_fields)
+from .._process import shown
+from ..collections.catalogue import ADDED, TWIN
+from ..collections.collection import Collection, Item, State
+from ..collections.surveys import ADVICE, Log
 from ..frames import uid_text
 from ..pages.document import document, version
-from ..pages.log import object_of
-from ..sessions.findings import tell_people
-from ..sessions.sentence import ALSO, ASK_AGAIN, HEARD, missed
-from ..sessions.words import count, listing
+from ..pages.log import page_object
+from ..sessions.findings import Told
+from ..sessions.words import ALSO, ASK_AGAIN, HEARD, count, listing, missed
 
 #: How much text of logs stands in a page.
 MOST_TEXT = 4_000_000
@@ -29,7 +30,7 @@ MOST_NAMES = 20
 
 def set_aside(log: Log) -> str:
     """A log that is set aside, and what to do about it."""
-    return f"set aside: {log.why} ({log.advice})"
+    return f"set aside: {refusal(log.name, log.answer)} ({ADVICE[log.status]})"
 
 
 def as_lines(found: Collection) -> Iterator[str]:
@@ -37,23 +38,22 @@ def as_lines(found: Collection) -> Iterator[str]:
     and the rows without a tag."""
     yield from (f"{set_aside(log)}\n" for log in found.aside)
     yield from _findings(found)
-    for item in found.misplaced:
+    for item in found.of(State.MISPLACED):
         where = " and ".join(shown(found.logs[log].name) for log in item.certain_in)
         yield f"misplaced {uid_text(item.uid or 0)} in {where}, belongs to {shown(item.belongs)}\n"
     yield from (f"no tag in row {item.row}\n" for item in found.of(State.NO_TAG))
     if found.is_small:
         yield f"{small_margin(found)}\n"
-    elif not found.findings and not found.misplaced:
+    elif not found.findings and not found.of(State.MISPLACED):
         yield f"{found.answer}\n"
 
 
 def small_margin(found: Collection) -> str:
     """The line of a complete collection of which a greater margin was asked for."""
-    least = found.least
-    if least is None:
+    if found.least is None:
         return small(None, found.wanted)
-    where = f" in {shown(found.logs[least.log].name)}"
-    return small(least.weakest, found.wanted, where)
+    name, weakest = found.least
+    return small(weakest, found.wanted, f" in {shown(name)}")
 
 
 def _findings(found: Collection) -> Iterator[str]:
@@ -68,10 +68,10 @@ def _findings(found: Collection) -> Iterator[str]:
             log, line = shown_by[finding.uid]
             yield f"by line {line} of {names[log]}\n"
         elif finding.kind is FindingKind.UNSETTLED:
-            for name, left in zip(names, found.left()):
+            for name, (masks, has_more) in zip(names, found.left()):
                 yield from (f"{Finding(FindingKind.OPEN_MASK, 0, *mask, 0)} in {name}\n"
-                            for mask in left.masks)
-                yield f"more open in {name}\n" if left.has_more else ""
+                            for mask in masks)
+                yield f"more open in {name}\n" * has_more
 
 
 def notes(found: Collection) -> Iterator[str]:
@@ -79,9 +79,9 @@ def notes(found: Collection) -> Iterator[str]:
     how sure it is, and which logs don't hold under capture."""
     if not found.findings and not found.aside:
         yield HEARD
-    least = found.least
-    if least is not None:
-        yield missed(least.weakest, f" in the field of {shown(found.logs[least.log].name)}")
+    if found.least is not None:
+        name, weakest = found.least
+        yield missed(weakest, f" in the field of {shown(name)}")
     names = [shown(log.name) for log in found.logs if log.captured.get("holds") is False]
     if names:
         more = [count(len(names) - MOST_NAMES, "other log")] * (len(names) > MOST_NAMES)
@@ -100,30 +100,10 @@ def as_csv(found: Collection) -> Iterator[bytes]:
 
     rows = ([*item.cells, item.state.value, where(item.certain_in), where(item.may_be_in)]
             for item in found.items)
-    head = [*found.expected.heads, *found.expected.added()]
+    heads = found.expected.heads
+    taken = {head.casefold() for head in heads}
+    head = [*heads, *(name + TWIN * (name in taken) for name in ADDED)]
     return found.expected.form.written(row for part in ([head], rows) for row in part)
-
-
-def as_json(found: Collection, more: Mapping[str, object] = {},
-            of_log: Mapping[int, object] = {}) -> Iterator[str]:
-    """One object on one line: the answer, how many items there are of each state,
-    the widest mask of which any UID may be there, each item, and each log;
-    with more fields, and with objects of some logs."""
-    unsettled = [mask_fields(it.mask) for it in found.findings if it.kind is FindingKind.UNSETTLED]
-    counts, overlooked = Counter(item.state for item in found.items), found.overlooked()
-    head = json.dumps({
-        "schema": SCHEMA, **_answer(found), **_margin(found), **more,
-        "counts": {state.value: counts[state] for state in State},
-        "unsettled": unsettled[0] if unsettled else None,
-        "set_aside": [{**_of_aside(log), "do": log.advice} for log in found.aside]})
-    yield head[:-1] + ', "items": ['
-    for index, item in enumerate(found.items):
-        yield ", " * (index > 0) + json.dumps(_of_item(found, item, overlooked))
-    yield '], "logs": ['
-    for index, (log, left) in enumerate(zip(found.logs, found.left())):
-        its_own = {"object": of_log[index]} if index in of_log else {}
-        yield ", " * (index > 0) + json.dumps({**_of_log(log, left), **its_own})
-    yield "]}\n"
 
 
 def as_page(found: Collection) -> Iterator[str]:
@@ -131,77 +111,77 @@ def as_page(found: Collection) -> Iterator[str]:
     of many the first that have to be counted again."""
     name = "standard input" if found.expected.name == "-" else os.path.basename(found.expected.name)
     plain = [line.rstrip("\n") for line in as_lines(found) if line]
+    said: dict[str, Any] = {**_object(found), "version": version(), "name": name}
+    for index, its_own in _objects(found):
+        said["logs"][index]["object"] = its_own
     answer = plain[0] if found.status else found.answer
-    return document(f"{shown(name)}: {answer}",
-                    as_json(found, {"version": version(), "name": name}, _objects(found)), plain)
+    return document(f"{shown(name)}: {answer}", [json.dumps(said)], plain)
 
 
-def _objects(found: Collection) -> dict[int, dict[str, Any]]:
+def _objects(found: Collection) -> Iterator[tuple[int, dict[str, Any]]]:
     """Logs with all that a page draws of them, by their places."""
-    left, objects, room = list(found.left()), {}, MOST_TEXT
-    judged = [index for index, log in enumerate(found.logs) if log.answer is not None]
-    for index in sorted(judged, key=lambda it: not left[it].masks):
-        log, text = found.logs[index], found.text(index)
-        room -= len(text or b"")
+    left, room = list(found.left()), MOST_TEXT
+    judged = [index for index, log in enumerate(found.logs) if isinstance(log.answer, Answer)]
+    for index in sorted(judged, key=lambda it: not left[it][0]):
+        log, text = found.logs[index], found.read.text(index)
+        if text is None:
+            continue
+        room -= len(text)
         if room < 0:
             break
-        told = None if text is None else tell_people(text)
-        if text is not None and told is not None and told.answer == log.answer:
-            objects[index] = object_of(shown(os.path.basename(log.name)), text, told)
-    return objects
+        told = Told(text)
+        if told.answer == log.answer:
+            yield index, page_object(shown(os.path.basename(log.name)), told)
+
+
+def _object(found: Collection) -> dict[str, Any]:
+    """The answer, how many items there are of each state,
+    the widest mask of which any UID may be there, each item, and each log."""
+    unsettled = [mask_fields(it.mask) for it in found.findings if it.kind is FindingKind.UNSETTLED]
+    counts, overlooked = Counter(item.state for item in found.items), found.overlooked()
+    margin: dict[str, Any] = {}
+    if found.least is not None:
+        name, weakest = found.least
+        margin = {"margin": weakest.margin, "weakest": {"file": name, **mask_fields(weakest.mask)}}
+    return {
+        "schema": SCHEMA, **_answer(found), **margin,
+        "counts": {state.value: counts[state] for state in State},
+        "unsettled": unsettled[0] if unsettled else None,
+        "set_aside": [{"file": log.name, **fields(log.answer), "do": ADVICE[log.status]}
+                      for log in found.aside],
+        "items": [_of_item(found, item, overlooked) for item in found.items],
+        "logs": [{"file": log.name, "certain": len(log.certain),
+                  "open": list(map(mask_fields, masks)), "more_open": has_more,
+                  "list": fields(log.answer), **margin_fields(log.weakest),
+                  **({"captured": log.captured} if log.captured else {})}
+                 for log, (masks, has_more) in zip(found.logs, found.left())]}
 
 
 def _answer(found: Collection) -> dict[str, object]:
     """The answer, or the first of the worst logs that are set aside,
     or the first misplaced item."""
     if found.aside:
-        return _of_aside(max(found.aside, key=lambda log: log.status))
-    if not found.findings and found.misplaced:
+        worst = max(found.aside, key=lambda log: log.status)
+        return {"file": worst.name, **fields(worst.answer)}
+    if not found.findings and found.of(State.MISPLACED):
         return {"status": found.status, "kind": State.MISPLACED.value,
-                "uid": uid_text(found.misplaced[0].uid or 0)}
+                "uid": uid_text(found.of(State.MISPLACED)[0].uid or 0)}
     return small_fields(found.answer, found.wanted) if found.is_small else fields(found.answer)
 
 
-def _margin(found: Collection) -> dict[str, object]:
-    """The margin of a complete collection, and in which log a tag would have been missed."""
-    least = found.least
-    if least is None:
-        return {}
-    return {"margin": least.weakest.margin,
-            "weakest": {"file": found.logs[least.log].name, **mask_fields(least.weakest.mask)}}
-
-
-def _of_aside(log: Log) -> dict[str, object]:
-    return {"file": log.name, **_of_answer(log)}
-
-
-def _of_answer(log: Log) -> dict[str, object]:
-    if log.answer is None:
-        return {"status": NO_ANSWER, "kind": "no answer", "error": log.error}
-    return fields(log.answer)
-
-
 def _of_item(found: Collection, item: Item, overlooked: Mapping[int, int]) -> dict[str, object]:
+    cells = enumerate(zip(found.expected.heads, item.cells))
     said: dict[str, object] = {
         "uid": None if item.uid is None else uid_text(item.uid), "state": item.state.value,
-        "columns": {found.expected.heads[at]: item.cells[at] for at in found.expected.beside()},
-        "certain_in": _named(found, item.certain_in), "may_be_in": _named(found, item.may_be_in)}
+        "columns": {head: cell for at, (head, cell) in cells
+                    if head and at != found.expected.uid_at},
+        "certain_in": [found.logs[log].name for log in item.certain_in],
+        "may_be_in": [found.logs[log].name for log in item.may_be_in]}
     if item.uid is not None and item.uid in overlooked:
         said["overlooked"] = overlooked[item.uid]
     return {**said, "belongs": item.belongs} if item.belongs else said
 
 
-def _of_log(log: Log, left: Left) -> dict[str, object]:
-    return {"file": log.name, "certain": len(log.certain),
-            "open": [mask_fields(mask) for mask in left.masks],
-            "more_open": left.has_more, "list": _of_answer(log),
-            **margin_fields(log.weakest),
-            **({"captured": log.captured} if log.captured else {})}
-
-
-def _named(found: Collection, logs: Sequence[int]) -> list[str]:
-    return [found.logs[log].name for log in logs]
-
-
-FORMS: dict[str, Callable[[Collection], Iterator[Union[str, bytes]]]] = {
-    "lines": as_lines, "csv": as_csv, "json": as_json, "page": as_page}
+FORMS: dict[str, Callable[[Collection], Iterable[Union[str, bytes]]]] = {
+    "lines": as_lines, "csv": as_csv, "page": as_page,
+    "json": lambda found: [json.dumps(_object(found)) + "\n"]}

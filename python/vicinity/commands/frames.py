@@ -3,54 +3,47 @@ from __future__ import annotations
 
 import argparse
 import re
-from typing import Any, Callable
+from typing import Callable, Union
 
 from .._answers import Mask
 from .._native import library
-from .._process import write
-from ..frames import (HEX, FrameFault, read_request, read_response, uid_text, write_inventory,
-                      write_response, write_stay_quiet)
+from .._process import REFUSED, write
+from ..frames import (FrameFault, Reply, Request, read_request, read_response, uid_text,
+                      write_inventory, write_response, write_stay_quiet)
 
-REFUSED = 3
 #: The bytes of a frame of at most so many digits.
 MOST_DIGITS = 128
 MOST_LINK, MOST_BITS, NUMBER_BITS = 3, {1: 64, 16: 60}, 64
 WORDS, RANGE = "Words", "Range"
-
-
-class _Refused(Exception):
-    """Why words spell no frame."""
+#: What the program says where the library refuses what words say.
+OF_LIBRARY = {"WrongMask": RANGE, "WrongReply": WORDS}
 
 
 def frame(asked: argparse.Namespace) -> int:
     """Writes a frame in words, and returns the status."""
     library()
     (digits,) = asked.names
-    if len(digits) > MOST_DIGITS or len(digits) % 2 or not HEX.issuperset(digits):
+    if len(digits) > MOST_DIGITS or not re.fullmatch("([0-9A-Fa-f]{2})*", digits):
         write([f"refused {'LineTooLong' if len(digits) > MOST_DIGITS else 'Hex'}\n"])
         return REFUSED
     content = bytes.fromhex(digits)
-    said = [_request(content), _response(content)]
+    said = [_said("request", read_request, content), _said("response", read_response, content)]
     write(f"{it}\n" for it in said)
     return REFUSED * all(" refused " in it for it in said)
 
 
-def _request(content: bytes) -> str:
+def _said(kind: str, read: Callable[[bytes], Union[Request, Reply]], content: bytes) -> str:
     try:
-        link, slots, mask, uid = read_request(content)
+        fields = read(content)
     except FrameFault as error:
-        return f"request refused {error.fault.word}"
+        return f"{kind} refused {error.fault.word}"
+    if isinstance(fields, Reply):
+        flags, dsfid, uid = fields
+        return f"{kind} flags {flags:02X} dsfid {dsfid:02X} uid {uid_text(uid)}"
+    link, slots, mask, uid = fields
     if not slots:
-        return f"request stay-quiet link {link} uid {uid_text(uid)}"
-    return f"request inventory link {link} slots {slots} mask {mask.length} {mask.digits}"
-
-
-def _response(content: bytes) -> str:
-    try:
-        flags, dsfid, uid = read_response(content)
-    except FrameFault as error:
-        return f"response refused {error.fault.word}"
-    return f"response flags {flags:02X} dsfid {dsfid:02X} uid {uid_text(uid)}"
+        return f"{kind} stay-quiet link {link} uid {uid_text(uid)}"
+    return f"{kind} inventory link {link} slots {slots} mask {mask.length} {mask.digits}"
 
 
 def spell(asked: argparse.Namespace) -> int:
@@ -58,8 +51,9 @@ def spell(asked: argparse.Namespace) -> int:
     library()
     try:
         write([f"{_spelled(asked.names).hex().upper()}\n"])
-    except _Refused as why:
-        write([f"refused {why}\n"])
+    except ValueError as error:
+        why = str(error).partition(":")[0]
+        write([f"refused {OF_LIBRARY.get(why, why)}\n"])
         return REFUSED
     return 0
 
@@ -75,42 +69,34 @@ RESPONSE = _form("response flags * dsfid * uid *")
 
 
 def _spelled(words: list[str]) -> bytes:
-    """The frame that words spell. Raises _Refused for the first of them that doesn't fit."""
+    """The frame that words spell.
+    Raises ValueError, with the refusal, for the first of them that doesn't fit."""
     said = "\0".join(words)
     if found := INVENTORY.fullmatch(said):
         link, slots = _decimal(found[1], MOST_LINK), _decimal(found[2])
         if slots not in MOST_BITS:
-            raise _Refused(WORDS)
+            raise ValueError(WORDS)
         bits = _decimal(found[3], MOST_BITS[slots])
         value = 0 if (bits, found[4]) == (0, "-") else _hex(found[4], (bits + 7) // 8 * 2)
-        return _made(RANGE, write_inventory, link, slots, Mask(bits, value))
+        return write_inventory(link, slots, Mask(bits, value))
     if found := STAY_QUIET.fullmatch(said):
         return write_stay_quiet(_decimal(found[1], MOST_LINK), _hex(found[2], 16))
     if found := RESPONSE.fullmatch(said):
-        return _made(WORDS, write_response, _hex(found[1], 2), _hex(found[2], 2),
-                     _hex(found[3], 16))
-    raise _Refused(WORDS)
+        return write_response(_hex(found[1], 2), _hex(found[2], 2), _hex(found[3], 16))
+    raise ValueError(WORDS)
 
 
 def _decimal(word: str, most: int = (1 << NUMBER_BITS) - 1) -> int:
     """A number as `frame` writes it."""
     if not re.fullmatch("0|[1-9][0-9]{0,19}", word) or int(word) >> NUMBER_BITS:
-        raise _Refused(WORDS)
+        raise ValueError(WORDS)
     if int(word) > most:
-        raise _Refused(RANGE)
+        raise ValueError(RANGE)
     return int(word)
 
 
 def _hex(word: str, digits: int) -> int:
     """A number of so many digits, in upper case."""
-    if len(word) != digits or not digits or not HEX.issuperset(word) or word != word.upper():
-        raise _Refused(WORDS)
+    if not digits or not re.fullmatch(f"[0-9A-F]{{{digits}}}", word):
+        raise ValueError(WORDS)
     return int(word, 16)
-
-
-def _made(why: str, call: Callable[..., bytes], *given: Any) -> bytes:
-    """What a call makes; if there is no such frame, that is why the words are refused."""
-    try:
-        return call(*given)
-    except ValueError:
-        raise _Refused(why) from None

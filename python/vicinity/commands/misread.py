@@ -8,12 +8,10 @@ from collections import defaultdict
 from io import BytesIO
 from typing import Iterator, Mapping, NamedTuple, Sequence
 
-from .._calls import check, listed, simulate
-from .._captured import HEADER
-from .._process import read, write
+from .._calls import HEADER, check, listed, simulate
+from .._process import REFUSED, read, write
 from ..frames import read_response, write_line, write_response
 
-REFUSED = 3
 OUTCOMES = frozenset(b"SCRDHN")
 #: A slot, by the number of its request, and its own in the round.
 Place = tuple[int, int]

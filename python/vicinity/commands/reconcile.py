@@ -5,18 +5,16 @@ import argparse
 import json
 from typing import Iterator, Optional
 
-from .._fields import SCHEMA, fields
+from .._fields import object_of, refusal
 from .._native import library
-from .._process import NoAnswer, complain, counted, read, tell_terminal, write
-from ..collections.catalogue import Catalogue, How, catalogue
+from .._process import (REFUSED, NoAnswer, complain, counted, names_of, read, tell_terminal,
+                        write)
+from ..collections.catalogue import How, catalogue
 from ..collections.collection import Collection
-from ..collections.places import Places, places_of
-from ..collections.surveys import Log, Surveys, certain_lines, record, records
+from ..collections.places import places_of
+from ..collections.surveys import Log, Surveys, record, records, survey_file
 from ..collections.tables import Wrong
 from .forms import FORMS, notes, set_aside, small_margin
-from .names import names_of
-
-REFUSED = 3
 
 
 def reconcile(asked: argparse.Namespace) -> int:
@@ -25,9 +23,11 @@ def reconcile(asked: argparse.Namespace) -> int:
     names = names_of(asked, not asked.surveys)
     try:
         said = [(name, read(name)) for name in asked.surveys]
-        expected = catalogue(asked.expected, read(asked.expected), _how(asked))
-        recorded = records(said)
-        places = _places(asked, expected, [*(log.name for log in recorded), *names])
+        how = How(asked.column, asked.place, asked.encoding, _file(asked.tags))
+        expected, recorded = catalogue(asked.expected, read(asked.expected), how), records(said)
+        places = {} if asked.place is None else places_of(
+            expected, [*(log.name for log in recorded), *names], _file(asked.places),
+            asked.encoding)
     except Wrong as wrong:
         if wrong.is_list and asked.form == "lines":
             write([f"{wrong}\n"])
@@ -36,9 +36,12 @@ def reconcile(asked: argparse.Namespace) -> int:
         return REFUSED
     logs = Surveys(names, asked.jobs, asked.strict, recorded)
     broken = next((log for log in logs.all if log.status), None)
-    if asked.strict and broken is not None and (asked.form != "page" or broken.answer is None):
-        write(_ended(asked.form, broken))
-        return broken.status
+    if asked.strict and broken is not None:
+        if isinstance(broken.answer, str):
+            raise NoAnswer(broken.answer)
+        if asked.form != "page":
+            write(_ended(asked.form, broken))
+            return broken.status
     found = Collection(expected, logs, places, asked.margin)
     if asked.form == "csv":
         for log in found.aside:
@@ -51,30 +54,20 @@ def reconcile(asked: argparse.Namespace) -> int:
     return found.status
 
 
-def _how(asked: argparse.Namespace) -> How:
-    tags = None if asked.tags is None else (asked.tags, read(asked.tags))
-    return How(asked.column, asked.place, asked.encoding, tags)
-
-
-def _places(asked: argparse.Namespace, expected: Catalogue, names: list[str]) -> Places:
-    """The logs of each place; none if no column has places."""
-    if asked.place is None:
-        return {}
-    file = None if asked.places is None else (asked.places, read(asked.places))
-    return places_of(expected, names, file, asked.encoding)
+def _file(name: Optional[str]) -> Optional[tuple[str, bytes]]:
+    """A file that may not be named, with its name."""
+    return None if name is None else (name, read(name))
 
 
 def _ended(form: str, log: Log) -> Iterator[str]:
     """What is written where a log that is refused or impossible ends it.
     In CSV it has no place, and a page shows the logs as far as that one, which is set aside."""
-    if log.answer is None:
-        raise NoAnswer(log.error)
     if form == "json":
-        yield json.dumps({"schema": SCHEMA, **fields(log.answer), "file": log.name}) + "\n"
+        yield json.dumps(object_of(log.name, log.answer)) + "\n"
     elif form == "lines":
-        yield f"{log.why}\n"
+        yield f"{refusal(log.name, log.answer)}\n"
     else:
-        complain(log.why)
+        complain(refusal(log.name, log.answer))
 
 
 def survey(asked: argparse.Namespace) -> int:
@@ -83,21 +76,9 @@ def survey(asked: argparse.Namespace) -> int:
     library()
     names, worst = names_of(asked), 0
     for name in counted(names, len(names)):
-        log, lines = _surveyed(name)
+        log = survey_file(name, has_lines=True)
         worst = max(worst, log.status)
-        if log.answer is None:
-            complain(log.error)
-        write([record(log, lines)])
+        if isinstance(log.answer, str):
+            complain(log.answer)
+        write([record(log)])
     return worst
-
-
-def _surveyed(name: str) -> tuple[Log, Optional[list[int]]]:
-    """The survey of a log, with the lines that show its certain UIDs."""
-    try:
-        text = read(name)
-    except (NoAnswer, MemoryError) as error:
-        return Log.unread(name, error), None
-    log = Log.of(name, text)
-    if log.status:
-        return log, None
-    return log, list(certain_lines(text).lines)

@@ -2,25 +2,22 @@
 and plain text for whom no script draws it."""
 from __future__ import annotations
 
-import os
 import runpy
 from html import escape
+from pathlib import Path
 from typing import Iterable, Iterator
 
 from .._native import library
 
-HERE = os.path.dirname(os.path.abspath(__file__))
+HERE = Path(__file__).resolve().parent
 #: The page as a package has it, and what makes it in the repository.
-MADE, BUILD = os.path.join(HERE, "page.html"), os.path.join(HERE, "../../../web/build")
+MADE, BUILD = HERE / "page.html", HERE / "../../../web/build"
 
 
 def template() -> str:
     """The page without what it draws."""
-    if not os.path.exists(MADE):
-        made: str = runpy.run_path(BUILD)["record"]()
-        return made
-    with open(MADE, encoding="utf-8") as file:
-        return file.read()
+    made: str = MADE.read_text("utf-8") if MADE.exists() else runpy.run_path(str(BUILD))["record"]()
+    return made
 
 
 def document(title: str, said: Iterable[str], plain: Iterable[str]) -> Iterator[str]:

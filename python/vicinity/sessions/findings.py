@@ -1,113 +1,72 @@
-"""A report as columns of numbers: as small in memory as in the library,
-since a log may have a million findings."""
+"""What a report says of a log, and how sure it is."""
 from __future__ import annotations
 
-from array import array
-from bisect import bisect_left
 from itertools import groupby
-from typing import NamedTuple, Optional, Sequence
+from typing import Any, Iterator, Mapping, Optional, Sequence
 
-from .._answers import Answer, FindingKind, Kind, Mask, Weakest
-from .._calls import margin, overlooked, report_records
-from .._captured import if_captured
+from .._answers import Answer, Finding, FindingKind, Kind, Weakest
+from .._calls import if_captured, margin, overlooked, report, with_captures
+from .._fields import mask_fields
+from ..frames import uid_text
+from .session import Session
 
-
-class _Records:
-    """Structs vicinity_finding of vicinity.h, whose fields are kind, line, mask_len, zero,
-    mask_value, uid, as columns."""
-
-    def __init__(self, records: memoryview):
-        short, long = records.cast("I"), records.cast("Q")
-        self.kinds, self.lines, self.lengths = short[::8], short[1::8], short[2::8]
-        self.values, self.uids = long[2::4], long[3::4]
-
-
-class Shown(NamedTuple):
-    """UIDs in rising order, each with the line that shows it."""
-
-    uids: array[int]
-    lines: array[int]
-
-    def line_of(self, uid: int) -> int:
-        """The line that shows a UID, or 0 if it isn't among them."""
-        place = bisect_left(self.uids, uid)
-        return self.lines[place] if place < len(self.uids) and self.uids[place] == uid else 0
+#: The findings, in the order in which they are told, each with its word.
+WORDS = {FindingKind.SILENCED_BY: "silenced by", FindingKind.CONFLICT_LINE: "conflict",
+         FindingKind.ABSENT: "absent", FindingKind.UNLISTED: "unlisted",
+         FindingKind.UNSETTLED: "unsettled", FindingKind.OPEN_MASK: "open",
+         FindingKind.MORE_OPEN_MASKS: "more open", FindingKind.DOUBTFUL: "doubtful"}
+#: How many findings of each kind are shown in a terminal.
+MOST_LINES = 20
 
 
 class Told:
-    """What `vicinity report` says about a log."""
+    """What `vicinity report` says about a log, and what a person wants to know beside it.
+    Raises what `report` raises."""
 
-    def __init__(self, answer: Answer, records: memoryview, reread: Optional[Answer] = None):
-        self.answer = answer
-        #: The answer if any reply may have hidden others.
-        self.reread = reread
-        #: The margin of a complete list.
-        self.weakest: Optional[Weakest] = None
-        self.absent = Shown(array("Q"), array("I"))
+    def __init__(self, text: bytes):
+        self.answer, findings = report(text)
+        #: The refused line, or 0.
+        self.refused_line = self.answer.line if self.answer.kind is Kind.REFUSED else 0
+        self._findings: Mapping[FindingKind, Sequence[Finding]] = {
+            kind: list(these) for kind, these in groupby(findings, lambda it: it.kind)}
+        #: The answer if any reply may have hidden others; nothing if the text is refused.
+        self.reread: Optional[Answer] = if_captured(text, self.answer)
         #: In how many slots each absent UID was overlooked.
-        self.overlooked: Sequence[int] = []
-        self.unlisted = Shown(array("Q"), array("I"))
-        self.doubtful: array[int] = array("Q")
-        #: The widest open mask without a listed UID.
-        self.unsettled: Optional[Mask] = None
-        #: What is still to be asked, at most sixteen masks.
-        self.open_masks: list[Mask] = []
-        self.has_more_open = False
-        #: The lines that contradict each other.
-        self.conflict: array[int] = array("I")
-        #: The line that silenced a tag which answered nevertheless, or 0.
-        self.silenced = 0
-        columns = _Records(records)
-        start = 0
-        for kind, run in groupby(columns.kinds):
-            behind = start + sum(1 for _ in run)
-            self._add(kind, columns, slice(start, behind))
-            start = behind
+        absent = [it.uid for it in self.of(FindingKind.ABSENT)]
+        self.overlooked: Sequence[int] = overlooked(text, absent) if absent else []
+        #: The margin of a complete list, and that of one that is also complete if any reply
+        #: may have hidden others.
+        self.weakest: Optional[Weakest] = None
+        self.weakest_reread: Optional[Weakest] = None
+        if self.answer.is_complete:
+            self.weakest = margin(text).weakest
+            if self.reread == self.answer:
+                self.weakest_reread = margin(with_captures(text)).weakest
+        self.session = Session(text, self.refused_line, self.lines(MOST_LINES))
 
-    def _add(self, kind: int, columns: _Records, places: slice) -> None:
-        """Adds findings of one kind, which are consecutive."""
-        if kind == FindingKind.ABSENT or kind == FindingKind.UNLISTED:
-            shown = self.absent if kind == FindingKind.ABSENT else self.unlisted
-            shown.uids.extend(columns.uids[places])
-            shown.lines.extend(columns.lines[places])
-        elif kind == FindingKind.DOUBTFUL:
-            self.doubtful.extend(columns.uids[places])
-        elif kind == FindingKind.CONFLICT_LINE:
-            self.conflict.extend(columns.lines[places])
-        elif kind == FindingKind.MORE_OPEN_MASKS:
-            self.has_more_open = True
-        elif kind == FindingKind.SILENCED_BY:
-            self.silenced = columns.lines[places.start]
-        else:
-            masks = [Mask(*of) for of in zip(columns.lengths[places], columns.values[places])]
-            if kind == FindingKind.UNSETTLED:
-                self.unsettled = masks[0]
-            else:
-                self.open_masks += masks
-
-    @property
-    def refused_line(self) -> Optional[int]:
-        return self.answer.line if self.answer.kind is Kind.REFUSED else None
+    def of(self, kind: FindingKind) -> Sequence[Finding]:
+        """The findings of a kind."""
+        return self._findings.get(kind, ())
 
     def lines(self, most: int) -> set[int]:
         """The lines of the log that the report names, the first `most` of each kind."""
-        named = {self.answer.line, self.silenced, *self.conflict[:most], *self.absent.lines[:most],
-                 *self.unlisted.lines[:most]}
-        return named - {0, self.refused_line}
+        named = {it.line for kind in WORDS for it in self.of(kind)[:most]}
+        return named.union([self.answer.line]) - {0, self.refused_line}
 
-
-def tell(text: bytes) -> Told:
-    """What `vicinity report` says about a text. Raises what `report` raises."""
-    return Told(*report_records(text))
-
-
-def tell_people(text: bytes) -> Told:
-    """The same, the answer if any reply may have hidden others, and how sure it is:
-    in how many slots a tag would have had to be missed, or was silent."""
-    answer, records = report_records(text)
-    told = Told(answer, records, if_captured(text, answer))
-    if answer.is_complete:
-        told.weakest = margin(text).weakest
-    if told.absent.uids:
-        told.overlooked = overlooked(text, told.absent.uids)
-    return told
+    def objects(self, most: Optional[int] = None) -> Iterator[Mapping[str, Any]]:
+        """The findings as JSON has them, the first `most` of each kind;
+        the lines of a contradiction are all there."""
+        for kind, word in WORDS.items():
+            found = self.of(kind) if kind is FindingKind.CONFLICT_LINE else self.of(kind)[:most]
+            slots = iter(self.overlooked)
+            for it in found:
+                said: dict[str, Any] = {"kind": word}
+                if it.uid:
+                    said["uid"] = uid_text(it.uid)
+                if it.line:
+                    said["line"] = it.line
+                if kind is FindingKind.ABSENT:
+                    said["overlooked"] = next(slots)
+                if kind in (FindingKind.UNSETTLED, FindingKind.OPEN_MASK):
+                    said.update(mask_fields(it.mask))
+                yield said

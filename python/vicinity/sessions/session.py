@@ -1,162 +1,128 @@
-"""A session as rows of rounds and slots, as far as it is kept.
+"""A log as rows: a round with its slots, a Stay Quiet, or a field cycle.
+Only where they begin is kept, and a row is read when it is asked for.
 Frames and the masks of slots come from library calls."""
 from __future__ import annotations
 
+import io
+import re
 from array import array
-from dataclasses import dataclass
-from enum import Enum
+from bisect import bisect_right
 from functools import cached_property
-from typing import Iterator, NamedTuple, Optional, Union
+from typing import Container, NamedTuple, Optional
 
 from .._answers import Mask
-from ..frames import Request, read_request, read_response, slot_mask
+from ..frames import (Request, read_request, read_response, slot_mask, write_inventory,
+                      write_line)
 
-
-class Reading(Enum):
-    """What was read in a slot, by the letter of its line."""
-
-    SILENT = "S"
-    HEARD = "R"
-    COLLISION = "C"
-    GARBLED = "D"
-    CAPTURED = "H"
-    UNKNOWN = "N"
+FIRST_REQUEST = re.compile(rb"^T ([0-9A-Fa-f]{2})", re.MULTILINE)
+#: The bits of the link in the flags of a request, and the link if there is no request.
+LINK, ANY_LINK = 3, 2
+STAY_QUIET = b"02"
+#: How much of a refused line is kept.
+MOST_QUOTED = 160
+#: What may be read in a slot, by the letter of its line: its sign and colour in a terminal,
+#: and in words, in which a UID that was heard takes the place of the braces.
+READINGS = {
+    "S": ("·", "2", "no tag answered"),
+    "R": ("", "32", "{} answered alone"),
+    "C": ("╳", "33", "two or more tags answered"),
+    "D": ("?", "35", "one or more tags answered, unreadable"),
+    "H": ("", "36", "{} answered, perhaps with others"),
+    "N": ("-", "35", "nothing is known of this slot"),
+}
 
 
 class Slot(NamedTuple):
-    """A logged slot: its line and number, which tags answer in it, what was read,
+    """A logged slot: its line, which tags answer in it, the letter of what was read,
     and the UID that was heard."""
 
     line: int
-    place: int
     mask: Mask
-    reading: Reading
+    letter: str
     uid: Optional[int]
 
 
-class Round:
-    """An Inventory request, the lines of its slots,
-    and the Stay Quiets after it to tags that were heard in it."""
+class Row:
+    """An Inventory request with its slots, and the Stay Quiets after it to tags that were heard;
+    another Stay Quiet; or a field cycle, which has no request."""
 
-    def __init__(self, line: int, frame: bytes):
-        self.line = self.end = line
-        self.frame = frame
-        self.outcomes: list[tuple[int, bytes]] = []
-        self.quiets: dict[int, int] = {}
-
-    @property
-    def places(self) -> int:
-        """One slot or sixteen."""
-        return 1 if int(self.frame[:2], 16) & 0x20 else 16
-
-    @property
-    def is_over_all(self) -> bool:
-        """Whether it asked all tags, to its end, and something is known of each slot."""
-        known = [text for _, text in self.outcomes if text != b"N"]
-        return self.frame[4:6] == b"00" and len(known) == self.places
-
-    @cached_property
-    def request(self) -> Request:
-        return read_request(bytes.fromhex(self.frame.decode()))
-
-    @property
-    def mask(self) -> Mask:
-        return self.request.mask
+    def __init__(self, line: int, text: bytes):
+        self.line = line
+        self.lines = {number: it.rstrip() for number, it in enumerate(io.BytesIO(text), line)
+                      if it[:1] not in b"#\r\nU"}
+        self.end = max(self.lines)
+        requests = [read_request(_frame(it)) for it in self.lines.values() if it[:1] == b"T"]
+        self.request: Optional[Request] = requests[0] if requests else None
+        self.quiets = {request.uid for request in requests[1:]}
 
     @cached_property
     def slots(self) -> list[Slot]:
-        return [self._slot(place, line, text) for place, (line, text) in enumerate(self.outcomes)]
-
-    def _slot(self, place: int, line: int, text: bytes) -> Slot:
-        mask = slot_mask(self.request.slots, self.request.mask, place)
-        reading = Reading(text[:1].decode())
-        uid = read_response(bytes.fromhex(text[2:].decode())).uid if text[2:] else None
-        return Slot(line, place, mask, reading, uid)
-
-    def has_heard(self, digits: bytes) -> bool:
-        """Whether a reply in this round has the UID of these digits, in the order of a frame."""
-        return any(text[6:22].upper() == digits for _, text in self.outcomes)
-
-
-@dataclass
-class StayQuiet:
-    """A Stay Quiet request that isn't shown with a round: its line, and the digits of its UID,
-    as they were sent."""
-
-    line: int
-    digits: bytes
-
-    @property
-    def end(self) -> int:
-        return self.line
-
-    @property
-    def uid(self) -> int:
-        return int.from_bytes(bytes.fromhex(self.digits.decode()), "little")
-
-
-@dataclass
-class FieldCycle:
-    """The field was switched off and on."""
-
-    line: int
-
-    @property
-    def end(self) -> int:
-        return self.line
-
-
-Row = Union[Round, StayQuiet, FieldCycle]
+        found: list[Slot] = []
+        for line, text in self.lines.items():
+            if self.request and text[:1] not in b"TF":
+                mask = slot_mask(self.request.slots, self.request.mask, len(found))
+                uid = read_response(_frame(text)).uid if text[1:] else None
+                found.append(Slot(line, mask, text[:1].decode(), uid))
+        return found
 
 
 class Session:
-    """What is kept of a session: rows by their index among all, and the texts of named lines."""
+    """The rows of a text, up to its refused line if there is one.
+    A Stay Quiet in a named line is a row of its own."""
 
-    def __init__(self) -> None:
-        self.rows: dict[int, Row] = {}
-        self.row_count = 0
-        #: The texts of named lines, and where their rows are.
-        self.texts: dict[int, bytes] = {}
-        self.places: dict[int, int] = {}
+    def __init__(self, text: bytes, refused: int = 0, named: Container[int] = ()):
+        self.text = text
+        #: Of each row, the number of its first line and where that is in the text.
+        self.lines: array[int] = array("I")
+        self._starts: array[int] = array("I")
         #: How many UIDs are listed; the numbers of the first and the last line of the list.
-        self.listed = 0
-        self.list_lines = (0, 0)
+        self.listed, self.list_lines = 0, (0, 0)
         #: The last line that isn't part of the list.
         self.asked_until = 1
-        self.has_quiets = False
-        self.cycle_lines: array[int] = array("I")
-        #: Stay Quiets to UIDs that are never heard, and rounds that end before their last slot:
-        #: the first of them, and how many there are.
-        self.unheard: list[tuple[int, int]] = []
-        self.unheard_count = 0
-        self.short: list[Round] = []
-        self.short_count = 0
-        self.last_round: Optional[Round] = None
-        self.first_round: Optional[Round] = None
-        #: Whether some round asked all tags, to its end.
-        self.has_asked_all = False
-        #: Whether some reply was read alone.
-        self.has_alone = False
-        #: The refused line, and whether the text ends in it.
-        self.refused: bytes = b""
-        self.is_cut = False
+        start = self._end = 0
+        heard: set[bytes] = set()
+        for number, line in enumerate(io.BytesIO(self.text), 1):
+            if number == refused:
+                break
+            letter, digits = line[:1], line[6:22].upper()
+            if letter == b"U":
+                self.listed += 1
+                self.list_lines = self.list_lines[0] or number, number
+            elif number > 1 and letter not in b"#\r\n":
+                self.asked_until, self._end = number, start + len(line)
+                if letter in b"RH":
+                    heard.add(digits)
+                elif letter in b"TF" and not (line[4:6] == STAY_QUIET and digits in heard
+                                              and number not in named):
+                    self.lines.append(number)
+                    self._starts.append(start)
+                    heard = set()
+            start += len(line)
+        line, end, _ = self.text[start:start + MOST_QUOTED].partition(b"\n")
+        #: The refused line, whether the text ends in it, and the text until its end.
+        self.refused, self.until_refused = line, self.text[:start] + line + end
+        self.is_cut = start < len(self.text) and self.text.find(b"\n", start) < 0
 
-    @property
-    def link(self) -> int:
-        """The link of the session's requests, for further requests."""
-        return self.first_round.request.link if self.first_round else 2
+    def bytes_of(self, index: int) -> bytes:
+        """The text of a row, with comments in it."""
+        ends = self._starts[index + 1:index + 2] or [self._end]
+        return self.text[self._starts[index]:ends[0]]
 
-    @cached_property
-    def slots(self) -> dict[int, Slot]:
-        """The slots of the named lines."""
-        rounds = {index: row for index, row in self.rows.items() if isinstance(row, Round)}
-        named = {index for line, index in self.places.items() if index in rounds}
-        return {slot.line: slot for index in named
-                for slot in rounds[index].slots if slot.line in self.texts}
+    def row(self, index: int) -> Row:
+        return Row(self.lines[index], self.bytes_of(index))
+
+    def place(self, line: int) -> int:
+        """The index of the row that a line belongs to."""
+        return bisect_right(self.lines, line) - 1
 
 
-def lines_of(row: Row) -> Iterator[int]:
-    """The numbers of the lines of a row that the picture can mark."""
-    yield row.line
-    if isinstance(row, Round):
-        yield from (line for line, _ in row.outcomes)
+def ask(text: bytes, slots: int, mask: Mask) -> str:
+    """The line that asks a mask, with the link of the requests of a log."""
+    first = FIRST_REQUEST.search(text)
+    link = int(first[1], 16) & LINK if first else ANY_LINK
+    return write_line("T", write_inventory(link, slots, mask)).decode().rstrip()
+
+
+def _frame(line: bytes) -> bytes:
+    """The frame of a line."""
+    return bytes.fromhex(line[2:].decode())

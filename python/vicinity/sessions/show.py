@@ -2,30 +2,30 @@
 a row for each round with a cell for each slot, and what was found."""
 from __future__ import annotations
 
+from itertools import groupby
 from textwrap import wrap
-from typing import Iterable, Iterator, Mapping, NamedTuple, Sequence
+from typing import Iterable, Iterator, NamedTuple, Sequence, Union
 
-from .._answers import Kind
-from .conflict import ask, contradiction
-from .faults import ADVICE
-from .findings import Shown, Told
-from .notes import notes
-from .quotes import Quote, quotes
-from .rows import Drawn, Gap, chosen
-from .sentence import conditions, sentence, silent
-from .session import FieldCycle, Reading, Round, Session, Slot, StayQuiet
-from .words import count, digits_heard, ending, of_uid, printable, span, uid
+from .._answers import FindingKind
+from .._fields import UID_BITS
+from .._process import shown
+from ..frames import uid_text
+from .findings import MOST_LINES, WORDS, Told
+from .report import found
+from .session import READINGS, Row, Session, Slot
+from .words import conditions, count, meaning, sentence, span
 
-SIGNS = {Reading.SILENT: "·", Reading.COLLISION: "╳", Reading.GARBLED: "?", Reading.UNKNOWN: "-"}
 #: What replaces a sign outside ASCII.
-ASCII = {ord("·"): ".", ord("╳"): "X", ord("×"): "x", ord("⋮"): ":"}
-COLOURS = {Reading.SILENT: "2", Reading.HEARD: "32", Reading.COLLISION: "33", Reading.GARBLED: "35",
-           Reading.CAPTURED: "36", Reading.UNKNOWN: "35"}
+ASCII = {ord("·"): ".", ord("╳"): "X", ord("⋮"): ":"}
 ANSWER_COLOURS = ("1;32", "1;33", "1;31", "1;35")
 NAMED = "7"
-#: How many findings of each kind, and lines of a conflict, are written.
-MOST_LINES = 20
-SLOTS = 16
+#: A session of at most so many rows is drawn completely. Of a longer one the rows
+#: with a named line are drawn, and so many at each end, or so many if no line is named.
+ALL, ENDS, ENDS_ALONE = 40, 2, 8
+#: The slots of a round, and how many columns each takes.
+SLOTS, CELL = 16, 3
+#: Where more is said than here.
+MORE = "Causes, and what to do: python3 -m vicinity page LOG, and docs/VERDICTS.md."
 
 
 class Look(NamedTuple):
@@ -38,152 +38,96 @@ class Look(NamedTuple):
     def painted(self, text: str, colour: str) -> str:
         return f"\033[{colour}m{text}\033[0m" if self.colour else text
 
-    def wrapped(self, text: str, indent: str = "  ") -> list[str]:
+    def wrapped(self, text: str, indent: str = "") -> list[str]:
         return wrap(text, max(self.columns, 20), subsequent_indent=indent, break_on_hyphens=False)
 
 
-def show(session: Session, told: Told, look: Look = Look()) -> Iterator[str]:
+def show(told: Told, look: Look = Look()) -> Iterator[str]:
     """The lines of a picture, of what was found, and of the answer, which is first and last."""
     answer = look.painted(told.answer.text, ANSWER_COLOURS[told.answer.status])
     parts: list[Iterable[str]] = [
-        [answer, *look.wrapped(sentence(session, told), "")],
-        _picture(session, told, look), _found(session, told, look),
-        _looked_for(session, told, look),
-        [line for note in notes(session, told)
-         for line in look.wrapped(f"note: line {note.line}: {note.text}")],
-        [line for said in conditions(session, told) for line in look.wrapped(said, "")], [answer]]
-    is_first = True
-    for part in parts:
-        lines = list(part)
-        if lines and not is_first:
-            yield ""
-        is_first = False
-        yield from (line if look.utf8 else line.translate(ASCII) for line in lines)
+        [answer, *look.wrapped(sentence(told))], _picture(told, look),
+        _found(told, look), look.wrapped(MORE) if told.answer.status else [],
+        [line for said in conditions(told) for line in look.wrapped(said)], [answer]]
+    lines = "\n\n".join(filter(None, map("\n".join, parts))).split("\n")
+    yield from (line if look.utf8 else line.translate(ASCII) for line in lines)
 
 
-def _picture(session: Session, told: Told, look: Look) -> Iterator[str]:
-    """The rows that matter, one line each, or in a shorter form if these don't fit."""
-    rows, named = chosen(session, told.lines(MOST_LINES)), told.lines(MOST_LINES)
-    rounds = [row for row in rows if isinstance(row, Round)]
-    labels = max([5, *(len(span(row.line, row.end)) for row in rows if not isinstance(row, Gap)),
-                  len(span(*session.list_lines))])
-    masks = max([5, *(len(str(row.mask)) for row in rounds)])
-    is_wide = labels + masks + 2 + 3 * SLOTS <= look.columns
-    if rounds and is_wide:
-        slots = "".join(f"{slot:>2X} " for slot in range(SLOTS)).rstrip()
-        yield f"{'lines':>{labels}}  {'asked':<{masks}}{slots}"
+def _picture(told: Told, look: Look) -> Iterator[str]:
+    """The rows that matter, one line each, or more where the slots don't fit into one."""
+    session, named = told.session, told.lines(MOST_LINES)
+    rows = list(_chosen(session, named))
+    drawn = [row for row in rows if isinstance(row, Row)]
+    labels = max([5, len(span(*session.list_lines)),
+                  *(len(span(row.line, row.end)) for row in drawn)])
+    masks = max([5, *(len(str(row.request.mask)) for row in drawn if row.slots and row.request)])
+    width = labels + 2 + masks
+    most = max(1, (look.columns - width) // CELL)
+
+    def lines(head: str, cells: Sequence[str]) -> Iterator[str]:
+        for start in range(0, len(cells) or 1, most):
+            yield f"{'' if start else head:<{width}}{''.join(cells[start:start + most])}".rstrip()
+
+    if any(row.slots for row in drawn):
+        yield from lines(f"{'lines':>{labels}}  asked", [f"{slot:>2X} " for slot in range(SLOTS)])
     for row in rows:
-        if isinstance(row, Round) and not is_wide:
-            yield from _narrow(row, labels, named, look)
+        if isinstance(row, int):
+            yield f"{'⋮':>{labels}}  {count(row, 'row')}"
+            continue
+        head = f"{span(row.line, row.end):>{labels}}{'!' if row.line in named else ' '} "
+        if row.request is None:
+            yield f"{head}field off and on"
+        elif row.request.slots:
+            yield from lines(f"{head}{row.request.mask}",
+                             [_cell(row, slot, named, look) for slot in row.slots])
         else:
-            yield _row(row, labels, masks, named, look).rstrip()
+            yield f"{head}Stay Quiet {uid_text(row.request.uid)}"
     if session.listed:
         yield f"{span(*session.list_lines):>{labels}}  {session.listed:,} listed"
 
 
-def _row(row: Drawn, labels: int, masks: int, named: set[int], look: Look) -> str:
-    if isinstance(row, Gap):
-        return f"{'⋮':>{labels}}  {count(row.rows, 'row')}"
-    head = f"{span(row.line, row.end):>{labels}}{'!' if row.line in named else ' '} "
-    if isinstance(row, StayQuiet):
-        return f"{head}Stay Quiet {uid(row.uid)}"
-    if isinstance(row, FieldCycle):
-        return f"{head}field off and on"
-    places = (_place(row, slot, named, look) for slot in row.slots)
-    return f"{head}{str(row.mask):<{masks}}{''.join(places)}"
+def _chosen(session: Session, named: set[int]) -> Iterator[Union[Row, int]]:
+    """The rows that are drawn, and how many aren't drawn between them."""
+    total = len(session.lines)
+    matter = {session.place(line) for line in named}
+    ends = total if total <= ALL else ENDS if matter else ENDS_ALONE
+    after = 0
+    for index in sorted(matter.union(range(ends), range(total - ends, total))):
+        if index > after:
+            yield index - after
+        yield session.row(index)
+        after = index + 1
 
 
-def _place(row: Round, slot: Slot, named: set[int], look: Look) -> str:
-    colour = COLOURS[slot.reading] + (f";{NAMED}" if slot.line in named else "")
-    return look.painted(f"{_sign(row, slot):>2}{_mark(row, slot, named)}", colour)
-
-
-def _sign(row: Round, slot: Slot) -> str:
-    return SIGNS[slot.reading] if slot.uid is None else digits_heard(row.mask, slot.uid)
-
-
-def _mark(row: Round, slot: Slot, named: set[int]) -> str:
-    """! beside a named line, q beside a tag that was silenced afterwards,
+def _cell(row: Row, slot: Slot, named: set[int], look: Look) -> str:
+    """What was read in a slot, of a UID two digits behind those of the asked mask, and a mark:
+    ! beside a named line, q beside a tag that was silenced afterwards,
     + beside one that may not have been alone."""
-    if slot.line in named:
-        return "!"
-    return "q" if slot.uid in row.quiets else "+" if slot.reading is Reading.CAPTURED else " "
+    mark = ("!" if slot.line in named else "q" if slot.uid in row.quiets
+            else "+" if slot.letter == "H" else " ")
+    sign, colour, _ = READINGS[slot.letter]
+    if slot.uid is not None and row.request:
+        behind = min(row.request.mask.length // 4 * 4, UID_BITS)
+        sign = f"{slot.uid >> behind & 0xFF:02X}"
+    return look.painted(f"{sign:>2}{mark}", colour + f";{NAMED}" * (slot.line in named))
 
 
-def _narrow(row: Round, labels: int, named: set[int], look: Look) -> Iterator[str]:
-    """A round for a narrow terminal: the slots that are named or not silent,
-    and how many others are silent."""
-    told = [slot for slot in row.slots
-            if slot.uid is not None or slot.reading is not Reading.SILENT or slot.line in named]
-    signs = [f"{slot.place:X}:{_sign(row, slot)}{_mark(row, slot, named)}".rstrip()
-             for slot in told]
-    silent = len(row.slots) - len(told)
-    signs += [f"·×{silent}"] * bool(silent)
-    yield f"{span(row.line, row.end):>{labels}}  {row.mask}"
-    yield from (f"  {line}" for line in wrap(" ".join(signs), max(look.columns - 2, 20)))
-
-
-def _found(session: Session, told: Told, look: Look) -> Iterator[str]:
-    """What `report` says, the first of each kind, with the lines of the log
+def _found(told: Told, look: Look) -> Iterator[str]:
+    """What `report` says, the first of each kind, with the lines of the log that show it
     and the requests to send."""
-    if told.refused_line is not None:
-        yield f"{told.answer.line:>8} | {printable(session.refused)}"
-        yield from look.wrapped(ADVICE[told.answer.fault].fix, "")
-    if told.conflict:
-        numbers = [told.silenced] * bool(told.silenced) + list(told.conflict[:MOST_LINES])
-        for quote in quotes(session, numbers):
-            yield from _quoted(quote, "silenced by" if quote.first == told.silenced else "by", look)
-        yield from _more(len(told.conflict), "line")
-    asked = {number: f"  {silent(slots)}" for number, slots, _ in
-             zip(told.absent.uids, told.overlooked, range(MOST_LINES))}
-    yield from _shown(session, "absent", told.absent, look, asked)
-    yield from _shown(session, "unlisted", told.unlisted, look, {})
-    if told.unsettled:
-        yield _mask("unsettled", told.unsettled)
-    for mask in told.open_masks:
-        asks = ask(session.link, 1, mask)
-        yield from look.wrapped(f"{_mask('open', mask)}  {asks}  {ending(mask)}")
-    if told.has_more_open:
-        yield "more open"
-    for number in told.doubtful[:MOST_LINES]:
-        yield f"doubtful {uid(number)}  {ask(session.link, 1, of_uid(number))}"
-    yield from _more(len(told.doubtful), "doubtful UID")
-
-
-def _mask(word: str, mask: "Sequence[int]") -> str:
-    length, value = mask
-    return f"{word} {length} " + (f"{value:0{2 * ((length + 7) // 8)}X}" if length else "-")
-
-
-def _shown(session: Session, word: str, shown: Shown, look: Look,
-           asked: Mapping[int, str]) -> Iterator[str]:
-    """UIDs, with how often they were asked, grouped by the line that shows them,
-    which follows."""
-    by_line: dict[int, list[int]] = {}
-    for number, line in zip(shown.uids[:MOST_LINES], shown.lines):
-        by_line.setdefault(line, []).append(number)
-    for line, numbers in by_line.items():
-        for number in numbers:
-            yield from look.wrapped(f"{word} {uid(number)}{asked.get(number, '')}")
-        yield from _quoted(next(quotes(session, [line])), "by", look)
-    yield from _more(len(shown.uids), f"{word} UID")
-
-
-def _quoted(quote: Quote, by: str, look: Look) -> Iterator[str]:
-    """What lines of the log say, and their text."""
-    lines = "line" if quote.first == quote.last else "lines"
-    yield from look.wrapped(f"{by} {lines} {quote.place}: {quote.meaning}")
-    yield f"{quote.place:>8} | {quote.text}"
-
-
-def _more(total: int, what: str) -> Iterator[str]:
-    if total > MOST_LINES:
-        yield f"⋮ {count(total - MOST_LINES, f'more {what}')}"
-
-
-def _looked_for(session: Session, told: Told, look: Look) -> Iterator[str]:
-    """The causes that fit a contradiction."""
-    if told.answer.kind is Kind.IMPOSSIBLE:
-        yield "These causes fit:"
-        for cause in contradiction(session, told).causes:
-            yield from look.wrapped(f"- {cause}")
+    session = told.session
+    if told.refused_line:
+        refused = shown(session.refused.removesuffix(b"\r")) or "(empty)"
+        yield f"{told.refused_line:>8} | {refused}"
+    for (kind, line), findings in groupby(found(told, MOST_LINES), lambda it: it[:2]):
+        for _, _, said in findings:
+            yield from look.wrapped(f"{WORDS[kind]}: {said}" if said else WORDS[kind] * (not line),
+                                    "  ")
+        if line:
+            by = "silenced by" if kind is FindingKind.SILENCED_BY else "by"
+            yield from look.wrapped(f"{by} line {line}: {meaning(session, line)}", "  ")
+            yield f"{line:>8} | {session.row(session.place(line)).lines[line].decode()}"
+    for kind, word in WORDS.items():
+        more = len(told.of(kind)) - MOST_LINES
+        if more > 0:
+            yield f"⋮ {more:,} more {word}"
