@@ -19,12 +19,12 @@ SMALL, NOT_COMPLETE = "margin", 1
 
 
 def object_of(name: str, answer: Judged, weakest: Optional[Weakest] = None,
-              reread: Optional[Answer] = None) -> dict[str, Any]:
+              reread: Optional[Answer] = None, then: Optional[Weakest] = None) -> dict[str, Any]:
     """What every object says of a log: its answer, and if they are known its margin
-    and the answer under capture."""
+    and the answer under capture, with the margin then."""
     said = {"schema": SCHEMA, "file": name, **fields(answer), **margin_fields(weakest)}
     if reread is not None and not isinstance(answer, str):
-        said["captured"] = captured_of(answer, reread)
+        said["captured"] = {**captured_of(answer, reread), **margin_fields(then)}
     return said
 
 

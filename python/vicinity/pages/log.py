@@ -34,7 +34,7 @@ def page_object(name: str, told: Told) -> dict[str, Any]:
     left = survey(text)
     shown_by = explain(text).population if answer.kind is Kind.UNSETTLED else []
     return {
-        **object_of(name, answer, told.weakest, told.reread),
+        **object_of(name, answer, told.weakest, told.reread, told.weakest_reread),
         "version": version(), "answer": answer.text,
         "lines": text.count(b"\n") + (not text.endswith(b"\n") and bool(text)),
         "ended": text.endswith(b"\n"),
