@@ -101,7 +101,8 @@ fn write_explained<W: Sink>(
     explained: &Answered<Explanation>,
     sink: &mut W,
 ) -> Result<Status, RunFault>
-    ensures status { IfOk result (λ s. s ≡ answer_status (spec.answer_of (λ x. x.verdict) explained.now)) }
+    ensures status { IfOk result (λ s.
+        s ≡ answer_status (spec.answer_of (λ x. x.verdict) explained.now)) }
     ensures written { Writes W.written W.taken W.is_flushed W.has_failed
         sink.old sink.new (explained_text explained.now) result }
 {

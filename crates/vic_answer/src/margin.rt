@@ -82,7 +82,8 @@ pub fn run_margin<R: Source, W: Sink>(
 
 /// Writes the text of an answer.
 fn write_measured<W: Sink>(measured: &Answered<Margin>, sink: &mut W) -> Result<Status, RunFault>
-    ensures status { IfOk result (λ s. s ≡ answer_status (spec.answer_of (λ x. x.verdict) measured.now)) }
+    ensures status { IfOk result (λ s.
+        s ≡ answer_status (spec.answer_of (λ x. x.verdict) measured.now)) }
     ensures written { Writes W.written W.taken W.is_flushed W.has_failed
         sink.old sink.new (measured_text measured.now) result }
 {
