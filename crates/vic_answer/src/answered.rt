@@ -29,6 +29,7 @@ pub type Reading = Answered<Log>;
 
 /// What is found in a log, with the verdict on it.
 pub trait Judgement {
+    // what it has to be, for the lines of the log
     ghost IsOf: { List LogLineValue → Self → Type 0 };
 
     ghost verdict_of: { Self → VerdictValue };
@@ -41,6 +42,7 @@ pub trait Judgement {
     fn verdict(&self) -> Verdict
         ensures { result ≡ verdict_of self.now };
 
+    // the verdict in it is right
     ghost tells: { (lines : List LogLineValue) (found : Self)
         → IsOf lines found → IsVerdict lines (verdict_of found) };
 }
