@@ -1,20 +1,15 @@
 -- Answers that begin with the line of `check`, and which of them with `complete `.
-use Rattle.vic_answer.proofs.Words.{◌≡◌, ℕ, List, [], ◌∷◌, ◌++◌, ap, append_assoc, append-nil, arith, refl, subst, sym, ◌∙◌, codes, decimal, Option, Some, None, MatchOption, flat_map, option_map, LogLine, Impossible, Absent, Unlisted, Unsettled, Doubtful, Complete, BeginsAsCheck, IsAnswer, IsCheckOf, IsCompleteText, answer_line, verdict_line, Status, Entry, IsReport, verdict_by, verdict_of, uids_of, LogReport, ShownUid, report_begins, none_where_complete, IsPopulationBehind, IsShownByNone, Shows, Verdict, complete_whole, complete_second, complete_third, Answer, Judged, Explained, get_or}
+use Rattle.vic_answer.proofs.Words.{◌≡◌, ℕ, List, [], ◌∷◌, ◌++◌, ap, append_assoc, append-nil, arith, refl, subst, sym, ◌∙◌, codes, decimal, Option, Some, None, MatchOption, flat_map, option_map, LogLine, Impossible, Absent, Unlisted, Unsettled, Doubtful, Complete, BeginsAsCheck, IsAnswer, IsAnswerText, IsCheckOf, IsCompleteText, answer_line, verdict_line, Status, Entry, IsReport, verdict_by, verdict_of, uids_of, LogReport, ShownUid, report_begins, none_where_complete, IsPopulationBehind, IsShownByNone, Shows, Verdict, complete_whole, complete_second, complete_third, Answered, Judged, RefusedAt, IsAnswered, answer_of, IsVerdict, Explanation, IsExplanation, Margin, get_or}
 use Rattle.vic_report.specs.declared.findings.Unsettled.{Unsettled as LeftToAsk}
 use Rattle.vic_report.specs.declared.reporting.LogReport.TheVariants as report
 use Rattle.vic_answer.specs.CompleteRun.{BeginWith}
 use Rattle.vic_answer.specs.ExplainText as explain
 use Rattle.vic_answer.specs.MarginText as margin
 use Rattle.vic_answer.specs.ReportText as reporting
-use Rattle.vic_answer.specs.declared.explain.Explained.TheVariants as explained
-use Rattle.vic_answer.specs.declared.margin.Measured.{Measured}
-use Rattle.vic_answer.specs.declared.margin.Measured.TheVariants as measured
-use Rattle.vic_answer.specs.declared.report.Reported.{Reported}
-use Rattle.vic_answer.specs.declared.report.Reported.TheVariants as reported
 
 -- ---- a complete text
 
-pub complete_text : (text : List ℕ) (answer : Answer) (count : ℕ) → answer ≡ Judged (Complete count) → IsAnswer text answer → IsCompleteText text count
+pub complete_text : (text : List ℕ) (answer : Answered Verdict) (count : ℕ) → answer ≡ Judged (Complete count) → IsAnswer text answer → IsCompleteText text count
 complete_text text answer count is right =
     let h = subst (IsAnswer text) is right in
     record {
@@ -26,10 +21,16 @@ complete_text text answer count is right =
       counted = h.2.5;
     }
 
+-- the verdict in what was found is right, so the answer by it is
+pub is_answer : {A : Type 0} (P : List LogLine → A → Type 0) (verdict_of : A → Verdict) → ((lines : List LogLine) (found : A) → P lines found → IsVerdict lines (verdict_of found))
+    → (text : List ℕ) (a : Answered A) → IsAnswered P text a → IsAnswer text (answer_of verdict_of a)
+is_answer P verdict_of tells text (Judged found) h = (h.0, h.1, tells h.0.lines found h.2)
+is_answer P verdict_of tells text (RefusedAt n fault) h = h
+
 -- ---- lines that begin with `complete `
 
 -- the answer is `complete`, and what is behind that tells the count
-record IsCompleteLine (answer : Answer) (rest more : List ℕ) : Type 0 where
+record IsCompleteLine (answer : Answered Verdict) (rest more : List ℕ) : Type 0 where
   pub count : ℕ
   pub answer_is : answer ≡ Judged (Complete count)
   pub told : rest ≡ (decimal count ++ codes "\n") ++ more
@@ -38,7 +39,7 @@ record IsCompleteLine (answer : Answer) (rest more : List ℕ) : Type 0 where
 pub first : {xs ys : List ℕ} → xs ≡ ys → get_or xs 0 0 ≡ get_or ys 0 0
 first h = ap (λ zs. get_or zs 0 0) h
 
-complete_line : (answer : Answer) (rest more : List ℕ) → codes "complete " ++ rest ≡ answer_line answer ++ more → IsCompleteLine answer rest more
+complete_line : (answer : Answered Verdict) (rest more : List ℕ) → codes "complete " ++ rest ≡ answer_line answer ++ more → IsCompleteLine answer rest more
 complete_line (Judged (Complete count)) rest more h = record { count = count; answer_is = refl; told = cc h }
 complete_line _ rest more h = absurd (omega (arith, first h))
 
@@ -57,7 +58,7 @@ abbrev pub TellCompleteFirst : (List ℕ → List ℕ → Status → Type 0) →
 TellCompleteFirst IsAnswerTo = (text rest : List ℕ) (status : Status) → IsAnswerTo text (codes "complete " ++ rest) status → BeginWith (IsCompleteAnswer text) rest
 
 -- where nothing is behind the line
-alone : (text rest more : List ℕ) (answer : Answer) → IsAnswer text answer → codes "complete " ++ rest ≡ answer_line answer ++ more
+alone : (text rest more : List ℕ) (answer : Answered Verdict) → IsAnswer text answer → codes "complete " ++ rest ≡ answer_line answer ++ more
     → ((count : ℕ) → answer ≡ Judged (Complete count) → more ≡ []) → IsCompleteAnswer text rest
 alone text rest more answer right is nothing =
     let l = complete_line answer rest more is in
@@ -70,19 +71,23 @@ alone text rest more answer right is nothing =
 pub check_tells : TellComplete IsCheckOf
 check_tells text rest status h = alone text rest [] h.answer h.right (h.line_is ∙ sym (append-nil _)) (λ count is. refl)
 
+-- the text of an answer begins as that of `check` if it has the line first
+begins_as_check : {A : Type 0} {P : List LogLine → A → Type 0} {verdict_of : A → Verdict} {text_of : Answered A → List ℕ} {text answer : List ℕ} {status : Status}
+    (h : IsAnswerText P verdict_of text_of text answer status) → IsAnswer text (answer_of verdict_of h.answered) → (more : List ℕ) → text_of h.answered ≡ answer_line (answer_of verdict_of h.answered) ++ more → BeginsAsCheck text answer status
+begins_as_check {verdict_of = verdict_of} h right more is = record {
+  line = answer_line (answer_of verdict_of h.answered);
+  more = more;
+  right = record { answer = answer_of verdict_of h.answered; right = right; line_is = refl; status_is = h.status_is };
+  answer_is = h.answer_is ∙ is;
+}
+
 -- ---- explain
 
-explained_answer : (text : List ℕ) (e : Explained) → explain.IsExplained text e → IsAnswer text (explain.answer_of e)
-explained_answer text (explained.Judged x) h = (h.0, h.1, h.2.verdict)
-explained_answer text (explained.RefusedAt n fault) h = h
+explained_answer : (text : List ℕ) (e : Answered Explanation) → IsAnswered IsExplanation text e → IsAnswer text (answer_of (λ x. x.verdict) e)
+explained_answer = is_answer IsExplanation (λ x. x.verdict) (λ lines x h. h.verdict)
 
 pub explanation_begins : (text answer : List ℕ) (status : Status) → explain.IsExplanationOf text answer status → BeginsAsCheck text answer status
-explanation_begins text answer status h = record {
-  line = answer_line (explain.answer_of h.explained);
-  more = explain.population_text (explain.population_of h.explained);
-  right = record { answer = explain.answer_of h.explained; right = explained_answer text h.explained h.right; line_is = refl; status_is = h.status_is };
-  answer_is = h.answer_is;
-}
+explanation_begins text answer status h = begins_as_check h (explained_answer text h.answered h.right) (explain.population_text (explain.population_of h.answered)) refl
 
 -- no population shows that a list is complete
 none_shown : {A : Type 0} (es : List Entry) (items : A → List ℕ) (p : Option A) (v : Verdict) (count : ℕ) → v ≡ Complete count
@@ -90,34 +95,28 @@ none_shown : {A : Type 0} (es : List Entry) (items : A → List ℕ) (p : Option
 none_shown es items None v count is h = refl
 none_shown es items (Some us) v count is h = absurd (subst (λ w. Shows w (items us)) is h.1)
 
-none_behind : (text : List ℕ) (e : Explained) (count : ℕ) → explain.IsExplained text e → explain.answer_of e ≡ Judged (Complete count) → explain.population_text (explain.population_of e) ≡ []
-none_behind text (explained.Judged x) count h is =
+none_behind : (text : List ℕ) (e : Answered Explanation) (count : ℕ) → IsAnswered IsExplanation text e → answer_of (λ x. x.verdict) e ≡ Judged (Complete count) → explain.population_text (explain.population_of e) ≡ []
+none_behind text (Judged x) count h is =
     let verdict_is : x.verdict ≡ Complete count = cc is in
     none_shown _ (λ v. v.items) x.population x.verdict count verdict_is h.2.population
-none_behind text (explained.RefusedAt n fault) count h is = cc
+none_behind text (RefusedAt n fault) count h is = cc
 
 pub explanation_tells : TellComplete explain.IsExplanationOf
-explanation_tells text rest status h = alone text rest _ (explain.answer_of h.explained) (explained_answer text h.explained h.right) h.answer_is (λ count is. none_behind text h.explained count h.right is)
+explanation_tells text rest status h = alone text rest _ (answer_of (λ x. x.verdict) h.answered) (explained_answer text h.answered h.right) h.answer_is (λ count is. none_behind text h.answered count h.right is)
 
 -- ---- margin
 
-measured_answer : (text : List ℕ) (m : Measured) → margin.IsMeasured text m → IsAnswer text (margin.answer_of m)
-measured_answer text (measured.Judged m) h = (h.0, h.1, h.2.verdict)
-measured_answer text (measured.RefusedAt n fault) h = h
+measured_answer : (text : List ℕ) (m : Answered Margin) → IsAnswered margin.IsMarginOfLines text m → IsAnswer text (answer_of (λ x. x.verdict) m)
+measured_answer = is_answer margin.IsMarginOfLines (λ x. x.verdict) (λ lines m h. h.verdict)
 
 pub margin_begins : (text answer : List ℕ) (status : Status) → margin.IsMarginOf text answer status → BeginsAsCheck text answer status
-margin_begins text answer status h = record {
-  line = answer_line (margin.answer_of h.measured);
-  more = margin.margin_lines h.measured;
-  right = record { answer = margin.answer_of h.measured; right = measured_answer text h.measured h.right; line_is = refl; status_is = h.status_is };
-  answer_is = h.answer_is;
-}
+margin_begins text answer status h = begins_as_check h (measured_answer text h.answered h.right) (margin.margin_lines h.answered) refl
 
 pub margin_tells : TellCompleteFirst margin.IsMarginOf
 margin_tells text rest status h =
-    let l = complete_line (margin.answer_of h.measured) rest (margin.margin_lines h.measured) h.answer_is in
-    let complete = complete_text text _ l.count l.answer_is (measured_answer text h.measured h.right) in
-    record { front = decimal l.count ++ codes "\n"; more = margin.margin_lines h.measured; right = record { count = l.count; complete = complete; told = refl }; are = l.told }
+    let l = complete_line (answer_of (λ x. x.verdict) h.answered) rest (margin.margin_lines h.answered) h.answer_is in
+    let complete = complete_text text _ l.count l.answer_is (measured_answer text h.answered h.right) in
+    record { front = decimal l.count ++ codes "\n"; more = margin.margin_lines h.answered; right = record { count = l.count; complete = complete; told = refl }; are = l.told }
 
 -- ---- report
 
@@ -157,35 +156,29 @@ report_begins_so lines (report.Impossible c) h =
 report_begins_so lines (report.NotWhole f) h = findings_begin f.absent.items f.unlisted.items f.unsettled f.doubtful.items (λ a u x d. h.2 (record { absent = a; unlisted = u; unsettled = x; doubtful = d }))
 report_begins_so lines (report.Complete count) h = alone_begins (verdict_line (Complete count))
 
-reported_begins : (text : List ℕ) (r : Reported) → reporting.IsReported text r → Begins (answer_line (reporting.answer_of r)) (reporting.reported_text r)
-reported_begins text (reported.Judged r) h = report_begins_so h.0.lines r h.2
-reported_begins text (reported.RefusedAt n fault) h = alone_begins _
+reported_begins : (text : List ℕ) (r : Answered LogReport) → IsAnswered IsReport text r → Begins (answer_line (answer_of verdict_of r)) (reporting.reported_text r)
+reported_begins text (Judged r) h = report_begins_so h.0.lines r h.2
+reported_begins text (RefusedAt n fault) h = alone_begins _
 
-reported_answer : (text : List ℕ) (r : Reported) → reporting.IsReported text r → IsAnswer text (reporting.answer_of r)
-reported_answer text (reported.Judged r) h = (h.0, h.1, report_begins h.0.lines r h.2)
-reported_answer text (reported.RefusedAt n fault) h = h
+reported_answer : (text : List ℕ) (r : Answered LogReport) → IsAnswered IsReport text r → IsAnswer text (answer_of verdict_of r)
+reported_answer = is_answer IsReport verdict_of report_begins
 
 pub report_begins_as_check : (text answer : List ℕ) (status : Status) → reporting.IsReportOf text answer status → BeginsAsCheck text answer status
 report_begins_as_check text answer status h =
-    let b = reported_begins text h.reported h.right in
-    record {
-      line = answer_line (reporting.answer_of h.reported);
-      more = b.more;
-      right = record { answer = reporting.answer_of h.reported; right = reported_answer text h.reported h.right; line_is = refl; status_is = h.status_is };
-      answer_is = h.answer_is ∙ b.is;
-    }
+    let b = reported_begins text h.answered h.right in
+    begins_as_check h (reported_answer text h.answered h.right) b.more b.is
 
 -- the report on a complete text is the line alone
-complete_alone : (text : List ℕ) (r : Reported) (count : ℕ) → reporting.IsReported text r → reporting.answer_of r ≡ Judged (Complete count) → reporting.reported_text r ≡ verdict_line (Complete count)
-complete_alone text (reported.Judged r) count h is =
+complete_alone : (text : List ℕ) (r : Answered LogReport) (count : ℕ) → IsAnswered IsReport text r → answer_of verdict_of r ≡ Judged (Complete count) → reporting.reported_text r ≡ verdict_line (Complete count)
+complete_alone text (Judged r) count h is =
     let verdict_is : verdict_of r ≡ Complete count = cc is in
     ap reporting.report_text (none_where_complete h.0.lines r count h.2 verdict_is)
-complete_alone text (reported.RefusedAt n fault) count h is = cc
+complete_alone text (RefusedAt n fault) count h is = cc
 
 pub report_tells : TellComplete reporting.IsReportOf
 report_tells text rest status h =
-    let b = reported_begins text h.reported h.right in
-    let right = reported_answer text h.reported h.right in
-    let l = complete_line (reporting.answer_of h.reported) rest b.more (h.answer_is ∙ b.is) in
-    let line : codes "complete " ++ rest ≡ verdict_line (Complete l.count) = h.answer_is ∙ complete_alone text h.reported l.count h.right l.answer_is in
+    let b = reported_begins text h.answered h.right in
+    let right = reported_answer text h.answered h.right in
+    let l = complete_line (answer_of verdict_of h.answered) rest b.more (h.answer_is ∙ b.is) in
+    let line : codes "complete " ++ rest ≡ verdict_line (Complete l.count) = h.answer_is ∙ complete_alone text h.answered l.count h.right l.answer_is in
     record { count = l.count; complete = complete_text text _ l.count l.answer_is right; told = cc line }

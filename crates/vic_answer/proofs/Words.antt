@@ -48,10 +48,12 @@ pub use Rattle.vic_log.specs.declared.fault.LogFault.TheVariants.{Line}
 pub use Rattle.vic_tree.specs.declared.open_masks.OpenMasks.{OpenMasks}
 pub use Rattle.vic_verdict.proofs.Versions.{complete_second, complete_third}
 pub use Rattle.vic_verdict.proofs.Verdicts.{complete_whole}
-pub use Rattle.vic_verdict.specs.Explained.{IsPopulationBehind, IsShownByNone, Shows}
+pub use Rattle.vic_verdict.specs.Explained.{IsExplanation, IsPopulationBehind, IsShownByNone, Shows}
 pub use Rattle.vic_verdict.specs.Verdict.{IsVerdict}
+pub use Rattle.vic_verdict.specs.declared.explanation.Explanation.{Explanation}
 pub use Rattle.vic_verdict.specs.declared.judging.Verdict.{Verdict}
 pub use Rattle.vic_verdict.specs.declared.judging.Verdict.TheVariants.{Absent, Complete, Doubtful, Impossible, Unlisted, Unsettled}
+pub use Rattle.vic_margin.specs.declared.answer.Margin.{Margin}
 pub use Rattle.vic_report.proofs.AllFindings.{none_where_complete, report_begins}
 pub use Rattle.vic_report.specs.Findings.{uids_of}
 pub use Rattle.vic_report.specs.Reports.{IsReport, verdict_by, verdict_of}
@@ -67,22 +69,21 @@ pub use Rattle.vic_reconcile.specs.declared.findings.Findings.{Findings}
 pub use Rattle.vic_reconcile.specs.declared.findings.UnlistedUid.{UnlistedUid}
 pub use Rattle.vic_reconcile.specs.declared.reconciliation.Reconciliation.{Reconciliation}
 pub use Rattle.vic_reconcile.specs.declared.surveys.Survey.{Survey}
-pub use Rattle.vic_answer.specs.CheckText.{BeginsAsCheck, IsAnswer, IsCheckOf, IsCompleteText, answer_line, answer_status, verdict_line}
+pub use Rattle.vic_answer.specs.Answered.{IsAnswered, IsReading, answer_of}
+pub use Rattle.vic_answer.specs.CheckText.{BeginsAsCheck, IsAnswer, IsAnswerText, IsCheckOf, IsCompleteText, answer_line, answer_status, verdict_line}
 pub use Rattle.vic_answer.specs.Digits.{hex_bytes, value_text}
 pub use Rattle.vic_answer.specs.ExplainText.{IsExplanationOf, explained_text, population_line, population_of}
-pub use Rattle.vic_answer.specs.Readings.{GivesReading, IsReading, Stands}
+pub use Rattle.vic_answer.specs.Readings.{GivesReading, Stands}
 pub use Rattle.vic_answer.specs.ReconcileRun.{GoOn, HasReadText, IsAnswerable, IsLast, IsOver, IsReadWithin, ReadsListAndLogs, ReadsTexts, Reconciles, StopsAtSource, StopsBy, WritesAnswer, logs_before, logs_for, logs_up_to}
 pub use Rattle.vic_answer.specs.ReconcileText.{absent_line, all_masks_text, doubtful_text, ending_text, masks_text, open_text, reconciled_status, reconciled_text, unlisted_text}
 pub use Rattle.vic_answer.specs.Reconciled.{AreComplete, EndsAt, HasList, HasLog, HasPossibleLog, IsKept, IsReconciled, IsReconciling, ReadsText, lines_of}
-pub use Rattle.vic_answer.specs.ReportText.{IsReportOf, absent_text, answer_of, by_line, doubtful_line, more_line, open_line, reported_text, silenced_line, unsettled_text}
+pub use Rattle.vic_answer.specs.ReportText.{IsReportOf, absent_text, by_line, doubtful_line, more_line, open_line, reported_text, silenced_line, unsettled_text}
 pub use Rattle.vic_answer.specs.Runs.{GivesNoEarlyFault, IsEnough, LeavesSource, Runs, RunsOver, RunsWhere, Writes}
 pub use Rattle.vic_answer.specs.SimulateText.{IsSimulationOf, simulated_status, simulated_text}
 pub use Rattle.vic_answer.specs.SpellText.{and_then, hex_decoded, hex_number_in, inventory_in, longest_mask, mask_in, number_ending, number_in, number_up_to, reply_in, reply_words, request_words, says_inventory, says_reply, says_stay_quiet, sixteen_in, spelled_text, stay_quiet_in, value_in, word, words_of, words_reading}
-pub use Rattle.vic_answer.specs.declared.check.Answer.{Answer}
-pub use Rattle.vic_answer.specs.declared.check.Answer.TheVariants.{Judged}
+pub use Rattle.vic_answer.specs.declared.answered.Answered.{Answered}
+pub use Rattle.vic_answer.specs.declared.answered.Answered.TheVariants.{Judged, RefusedAt}
 pub use Rattle.vic_answer.specs.declared.ending.Ending.{Ending}
-pub use Rattle.vic_answer.specs.declared.explain.Explained.{Explained}
-pub use Rattle.vic_answer.specs.declared.input.Reading.TheVariants.{Given, RefusedAt}
 pub use Rattle.vic_answer.specs.declared.reconcile.Reconciled.{Reconciled}
 pub use Rattle.vic_answer.specs.declared.reconcile.Reconciled.TheVariants.{Ended, Found}
 pub use Rattle.vic_answer.specs.declared.reconcile.Reconciling.{Reconciling}

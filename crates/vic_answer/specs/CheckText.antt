@@ -3,7 +3,8 @@ use Rattle.std.specs.Prelude.{◌≡◌, ℕ, List, ◌++◌, length, codes, dec
 use Rattle.vic_log.specs.Lines.{lines_of_text}
 use Rattle.vic_log.specs.Log.{LogValue}
 use Rattle.vic_log.specs.Order.{entries, listed}
-use Rattle.vic_log.specs.Text.{IsLogOf, IsFirstFault}
+use Rattle.vic_log.specs.Text.{IsLogOf}
+use Rattle.vic_log.specs.declared.entry.LogLine.{LogLine}
 use Rattle.vic_verdict.specs.declared.judging.Verdict.{Verdict}
 use Rattle.vic_verdict.specs.declared.judging.Verdict.TheVariants.{Impossible, Absent, Unlisted, Unsettled, Doubtful, Complete}
 use Rattle.vic_log.specs.SecondVersion.{AreOfSecondVersion}
@@ -13,8 +14,9 @@ use Rattle.vic_answer.specs.Digits.{uid_text, value_text}
 use Rattle.vic_answer.specs.Refusals.{refusal_line}
 use Rattle.vic_answer.specs.declared.status.Status.{Status}
 use Rattle.vic_answer.specs.declared.status.Status.TheVariants.{Whole, NotWhole, Refused}
-use Rattle.vic_answer.specs.declared.check.Answer.{Answer}
-use Rattle.vic_answer.specs.declared.check.Answer.TheVariants.{Judged, RefusedAt}
+use Rattle.vic_answer.specs.Answered.{IsAnswered, answer_of}
+use Rattle.vic_answer.specs.declared.answered.Answered.{Answered}
+use Rattle.vic_answer.specs.declared.answered.Answered.TheVariants.{Judged, RefusedAt}
 
 -- the line of a verdict
 abbrev pub verdict_line : Verdict → List ℕ
@@ -36,25 +38,32 @@ verdict_status (Unsettled m) = NotWhole
 verdict_status (Doubtful u) = NotWhole
 
 -- the answer to a text: the verdict on its log, or its first fault
-abbrev pub IsAnswer : List ℕ → Answer → Type 0
-IsAnswer text (Judged v) =
-    (log : LogValue) × IsLogOf (lines_of_text text) log × IsVerdict log.lines v
-IsAnswer text (RefusedAt n fault) = IsFirstFault (lines_of_text text) n fault
+abbrev pub IsAnswer : List ℕ → Answered Verdict → Type 0
+IsAnswer = IsAnswered IsVerdict
 
-abbrev pub answer_line : Answer → List ℕ
+abbrev pub answer_line : Answered Verdict → List ℕ
 answer_line (Judged v) = verdict_line v
 answer_line (RefusedAt n fault) = refusal_line n fault
 
-abbrev pub answer_status : Answer → Status
+abbrev pub answer_status : Answered Verdict → Status
 answer_status (Judged v) = verdict_status v
 answer_status (RefusedAt n fault) = Refused
 
 -- the line and the status of the answer to a text
 pub record IsCheckOf (text line : List ℕ) (status : Status) : Type 0 where
-  pub answer : Answer
+  pub answer : Answered Verdict
   pub right : IsAnswer text answer
   pub line_is : line ≡ answer_line answer
   pub status_is : status ≡ answer_status answer
+
+-- the text and the status of the answer to a text, where P relates what was found to the lines of
+-- its log: the status is that of `check`
+pub record IsAnswerText {A : Type 0} (P : List LogLine → A → Type 0) (verdict_of : A → Verdict)
+    (text_of : Answered A → List ℕ) (text answer : List ℕ) (status : Status) : Type 0 where
+  pub answered : Answered A
+  pub right : IsAnswered P text answered
+  pub answer_is : answer ≡ text_of answered
+  pub status_is : status ≡ answer_status (answer_of verdict_of answered)
 
 -- an answer that begins with the line of `check` for the text, and has its status
 pub record BeginsAsCheck (text answer : List ℕ) (status : Status) : Type 0 where

@@ -1,19 +1,20 @@
 -- The findings of a log, in numbers: the lines of `report`, one finding after another.
 use Rattle.std.specs.Prelude.{◌≡◌, ℕ, Bool, Option, Some, None, List, [], ◌∷◌, ◌++◌, map, length, if◌then◌else◌}
 use Rattle.vic_frame.specs.Masks.{BitMask}
+use Rattle.vic_report.specs.Reports.{IsReport, verdict_of}
 use Rattle.vic_report.specs.declared.conflict.Conflict.{Conflict}
 use Rattle.vic_report.specs.declared.findings.Findings.{Findings}
 use Rattle.vic_report.specs.declared.findings.Unsettled.{Unsettled}
 use Rattle.vic_report.specs.declared.reporting.LogReport.{LogReport}
 use Rattle.vic_report.specs.declared.reporting.LogReport.TheVariants as report
 use Rattle.vic_report.specs.declared.shown.ShownUid.{ShownUid}
+use Rattle.vic_answer.specs.Answered.{IsAnswered, answer_of}
+use Rattle.vic_answer.specs.declared.answered.Answered.{Answered}
+use Rattle.vic_answer.specs.declared.answered.Answered.TheVariants.{Judged, RefusedAt}
 use Rattle.vic_answer.specs.declared.finding_numbers.VicinityFinding.{VicinityFinding}
 use Rattle.vic_answer.specs.declared.numbers.VicinityAnswer.{VicinityAnswer}
-use Rattle.vic_answer.specs.declared.report.Reported.{Reported}
-use Rattle.vic_answer.specs.declared.report.Reported.TheVariants.{Judged, RefusedAt}
 use Rattle.vic_answer.specs.ExplainedNumbers.{IsPutInto}
 use Rattle.vic_answer.specs.Numbers.{numbers_of}
-use Rattle.vic_answer.specs.ReportText.{IsReported, answer_of}
 
 -- a finding of a kind, without what goes with some kinds
 abbrev pub finding : ℕ → VicinityFinding
@@ -82,7 +83,7 @@ report_findings (report.NotWhole f) = possible_findings f
 report_findings (report.Complete count) = []
 
 -- the findings of the answer to a text, none if it is refused
-abbrev pub reported_findings : Reported → List VicinityFinding
+abbrev pub reported_findings : Answered LogReport → List VicinityFinding
 reported_findings (Judged r) = report_findings r
 reported_findings (RefusedAt n fault) = []
 
@@ -90,8 +91,8 @@ reported_findings (RefusedAt n fault) = []
 -- what becomes of the buffer for them
 pub record AreReportedNumbersFor (text : List ℕ) (numbers : VicinityAnswer) (count : ℕ)
     (room room' : List VicinityFinding) : Type 0 where
-  pub reported : Reported
-  pub right : IsReported text reported
-  pub numbers_are : numbers ≡ numbers_of (answer_of reported)
+  pub reported : Answered LogReport
+  pub right : IsAnswered IsReport text reported
+  pub numbers_are : numbers ≡ numbers_of (answer_of verdict_of reported)
   pub counted : count ≡ length (reported_findings reported)
   pub put : IsPutInto (reported_findings reported) room room'

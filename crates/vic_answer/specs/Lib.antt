@@ -3,6 +3,7 @@ pub mod Digits
 pub mod FrameText
 pub mod SpellText
 pub mod Refusals
+pub mod Answered
 pub mod CheckText
 pub mod SimulateText
 pub mod Runs

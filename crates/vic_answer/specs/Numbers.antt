@@ -1,8 +1,9 @@
 -- An answer in numbers, with its line.
 use Rattle.std.specs.Prelude.{◌≡◌, ℕ, ◌-◌, List, ◌++◌, length, replicate}
+use Rattle.vic_verdict.specs.declared.judging.Verdict.{Verdict}
 use Rattle.vic_verdict.specs.declared.judging.Verdict.TheVariants.{Impossible, Absent, Unlisted, Unsettled, Doubtful, Complete}
-use Rattle.vic_answer.specs.declared.check.Answer.{Answer}
-use Rattle.vic_answer.specs.declared.check.Answer.TheVariants.{Judged, RefusedAt}
+use Rattle.vic_answer.specs.declared.answered.Answered.{Answered}
+use Rattle.vic_answer.specs.declared.answered.Answered.TheVariants.{Judged, RefusedAt}
 use Rattle.vic_answer.specs.declared.lines.TheConstants.{LINE_ROOM}
 use Rattle.vic_answer.specs.declared.numbers.VicinityAnswer.{VicinityAnswer}
 use Rattle.vic_answer.specs.CheckText.{IsAnswer, answer_line, answer_status}
@@ -24,7 +25,7 @@ no_answer = record {
 }
 
 -- the kind of an answer, and what belongs to it
-abbrev pub kind_of : Answer → VicinityAnswer
+abbrev pub kind_of : Answered Verdict → VicinityAnswer
 kind_of (Judged (Complete n)) = record no_answer { kind = 1; count = n }
 kind_of (Judged (Absent u)) = record no_answer { kind = 2; uid = u }
 kind_of (Judged (Unlisted u)) = record no_answer { kind = 3; uid = u }
@@ -39,7 +40,7 @@ abbrev pub padded : List ℕ → List ℕ
 padded text = text ++ replicate (LINE_ROOM - length text) 0
 
 -- with the exit status and the line of the program
-abbrev pub numbers_of : Answer → VicinityAnswer
+abbrev pub numbers_of : Answered Verdict → VicinityAnswer
 numbers_of a = record (kind_of a) {
   status = status_code (answer_status a);
   text = padded (answer_line a);
@@ -47,6 +48,6 @@ numbers_of a = record (kind_of a) {
 
 -- these are the numbers of the answer to a text
 pub record AreNumbersFor (text : List ℕ) (numbers : VicinityAnswer) : Type 0 where
-  pub answer : Answer
+  pub answer : Answered Verdict
   pub right : IsAnswer text answer
   pub numbers_are : numbers ≡ numbers_of answer

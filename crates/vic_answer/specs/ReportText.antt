@@ -1,11 +1,8 @@
 -- What `report` answers to a text: every finding of its log, with its lines, or the line of a
 -- refusal.
-use Rattle.std.specs.Prelude.{◌≡◌, ℕ, Bool, Option, Some, None, List, [], ◌++◌, codes, decimal, if◌then◌else◌}
+use Rattle.std.specs.Prelude.{ℕ, Bool, Option, Some, None, List, [], ◌++◌, codes, decimal, if◌then◌else◌}
 use Rattle.std.specs.List.{flat_map}
 use Rattle.vic_frame.specs.Masks.{BitMask}
-use Rattle.vic_log.specs.Lines.{lines_of_text}
-use Rattle.vic_log.specs.Log.{LogValue}
-use Rattle.vic_log.specs.Text.{IsLogOf, IsFirstFault}
 use Rattle.vic_report.specs.declared.conflict.Conflict.{Conflict}
 use Rattle.vic_report.specs.declared.findings.Findings.{Findings}
 use Rattle.vic_report.specs.declared.findings.Unsettled.{Unsettled as LeftToAsk}
@@ -14,25 +11,12 @@ use Rattle.vic_report.specs.declared.reporting.LogReport.TheVariants as report
 use Rattle.vic_report.specs.declared.shown.ShownUid.{ShownUid}
 use Rattle.vic_verdict.specs.declared.judging.Verdict.TheVariants.{Impossible, Absent, Unlisted, Unsettled, Doubtful, Complete}
 use Rattle.vic_report.specs.Reports.{IsReport, verdict_of}
-use Rattle.vic_answer.specs.CheckText.{answer_status, verdict_line}
+use Rattle.vic_answer.specs.CheckText.{IsAnswerText, verdict_line}
 use Rattle.vic_answer.specs.Digits.{value_text}
 use Rattle.vic_answer.specs.Refusals.{refusal_line}
-use Rattle.vic_answer.specs.declared.check.Answer.{Answer}
-use Rattle.vic_answer.specs.declared.check.Answer.TheVariants as answer
-use Rattle.vic_answer.specs.declared.report.Reported.{Reported}
-use Rattle.vic_answer.specs.declared.report.Reported.TheVariants.{Judged, RefusedAt}
+use Rattle.vic_answer.specs.declared.answered.Answered.{Answered}
+use Rattle.vic_answer.specs.declared.answered.Answered.TheVariants.{Judged, RefusedAt}
 use Rattle.vic_answer.specs.declared.status.Status.{Status}
-
--- the answer to a text: the report on its log, or its first fault
-abbrev pub IsReported : List ℕ → Reported → Type 0
-IsReported text (Judged r) =
-    (log : LogValue) × IsLogOf (lines_of_text text) log × IsReport log.lines r
-IsReported text (RefusedAt n fault) = IsFirstFault (lines_of_text text) n fault
-
--- the answer of `check` to the same text
-abbrev pub answer_of : Reported → Answer
-answer_of (Judged r) = answer.Judged (verdict_of r)
-answer_of (RefusedAt n fault) = answer.RefusedAt n fault
 
 -- ---- the lines
 
@@ -90,13 +74,10 @@ report_text (report.Impossible c) = conflict_text c
 report_text (report.NotWhole f) = findings_text f
 report_text (report.Complete count) = verdict_line (Complete count)
 
-abbrev pub reported_text : Reported → List ℕ
+abbrev pub reported_text : Answered LogReport → List ℕ
 reported_text (Judged r) = report_text r
 reported_text (RefusedAt n fault) = refusal_line n fault
 
--- the text and the status of the answer to a text: the status is that of `check`
-pub record IsReportOf (text answer : List ℕ) (status : Status) : Type 0 where
-  pub reported : Reported
-  pub right : IsReported text reported
-  pub answer_is : answer ≡ reported_text reported
-  pub status_is : status ≡ answer_status (answer_of reported)
+-- the text and the status of the answer to a text
+abbrev pub IsReportOf : List ℕ → List ℕ → Status → Type 0
+IsReportOf = IsAnswerText IsReport verdict_of reported_text

@@ -8,14 +8,11 @@ use Rattle.vic_log.specs.Text.{IsLogOf, IsFirstFault}
 use Rattle.vic_verdict.specs.Verdict.{IsVerdict}
 use Rattle.vic_verdict.specs.declared.judging.Verdict.{Verdict}
 use Rattle.vic_verdict.specs.declared.judging.Verdict.TheVariants as verdict
-use Rattle.vic_reconcile.specs.Surveys.{IsSurvey}
 use Rattle.vic_reconcile.specs.declared.surveys.PlainFindings.{PlainFindings}
-use Rattle.vic_answer.specs.declared.check.Answer.{Answer}
-use Rattle.vic_answer.specs.declared.check.Answer.TheVariants as answer
+use Rattle.vic_answer.specs.declared.answered.Answered.{Answered}
+use Rattle.vic_answer.specs.declared.answered.Answered.TheVariants.{Judged, RefusedAt}
 use Rattle.vic_answer.specs.declared.finding_numbers.VicinityFinding.{VicinityFinding}
 use Rattle.vic_answer.specs.declared.numbers.VicinityAnswer.{VicinityAnswer}
-use Rattle.vic_answer.specs.declared.survey.Surveyed.{Surveyed}
-use Rattle.vic_answer.specs.declared.survey.Surveyed.TheVariants.{Judged, RefusedAt}
 use Rattle.vic_answer.specs.ExplainedNumbers.{IsPutInto}
 use Rattle.vic_answer.specs.FindingNumbers.{absent_finding, unlisted_finding, unsettled_finding, doubtful_finding}
 use Rattle.vic_answer.specs.Numbers.{no_answer, numbers_of, padded}
@@ -23,30 +20,14 @@ use Rattle.vic_answer.specs.Refusals.{refused_at}
 
 -- ---- of one log
 
--- the answer to a text: the survey of its log, or its first fault
-abbrev pub IsSurveyed : List ℕ → Surveyed → Type 0
-IsSurveyed text (Judged s) =
-    (log : LogValue) × IsLogOf (lines_of_text text) log × IsSurvey log.lines s
-IsSurveyed text (RefusedAt n fault) = IsFirstFault (lines_of_text text) n fault
-
--- the answer of `check` to the same text
-abbrev pub answer_of : Surveyed → Answer
-answer_of (Judged s) = answer.Judged s.verdict
-answer_of (RefusedAt n fault) = answer.RefusedAt n fault
-
--- its certain UIDs, none if the text is refused
-abbrev pub certain_of : Surveyed → List ℕ
-certain_of (Judged s) = s.certain.items
-certain_of (RefusedAt n fault) = []
-
 -- the answer to a text, where P holds of the lines of its log and the items; of a refused text
 -- there are none
 abbrev pub IsAnswerWith : {T : Type 0} → (List LogLine → List T → Type 0) → List ℕ
-    → Answer → List T → Type 0
-IsAnswerWith P text (answer.Judged v) xs =
+    → Answered Verdict → List T → Type 0
+IsAnswerWith P text (Judged v) xs =
     (log : LogValue) × IsLogOf (lines_of_text text) log × IsVerdict log.lines v
     × P log.lines xs
-IsAnswerWith P text (answer.RefusedAt n fault) xs =
+IsAnswerWith P text (RefusedAt n fault) xs =
     IsFirstFault (lines_of_text text) n fault × (xs ≡ [])
 
 -- these are the numbers of the answer to a text, there are `count` items, which P has of its log,
@@ -54,7 +35,7 @@ IsAnswerWith P text (answer.RefusedAt n fault) xs =
 pub record AreNumbersWith {T R : Type 0} (P : List LogLine → List T → Type 0)
     (number_of : T → R) (text : List ℕ) (numbers : VicinityAnswer) (count : ℕ)
     (room room' : List R) : Type 0 where
-  pub answer : Answer
+  pub answer : Answered Verdict
   pub items : List T
   pub right : IsAnswerWith P text answer items
   pub numbers_are : numbers ≡ numbers_of answer
@@ -71,9 +52,9 @@ first_of [] [] (Some m) doubtful count = verdict.Unsettled m
 first_of [] [] None (u ∷ doubtful) count = verdict.Doubtful u
 first_of [] [] None [] count = verdict.Complete count
 
-abbrev pub plain_answer : PlainFindings → ℕ → Answer
+abbrev pub plain_answer : PlainFindings → ℕ → Answered Verdict
 plain_answer f count =
-    answer.Judged (first_of f.absent.items f.unlisted.items f.unsettled f.doubtful.items count)
+    Judged (first_of f.absent.items f.unlisted.items f.unsettled f.doubtful.items count)
 
 -- the unsettled mask, if there is one
 abbrev pub unsettled_findings : Option BitMask → List VicinityFinding

@@ -1,44 +1,49 @@
 //! The command `check`.
 
-ghost use Rattle.std.specs.Prelude.{◌≡◌, ◌<◌, ℕ, List, IfOk};
+ghost use Rattle.std.specs.Prelude.{◌≡◌, ◌<◌, ℕ, IfOk};
 ghost use Rattle.arrayvec.specs.ArrayVec.{array_vec_len};
+ghost use Rattle.vic_verdict.specs.Verdict.{IsVerdict};
 ghost use Rattle.vic_verdict.specs.declared.judging.Verdict.TheVariants.{Complete};
 ghost use Rattle.vic_answer.specs.CheckText.{IsAnswer, IsCheckOf, IsCompleteText, answer_line, answer_status, verdict_status};
 ghost use Rattle.vic_answer.specs.CompleteRun.{IsCompleteWhereSaid, IsCompleteWhereWritten};
-ghost use Rattle.vic_answer.specs.Readings.{IsReading};
 ghost use Rattle.vic_answer.specs.Runs.{Runs, RunsOver, LeavesSource, LeavesSink, Writes};
+ghost use Rattle.vic_answer.specs.declared.answered.Answered.TheVariants.{Judged};
 
-use crate::input::{Reading, read_source};
+use crate::answered::{Answer, Judgement, answer_reading, answer_text};
+use crate::input::read_source;
 use crate::lines::{LINE_ROOM, refusal_line, verdict_line};
 use crate::output::write_and_flush;
 use crate::status::{RunFault, Status};
 use crate::text::Text;
 use std::alloc::{AllocError, Global};
-use vic_log::{LineFault, LogFault, Sink, Source, read_log};
+use vic_log::{Log, Sink, Source};
 use vic_verdict::{Verdict, judge};
-
-/// The answer to a text.
-#[derive(Clone, Copy, Debug, PartialEq, Eq)]
-pub enum Answer {
-    /// It has a log, and this is the verdict on it.
-    Judged(Verdict),
-    /// A line of it has a fault, and this is the first.
-    RefusedAt { line: u32, fault: LineFault },
-}
 
 /// The answer to a complete text. It fails only if memory is refused.
 pub fn judge_text(alloc: Global, text: &[u8]) -> Result<Answer, AllocError>
     ensures answer { IfOk result (IsAnswer text.now) }
     // if it is `complete`, the list of the log is complete and has `count` UIDs
-    ensures whole { IfOk result (λ a. (count : ℕ) → a ≡ Answer.Judged (Complete count)
+    ensures whole { IfOk result (λ a. (count : ℕ) → a ≡ Judged (Complete count)
         → IsCompleteText text.now count) }
 {
-    match read_log(alloc, text) {
-        Ok(log) => Ok(Answer::Judged(judge(alloc, &log)?)),
-        Err(LogFault::Line { line, fault }) => Ok(Answer::RefusedAt { line, fault }),
-        Err(LogFault::Memory) => Err(AllocError),
-        Err(LogFault::Read) | Err(LogFault::Spent) => unreachable!(),
+    answer_text(alloc, text)
+}
+
+/// What `check` finds.
+impl Judgement for Verdict {
+    ghost IsOf = { IsVerdict };
+
+    ghost verdict_of = { λ v. v };
+
+    fn of_log(alloc: Global, log: &Log) -> Result<Verdict, AllocError> {
+        judge(alloc, log)
     }
+
+    fn verdict(&self) -> Verdict {
+        *self
+    }
+
+    ghost tells = { λ lines v h. h };
 }
 
 /// Judges the log that is read from a source, writes the one line of the answer and flushes it. The
@@ -66,19 +71,8 @@ pub fn run_check<R: Source, W: Sink>(
     ensures leaves_sink { LeavesSink W.is_flushed W.has_failed sink.old sink.new result }
 {
     let reading = read_source(alloc, source)?;
-    let answer = judge_reading(alloc, reading)?;
+    let answer = answer_reading(alloc, reading)?;
     write_answer(&answer, sink)
-}
-
-/// The answer to what was read.
-fn judge_reading(alloc: Global, reading: Reading) -> Result<Answer, AllocError>
-    ensures { IfOk result (λ a. (text : List ℕ)
-        → IsReading text reading → IsAnswer text a) }
-{
-    match reading {
-        Reading::Given(log) => Ok(Answer::Judged(judge(alloc, &log)?)),
-        Reading::RefusedAt { line, fault } => Ok(Answer::RefusedAt { line, fault }),
-    }
 }
 
 /// Writes the line of an answer.

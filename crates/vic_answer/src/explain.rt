@@ -1,70 +1,63 @@
 //! The command `explain`.
 
-ghost use Rattle.std.specs.Prelude.{◌≡◌, ◌<◌, ℕ, List, ◌++◌, IfOk};
+ghost use Rattle.std.specs.Prelude.{◌≡◌, ◌<◌, ℕ, ◌++◌, IfOk};
 ghost use Rattle.arrayvec.specs.ArrayVec.{array_vec_len};
 ghost use Rattle.vic_log.specs.Writing.{listed_text};
+ghost use Rattle.vic_verdict.specs.Explained.{IsExplanation};
 ghost use Rattle.vic_verdict.specs.declared.judging.Verdict.TheVariants.{Complete};
+ghost use Rattle.vic_answer.specs.Answered as spec;
 ghost use Rattle.vic_answer.specs.CheckText.{IsAnswer, IsCompleteText, answer_status};
-ghost use Rattle.vic_answer.specs.ExplainText.{IsExplained, IsExplanationOf, answer_of, explained_text, population_line, uids_of};
+ghost use Rattle.vic_answer.specs.ExplainText.{IsExplanationOf, explained_text, population_line, uids_of};
 ghost use Rattle.vic_answer.specs.CompleteRun.{IsCompleteWhereSaid, IsCompleteWhereWritten};
-ghost use Rattle.vic_answer.specs.Readings.{IsReading};
 ghost use Rattle.vic_answer.specs.Runs.{Runs, RunsOver, LeavesSource, LeavesSink, Writes};
 
-use crate::check::{Answer, answer_line, answer_status};
-use crate::input::{Reading, read_source};
+use crate::answered::{Answered, Judgement, answer_of, answer_reading, answer_text};
+use crate::check::{answer_line, answer_status};
+use crate::input::read_source;
 use crate::lines::LINE_ROOM;
 use crate::status::{RunFault, Status};
 use crate::text::{Text, put};
 use itoa::Buffer;
 use std::alloc::{AllocError, Global};
 use vic_frame::Uid;
-use vic_log::{LineFault, LogFault, Sink, Source, read_log, write_listed};
-use vic_verdict::{Explanation, explain};
-
-/// The answer to a text, with a population that shows it, if one can.
-#[derive(Drop)]
-pub enum Explained {
-    /// It has a log, and this is the verdict on it with a population that shows it.
-    Judged(Explanation),
-    /// A line of it has a fault, and this is the first.
-    RefusedAt { line: u32, fault: LineFault },
-}
+use vic_log::{Log, Sink, Source, write_listed};
+use vic_verdict::{Explanation, Verdict, explain};
 
 /// The answer to a complete text, with a population that shows it, if one can. It fails only if
 /// memory is refused.
-pub fn explain_text(alloc: Global, text: &[u8]) -> Result<Explained, AllocError>
-    ensures explained { IfOk result (IsExplained text.now) }
-    ensures answer { IfOk result (λ e. IsAnswer text.now (answer_of e)) }
+pub fn explain_text(alloc: Global, text: &[u8]) -> Result<Answered<Explanation>, AllocError>
+    ensures explained { IfOk result (spec.IsAnswered IsExplanation text.now) }
+    ensures answer { IfOk result (λ e. IsAnswer text.now (spec.answer_of (λ x. x.verdict) e)) }
     // if it is `complete`, the list of the log is complete and has `count` UIDs
     ensures whole { IfOk result (λ e. (count : ℕ)
-        → answer_of e ≡ Answer.Judged (Complete count) → IsCompleteText text.now count) }
+        → spec.answer_of (λ x. x.verdict) e ≡ Answered.Judged (Complete count)
+        → IsCompleteText text.now count) }
 {
-    match read_log(alloc, text) {
-        Ok(log) => Ok(Explained::Judged(explain(alloc, &log)?)),
-        Err(LogFault::Line { line, fault }) => Ok(Explained::RefusedAt { line, fault }),
-        Err(LogFault::Memory) => Err(AllocError),
-        Err(LogFault::Read) | Err(LogFault::Spent) => unreachable!(),
-    }
+    answer_text(alloc, text)
 }
 
-/// The answer of `check` to the same text.
-pub fn answer_of(explained: &Explained) -> Answer
-    ensures { result ≡ answer_of explained.now }
-{
-    match explained {
-        Explained::Judged(explanation) => Answer::Judged(explanation.verdict),
-        Explained::RefusedAt { line, fault } => Answer::RefusedAt {
-            line: *line,
-            fault: *fault,
-        },
+/// What `explain` finds.
+impl Judgement for Explanation {
+    ghost IsOf = { IsExplanation };
+
+    ghost verdict_of = { λ e. e.verdict };
+
+    fn of_log(alloc: Global, log: &Log) -> Result<Explanation, AllocError> {
+        explain(alloc, log)
     }
+
+    fn verdict(&self) -> Verdict {
+        self.verdict
+    }
+
+    ghost tells = { λ lines e h. h.verdict };
 }
 
 /// The UIDs of an answer's population, none if it has no population.
-pub(crate) fn uids_of(explained: &Explained) -> &[Uid]
+pub(crate) fn uids_of(explained: &Answered<Explanation>) -> &[Uid]
     ensures { result.now ≡ uids_of explained.now }
 {
-    if let Explained::Judged(explanation) = explained {
+    if let Answered::Judged(explanation) = explained {
         if let Some(uids) = &explanation.population {
             return uids.as_slice();
         }
@@ -99,24 +92,17 @@ pub fn run_explain<R: Source, W: Sink>(
     ensures leaves_sink { LeavesSink W.is_flushed W.has_failed sink.old sink.new result }
 {
     let reading = read_source(alloc, source)?;
-    let explained = explain_reading(alloc, reading)?;
+    let explained = answer_reading(alloc, reading)?;
     write_explained(&explained, sink)
 }
 
-/// The answer to what was read.
-fn explain_reading(alloc: Global, reading: Reading) -> Result<Explained, AllocError>
-    ensures { IfOk result (λ e. (text : List ℕ)
-        → IsReading text reading → IsExplained text e) }
-{
-    match reading {
-        Reading::Given(log) => Ok(Explained::Judged(explain(alloc, &log)?)),
-        Reading::RefusedAt { line, fault } => Ok(Explained::RefusedAt { line, fault }),
-    }
-}
-
 /// Writes the text of an answer.
-fn write_explained<W: Sink>(explained: &Explained, sink: &mut W) -> Result<Status, RunFault>
-    ensures status { IfOk result (λ s. s ≡ answer_status (answer_of explained.now)) }
+fn write_explained<W: Sink>(
+    explained: &Answered<Explanation>,
+    sink: &mut W,
+) -> Result<Status, RunFault>
+    ensures status { IfOk result (λ s.
+        s ≡ answer_status (spec.answer_of (λ x. x.verdict) explained.now)) }
     ensures written { Writes W.written W.taken W.is_flushed W.has_failed
         sink.old sink.new (explained_text explained.now) result }
 {
@@ -127,11 +113,11 @@ fn write_explained<W: Sink>(explained: &Explained, sink: &mut W) -> Result<Statu
 }
 
 /// What comes before the UIDs.
-fn opening(explained: &Explained) -> Text
+fn opening(explained: &Answered<Explanation>) -> Text
     ensures { result.items ++ listed_text (uids_of explained.now) ≡ explained_text explained.now }
 {
     let mut text = answer_line(&answer_of(explained));
-    if let Explained::Judged(explanation) = explained {
+    if let Answered::Judged(explanation) = explained {
         if let Some(uids) = &explanation.population {
             put_size(&mut text, uids.len());
         }

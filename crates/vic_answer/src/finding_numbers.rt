@@ -4,7 +4,7 @@ ghost use Rattle.std.specs.Prelude.{◌≡◌, ◌≤◌, ◌++◌, IfOk, OnOk, 
 ghost use Rattle.vic_answer.specs.ExplainedNumbers.{IsPutInto};
 ghost use Rattle.vic_answer.specs.FindingNumbers as spec;
 
-use crate::report::Reported;
+use crate::answered::Answered;
 use std::alloc::{AllocError, Global};
 use vic_frame::{Mask, Uid};
 use vic_report::{Conflict, Findings, LogReport, ShownUid, Unsettled};
@@ -59,11 +59,14 @@ const NO_FINDING: VicinityFinding = VicinityFinding {
 
 /// The findings of the answer to a text, in the order of the lines of `report`: none if the answer
 /// is complete or a refusal.
-pub fn findings_of(alloc: Global, reported: &Reported) -> Result<Vec<VicinityFinding>, AllocError>
+pub fn findings_of(
+    alloc: Global,
+    reported: &Answered<LogReport>,
+) -> Result<Vec<VicinityFinding>, AllocError>
     ensures { IfOk result (λ list. list.items ≡ spec.reported_findings reported.now) }
 {
     let mut list = Vec::new(alloc);
-    if let Reported::Judged(report) = reported {
+    if let Answered::Judged(report) = reported {
         match report {
             LogReport::Impossible(conflict) => push_conflict(&mut list, conflict)?,
             LogReport::NotWhole(findings) => push_findings(&mut list, findings)?,

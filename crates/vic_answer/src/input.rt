@@ -3,18 +3,10 @@
 ghost use Rattle.std.specs.Prelude.{◌≡◌, ◌≢◌, ◌↔◌, ◌≤◌, ◌+◌, true, false, IfErr, OnOk};
 ghost use Rattle.vic_answer.specs.Readings.{Gives, GivesOver};
 
+use crate::answered::Reading;
 use crate::status::RunFault;
 use std::alloc::Global;
-use vic_log::{LineFault, Log, LogFault, LogReader, MAX_READS, Source};
-
-/// What the bytes of a source say.
-#[derive(Drop)]
-pub(crate) enum Reading {
-    /// All its bytes were read, and this is their log.
-    Given(Log),
-    /// A line has a fault, and this is the first fault.
-    RefusedAt { line: u32, fault: LineFault },
-}
+use vic_log::{LogFault, LogReader, MAX_READS, Source};
 
 /// Reads the log from a source, to its end or to the first fault of a line. `Read` if the source
 /// has failed; one that had failed before isn't read. `Memory` if memory was refused.
@@ -30,7 +22,7 @@ pub(crate) fn read_source<R: Source>(alloc: Global, source: &mut R) -> Result<Re
     ensures reads { R.reads source.new ≤ R.reads source.old + MAX_READS }
 {
     match LogReader::new(alloc).read_all(source) {
-        Ok(log) => Ok(Reading::Given(log)),
+        Ok(log) => Ok(Reading::Judged(log)),
         Err(LogFault::Line { line, fault }) => Ok(Reading::RefusedAt { line, fault }),
         Err(LogFault::Read) => Err(RunFault::Read),
         Err(LogFault::Memory) => Err(RunFault::Memory),

@@ -2,6 +2,7 @@
 //! runs that read the one and write the other.
 #![tactic(auto)]
 
+mod answered;
 mod check;
 mod ending;
 mod explain;
@@ -31,15 +32,16 @@ mod survey_numbers;
 mod task;
 mod text;
 
-pub use check::{Answer, answer_line, answer_status, judge_text, run_check};
+pub use answered::{Answer, Answered, Judgement, Reading, answer_of, read_text};
+pub use check::{answer_line, answer_status, judge_text, run_check};
 pub use ending::Ending;
-pub use explain::{Explained, answer_of, explain_text, run_explain};
+pub use explain::{explain_text, run_explain};
 pub use fault_numbers::{fault_number, frame_fault_number};
 pub use finding_numbers::{FindingKind, VicinityFinding, findings_of, put_findings};
 pub use frame::run_frame;
 pub use lines::LINE_ROOM;
 pub use listing::{LISTED, Listing, NOT_LISTED, list_text, listed_in, listing_numbers};
-pub use margin::{Measured, margin_text, measured_answer, run_margin};
+pub use margin::{margin_text, run_margin};
 pub use numbers::{Kind, NO_ANSWER, VicinityAnswer, numbers_of};
 pub use overlooked::{Overlooked, overlooked_answer, overlooked_text};
 pub use population::{put_population, put_uids};
@@ -47,10 +49,10 @@ pub use reconcile::{
     Reconciled, Reconciling, read_expected, read_next, reconciled_answer, write_reconciled,
 };
 pub use reconcile_run::run_reconcile;
-pub use report::{Reported, report_text, reported_answer, run_report};
+pub use report::{report_text, run_report};
 pub use simulate::{Simulation, run_simulate, simulate_text};
 pub use spell::{SpellFault, run_spell};
 pub use status::{RunFault, Status, fault_text};
-pub use survey::{Surveyed, certain_of, open_masks_of, survey_text, surveyed_answer};
+pub use survey::{certain_of, open_masks_of, survey_text};
 pub use survey_numbers::{plain_answer, plain_findings, refusal_numbers};
 pub use task::{Task, do_task};

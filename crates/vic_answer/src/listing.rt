@@ -5,6 +5,7 @@ ghost use Rattle.arrayvec.specs.ArrayVec.{array_vec_len};
 ghost use Rattle.vic_answer.specs.Listing as spec;
 ghost use Rattle.vic_answer.specs.Reconciled.{HasLog};
 
+use crate::answered::{Answered, read_text};
 use crate::fault_numbers::fault_number;
 use crate::lines::LINE_ROOM;
 use crate::numbers::{NO_ANSWER, VicinityAnswer, padded};
@@ -13,7 +14,7 @@ use crate::text::{Text, put, put_decimal};
 use arrayvec::ArrayVec;
 use std::alloc::{AllocError, Global};
 use vic_frame::Uid;
-use vic_log::{LineFault, Log, LogFault, read_log};
+use vic_log::{LineFault, Log};
 use vic_reconcile::Reconciliation;
 
 /// The kind of the numbers of a list. No finding has it either.
@@ -39,11 +40,9 @@ pub enum Listing {
 pub fn list_text(alloc: Global, text: &[u8]) -> Result<Listing, AllocError>
     ensures { IfOk result (spec.IsListing text.now) }
 {
-    match read_log(alloc, text) {
-        Ok(log) => list_log(alloc, &log),
-        Err(LogFault::Line { line, fault }) => Ok(Listing::RefusedAt { line, fault }),
-        Err(LogFault::Memory) => Err(AllocError),
-        Err(LogFault::Read) | Err(LogFault::Spent) => unreachable!(),
+    match read_text(alloc, text)? {
+        Answered::Judged(log) => list_log(alloc, &log),
+        Answered::RefusedAt { line, fault } => Ok(Listing::RefusedAt { line, fault }),
     }
 }
 

@@ -4,8 +4,10 @@ ghost use Rattle.std.specs.Prelude.{◌≡◌, ◌≢◌, ◌<◌, length};
 ghost use Rattle.vic_verdict.specs.declared.judging.Verdict.TheVariants.{Complete};
 ghost use Rattle.vic_answer.specs.CheckText.{answer_line};
 ghost use Rattle.vic_answer.specs.Numbers as spec;
+ghost use Rattle.vic_answer.specs.declared.answered.Answered.TheVariants.{Judged};
 
-use crate::check::{Answer, answer_line, answer_status};
+use crate::answered::Answer;
+use crate::check::{answer_line, answer_status};
 use crate::fault_numbers::fault_number;
 use crate::lines::LINE_ROOM;
 use vic_verdict::Verdict;
@@ -131,7 +133,7 @@ fn padded_line(answer: &Answer) -> [u8; LINE_ROOM]
 #[tactic(auto, using(crate::proofs::Numbered::kind_complete, crate::proofs::Numbered::kind_some))]
 pub fn numbers_of(answer: &Answer) -> VicinityAnswer
     ensures numbers { result ≡ spec.numbers_of answer.now }
-    ensures complete { result.kind ≡ 1 → answer.now ≡ Answer.Judged (Complete result.count) }
+    ensures complete { result.kind ≡ 1 → answer.now ≡ Judged (Complete result.count) }
     ensures some { result.kind ≢ 0 }
 {
     VicinityAnswer {

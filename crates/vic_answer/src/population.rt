@@ -4,12 +4,14 @@ ghost use Rattle.std.specs.Prelude.{◌≡◌, ◌≤◌, ◌++◌, length, drop
 ghost use Rattle.vic_answer.specs.ExplainText.{uids_of};
 ghost use Rattle.vic_answer.specs.ExplainedNumbers.{IsPutInto};
 
-use crate::explain::{Explained, uids_of};
+use crate::answered::Answered;
+use crate::explain::uids_of;
 use vic_frame::Uid;
+use vic_verdict::Explanation;
 
 /// Puts the UIDs of an answer's population at the start of a buffer, in rising order, if they fit,
 /// and returns how many there are: 0 if it has no population.
-pub fn put_population(explained: &Explained, room: &mut [u64]) -> usize
+pub fn put_population(explained: &Answered<Explanation>, room: &mut [u64]) -> usize
     ensures count { result ≡ length (uids_of explained.now) }
     ensures put { IsPutInto (uids_of explained.now) room.old room.new }
 {

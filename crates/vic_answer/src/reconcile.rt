@@ -3,7 +3,7 @@
 ghost use Rattle.std.specs.Prelude.{◌≡◌, ◌≢◌, ◌↔◌, ◌+◌, ◌++◌, ℕ, [], ◌∷◌, List, IfErr, IfOk, OnOk, length};
 ghost use Rattle.std.specs.Prelude.{codes, map, string_bytes};
 ghost use Rattle.vic_log.specs.Device.{Grows, HasWrittenPrefix};
-ghost use Rattle.vic_answer.specs.Readings.{IsReading};
+ghost use Rattle.vic_answer.specs.Answered.{IsReading};
 ghost use Rattle.vic_answer.specs.Reconciled.{AreComplete, IsKept, IsReconciled, IsReconciling, ReadsText};
 ghost use Rattle.vic_answer.specs.ReconcileRun.{logs_before};
 ghost use Rattle.vic_answer.specs.ReconcileText as spec;
@@ -11,8 +11,9 @@ ghost use Rattle.vic_answer.specs.Runs.{GivesNoEarlyFault, LeavesSink, LeavesSou
 ghost use Rattle.vic_answer.specs.declared.ending.Ending.{Ending as EndingValue};
 ghost use Rattle.vic_answer.specs.declared.status.RunFault.TheVariants.{Read, Write};
 
+use crate::answered::Reading;
 use crate::ending::Ending;
-use crate::input::{Reading, read_source};
+use crate::input::read_source;
 use crate::lines::verdict_line;
 use crate::output::write_and_flush;
 use crate::reconcile_lines::{ending_text, findings_text};
@@ -63,7 +64,7 @@ fn begin(alloc: Global, reading: Reading) -> Result<Reconciling, AllocError>
         → IsReading text reading → IsReconciling text [] r) }
 {
     match reading {
-        Reading::Given(list) => match Reconciliation::expecting(alloc, &list)? {
+        Reading::Judged(list) => match Reconciliation::expecting(alloc, &list)? {
             Ok(joined) => Ok(Reconciling::Going(joined)),
             Err(line) => Ok(Reconciling::Ended(Ending::NotListedAt { line })),
         },
@@ -107,7 +108,7 @@ fn join(joined: Reconciliation, reading: Reading) -> Result<Reconciling, AllocEr
     let mut joined = joined;
     let log = joined.log_count();
     match reading {
-        Reading::Given(next) => match joined.add(&next)? {
+        Reading::Judged(next) => match joined.add(&next)? {
             None => Ok(Reconciling::Going(joined)),
             Some(line) => Ok(Reconciling::Ended(Ending::ImpossibleAt { log, line })),
         },

@@ -2,19 +2,20 @@
 
 ghost use Rattle.std.specs.Prelude.{◌≡◌, ℕ, List, IfOk};
 ghost use Rattle.vic_answer.specs.SimulateText.{IsSimulated, IsSimulationOf, simulated_text, simulated_status};
-ghost use Rattle.vic_answer.specs.Readings.{IsReading};
+ghost use Rattle.vic_answer.specs.Answered.{IsReading};
 ghost use Rattle.vic_log.specs.Lines.{lines_of_text};
 ghost use Rattle.vic_log.specs.Text.{IsLogOf};
 ghost use Rattle.vic_answer.specs.Runs.{Runs, RunsOver, LeavesSource, LeavesSink, Writes};
 
-use crate::input::{Reading, read_source};
+use crate::answered::{Reading, read_text};
+use crate::input::read_source;
 use crate::lines::{refusal_line, refused_at};
 use crate::output::write_and_flush;
 use crate::status::{RunFault, Status};
 use crate::text::Text;
 use std::alloc::{AllocError, Global};
 use vic_field::{SimFault, simulate};
-use vic_log::{LineFault, Log, LogFault, MAX_LINES, Sink, Source, ToWrite, read_log, write_log};
+use vic_log::{LineFault, Log, MAX_LINES, Sink, Source, ToWrite, write_log};
 
 /// The number of a line that no log has: the first after its last.
 const LINE_TOO_MANY: u32 = MAX_LINES + 1;
@@ -44,12 +45,8 @@ pub struct Simulation {
 pub fn simulate_text(alloc: Global, text: &[u8]) -> Result<Simulation, AllocError>
     ensures { IfOk result (λ s. IsSimulationOf text.now s.text.items s.status) }
 {
-    let simulated = match read_log(alloc, text) {
-        Ok(log) => simulate_log(alloc, &log)?,
-        Err(LogFault::Line { line, fault }) => Simulated::RefusedAt { line, fault },
-        Err(LogFault::Memory) => return Err(AllocError),
-        Err(LogFault::Read) | Err(LogFault::Spent) => unreachable!(),
-    };
+    let reading = read_text(alloc, text)?;
+    let simulated = simulate_reading(alloc, reading)?;
     let mut sink = ToWrite::new(Vec::new(alloc));
     match write_simulated(simulated, &mut sink) {
         Ok(status) => Ok(Simulation {
@@ -90,7 +87,7 @@ fn simulate_reading(alloc: Global, reading: Reading) -> Result<Simulated, AllocE
         → IsReading text reading → IsSimulated text s) }
 {
     match reading {
-        Reading::Given(log) => simulate_log(alloc, &log),
+        Reading::Judged(log) => simulate_log(alloc, &log),
         Reading::RefusedAt { line, fault } => Ok(Simulated::RefusedAt { line, fault }),
     }
 }

@@ -2,73 +2,66 @@
 
 ghost use Rattle.std.specs.Prelude.{◌≡◌, ℕ, List, IfOk};
 ghost use Rattle.vic_verdict.specs.declared.judging.Verdict.TheVariants.{Complete};
-ghost use Rattle.vic_reconcile.specs.Surveys.{AreCertainIn, AreOpenIn};
+ghost use Rattle.vic_reconcile.specs.Surveys.{AreCertainIn, AreOpenIn, IsSurvey};
+ghost use Rattle.vic_answer.specs.Answered.{IsAnswered, answer_of};
 ghost use Rattle.vic_answer.specs.CheckText.{IsAnswer, IsCompleteText};
-ghost use Rattle.vic_answer.specs.SurveyNumbers as spec;
+ghost use Rattle.vic_answer.specs.SurveyNumbers.{IsAnswerWith};
 
-use crate::check::Answer;
+use crate::answered::{Answered, Judgement, answer_text};
 use std::alloc::{AllocError, Global};
 use vic_frame::{Mask, Uid};
-use vic_log::{LineFault, LogFault, read_log};
+use vic_log::Log;
 use vic_reconcile::Survey;
-
-/// The answer to a text, with what is left of its log.
-#[derive(Drop)]
-pub enum Surveyed {
-    /// It has a log, and this is its survey.
-    Judged(Survey),
-    /// A line of it has a fault, and this is the first.
-    RefusedAt { line: u32, fault: LineFault },
-}
+use vic_verdict::Verdict;
 
 /// The answer to a complete text, with what is left of its log. It fails only if memory is refused.
-pub fn survey_text(alloc: Global, text: &[u8]) -> Result<Surveyed, AllocError>
-    ensures surveyed { IfOk result (spec.IsSurveyed text.now) }
-    ensures answer { IfOk result (λ s. IsAnswer text.now (spec.answer_of s)) }
+pub fn survey_text(alloc: Global, text: &[u8]) -> Result<Answered<Survey>, AllocError>
+    ensures surveyed { IfOk result (IsAnswered IsSurvey text.now) }
+    ensures answer { IfOk result (λ s. IsAnswer text.now (answer_of (λ x. x.verdict) s)) }
     // if it is `complete`, the list of the log is complete and has `count` UIDs
     ensures whole { IfOk result (λ s. (count : ℕ)
-        → spec.answer_of s ≡ Answer.Judged (Complete count) → IsCompleteText text.now count) }
+        → answer_of (λ x. x.verdict) s ≡ Answered.Judged (Complete count)
+        → IsCompleteText text.now count) }
 {
-    match read_log(alloc, text) {
-        Ok(log) => Ok(Surveyed::Judged(Survey::of_log(alloc, &log)?)),
-        Err(LogFault::Line { line, fault }) => Ok(Surveyed::RefusedAt { line, fault }),
-        Err(LogFault::Memory) => Err(AllocError),
-        Err(LogFault::Read) | Err(LogFault::Spent) => unreachable!(),
-    }
+    answer_text(alloc, text)
 }
 
-/// The answer of `check` to the same text.
-pub fn surveyed_answer(surveyed: &Surveyed) -> Answer
-    ensures { result ≡ spec.answer_of surveyed.now }
-{
-    match surveyed {
-        Surveyed::Judged(survey) => Answer::Judged(survey.verdict),
-        Surveyed::RefusedAt { line, fault } => Answer::RefusedAt {
-            line: *line,
-            fault: *fault,
-        },
+/// What is left of a log.
+impl Judgement for Survey {
+    ghost IsOf = { IsSurvey };
+
+    ghost verdict_of = { λ s. s.verdict };
+
+    fn of_log(alloc: Global, log: &Log) -> Result<Survey, AllocError> {
+        Survey::of_log(alloc, log)
     }
+
+    fn verdict(&self) -> Verdict {
+        self.verdict
+    }
+
+    ghost tells = { λ lines s h. h.verdict };
 }
 
 /// The certain UIDs of its log, in rising order; none if it is impossible or the text refused.
-pub fn certain_of(surveyed: &Surveyed) -> &[Uid]
-    ensures { (text : List ℕ) → spec.IsSurveyed text surveyed.now
-        → spec.IsAnswerWith AreCertainIn text (spec.answer_of surveyed.now) result.now }
+pub fn certain_of(surveyed: &Answered<Survey>) -> &[Uid]
+    ensures { (text : List ℕ) → IsAnswered IsSurvey text surveyed.now
+        → IsAnswerWith AreCertainIn text (answer_of (λ x. x.verdict) surveyed.now) result.now }
 {
     match surveyed {
-        Surveyed::Judged(survey) => survey.certain.as_slice(),
-        Surveyed::RefusedAt { .. } => &[],
+        Answered::Judged(survey) => survey.certain.as_slice(),
+        Answered::RefusedAt { .. } => &[],
     }
 }
 
 /// All open masks of its log, by length, then by value; none if it is impossible or the text
 /// refused.
-pub fn open_masks_of(alloc: Global, surveyed: &Surveyed) -> Result<Vec<Mask>, AllocError>
-    ensures { IfOk result (λ masks. (text : List ℕ) → spec.IsSurveyed text surveyed.now
-        → spec.IsAnswerWith AreOpenIn text (spec.answer_of surveyed.now) masks.items) }
+pub fn open_masks_of(alloc: Global, surveyed: &Answered<Survey>) -> Result<Vec<Mask>, AllocError>
+    ensures { IfOk result (λ masks. (text : List ℕ) → IsAnswered IsSurvey text surveyed.now
+        → IsAnswerWith AreOpenIn text (answer_of (λ x. x.verdict) surveyed.now) masks.items) }
 {
     match surveyed {
-        Surveyed::Judged(survey) => survey.open_masks(alloc),
-        Surveyed::RefusedAt { .. } => Ok(Vec::new(alloc)),
+        Answered::Judged(survey) => survey.open_masks(alloc),
+        Answered::RefusedAt { .. } => Ok(Vec::new(alloc)),
     }
 }

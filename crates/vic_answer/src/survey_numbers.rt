@@ -3,7 +3,7 @@
 ghost use Rattle.std.specs.Prelude.{◌≡◌, ◌≤◌, IfOk, length};
 ghost use Rattle.vic_answer.specs.SurveyNumbers as spec;
 
-use crate::check::Answer;
+use crate::answered::Answer;
 use crate::finding_numbers::{
     FindingKind, VicinityFinding, absent_finding, doubtful_finding, open_finding, push_each,
     unlisted_finding,

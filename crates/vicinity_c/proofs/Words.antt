@@ -35,9 +35,10 @@ pub use Rattle.vic_answer.specs.CheckText.{IsCompleteText}
 pub use Rattle.vic_answer.specs.ExplainedNumbers.{IsPutInto}
 pub use Rattle.vic_answer.specs.Numbers.{numbers_of}
 pub use Rattle.vic_answer.specs.SurveyNumbers.{IsAnswerWith, first_of, plain_answer, refusal_numbers}
-pub use Rattle.vic_answer.specs.declared.check.Answer.{Answer}
-pub use Rattle.vic_answer.specs.declared.check.Answer.TheVariants.{Judged, RefusedAt}
+pub use Rattle.vic_answer.specs.declared.answered.Answered.{Answered}
+pub use Rattle.vic_answer.specs.declared.answered.Answered.TheVariants.{Judged, RefusedAt}
 pub use Rattle.vic_verdict.specs.Possible.{IsPossible}
+pub use Rattle.vic_verdict.specs.declared.judging.Verdict.{Verdict}
 pub use Rattle.vic_verdict.specs.declared.judging.Verdict.TheVariants.{Absent, Complete, Doubtful, Impossible, Unlisted, Unsettled}
 pub use Rattle.vic_answer.specs.declared.finding_numbers.VicinityFinding.{VicinityFinding}
 pub use Rattle.vic_answer.specs.declared.numbers.VicinityAnswer.{VicinityAnswer}

@@ -5,16 +5,17 @@ use Rattle.vic_log.specs.Log.{LogValue}
 use Rattle.vic_log.specs.Text.{IsFirstFault, IsLogOf}
 use Rattle.vic_log.specs.declared.fault.LineFault.{LineFault}
 use Rattle.vic_log.specs.declared.fault.LineFault.TheVariants.{NotVicinity}
+use Rattle.vic_margin.specs.declared.answer.Margin.{Margin}
 use Rattle.vic_margin.specs.declared.answer.Weakest.{Weakest}
-use Rattle.vic_answer.specs.declared.margin.Measured.{Measured}
-use Rattle.vic_answer.specs.declared.margin.Measured.TheVariants as measured
+use Rattle.vic_answer.specs.declared.answered.Answered.{Answered}
+use Rattle.vic_answer.specs.declared.answered.Answered.TheVariants.{Judged, RefusedAt}
 use Rattle.vic_answer.specs.declared.numbers.VicinityAnswer.{VicinityAnswer}
 use Rattle.vic_answer.specs.declared.overlooked.Overlooked.{Overlooked}
-use Rattle.vic_answer.specs.declared.overlooked.Overlooked.TheVariants.{Judged, RefusedAt}
+use Rattle.vic_answer.specs.Answered.{IsAnswered, answer_of}
 use Rattle.vic_answer.specs.ExplainedNumbers.{IsPutInto}
-use Rattle.vic_answer.specs.MarginText as margin
+use Rattle.vic_answer.specs.MarginText.{IsMarginOfLines}
 use Rattle.vic_answer.specs.Numbers.{numbers_of}
-use Rattle.vic_answer.specs.OverlookedText.{AreOverlooked, answer_of}
+use Rattle.vic_answer.specs.OverlookedText.{AreOverlooked}
 use Rattle.vicinity_c.specs.Arrays.{HaveNoFault, IsFirst, uid_fault}
 use Rattle.vicinity_c.specs.declared.arrays.TheConstants.{MOST}
 use Rattle.vicinity_c.specs.declared.margins.VicinityWeakest.{VicinityWeakest}
@@ -33,16 +34,16 @@ weakest_fields (Some w) = record {
 }
 
 -- zeros if the log is impossible or the text refused
-abbrev pub weakest_of : Measured → VicinityWeakest
-weakest_of (measured.Judged m) = weakest_fields m.weakest
-weakest_of (measured.RefusedAt n fault) = no_weakest
+abbrev pub weakest_of : Answered Margin → VicinityWeakest
+weakest_of (Judged m) = weakest_fields m.weakest
+weakest_of (RefusedAt n fault) = no_weakest
 
 -- these are the numbers of the answer to a text, with the margin of its log
 pub record AreMarginNumbersFor (text : List ℕ) (numbers : VicinityAnswer)
     (weakest : VicinityWeakest) : Type 0 where
-  pub measured : Measured
-  pub right : margin.IsMeasured text measured
-  pub numbers_are : numbers ≡ numbers_of (margin.answer_of measured)
+  pub measured : Answered Margin
+  pub right : IsAnswered IsMarginOfLines text measured
+  pub numbers_are : numbers ≡ numbers_of (answer_of (λ x. x.verdict) measured)
   pub weakest_are : weakest ≡ weakest_of measured
 
 -- ---- of UIDs
@@ -64,22 +65,22 @@ pub record IsUidRefused (text uids : List ℕ) (n : ℕ) (fault : LineFault) : T
 
 -- the answer to a text and UIDs: the verdict on its log, and the margin of each UID; or the first
 -- fault of the text, or else of the UIDs
-abbrev pub AreOverlookedBy : List ℕ → List ℕ → Overlooked → Type 0
-AreOverlookedBy text uids (Judged v margins) =
-    HaveNoFault (map uid_fault uids) × AreOverlooked text uids (Judged v margins)
+abbrev pub AreOverlookedBy : List ℕ → List ℕ → Answered Overlooked → Type 0
+AreOverlookedBy text uids (Judged o) =
+    HaveNoFault (map uid_fault uids) × IsAnswered (AreOverlooked uids) text (Judged o)
 AreOverlookedBy text uids (RefusedAt n fault) =
     IsFirstFault (lines_of_text text) n fault ⊎ IsUidRefused text uids n fault
 
 -- the margins of so many UIDs, zeros if the text or a UID is refused
-abbrev pub margins_of : ℕ → Overlooked → List ℕ
-margins_of count (Judged v margins) = margins.items
+abbrev pub margins_of : ℕ → Answered Overlooked → List ℕ
+margins_of count (Judged o) = o.margins.items
 margins_of count (RefusedAt n fault) = replicate count 0
 
 -- these are the numbers of the answer to a text and UIDs, and this is what becomes of the buffer
 -- for their margins
 pub record AreOverlookedNumbersFor (text uids : List ℕ) (numbers : VicinityAnswer)
     (room room' : List ℕ) : Type 0 where
-  pub overlooked : Overlooked
+  pub overlooked : Answered Overlooked
   pub right : AreOverlookedBy text uids overlooked
-  pub numbers_are : numbers ≡ numbers_of (answer_of overlooked)
+  pub numbers_are : numbers ≡ numbers_of (answer_of (λ x. x.verdict) overlooked)
   pub put : IsPutInto (margins_of (length uids) overlooked) room room'

@@ -4,10 +4,10 @@ ghost use Rattle.std.specs.Prelude.{◌≡◌, ◌≢◌, ◌++◌, ℕ, IfOk, L
 ghost use Rattle.vic_log.specs.Lines.{lines_of_text};
 ghost use Rattle.vic_log.specs.Writing.{listed_text};
 ghost use Rattle.vic_verdict.specs.declared.judging.Verdict.TheVariants.{Complete};
+ghost use Rattle.vic_answer.specs.Answered.{answer_of};
 ghost use Rattle.vic_answer.specs.CheckText.{IsCompleteText};
 ghost use Rattle.vic_answer.specs.ExplainedNumbers.{IsPutInto};
 ghost use Rattle.vic_answer.specs.Numbers.{AreNumbersFor, no_answer};
-ghost use Rattle.vic_answer.specs.OverlookedText.{answer_of};
 ghost use Rattle.vicinity_c.specs.Arrays.{IsFirst, uid_fault};
 ghost use Rattle.vicinity_c.specs.Margins as spec;
 
@@ -15,11 +15,11 @@ use crate::arrays::{MOST, uids_in};
 use crate::lines::with_listed;
 use std::alloc::{AllocError, Global};
 use vic_answer::{
-    Answer, Measured, NO_ANSWER, Overlooked, VicinityAnswer, margin_text, measured_answer,
-    numbers_of, overlooked_answer, overlooked_text,
+    Answered, NO_ANSWER, Overlooked, VicinityAnswer, answer_of, margin_text, numbers_of,
+    overlooked_answer, overlooked_text, read_text,
 };
-use vic_log::{LineFault, LogFault, read_log};
-use vic_margin::Weakest;
+use vic_log::LineFault;
+use vic_margin::{Margin, Weakest};
 
 /// The margin of a log, and the weakest mask: the first by length, then by value, all of whose UIDs
 /// have this margin and aren't listed. All is 0 if there is no margin.
@@ -62,7 +62,7 @@ pub extern "C" fn vicinity_margin(
         return refuse(answer, weakest);
     };
     *weakest = weakest_of(&measured);
-    let numbers = numbers_of(&measured_answer(&measured));
+    let numbers = numbers_of(&answer_of(&measured));
     *answer = numbers;
     numbers.status
 }
@@ -137,12 +137,12 @@ fn refuse(answer: &mut VicinityAnswer, weakest: &mut VicinityWeakest) -> u32
 }
 
 /// The margin of the log of a text, in numbers.
-fn weakest_of(measured: &Measured) -> VicinityWeakest
+fn weakest_of(measured: &Answered<Margin>) -> VicinityWeakest
     ensures { result ≡ spec.weakest_of measured.now }
 {
     match measured {
-        Measured::Judged(margin) => weakest_fields(&margin.weakest),
-        Measured::RefusedAt { .. } => NO_WEAKEST,
+        Answered::Judged(margin) => weakest_fields(&margin.weakest),
+        Answered::RefusedAt { .. } => NO_WEAKEST,
     }
 }
 
@@ -161,10 +161,15 @@ fn weakest_fields(weakest: &Option<Weakest>) -> VicinityWeakest
 }
 
 /// The answer to a text and UIDs, with their margins. The only error is that memory was refused.
-fn overlooked_by(alloc: Global, text: &[u8], uids: &[u64]) -> Result<Overlooked, AllocError>
+fn overlooked_by(
+    alloc: Global,
+    text: &[u8],
+    uids: &[u64],
+) -> Result<Answered<Overlooked>, AllocError>
     ensures overlooked { IfOk result (spec.AreOverlookedBy text.now uids.now) }
     ensures whole { IfOk result (λ o. (count : ℕ)
-        → answer_of o ≡ Answer.Judged (Complete count) → IsCompleteText text.now count) }
+        → answer_of (λ x. x.verdict) o ≡ Answered.Judged (Complete count)
+        → IsCompleteText text.now count) }
 {
     match uids_in(alloc, uids)? {
         Ok(uids) => overlooked_text(alloc, text, uids.as_slice()),
@@ -173,21 +178,23 @@ fn overlooked_by(alloc: Global, text: &[u8], uids: &[u64]) -> Result<Overlooked,
 }
 
 /// The answer to a text and UIDs of which this one is the first that has a fault.
-fn refusal_behind(alloc: Global, text: &[u8], index: usize) -> Result<Overlooked, AllocError>
+fn refusal_behind(
+    alloc: Global,
+    text: &[u8],
+    index: usize,
+) -> Result<Answered<Overlooked>, AllocError>
     ensures overlooked { (uids : List ℕ) (number : ℕ)
         → IsFirst (map uid_fault uids) index number
         → IfOk result (spec.AreOverlookedBy text.now uids) }
     ensures refused { IfOk result (λ o. (count : ℕ)
-        → answer_of o ≡ Answer.Judged (Complete count) → ⊥) }
+        → answer_of (λ x. x.verdict) o ≡ Answered.Judged (Complete count) → ⊥) }
 {
-    match read_log(alloc, text) {
-        Ok(_) => Ok(Overlooked::RefusedAt {
+    match read_text(alloc, text)? {
+        Answered::Judged(_) => Ok(Answered::RefusedAt {
             line: line_behind(text, index),
             fault: LineFault::NotVicinity,
         }),
-        Err(LogFault::Line { line, fault }) => Ok(Overlooked::RefusedAt { line, fault }),
-        Err(LogFault::Memory) => Err(AllocError),
-        Err(LogFault::Read) | Err(LogFault::Spent) => unreachable!(),
+        Answered::RefusedAt { line, fault } => Ok(Answered::RefusedAt { line, fault }),
     }
 }
 
@@ -217,12 +224,12 @@ fn line_count(text: &[u8]) -> usize
 }
 
 /// Puts the margins of so many UIDs at the start of a buffer, if they fit; zeros for a refusal.
-fn put_margins(overlooked: &Overlooked, count: usize, room: &mut [u32])
+fn put_margins(overlooked: &Answered<Overlooked>, count: usize, room: &mut [u32])
     ensures { IsPutInto (spec.margins_of count overlooked.now) room.old room.new }
 {
     match overlooked {
-        Overlooked::Judged { margins, .. } => put_numbers(margins.as_slice(), room),
-        Overlooked::RefusedAt { .. } => put_zeros(count, room),
+        Answered::Judged(overlooked) => put_numbers(overlooked.margins.as_slice(), room),
+        Answered::RefusedAt { .. } => put_zeros(count, room),
     }
 }
 

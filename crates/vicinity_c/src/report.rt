@@ -9,8 +9,8 @@ ghost use Rattle.vic_answer.specs.Numbers.{AreNumbersFor, no_answer};
 use crate::lines::with_listed;
 use std::alloc::Global;
 use vic_answer::{
-    NO_ANSWER, VicinityAnswer, VicinityFinding, findings_of, numbers_of, put_findings, report_text,
-    reported_answer,
+    NO_ANSWER, VicinityAnswer, VicinityFinding, answer_of, findings_of, numbers_of, put_findings,
+    report_text,
 };
 
 /// Judges the log that a text spells, as `vicinity_check` does, and returns every finding: the
@@ -42,7 +42,7 @@ pub extern "C" fn vicinity_report(
     };
     put_findings(list.as_slice(), findings);
     *needed = list.len();
-    let numbers = numbers_of(&reported_answer(&reported));
+    let numbers = numbers_of(&answer_of(&reported));
     *answer = numbers;
     numbers.status
 }

@@ -12,7 +12,7 @@ use crate::inventory::{VicinityMask, mask_fields};
 use crate::report::refuse;
 use std::alloc::Global;
 use vic_answer::{
-    VicinityAnswer, certain_of, numbers_of, open_masks_of, put_uids, survey_text, surveyed_answer,
+    VicinityAnswer, answer_of, certain_of, numbers_of, open_masks_of, put_uids, survey_text,
 };
 use vic_frame::Mask;
 
@@ -44,7 +44,7 @@ pub extern "C" fn vicinity_certain(
     let certain = certain_of(&surveyed);
     put_uids(certain, uids);
     *needed = certain.len();
-    let numbers = numbers_of(&surveyed_answer(&surveyed));
+    let numbers = numbers_of(&answer_of(&surveyed));
     *answer = numbers;
     numbers.status
 }
@@ -79,7 +79,7 @@ pub extern "C" fn vicinity_open_masks(
     };
     put_masks(open.as_slice(), masks);
     *needed = open.len();
-    let numbers = numbers_of(&surveyed_answer(&surveyed));
+    let numbers = numbers_of(&answer_of(&surveyed));
     *answer = numbers;
     numbers.status
 }
@@ -121,7 +121,7 @@ pub extern "C" fn vicinity_survey(
     *uids_needed = certain.len();
     put_masks(open.as_slice(), masks);
     *masks_needed = open.len();
-    let numbers = numbers_of(&surveyed_answer(&surveyed));
+    let numbers = numbers_of(&answer_of(&surveyed));
     *answer = numbers;
     numbers.status
 }

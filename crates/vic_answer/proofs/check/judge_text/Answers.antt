@@ -1,5 +1,6 @@
+use Rattle.vic_answer.proofs.Words.{IfOk-weaker}
 use Rattle.vic_answer.proofs.CheckLines.{complete_text}
 use Rattle.vic_answer.proofs.check.judge_text.Goals as goal
 
-pub returns-in_ok-judge-in-Ok-clause-whole : goal.returns-in_ok-judge-in-Ok-clause-whole
-returns-in_ok-judge-in-Ok-clause-whole c count is = complete_text _ _ count is (c.in-Ok.log, c.in-Ok.ensures, c.in_ok-judge-in-Ok.ensures.verdict)
+pub returns-clause-whole : goal.returns-clause-whole
+returns-clause-whole c = IfOk-weaker c.answer_text.result _ _ (λ a right count is. complete_text c.args.text.now a count is right) c.answer_text.ensures.found

@@ -1,10 +1,10 @@
-use Rattle.vic_answer.proofs.Words.{ℕ, List, refl, Answer, IsAnswer, IsCheckOf, answer_line, answer_status}
+use Rattle.vic_answer.proofs.Words.{ℕ, List, refl, Answered, Verdict, IsAnswer, IsCheckOf, answer_line, answer_status}
 use Rattle.vic_answer.proofs.CheckLines.{check_tells}
 use Rattle.vic_answer.proofs.CompleteRuns.{complete_where_said, complete_where_written}
 use Rattle.vic_answer.proofs.Standing.{ends_bytes, ends_told}
 use Rattle.vic_answer.proofs.check.run_check.Goals as goal
 
-right : (answer : Answer) (text : List ℕ) → IsAnswer text answer → IsCheckOf text (answer_line answer) (answer_status answer)
+right : (answer : Answered Verdict) (text : List ℕ) → IsAnswer text answer → IsCheckOf text (answer_line answer) (answer_status answer)
 right answer text h = record { answer = answer; right = h; line_is = refl; status_is = refl }
 
 pub returns-clause-answer : goal.returns-clause-answer

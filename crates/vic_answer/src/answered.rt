@@ -1,0 +1,103 @@
+//! What is answered to a text: what was found in its log, or its first fault.
+
+ghost use Rattle.std.specs.Prelude.{◌≡◌, ℕ, List, IfOk};
+ghost use Rattle.vic_log.specs.declared.entry.LogLine.{LogLine as LogLineValue};
+ghost use Rattle.vic_verdict.specs.Verdict.{IsVerdict};
+ghost use Rattle.vic_verdict.specs.declared.judging.Verdict.{Verdict as VerdictValue};
+ghost use Rattle.vic_verdict.specs.declared.judging.Verdict.TheVariants.{Complete};
+ghost use Rattle.vic_answer.specs.Answered as spec;
+ghost use Rattle.vic_answer.specs.CheckText.{IsAnswer, IsCompleteText};
+
+use std::alloc::{AllocError, Global};
+use vic_log::{LineFault, Log, LogFault, read_log};
+use vic_verdict::Verdict;
+
+/// The answer to a text.
+#[derive(Clone, Copy, Debug, Drop, PartialEq, Eq)]
+pub enum Answered<T> {
+    /// It has a log, and this is what was found in it.
+    Judged(T),
+    /// A line of it has a fault, and this is the first.
+    RefusedAt { line: u32, fault: LineFault },
+}
+
+/// The answer of `check`.
+pub type Answer = Answered<Verdict>;
+
+/// The log of a text, or its first fault.
+pub type Reading = Answered<Log>;
+
+/// What is found in a log, with the verdict on it.
+pub trait Judgement {
+    // what it has to be, for the lines of the log
+    ghost IsOf: { List LogLineValue → Self → Type 0 };
+
+    ghost verdict_of: { Self → VerdictValue };
+
+    /// What is found in a log. It fails only if memory is refused.
+    fn of_log(alloc: Global, log: &Log) -> Result<Self, AllocError>
+        ensures { IfOk result (IsOf log.now.lines) };
+
+    /// The verdict on the log.
+    fn verdict(&self) -> Verdict
+        ensures { result ≡ verdict_of self.now };
+
+    // the verdict in it is right
+    ghost tells: { (lines : List LogLineValue) (found : Self)
+        → IsOf lines found → IsVerdict lines (verdict_of found) };
+}
+
+/// The answer of `check` to the same text.
+pub fn answer_of<T: Judgement>(answered: &Answered<T>) -> Answer
+    ensures { result ≡ spec.answer_of T.verdict_of answered.now }
+{
+    match answered {
+        Answered::Judged(found) => Answered::Judged(found.verdict()),
+        Answered::RefusedAt { line, fault } => Answered::RefusedAt {
+            line: *line,
+            fault: *fault,
+        },
+    }
+}
+
+/// Reads a complete text. It fails only if memory is refused.
+pub fn read_text(alloc: Global, text: &[u8]) -> Result<Reading, AllocError>
+    ensures { IfOk result (spec.IsReading text.now) }
+{
+    match read_log(alloc, text) {
+        Ok(log) => Ok(Answered::Judged(log)),
+        Err(LogFault::Line { line, fault }) => Ok(Answered::RefusedAt { line, fault }),
+        Err(LogFault::Memory) => Err(AllocError),
+        Err(LogFault::Read) | Err(LogFault::Spent) => unreachable!(),
+    }
+}
+
+/// The answer to what was read.
+pub(crate) fn answer_reading<T: Judgement>(
+    alloc: Global,
+    reading: Reading,
+) -> Result<Answered<T>, AllocError>
+    ensures { IfOk result (λ a. (text : List ℕ)
+        → spec.IsReading text reading → spec.IsAnswered T.IsOf text a) }
+{
+    match reading {
+        Answered::Judged(log) => Ok(Answered::Judged(T::of_log(alloc, &log)?)),
+        Answered::RefusedAt { line, fault } => Ok(Answered::RefusedAt { line, fault }),
+    }
+}
+
+/// The answer to a complete text.
+pub(crate) fn answer_text<T: Judgement>(
+    alloc: Global,
+    text: &[u8],
+) -> Result<Answered<T>, AllocError>
+    ensures found { IfOk result (spec.IsAnswered T.IsOf text.now) }
+    ensures answer { IfOk result (λ a. IsAnswer text.now (spec.answer_of T.verdict_of a)) }
+    // if it is `complete`, the list of the log is complete and has `count` UIDs
+    ensures whole { IfOk result (λ a. (count : ℕ)
+        → spec.answer_of T.verdict_of a ≡ Answered.Judged (Complete count)
+        → IsCompleteText text.now count) }
+{
+    let reading = read_text(alloc, text)?;
+    answer_reading(alloc, reading)
+}
