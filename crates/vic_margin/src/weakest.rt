@@ -28,9 +28,10 @@ pub fn margin(alloc: Global, log: &Log) -> Result<Margin, AllocError>
     let verdict = judge(alloc, log)?;
     let weakest = match verdict {
         Verdict::Impossible { .. } => None,
+        // its UIDs were overlooked nowhere
+        Verdict::Unsettled(mask) => Some(Weakest { margin: 0, mask }),
         Verdict::Absent(_)
         | Verdict::Unlisted(_)
-        | Verdict::Unsettled(_)
         | Verdict::Doubtful(_)
         | Verdict::Complete { .. } => Some(weakest_of(alloc, lines)?),
     };
