@@ -67,6 +67,14 @@ of_unsettled es k possible h = record {
   margin = λ u is lies. (no_margin es u).1 ((possible_never es u is possible).0 (h.2 u is lies).0);
 }
 
+pub unsettled_weakest : (lines : List LogLine) (m : BitMask) → IsVerdict lines (Unsettled m) → IsWeakest (entries lines) (record { margin = 0; mask = m })
+unsettled_weakest lines m v =
+    let es = entries lines in
+    record {
+      margin = (margin_none es v.0).1 ((unsettled_iff es).0 (m, v.3.0));
+      mask = (of_unsettled es m v.0 v.3.0, λ k h. v.3.1 k (unsettled_of es k v.0 h));
+    }
+
 same_mask : (m k : BitMask) → IsAtMost m k → IsAtMost k m → m ≡ k
 same_mask m k a b = grind (arith, a, b)
 

@@ -18,7 +18,7 @@ use std::alloc::{AllocError, Global};
 use vic_frame::low_bits_first::key;
 use vic_frame::{Request, Uid};
 use vic_log::{Entry, RoundCursor};
-use vic_walk::{Marks, Parts, Span};
+use vic_walk::{Marks, Notes, Parts, Span};
 
 /// What is known of each part before a position of a log.
 #[derive(Drop)]
@@ -115,9 +115,9 @@ impl Tally {
         }
     }
 
-    /// Makes the part of the UID Quiet that a request silences, if it silences one. It is expected
-    /// in part `near`.
-    fn pass_request(&mut self, parts: &Parts, request: &Request, near: usize)
+    /// Makes the part of the UID Quiet that a request silences, if it silences one. The next note
+    /// is a hint of the part.
+    fn pass_request(&mut self, parts: &Parts, request: &Request, notes: &mut Notes)
         requires borders { AreBorders parts.now }
         requires room { HasRoom (part_count parts.now) self.old }
         ensures { (es : List EntryValue) (i : ℕ) → slice_get es i ≡ Some (Sent request.now)
@@ -128,6 +128,7 @@ impl Tally {
             Request::StayQuiet { uid, .. } => {
                 // no tag has another number
                 if let Some(uid) = Uid::new(uid) {
+                    let near = notes.next().unwrap_or(0);
                     self.silence(part_near(parts, near, key(uid)));
                 }
             }
@@ -135,14 +136,13 @@ impl Tally {
         }
     }
 
-    /// Takes the tally past an entry. `last` is the part of the last reply: its tag is mostly
-    /// silenced next.
+    /// Takes the tally past an entry.
     pub(crate) fn pass(
         &mut self,
         parts: &Parts,
         rounds: &RoundCursor,
         entry: &Entry,
-        last: &mut usize,
+        notes: &mut Notes,
     )
         requires borders { AreBorders parts.now }
         requires room { HasRoom (part_count parts.now) self.old }
@@ -151,13 +151,12 @@ impl Tally {
             → IsTallyAt parts.now es i self.old → IsTallyAt parts.now es (i + 1) self.new }
     {
         match *entry {
-            Entry::Sent(request) => self.pass_request(parts, &request, *last),
+            Entry::Sent(request) => self.pass_request(parts, &request, notes),
             Entry::FieldCycle => self.wake(),
             Entry::Silent => self.count(span_of(parts, rounds)),
             Entry::Heard(response) => {
                 let span = span_of(parts, rounds);
                 let own = part_near(parts, span.from, key(response.uid()));
-                *last = own;
                 self.hear(span, own);
             }
             // in these no UID is overlooked

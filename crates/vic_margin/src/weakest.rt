@@ -1,7 +1,11 @@
 //! The margin of a log, and the first mask of UIDs that have it.
 
-ghost use Rattle.std.specs.Prelude.{◌≤◌, IfOk, MatchOption, length};
+ghost use Rattle.std.specs.Prelude.{◌≡◌, ◌≤◌, IfOk, MatchOption, length};
 ghost use Rattle.vic_log.specs.Order.{entries};
+ghost use Rattle.vic_tree.specs.Ranges.{is_open_in};
+ghost use Rattle.vic_walk.specs.Borders.{AreBorders};
+ghost use Rattle.vic_walk.specs.Cuts.{AreCut};
+ghost use Rattle.vic_verdict.specs.Facts.{IsTold};
 ghost use Rattle.vic_verdict.specs.LogLines.{AreLogLines};
 ghost use Rattle.vic_verdict.specs.Possible.{IsPossible};
 ghost use Rattle.vic_verdict.specs.Verdict.{IsVerdict};
@@ -14,8 +18,9 @@ use crate::others::other_keys;
 use std::alloc::{AllocError, Global};
 use vic_log::{Log, MAX_LINES, PackedLine};
 use vic_tree::{OpenSet, RangeSet};
-use vic_verdict::{Verdict, judge, keys_in_order, listed_uids};
-use vic_walk::Parts;
+use vic_verdict::{
+    Facts, LogParts, Verdict, facts_and_parts_of, first_finding, keys_in_order, listed_uids,
+};
 
 /// The verdict on a log, and its margin, if it is possible. It fails only if memory is refused.
 pub fn margin(alloc: Global, log: &Log) -> Result<Margin, AllocError>
@@ -25,26 +30,66 @@ pub fn margin(alloc: Global, log: &Log) -> Result<Margin, AllocError>
         (λ w. IsPossible (entries log.now.lines) × IsWeakest (entries log.now.lines) w)) }
 {
     let lines = log.lines();
-    let verdict = judge(alloc, log)?;
-    let weakest = match verdict {
-        Verdict::Impossible { .. } => None,
-        Verdict::Absent(_)
+    match facts_and_parts_of::<RangeSet>(alloc, lines)? {
+        Ok((facts, parts)) => {
+            let Facts {
+                open,
+                met: _,
+                certain,
+            } = facts;
+            let verdict = first_finding(alloc, open, &certain, lines)?;
+            let weakest = weakest_by(alloc, lines, parts, &verdict)?;
+            Ok(Margin {
+                verdict,
+                weakest: Some(weakest),
+            })
+        }
+        Err(line) => Ok(Margin {
+            verdict: Verdict::Impossible { line },
+            weakest: None,
+        }),
+    }
+}
+
+/// The margin of the lines of a possible log, by the verdict on it, and the first mask of UIDs that
+/// have it.
+fn weakest_by(
+    alloc: Global,
+    lines: &[PackedLine],
+    parts: LogParts,
+    verdict: &Verdict,
+) -> Result<Weakest, AllocError>
+    requires lines { AreLogLines lines.now }
+    requires limit { length lines.now ≤ MAX_LINES }
+    requires borders { AreBorders parts.parts }
+    requires cut { AreCut parts.parts (entries lines.now) }
+    requires verdict { IsVerdict lines.now verdict.now }
+    ensures { IfOk result (IsWeakest (entries lines.now)) }
+{
+    match verdict {
+        // its UIDs were overlooked nowhere
+        Verdict::Unsettled(mask) => Ok(Weakest {
+            margin: 0,
+            mask: *mask,
+        }),
+        Verdict::Impossible { .. }
+        | Verdict::Absent(_)
         | Verdict::Unlisted(_)
-        | Verdict::Unsettled(_)
         | Verdict::Doubtful(_)
-        | Verdict::Complete { .. } => Some(weakest_of(alloc, lines)?),
-    };
-    Ok(Margin { verdict, weakest })
+        | Verdict::Complete { .. } => weakest_of(alloc, lines, parts),
+    }
 }
 
 /// The margin of the lines of a log, and the first mask of UIDs that have it.
-fn weakest_of(alloc: Global, lines: &[PackedLine]) -> Result<Weakest, AllocError>
+fn weakest_of(alloc: Global, lines: &[PackedLine], parts: LogParts) -> Result<Weakest, AllocError>
     requires lines { AreLogLines lines.now }
     requires limit { length lines.now ≤ MAX_LINES }
+    requires borders { AreBorders parts.parts }
+    requires cut { AreCut parts.parts (entries lines.now) }
     ensures { IfOk result (IsWeakest (entries lines.now)) }
 {
-    let parts = Parts::of(alloc, lines)?;
-    let margins = part_margins(alloc, lines, &parts)?;
+    let LogParts { parts, mut notes } = parts;
+    let margins = part_margins(alloc, lines, &parts, &mut notes)?;
     let listed = listed_uids(alloc, lines)?;
     let keys = keys_in_order(alloc, &listed)?;
     let Some(least) = least_besides(&parts, &margins, &keys) else {

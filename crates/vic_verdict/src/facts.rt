@@ -1,7 +1,7 @@
 //! What a possible log tells of the tags: which may be there, and which must; or the first line up
 //! to which no population could have produced it.
 
-ghost use Rattle.std.specs.Prelude.{IfOk, MatchResult, ◌≡◌, ◌↔◌, ℕ, List, OnOk, length, true, false};
+ghost use Rattle.std.specs.Prelude.{IfOk, MatchResult, ◌≡◌, ◌↔◌, ℕ, List, OnOk, ⊤, length, true, false};
 ghost use Rattle.std.specs.List.Sorted.{IsStrictlyIncreasing};
 ghost use Rattle.std.specs.List.{All, Any};
 ghost use Rattle.vic_frame.specs.Uids.{has};
@@ -9,6 +9,8 @@ ghost use Rattle.vic_log.specs.Order.{IsInOrder, entries};
 ghost use Rattle.vic_log.specs.declared.entry.Entry.{Entry as EntryValue};
 ghost use Rattle.vic_log.specs.Slots.{slots_of, is_open, IsForcedBy};
 ghost use Rattle.vic_tree.specs.OpenSet.{SameUids};
+ghost use Rattle.vic_walk.specs.Borders.{AreBorders};
+ghost use Rattle.vic_walk.specs.Cuts.{AreCut};
 ghost use Rattle.vic_verdict.specs.Facts.{AreFactsOf};
 ghost use Rattle.vic_verdict.specs.LogLines.{AreLogLines};
 ghost use Rattle.vic_verdict.specs.Possible.{IsFirstImpossible, IsPossible};
@@ -25,7 +27,9 @@ use vic_frame::low_bits_first::key;
 use vic_log::{Entry, PackedLine};
 use vic_tree::OpenSet;
 use vic_tree::rising::put_in_order;
-use vic_walk::{Answering, LogWalk, closed_keys, first_lack, list_start, open_answers, walk_log};
+use vic_walk::{
+    Answering, LogWalk, Notes, Parts, closed_keys, first_lack, list_start, open_answers, walk_log,
+};
 
 /// What a possible log tells of the tags: which may be there, and which must.
 #[derive(Drop)]
@@ -47,6 +51,15 @@ pub struct Met {
     pub found: Vec<Answering>,
 }
 
+/// The parts of a possible log.
+#[derive(Drop)]
+pub struct LogParts {
+    /// Cut for the log.
+    pub parts: Parts,
+    /// Where the UIDs of its Stay Quiet requests were found among them.
+    pub notes: Notes,
+}
+
 /// What the lines of a log tell, if some population could have produced them; else the number of
 /// the first line up to which none could.
 pub fn facts_of<S: OpenSet>(
@@ -58,10 +71,29 @@ pub fn facts_of<S: OpenSet>(
         (λ f. AreFactsOf (entries lines.now) (S.is_open f.«open») f.met f.certain.items)
         (λ n. IsVerdict lines.now (Impossible n))) }
 {
+    match facts_and_parts_of::<S>(alloc, lines)? {
+        Ok((facts, _)) => Ok(Ok(facts)),
+        Err(line) => Ok(Err(line)),
+    }
+}
+
+/// The same, and the parts by which it was judged.
+pub fn facts_and_parts_of<S: OpenSet>(
+    alloc: Global,
+    lines: &[PackedLine],
+) -> Result<Result<(Facts<S>, LogParts), u32>, AllocError>
+    requires { AreLogLines lines.now }
+    ensures facts { IfOk result (λ r. MatchResult r
+        (λ p. AreFactsOf (entries lines.now) (S.is_open p.0.«open») p.0.met p.0.certain.items)
+        (λ n. IsVerdict lines.now (Impossible n))) }
+    ensures borders { IfOk result (λ r. MatchResult r (λ p. AreBorders p.1.parts) (λ _. ⊤)) }
+    ensures cut { IfOk result (λ r. MatchResult r
+        (λ p. AreCut p.1.parts (entries lines.now)) (λ _. ⊤)) }
+{
     match open_and_met::<S>(alloc, lines)? {
-        Ok((open, met)) => {
+        Ok((open, met, parts)) => {
             let certain = certain_uids(alloc, &met)?;
-            Ok(Ok(Facts { open, met, certain }))
+            Ok(Ok((Facts { open, met, certain }, parts)))
         }
         Err(at) => Ok(Err(lines[at].number())),
     }
@@ -94,18 +126,21 @@ fn add_if_exactly(certain: &mut Vec<Uid>, uids: &[Uid], count: usize) -> Result<
     Ok(())
 }
 
-/// The UIDs that a log leaves open, and which of them meet its slots, if some population could have
-/// produced it; else the position of the first line up to which none could.
-pub fn open_and_met<S: OpenSet>(
+/// The UIDs that a log leaves open, which of them meet its slots, and its parts, if some population
+/// could have produced it; else the position of the first line up to which none could.
+fn open_and_met<S: OpenSet>(
     alloc: Global,
     lines: &[PackedLine],
-) -> Result<Result<(S, Met), usize>, AllocError>
+) -> Result<Result<(S, Met, LogParts), usize>, AllocError>
     requires { AreLogLines lines.now }
-    ensures { IfOk result (λ r. MatchResult r
+    ensures found { IfOk result (λ r. MatchResult r
         (λ p. IsPossible (entries lines.now)
         × SameUids (S.is_open p.0) (is_open (slots_of (entries lines.now)))
         × IsMet (entries lines.now) p.1)
         (IsFirstImpossible (entries lines.now))) }
+    ensures borders { IfOk result (λ r. MatchResult r (λ p. AreBorders p.2.parts) (λ _. ⊤)) }
+    ensures cut { IfOk result (λ r. MatchResult r
+        (λ p. AreCut p.2.parts (entries lines.now)) (λ _. ⊤)) }
 {
     let LogWalk {
         parts,
@@ -123,7 +158,8 @@ pub fn open_and_met<S: OpenSet>(
         return Ok(Err(first_lack(alloc, lines, &parts, &walk, lines.len())?));
     }
     let heard = heard_uids(alloc, lines)?;
-    Ok(Ok((set, Met { heard, found })))
+    let notes = walk.notes;
+    Ok(Ok((set, Met { heard, found }, LogParts { parts, notes })))
 }
 
 /// Whether some population could have produced a log.

@@ -88,8 +88,7 @@ pub fn weaker_is_complete()
 {}
 
 /// Where the verdict is `Complete`, which is where the list is complete, each UID that was
-/// overlooked nowhere is listed. It takes
-/// nothing for granted of any other tag.
+/// overlooked nowhere is listed. It takes nothing for granted of any other tag.
 pub fn never_overlooked_is_listed()
     ensures complete { (lines : List LogLine) (count u : ℕ) → IsVerdict lines (Complete count)
         → IsUid u → IsNeverOverlooked (entries lines) u → has (listed (entries lines)) u ≡ true }

@@ -2,8 +2,8 @@
 //!
 //! `judge` returns the verdict on a log, `explain` adds a small population that shows it. What they
 //! use is public for `vic_report` and `vic_reconcile`, which say more about a log than its verdict:
-//! which UIDs a possible log leaves open, and what meets its slots (`open_and_met`), at which line
-//! an impossible one became so, and which UIDs a log forces and lists. `laws` states what follows
+//! which UIDs a possible log leaves open, and what meets its slots (`facts_of`), at which line an
+//! impossible one became so, and which UIDs a log forces and lists. `laws` states what follows
 //! from the definitions.
 #![tactic(auto)]
 
@@ -14,6 +14,8 @@ mod judging;
 pub mod laws;
 
 pub use explanation::{Explanation, explain, explain_with};
-pub use facts::{Facts, Met, certain_uids, facts_of, is_possible, keys_in_order, open_and_met};
+pub use facts::{
+    Facts, LogParts, Met, certain_uids, facts_and_parts_of, facts_of, is_possible, keys_in_order,
+};
 pub use findings::{Differences, compare, count_listed, listed_uids, missing_from};
 pub use judging::{Verdict, first_finding, judge, judge_with};

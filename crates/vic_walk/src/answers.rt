@@ -154,6 +154,7 @@ pub fn open_answers(
     ensures heard { OnOk result (walk.new.heard ≡ walk.old.heard) }
     ensures ends { OnOk result (walk.new.ends.items ≡ walk.old.ends.items) }
 {
+    walk.notes.rewind();
     // before the first entry no part is Quiet
     walk.wake();
     let mut found = Vec::new(alloc);

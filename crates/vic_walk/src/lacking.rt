@@ -14,6 +14,7 @@ ghost use Rattle.vic_walk.specs.inner.Reach.{AreEndsUpTo, AreRuled, HasReach, Is
 ghost use Rattle.vic_walk.specs.inner.Spans.{IsPlace, IsSpanAt};
 
 use crate::marks::Marks;
+use crate::notes::Notes;
 use crate::parts::{Parts, Span};
 use crate::three::up_to_three;
 use crate::walk::{Walk, span_of};
@@ -224,6 +225,7 @@ fn all_ready(alloc: Global, parts: Marks) -> Result<Walk, AllocError>
         quiet: Vec::new(alloc),
         ends: Vec::new(alloc),
         heard: Marks::none(alloc, 0)?,
+        notes: Notes::none(alloc),
     })
 }
 

@@ -17,6 +17,7 @@ ghost use Rattle.vic_walk.specs.inner.Spans.{is_within, is_other, HasLost, IsSpa
 
 use crate::listing::list_start;
 use crate::marks::Marks;
+use crate::notes::Notes;
 use crate::parts::{Parts, Span};
 use std::alloc::{AllocError, Global};
 use vic_frame::low_bits_first::key;
@@ -35,6 +36,8 @@ pub struct Walk {
     pub ends: Vec<u32>,
     /// The parts that were heard; such a part has only one UID.
     pub heard: Marks,
+    /// Where the UIDs of Stay Quiet requests were found.
+    pub notes: Notes,
 }
 
 /// Marks each place of a list.
@@ -60,6 +63,7 @@ impl Walk {
             quiet: Vec::new(alloc),
             ends: vec![in alloc; 0; count]?,
             heard: Marks::none(alloc, count)?,
+            notes: Notes::none(alloc),
         })
     }
 
@@ -182,7 +186,8 @@ impl Walk {
         match *request {
             Request::StayQuiet { uid, .. } => match Uid::new(uid) {
                 Some(uid) => {
-                    self.silence(parts.at(key(uid)))?;
+                    let near = self.notes.next_of(parts, uid)?;
+                    self.silence(parts.at_or_after(near, key(uid)))?;
                     Ok(())
                 }
                 // no tag has this number

@@ -21,8 +21,8 @@ first_lack-requires-then-not-are_met-clause-walk g c =
     let long = length-map c.args.lines.now (λ (l : LogLine). l.item) in
     ends_past c.in_ok-parts.field-0.parts es (length c.args.lines.now) (length es) c.in_ok-parts.field-0.walk _ (omega (arith, long)) (omega arith) c.in_ok-found.ensures.ends end.0
 
-pub returns-in-Some : goal.returns-in-Some
-returns-in-Some g c =
+pub returns-in-Some-clause-found : goal.returns-in-Some-clause-found
+returns-in-Some-clause-found g c =
     let es = entries c.args.lines.now in
     let told = c.in_ok-parts.broken-is in
     let here = c.in-Some.is in
@@ -31,8 +31,8 @@ returns-in-Some g c =
     let lack = c.in_ok-first_lack.ensures in
     first_broken es c.in-Some.at c.in_ok-first_lack.field-0 end.0 end.2 end.3 lack.upto lack.met lack.lack
 
-pub returns-then-not-are_met : goal.returns-then-not-are_met
-returns-then-not-are_met g c =
+pub returns-then-not-are_met-clause-found : goal.returns-then-not-are_met-clause-found
+returns-then-not-are_met-clause-found g c =
     let es = entries c.args.lines.now in
     let told = c.in_ok-parts.broken-is in
     let end = walked c.in_ok-parts.field-0.parts es c.in_ok-parts.field-0.broken c.in_ok-parts.field-0.walk c.in_ok-parts.ensures.walk (λ i is. c.in_default.not-Some i (cc)) in
@@ -40,8 +40,8 @@ returns-then-not-are_met g c =
     let unmet = lacks_unmet es c.in_ok-found.found.items c.in_ok-found.ensures.found (rw c.deref.ensures.value at (c.are_met.ensures.unmet c.if-not-are_met.true)) in
     first_unmet es (length c.args.lines.now) c.in_ok-first_lack-2.field-0 (length-map c.args.lines.now (λ (l : LogLine). l.item)) end.1 unmet lack.upto lack.met lack.lack
 
-pub returns : goal.returns
-returns g c =
+pub returns-clause-found : goal.returns-clause-found
+returns-clause-found g c =
     let es = entries c.args.lines.now in
     let told = c.in_ok-parts.broken-is in
     let end = walked c.in_ok-parts.field-0.parts es c.in_ok-parts.field-0.broken c.in_ok-parts.field-0.walk c.in_ok-parts.ensures.walk (λ i is. c.in_default.not-Some i (cc)) in
