@@ -21,6 +21,7 @@ use vic_tree::{OpenSet, RangeSet};
 use vic_verdict::{
     Facts, LogParts, Verdict, facts_and_parts_of, first_finding, keys_in_order, listed_uids,
 };
+use vic_walk::Notes;
 
 /// The verdict on a log, and its margin, if it is possible. It fails only if memory is refused.
 pub fn margin(alloc: Global, log: &Log) -> Result<Margin, AllocError>
@@ -30,7 +31,7 @@ pub fn margin(alloc: Global, log: &Log) -> Result<Margin, AllocError>
         (λ w. IsPossible (entries log.now.lines) × IsWeakest (entries log.now.lines) w)) }
 {
     let lines = log.lines();
-    match facts_and_parts_of::<RangeSet>(alloc, lines)? {
+    match facts_and_parts_of::<RangeSet>(alloc, lines, Notes::kept(alloc))? {
         Ok((facts, parts)) => {
             let Facts {
                 open,

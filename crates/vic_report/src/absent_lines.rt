@@ -15,7 +15,7 @@ use std::alloc::{AllocError, Global};
 use vic_frame::Uid;
 use vic_frame::low_bits_first::key;
 use vic_log::PackedLine;
-use vic_walk::{LogWalk, walk_log};
+use vic_walk::{LogWalk, Notes, walk_log};
 
 /// For each of some UIDs that a possible log doesn't leave open, the first line that rules it out.
 pub(crate) fn lines_of_absent(
@@ -33,7 +33,7 @@ pub(crate) fn lines_of_absent(
     if absent.is_empty() {
         return Ok(shown);
     }
-    let walk = walk_log(alloc, lines)?;
+    let walk = walk_log(alloc, lines, Notes::none(alloc))?;
     for uid in absent {
         let line = ruling_line(lines, &walk, *uid);
         shown.push(ShownUid { uid: *uid, line })?;

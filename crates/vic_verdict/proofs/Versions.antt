@@ -1,5 +1,5 @@
 -- The main theorem says the same in the words of each version.
-use Rattle.vic_verdict.proofs.Words.{◌≡◌, ◌⊎◌, inl, inr, ℕ, zero, suc, true, false, List, [], ◌∷◌, refl, arith, nat_tests, ⊎_elim, ◌↔◌, filter, cases_eq, both_ways, false_from_ne_true, has, AreDifferent, Entry, LogLine, entries, IsPopulation, answers_at, CouldHaveGiven, is_quiet, has_here, has_there, has_cases, has_filter, AreDifferent-population, AreDifferent-filter, IsVerdict, Complete, filter_has, IsWhole, has_at, AreOfFirstVersion, IsOfFirstVersion, AreOfSecondVersion, IsOfSecondVersion, Captured, CouldHaveGivenFirst, Outcome, Nobody, Lone, Several, outcome_of, answerers_at, Fits, given-first, quiet-silenced}
+use Rattle.vic_verdict.proofs.Words.{◌≡◌, ◌⊎◌, inl, inr, ℕ, zero, suc, true, false, List, [], ◌∷◌, refl, arith, nat_tests, ⊎_elim, ◌↔◌, cases_eq, both_ways, false_from_ne_true, has, AreDifferent, Entry, LogLine, entries, IsPopulation, answers_at, CouldHaveGiven, is_quiet, has_here, has_there, has_cases, has_filter, AreDifferent-population, AreDifferent-filter, IsVerdict, Complete, filter_has, IsWhole, has_at, AreOfFirstVersion, IsOfFirstVersion, AreOfSecondVersion, IsOfSecondVersion, Captured, CouldHaveGivenFirst, Outcome, Nobody, Lone, Several, outcome_of, answerers_at, Fits, given-first, quiet-silenced}
 use Rattle.vic_verdict.specs.Versions.{HasExactlyListed, IsWholeFirst, IsReady, Answers, AnswersAlone, SeveralAnswer, IsTrueOf, IsTrueOfThird, CouldHaveGivenSecond, CouldHaveGivenThird, IsWholeSecond, IsWholeThird}
 use Rattle.vic_verdict.proofs.Decide.{IsPossible-iff, IsPossibleUid-iff, IsCertainUid-iff}
 use Rattle.vic_verdict.proofs.Verdicts.{complete_whole}

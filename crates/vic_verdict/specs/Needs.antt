@@ -1,5 +1,5 @@
 -- What the slot lines of a log require, and which open UIDs meet it.
-use Rattle.std.specs.Prelude.{◌≡◌, ◌↔◌, ◌⊎◌, ℕ, ◌<◌, ◌≤◌, true, Some, List, length, slice_get}
+use Rattle.std.specs.Prelude.{◌≡◌, ◌↔◌, ◌⊎◌, ℕ, ◌<◌, ◌≤◌, true, List, length, slice_get}
 use Rattle.std.specs.List.{All, Any, sum_by}
 use Rattle.vic_frame.specs.Uids.{has}
 use Rattle.vic_tree.specs.OpenSet.{UpToThree}

@@ -56,7 +56,7 @@ pub struct Met {
 pub struct LogParts {
     /// Cut for the log.
     pub parts: Parts,
-    /// Where the UIDs of its Stay Quiet requests were found among them.
+    /// Where the UIDs of its Stay Quiet requests were found among them, if notes are kept.
     pub notes: Notes,
 }
 
@@ -71,16 +71,17 @@ pub fn facts_of<S: OpenSet>(
         (λ f. AreFactsOf (entries lines.now) (S.is_open f.«open») f.met f.certain.items)
         (λ n. IsVerdict lines.now (Impossible n))) }
 {
-    match facts_and_parts_of::<S>(alloc, lines)? {
+    match facts_and_parts_of::<S>(alloc, lines, Notes::none(alloc))? {
         Ok((facts, _)) => Ok(Ok(facts)),
         Err(line) => Ok(Err(line)),
     }
 }
 
-/// The same, and the parts by which it was judged.
+/// The same, and the parts by which it was judged, with notes if they are kept.
 pub fn facts_and_parts_of<S: OpenSet>(
     alloc: Global,
     lines: &[PackedLine],
+    notes: Notes,
 ) -> Result<Result<(Facts<S>, LogParts), u32>, AllocError>
     requires { AreLogLines lines.now }
     ensures facts { IfOk result (λ r. MatchResult r
@@ -90,7 +91,7 @@ pub fn facts_and_parts_of<S: OpenSet>(
     ensures cut { IfOk result (λ r. MatchResult r
         (λ p. AreCut p.1.parts (entries lines.now)) (λ _. ⊤)) }
 {
-    match open_and_met::<S>(alloc, lines)? {
+    match open_and_met::<S>(alloc, lines, notes)? {
         Ok((open, met, parts)) => {
             let certain = certain_uids(alloc, &met)?;
             Ok(Ok((Facts { open, met, certain }, parts)))
@@ -131,6 +132,7 @@ fn add_if_exactly(certain: &mut Vec<Uid>, uids: &[Uid], count: usize) -> Result<
 fn open_and_met<S: OpenSet>(
     alloc: Global,
     lines: &[PackedLine],
+    notes: Notes,
 ) -> Result<Result<(S, Met, LogParts), usize>, AllocError>
     requires { AreLogLines lines.now }
     ensures found { IfOk result (λ r. MatchResult r
@@ -146,7 +148,7 @@ fn open_and_met<S: OpenSet>(
         parts,
         mut walk,
         broken,
-    } = walk_log(alloc, lines)?;
+    } = walk_log(alloc, lines, notes)?;
     if let Some(at) = broken {
         // an unread slot before it may lack tags
         return Ok(Err(first_lack(alloc, lines, &parts, &walk, at)?));
@@ -171,7 +173,7 @@ pub fn is_possible(alloc: Global, lines: &[PackedLine]) -> Result<bool, AllocErr
         parts,
         mut walk,
         broken,
-    } = walk_log(alloc, lines)?;
+    } = walk_log(alloc, lines, Notes::none(alloc))?;
     if broken.is_some() {
         return Ok(false);
     }

@@ -9,15 +9,27 @@ use vic_frame::low_bits_first::key;
 /// Hints of the parts of the UIDs that Stay Quiet requests name, in their order.
 #[derive(Drop)]
 pub struct Notes {
+    /// Whether the first walk makes them.
+    kept: bool,
     parts: Vec<u32>,
     /// How many of them a walk has read.
     read: usize,
 }
 
 impl Notes {
-    /// No notes.
+    /// For a walk that makes no notes.
     pub fn none(alloc: Global) -> Notes {
         Notes {
+            kept: false,
+            parts: Vec::new(alloc),
+            read: 0,
+        }
+    }
+
+    /// For a walk that makes them, 4 bytes each.
+    pub fn kept(alloc: Global) -> Notes {
+        Notes {
+            kept: true,
             parts: Vec::new(alloc),
             read: 0,
         }
@@ -38,8 +50,12 @@ impl Notes {
         }
     }
 
-    /// The next note, made now if there is none: of the part that has this UID.
+    /// A hint of the part that has the UID of the next request: its note, which is made now if
+    /// there is none and they are kept.
     pub(crate) fn next_of(&mut self, parts: &Parts, uid: Uid) -> Result<usize, AllocError> {
+        if !self.kept {
+            return Ok(parts.at(key(uid)));
+        }
         if let Some(part) = self.next() {
             return Ok(part);
         }

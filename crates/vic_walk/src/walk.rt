@@ -54,7 +54,7 @@ fn put_all(marks: &mut Marks, places: &[usize])
 
 impl Walk {
     /// The walk before the first entry: that many parts, all open and Ready.
-    fn start(alloc: Global, count: usize) -> Result<Walk, AllocError>
+    fn start(alloc: Global, count: usize, notes: Notes) -> Result<Walk, AllocError>
         ensures { IfOk result (λ w. (bs : List ℕ) (es : List EntryValue) → part_count bs ≡ count
             → IsWalkAt bs es 0 w) }
     {
@@ -63,7 +63,7 @@ impl Walk {
             quiet: Vec::new(alloc),
             ends: vec![in alloc; 0; count]?,
             heard: Marks::none(alloc, count)?,
-            notes: Notes::none(alloc),
+            notes,
         })
     }
 
@@ -269,6 +269,7 @@ fn walk_over(
     alloc: Global,
     lines: &[PackedLine],
     parts: &Parts,
+    notes: Notes,
 ) -> Result<(Walk, Option<usize>), AllocError>
     requires order { IsInOrder (entries lines.now) }
     requires valid { AreValid (entries lines.now) }
@@ -277,7 +278,7 @@ fn walk_over(
     requires cut { AreCut parts.now (entries lines.now) }
     ensures { IfOk result (λ r. IsEndOfWalk parts.now (entries lines.now) r.1 r.0) }
 {
-    let mut walk = Walk::start(alloc, parts.count())?;
+    let mut walk = Walk::start(alloc, parts.count(), notes)?;
     let mut rounds = RoundCursor::first();
     for index in 0..list_start(lines) {
         let entry = entry_of(lines[index]);
@@ -304,14 +305,14 @@ pub struct LogWalk {
 }
 
 /// The walk over a log: to its end, or past the first entry with which a reply isn't borne out.
-pub fn walk_log(alloc: Global, lines: &[PackedLine]) -> Result<LogWalk, AllocError>
+pub fn walk_log(alloc: Global, lines: &[PackedLine], notes: Notes) -> Result<LogWalk, AllocError>
     requires order { IsInOrder (entries lines.now) }
     requires valid { AreValid (entries lines.now) }
     requires rising { IsRisingFrom 0 lines.now }
     ensures { IfOk result (IsWalkOver (entries lines.now)) }
 {
     let parts = Parts::of(alloc, lines)?;
-    let (walk, broken) = walk_over(alloc, lines, &parts)?;
+    let (walk, broken) = walk_over(alloc, lines, &parts, notes)?;
     Ok(LogWalk {
         parts,
         walk,

@@ -1,4 +1,4 @@
-use Rattle.vic_verdict.proofs.Words.{◌≡◌, ◌∙◌, ℕ, List, sym, subst, true, has, ◌↔◌, ap, Entry, IsPossible, IsWhole}
+use Rattle.vic_verdict.proofs.Words.{◌≡◌, subst, true, has, ◌↔◌}
 use Rattle.vic_log.proofs.Weaker.{weaker_given, weaker_listed}
 use Rattle.vic_verdict.proofs.laws.weaker_is_complete.Goals as goal
 
