@@ -469,6 +469,17 @@ def quiet_cycles(random_, size):
 
 
 @shape
+def closed_cycles(random_, size):
+    """Version 2. SIZE Stay Quiet; for half of them a field cycle, it again, and silence in a mask
+    of 16 bits; then silence in all: complete 0."""
+    tags = new_tags(random_, size)
+    yield from map(silence, tags)
+    for uid in tags[: size // 2]:
+        yield from ("F", silence(uid), ask(low(random_.choice(tags), 16)), "S")
+    yield from ("F", ask(EVERYONE), "S")
+
+
+@shape
 def jump_cycles(random_, size):
     """Version 2. SIZE / 2 times: a field cycle, and silent rounds of 56 bits at both ends of the
     order of low bits."""
