@@ -234,3 +234,11 @@ def test_the_packages_of_the_release_are_made_again():
                           check=False)
     # 2: of other sources, or by other tools
     assert done.returncode in (0, 2), done.stdout + done.stderr
+
+
+def test_a_version_that_is_released_is_that_of_dist():
+    """Packages of changed sources have another version: the next one, with ~dev."""
+    now = subprocess.run([TOP / "release/sources"], capture_output=True, text=True, check=True)
+    released = (TOP / "dist/SOURCES").read_text()
+    # the last line says by which tools
+    assert "~dev" in VERSION or now.stdout.splitlines()[:2] == released.splitlines()[:2]

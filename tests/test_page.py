@@ -50,6 +50,9 @@ LIGHTS = (("I16 S RA RB S13 UA UB", "yes", "matches"), ("I1 RA", "yes", "none gi
 # What is said besides, at the shelf and to whoever maintains the reader; and what isn't.
 SAID = (
     ("I1 S", "check the antenna", "Nothing to do"),
+    ("I1 RA QA I1 S UA", "Nothing to do.", "only one more round shows"),
+    ("I1 RA UA", "only one more round shows whether a strong reply hid a weaker one.",
+     "Nothing to do"),
     ("I1 S UA", "If the list is what the reader found: a tag left", "shown by"),
     ("I1 S UA", "ruled out by", "must be here"),
     ("I1 S UA", "asked in 1 slot, silent there; ruled out by line 3", "To go unnoticed"),

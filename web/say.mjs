@@ -29,6 +29,9 @@ const NEW_LOG = "Count again, in a new log: with less interference, tags that li
 const CYCLE = "Switch the reader's field off and on, and count again.";
 const LOOK = "Or look whether the item is there: the answer speaks only of what the log shows.";
 const EMPTY = "If items should be here: check the antenna, switch the reader's field off and on, and count again.";
+const NOTHING = "Nothing to do.";
+const ONE_MORE = "Send this page (printed as PDF) to whoever maintains the reader: only one more round shows whether a strong reply " +
+  "hid a weaker one.";
 const COMPARE = "Compare these tags with what should be here.";
 const MISSING = ["If the list is what was expected here: look for the listed tags that can't be here. If an item is in plain sight, " +
   "its tag is broken or covered: move it, and count again.",
@@ -103,8 +106,8 @@ function possible(told) {
  * What to do at the shelf.
  * @param {Told} told
  */
-function steps({ object: { kind, found, open }, counts, quiet, notes }) {
-  if (kind === KIND.COMPLETE) return [counts.listed ? "Nothing to do." : EMPTY];
+function steps({ object: { kind, found, open, captured }, counts, quiet, notes }) {
+  if (kind === KIND.COMPLETE) return [!counts.listed ? EMPTY : captured?.holds === false ? ONE_MORE : NOTHING];
   if (!open.count && !counts.listed) return [COMPARE];
   const steps = [];
   if (kind === KIND.DOUBTFUL) steps.push(CYCLE, LOOK);

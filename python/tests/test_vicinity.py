@@ -106,6 +106,9 @@ class Calls(unittest.TestCase):
                 self.assertEqual(vicinity.explain(log(lines)), (wanted, population))
                 self.assertEqual(str(wanted), text)
                 self.assertEqual(wanted.is_complete, wanted.status == 0)
+                for found in (vicinity.check, vicinity.explain, vicinity.report, vicinity.margin,
+                              vicinity.survey):
+                    self.assertEqual(bool(found(log(lines))), wanted.status == 0)
 
     def test_masks_of_answers(self):
         self.assertEqual(vicinity.check(log(SIXTEEN + b"S\n" * 14)).mask, vicinity.Mask(4, 14))

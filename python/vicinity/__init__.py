@@ -11,15 +11,13 @@ It is loaded on the first call; LIBVICINITY may name its file.
 
 `python3 -m vicinity FILE ..` answers for many files in one process;
 `python3 -m vicinity show LOG` and `page LOG` draw one;
-`python3 -m vicinity reconcile --expected FILE LOG ..` compares many with one list
-of what should be there.
+`python3 -m vicinity reconcile --expected FILE LOG ..` compares many with what should be there.
 """
 from ._answers import (Answer, Explanation, Fault, Finding, FindingKind, Kind, ListFault, Margin,
                        Mask, Report, Simulation, Survey, Weakest)
 from ._calls import (captured, check, check_listed, explain, explain_into, explain_listed, listed,
-                     margin, margin_listed, overlooked, reconcile, report, report_listed,
+                     margin, margin_listed, overlooked, page, reconcile, report, report_listed,
                      simulate, simulate_into, survey)
-from ._drawn import page
 from .frames import (HEADER_LINE, FrameFault, Reply, Request, add_crc, parse_uid, read_request,
                      read_response, slot_mask, uid_text, write_inventory, write_line,
                      write_response, write_stay_quiet)

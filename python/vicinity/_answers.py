@@ -123,8 +123,11 @@ class Answer(NamedTuple):
 
     @property
     def is_complete(self) -> bool:
-        """Whether the list is complete."""
+        """Whether the list is complete. Only then is an answer true, or what has one."""
         return self.kind is Kind.COMPLETE
+
+    def __bool__(self) -> bool:
+        return self.is_complete
 
     def __str__(self) -> str:
         return self.text
@@ -258,3 +261,8 @@ class Simulation(NamedTuple):
     status: int
     """0 if `text` is a log, 3 if it is the one line of a refusal."""
     text: bytes
+
+
+
+for _found in (Explanation, Report, Margin, Survey):
+    setattr(_found, "__bool__", lambda found: found.answer.is_complete)

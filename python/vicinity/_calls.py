@@ -6,6 +6,7 @@ import mmap
 import re
 import struct
 from array import array
+from html import escape
 from typing import Any, Iterable, Optional, Sequence
 
 from ._answers import (Answer, Explanation, Fault, Finding, FindingKind, Kind, ListFault, Margin,
@@ -280,3 +281,18 @@ def with_captures(text: bytes) -> bytes:
 def if_captured(text: bytes, answer: Answer) -> Optional[Answer]:
     """The answer if any reply may have hidden others; nothing if the text is refused."""
     return None if answer.kind is Kind.REFUSED else check(with_captures(text))
+
+
+class Page(str):
+    """A page as HTML, which a notebook shows."""
+
+    def _repr_html_(self) -> str:
+        return f'<iframe srcdoc="{escape(self)}" style="width: 100%; height: 40em"></iframe>'
+
+
+def page(text: BytesLike, name: str = "") -> Page:
+    """The page of a log, as `python3 -m vicinity page` writes it: the answer, what to do,
+    what was found, and the rounds. `name` is the name of the log. Raises what `check` raises."""
+    from .pages.log import of_log  # drawing is loaded only here
+
+    return Page("".join(of_log(bytes_of(text), name)[1]))

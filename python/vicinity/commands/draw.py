@@ -1,5 +1,4 @@
-"""`show` and `page`: a session drawn for a terminal, or as one HTML file,
-with what `vicinity report` says about it."""
+"""`show` and `page`: a session drawn for a terminal, or as one HTML file."""
 from __future__ import annotations
 
 import argparse
