@@ -263,6 +263,6 @@ class Simulation(NamedTuple):
     text: bytes
 
 
-
+# so that `if margin(log)` isn't true of every answer
 for _found in (Explanation, Report, Margin, Survey):
     setattr(_found, "__bool__", lambda found: found.answer.is_complete)
