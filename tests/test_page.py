@@ -148,7 +148,8 @@ HIDDEN = (
     ("I1 RA QA I1 S I1 S UA", "still holds, but a tag would have had to be missed in only 2 "
      "slots."),
     ("I1 RA UB", "may be wrong. To know, silence each tag that was heard, and ask all in one slot, "
-     "until none answers: T 260100F60A"), ("I1 RA", "still holds."),
+     "until none answers: T 260100F60A"),
+    ("I1 RA", "would still be unlisted E0040100000000A1; more may be open."),
     ("I1 RA I1 S UB", None), ("I1 S", None), ("I1 C UA", None), ("UA UA", None))
 # Logs whose pages are read by everybody: each look of the answer.
 READ = ("I16 S RA RB S13 UA UB", "I16 S C S14 UA", "I1 RA I1 S", "UA UA", "I1 RA")

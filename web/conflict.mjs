@@ -62,11 +62,12 @@ function partsOf(log, lines) {
 }
 
 /**
- * The lines without which a conflict isn't understood.
+ * The lines of a conflict; of a large one those without which it isn't understood.
  * @param {Conflict | null} conflict
  */
 export function keyLines(conflict) {
   if (!conflict) return [];
   const slots = [...conflict.unread ? [conflict.unread] : [], ...conflict.heard];
-  return [...slots.map((slot) => slot.line), conflict.silencer, conflict.last].filter((line) => line);
+  const shown = isLarge(conflict) ? [...slots.map((slot) => slot.line), conflict.last] : conflict.parts.flatMap((part) => part.lines);
+  return [...shown, conflict.silencer].filter((line) => line);
 }

@@ -26,7 +26,7 @@ export function refused(told) {
   const last = line === told.counts.lines && line > 1;
   if (told.counts.lines === 0) return { headline: "The text is empty.", shelf: [ANOTHER], causes: [] };
   if (isSpreadsheet(told.faulty)) {
-    return { headline: `This file isn't a log, but a spreadsheet: ${SAVE_AS_CSV}.`, shelf: [NO_LIST, NAMED, UNPACK], causes: [] };
+    return { headline: `This file isn't a log, but a spreadsheet: ${SAVE_AS_CSV}.`, shelf: [NAMED, NO_LIST, UNPACK], causes: [] };
   }
   const foreign = line === 1 && !OF_A_LOG.test(told.faulty.replace(CODING, "")), table = foreign && isTable(told.faulty);
   return { headline: table ? "This file isn't a log, but a table." : `This text isn't a log. Line ${line}: ${wrong}.`,

@@ -88,7 +88,7 @@ function tail(mask) {
 function wide(head, words, line, named) {
   const attributes = /** @type {Record<string, string>} */ ({ colspan: String(SLOTS + 1), class: named ? "say named" : "say" });
   if (line) attributes["data-line"] = String(line);
-  return el("tr", {}, el("th", { scope: "row" }, head), el("td", attributes, words, ...marked(named)));
+  return el("tr", {}, el("th", { scope: "row" }, line ? toLine(line, head) : head), el("td", attributes, words, ...marked(named)));
 }
 
 /**

@@ -226,11 +226,12 @@ function because(cause) {
  * that counts on it. It is no part of the answer.
  * @param {Told} told
  */
-export function alsoHolds({ object: { kind, captured, margin }, counts, requests }) {
+export function alsoHolds({ object: { kind, captured, margin, answer }, counts, requests }) {
   const certain = /** @type {string[]} */ ([KIND.COMPLETE, KIND.ABSENT, KIND.UNLISTED]);
   if (!captured || !counts.heard) return null;
   if (!certain.includes(kind)) return null;
-  return captured.holds ? { words: stillHolds(margin, captured.margin), ask: "" } : { words: `${mayBeWrong("")}:`, ask: requests.all };
+  if (!captured.holds) return { words: `${mayBeWrong("")}:`, ask: requests.all };
+  return { words: kind === KIND.COMPLETE ? stillHolds(margin, captured.margin) : `${IF_HIDDEN}would still be ${answer}; more may be open.`, ask: "" };
 }
 
 /**
