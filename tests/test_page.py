@@ -42,7 +42,7 @@ LOGS = (
      "that was asked there has at most one UID that wasn't silenced."),
     ("V2 M64 D", "The log contradicts itself: something answered in line 3, but no tag of the "),
     ("MB RA", "The log contradicts itself: line 3 is a reply of ..00A1, a tag that wasn't asked"),
-    ("UA UA", "This text isn't a log. Line 3: an earlier U line has the same UID."))
+    ("UA UA", "This log can't be used. Line 3: an earlier U line has the same UID."))
 # How the two lights are for some of them.
 LIGHTS = (("I16 S RA RB S13 UA UB", "yes", "matches"), ("I1 RA", "yes", "none given"),
           ("I1 S UA", "yes", "differs"), ("I1 C UA", "no", "not known yet"),
@@ -50,9 +50,11 @@ LIGHTS = (("I16 S RA RB S13 UA UB", "yes", "matches"), ("I1 RA", "yes", "none gi
 # What is said besides, at the shelf and to whoever maintains the reader; and what isn't.
 SAID = (
     ("I1 S", "check the antenna", "Nothing to do"),
-    ("I1 RA QA I1 S UA", "Nothing to do.", "only one more round shows"),
-    ("I1 RA UA", "only one more round shows whether a strong reply hid a weaker one.",
-     "Nothing to do"),
+    ("I1 RA QA I1 S UA", "Nothing to do.", "whoever maintains the reader"),
+    ("I1 RA UA", "only asking again, until none answers, shows whether a strong reply hid a weaker "
+     "one.", "Nothing to do"),
+    ("I1 RA UA", "To know whether a strong reply hid a weaker one, silence each tag that was "
+     "heard, and ask all in one slot, until none answers:", "may be wrong. To know"),
     ("I1 S UA", "If the list is what the reader found: a tag left", "shown by"),
     ("I1 S UA", "ruled out by", "must be here"),
     ("I1 S UA", "asked in 1 slot, silent there; ruled out by line 3", "To go unnoticed"),
@@ -85,18 +87,20 @@ SAID = (
     ('""', "Choose another file, or count again.", "Write the header"))
 # Texts that are no logs, with what is said of them.
 FOREIGN = (("\uFEFFvicinity-log 1\n", "byte order mark"), ("v\0i\0c\0\n\0", "UTF-16"),
-           ("uid,title\nE004,Emma\n", "a table (CSV)"),
-           ("uid,title\nE004,Emma\n", "Open the log, not a list"),
+           ("uid,title\nE004,Emma\n", "This file isn't a log, but a table."),
+           ("uid,title\nE004,Emma\n", "A list of UIDs isn't enough: open the logs too."),
+           ("Dear reader\n", "Choose another file, or count again."),
            ("uid,title\nE004,Emma\n", "what the logs show, open it together with them"),
            ("title;\"UID\"\nEmma;E004\n", "what the logs show, open it together with them"),
            ("Tag UID,title\nE004,Emma\n", "name its column of UIDs 'uid', and open it together"),
-           ("vicinity-log 1\nT 260100F60B\n", "have the CRC F60A, and the line has F60B"),
            ("vicinity-log 1\rT 260100F60A\rS\r", "CR alone"),
-           ("vicinity-log 1 \n", "vicinity-log 1‹space›"),
-           ("vicinity-log 1\nU E0040100000000A1\r", "A1‹CR›"),
-           ("vicinity-log 1\nT\t260100F60A\n", "T‹TAB›260100F60A"),
-           ("vicinity-log 1\nT 260100F60A\nR 0000A1000000000104E06746\nS\n", "gets the line D"),
-           ("vicinity-log 1\nT 260100F", "may end in the middle of this line"))
+           ("vicinity-log 1 \n", "vicinity-log 1‹space›"))
+# Logs that can't be used, with what is said of them.
+UNUSABLE = (("vicinity-log 1\nT 260100F60B\n", "have the CRC F60A, and the line has F60B"),
+            ("vicinity-log 1\nU E0040100000000A1\r", "A1‹CR›"),
+            ("vicinity-log 1\nT\t260100F60A\n", "T‹TAB›260100F60A"),
+            ("vicinity-log 1\nT 260100F60A\nR 0000A1000000000104E06746\nS\n", "gets the line D"),
+            ("vicinity-log 1\nT 260100F", "may end in the middle of this line"))
 # Lines of logs of version 3.
 ALL, EACH, OF_B = "T 260100F60A", "T 060100CD09", "T 260108B2923A"
 READ_A, READ_B = "R 0000A1000000000104E06745", "R 0000B2000000000104E0CF94"
@@ -137,18 +141,16 @@ THIRD = {
     "another mask": (
         (OF_B, OVER_A), "The log contradicts itself: line 3 is a reply of ..00A1, a tag that",
         "under the wrong request"),
-    "one slot too many": ((ALL, "N", "N"), "This text isn't a log. Line 4", "no slot"),
+    "one slot too many": ((ALL, "N", "N"), "This log can't be used. Line 4", "no slot"),
     "a reply cut short": (
-        (ALL, "H 0000A1"), "This text isn't a log. Line 3: the reply doesn't", "gets the line D")}
+        (ALL, "H 0000A1"), "This log can't be used. Line 3: the reply doesn't", "gets the line D")}
 # What each answer says of strong replies that hid weaker ones.
 HIDDEN = (
-    ("I16 S RA RB S13 UA UB", "may be wrong. To know, silence each tag that was heard, and ask all "
-     "in one slot, until none answers: T 260100F60A"),
+    ("I16 S RA RB S13 UA UB", "may be wrong."),
     ("I1 RA QA I1 S UA", "still holds, but a tag would have had to be missed in only 1 slot."),
     ("I1 RA QA I1 S I1 S UA", "still holds, but a tag would have had to be missed in only 2 "
      "slots."),
-    ("I1 RA UB", "may be wrong. To know, silence each tag that was heard, and ask all in one slot, "
-     "until none answers: T 260100F60A"),
+    ("I1 RA UB", "may be wrong."),
     ("I1 RA", "would still be unlisted E0040100000000A1; more may be open."),
     ("I1 RA I1 S UB", None), ("I1 S", None), ("I1 C UA", None), ("UA UA", None))
 # Logs whose pages are read by everybody: each look of the answer.
@@ -283,6 +285,20 @@ def test_a_foreign_text_is_told_from_a_log(page, text, words):
     page.drop(log=text.encode())
     page.until("h1", "isn't a log")
     page.until("#told", words)
+    is_table = "but a table" in page.said()
+    assert ("whoever maintains the reader" in page.said()) != is_table
+    assert "SHA-256 of the file" in page.said()
+    if is_table:
+        assert page.texts("label[for=text]") == ["The file"]
+
+
+@pytest.mark.parametrize(("text", "words"), UNUSABLE)
+def test_a_log_that_cannot_be_used(page, text, words):
+    page.drop(log=text.encode())
+    page.until("h1", "This log can't be used. Line ")
+    page.until("#told", words)
+    page.media("print")
+    assert "Counted on" not in page.said()
 
 
 @pytest.mark.parametrize("start", [b"PK\x03\x04\x14\0\x06\0,\n", b"PK\x03\x04",
@@ -290,10 +306,11 @@ def test_a_foreign_text_is_told_from_a_log(page, text, words):
 def test_a_spreadsheet_is_told_from_a_log(page, program, tmp_path, start):
     """By its first bytes. The answer is that of the library."""
     page.choose(tmp_path, {"books.xlsx": start + bytes(range(256)) * 20})
-    page.until("h1", "This file isn't a log, but a spreadsheet: save it as CSV, and drop that.")
+    page.until("h1", "This file isn't a log, but a spreadsheet: save it as CSV.")
     answer = program.run("check", str(tmp_path / "books.xlsx")).out.decode().strip()
     assert answer.startswith("refused at line 1: ") and page.texts(".banner code") == [answer]
     assert "UTF-16" not in page.said()
+    assert page.driver.find_element("id", "text").get_property("value") == ""
 
 
 def third(*lines):
@@ -342,6 +359,7 @@ def test_whether_it_also_holds_if_replies_were_hidden(page, names, words):
     page.until(".banner h1", "")
     said = [it.partition("hid a weaker one, the answer ")[2] for it in page.texts(".holds p")]
     assert [it for it in said if it] == ([words] if words else [])
+    assert (page.texts(".copy") == [ALL]) == (words == "may be wrong.")
 
 
 def test_a_contradiction_that_hidden_replies_explain(page):
@@ -416,7 +434,7 @@ def test_a_table_is_compared_with_the_logs_that_are_here(page):
 def test_a_header_with_a_comma_is_no_table(page):
     page.drop(log=b"vicinity-log 1; reader 4, shelf 2\n")
     page.until("h1", "isn't a log")
-    assert "CSV" not in page.said()
+    assert "table" not in page.said()
 
 
 @pytest.mark.parametrize(("names", "words", "never"), SAID)
@@ -507,10 +525,29 @@ def test_who_was_silenced_before_is_ringed(page):
     assert one["line"] == "3" and "the answer rests on it" in one["text"]
 
 
+def test_the_last_stay_quiets_of_a_long_log_are_drawn_with_their_round(page):
+    """Whose slots they underline. The strip says which rows are marked."""
+    rounds = [biglog.ask((8, 0)), "S"] * 70
+    page.drop(log=text_of(["vicinity-log 1", ALL, READ_A, *rounds, EACH, READ_A, READ_B, *"S" * 14,
+                           QUIET_A, biglog.silence(0xE0040100000000B2)]))
+    page.until(".rounds td.quiet", "B2")
+    assert len(page.texts(".rounds td.quiet")) == 2
+    assert page.texts(".rounds .say") == ["68 more requests"]
+
+
 def test_without_a_list_no_tag_is_ringed(page):
     page.drop(log=log_of("I16 S RA RB S13"))
     page.until("h1", "2 tags proved")
     assert page.texts(".named") == []
+
+
+def test_without_a_list_all_tags_are_seen(page):
+    """Where nothing is left to ask. What isn't scrolled is no stop for the keyboard."""
+    tags = biglog.new_tags(random.Random(1), 30)
+    page.drop(log=text_of(["vicinity-log 1", *biglog.search(tags)]))
+    page.until("h1", "30 tags proved")
+    assert len([it for it in page.texts(".uids code") if it]) == 30
+    page.wait(lambda: not page.driver.find_elements("css selector", ".wide[tabindex]"))
 
 
 @pytest.mark.parametrize("names", ["I1 RA I1 S", "UA UA"])
@@ -626,7 +663,7 @@ def test_several_logs(page):
     page.drop(one=log_of("I1 RA UA"), two=log_of("I1 S UA"), three=log_of("UA UA"))
     page.until("#logs", "The one listed tag is here")
     page.until("#logs", "1 listed tag can't be here")
-    page.until("#logs", "isn't a log")
+    page.until("#logs", "can't be used")
     said = "3 logs, each with its own answer. Complete: 1 of 3."
     page.until("h1", said)
     assert (page.texts("h1"), page.driver.title) == ([said], said)
@@ -816,7 +853,7 @@ def test_how_often_a_missing_item_was_asked(page):
     ("books.csv", ",".join(f"c{number}" for number in range(30)).encode(), "'c10', 'c11' and 18 "
      "others."), ("books.csv", b"\n\n", "No column has a name."),
     ("books.csv", b"\xD0\xCF\x11\xE0\xA1\xB1\x1A\xE1", "books.csv is a spreadsheet: save it"),
-    ("books.ods", b"PK\x03\x04", "No answer: books.ods is a spreadsheet: save it as CSV, and ")])
+    ("books.ods", b"PK\x03\x04", "books.ods is a spreadsheet: save it as CSV, and open that.")])
 def test_a_better_catalogue_is_compared_with_the_same_logs(page, tmp_path, name, content, words):
     """Also if it comes alone, as after a page that says what to do with the first one."""
     page.choose(tmp_path, {name: content, "one.log": log_of("I1 RA QA I1 S")})

@@ -277,6 +277,14 @@ def test_page_of_a_refused_text(opened):
     assert page.run("return document.querySelectorAll('b').length") == 0
 
 
+@pytest.mark.parametrize(("text", "name"), [
+    (REFUSED, "The log"), (REFUSED + b"S\n", "The log, to line 4 of 5"),
+    (b"uid,title\nE004,Emma\n", "The file, to line 1 of 2"), (b"PK\x03\x04\0\n\0", "")])
+def test_what_a_page_has_of_a_refused_text(opened, text, name):
+    """It ends at the line that is refused, and says so. A spreadsheet isn't shown."""
+    assert "".join(opened("text", text).texts("aside:not([hidden]) label")) == name
+
+
 def long_conflict(vicinity):
     """A collision of all tags, and silent rounds that leave no tag: 737 lines that contradict each
     other."""
@@ -309,8 +317,13 @@ def test_page_of_a_longer_session(opened, sessions, name):
     bars = page.run("return document.querySelectorAll('.strip i').length")
     # that shows all rounds where not all are drawn
     assert bool(bars) == (name != "empty")
+    marked = page.run("return document.querySelector('.strip')?.ariaLabel.split(' at ')[1]")
+    assert bool(marked) == (name not in ("whole", "unlisted", "empty"))
     if name == "conflict":
         page.until("summary", "The 737 lines that can't all be true, of 47 rounds")
+        page.press("summary")
+        page.until("details li", "line 3: line 2 asked all UIDs, and two or more tags answered")
+        assert marked == "lines 2 and 769"
 
 
 COLLECTION = TOP / "examples/collection"

@@ -60,7 +60,7 @@ function isList(file) {
  * @returns {Catalogue}
  */
 export function readCatalogue(file) {
-  if (isSpreadsheet(startOf(file))) throw new Wrong(`${file.name} is a spreadsheet: ${SAVE_AS_CSV}`);
+  if (isSpreadsheet(startOf(file))) throw new Wrong(`${file.name} is a spreadsheet: ${SAVE_AS_CSV}, and open that`);
   if (startOf(file).startsWith(HEADER)) {
     const entries = [...new TextDecoder().decode(file.text).matchAll(LISTED)].map(([, digits]) => BigInt(`0x${digits}`))
       .sort((one, other) => one < other ? -1 : 1).map((uid) => ({ row: 0, uid, cells: [hex(uid)] }));

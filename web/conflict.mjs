@@ -2,7 +2,9 @@
 
 /** @typedef {import("./log.mjs").Log} Log */
 /** @typedef {import("./log.mjs").Slot} Slot */
-/** @typedef {{asked: import("./frames.mjs").Mask, round: number, lines: number[], silent: boolean}} Part lines of one round */
+/** @typedef {import("./log.mjs").Reading} Reading */
+/** @typedef {import("./frames.mjs").Mask} Mask */
+/** @typedef {{asked: Mask, round: number, lines: number[], reading: Reading}} Part lines of one round that hold the same */
 /**
  * @typedef {Object} Conflict
  * @property {number} count how many lines it has
@@ -42,7 +44,7 @@ export function conflictOf(log, lines, silencer) {
 }
 
 /**
- * The lines by their rounds.
+ * The lines by their rounds, and by what they hold.
  * @param {Log} log
  * @param {number[]} lines
  */
@@ -55,8 +57,9 @@ function partsOf(log, lines) {
   }
   const parts = [...byRow].slice(0, MOST_PARTS).flatMap(([at, its]) => {
     const row = log.row(at);
-    const silent = its.every((line) => log.reading(line) === "silent");
-    return row.kind === "round" ? [{ asked: row.asked, round: row.line, lines: its, silent }] : [];
+    if (row.kind !== "round") return [];
+    const readings = new Set(its.map((line) => log.reading(line) ?? "unknown")), { asked, line: round } = row;
+    return [...readings].map((reading) => ({ asked, round, reading, lines: its.filter((line) => log.reading(line) === reading) }));
   });
   return { rounds: byRow.size, parts };
 }

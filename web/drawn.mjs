@@ -17,7 +17,7 @@ const MOST_DRAWN = 60, EDGE = 3;
  * @param {boolean} whole whether a short log is drawn with all its rows
  */
 export function drawn(log, named, causing, whole) {
-  const edges = [...Array(EDGE).keys()].flatMap((at) => [at, log.rowCount - 1 - at]);
+  const edges = [...Array(EDGE).keys()].flatMap((at) => [at, asking(log, log.rowCount - 1 - at), log.rowCount - 1 - at]);
   const all = whole && log.rowCount <= MOST_DRAWN ? [...Array(log.rowCount).keys()] : [];
   const wanted = [...all, ...named.map((line) => log.rowAt(line)), ...edges, ...causing]
     .filter((row) => row >= 0 && row < log.rowCount);
@@ -35,6 +35,16 @@ export function drawn(log, named, causing, whole) {
   }
   if (next < log.rowCount) result.push({ kind: "gap", rows: log.rowCount - next });
   return result;
+}
+
+/**
+ * The row of the round after which a Stay Quiet was sent, and of another row this one.
+ * @param {Log} log
+ * @param {number} row
+ */
+function asking(log, row) {
+  while (row > 0 && log.isQuiet(row)) row--;
+  return row;
 }
 
 /**

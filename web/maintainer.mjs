@@ -1,5 +1,6 @@
 /** Draws what whoever maintains the reader needs: the causes, what tells them apart, and what is left to ask. */
 import { el, folded, toLine } from "./elements.mjs";
+import { alsoHolds, TO_KNOW } from "./say.mjs";
 import { visible } from "./words.mjs";
 
 /** @typedef {import("./told.mjs").Told} Told */
@@ -16,15 +17,16 @@ const NEW_VERSION = "Tags that were silenced before they were heard answer only 
  * @param {import("./say.mjs").Said} said
  */
 export function maintainer(told, said) {
-  if (!said.causes.length) return [];
-  const parts = [];
+  const parts = [], ask = alsoHolds(told)?.ask;
+  if (!said.causes.length && !ask) return [];
   if (told.faulty) parts.push(el("p", {}, toLine(told.object.line ?? 1), ": ", el("code", {}, visible(told.faulty).slice(0, MOST_SHOWN))));
   if (said.lead) parts.push(el("p", {}, said.lead));
-  parts.push(el("ul", {}, said.causes.map((cause) => el("li", {}, cause))));
+  if (said.causes.length) parts.push(el("ul", {}, said.causes.map((cause) => el("li", {}, cause))));
   if (said.test) parts.push(el("p", {}, said.test));
   if (told.object.unnoticed) {
     parts.push(el("p", {}, "A tag ", el("code", {}, told.object.unnoticed), " could be here: the log would be the same."));
   }
+  if (ask) parts.push(el("p", {}, `To know whether a strong reply hid a weaker one, ${TO_KNOW}:`), copied([ask]));
   return [folded("For whoever maintains the reader", true, ...parts, ...left(told))];
 }
 

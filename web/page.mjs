@@ -5,8 +5,10 @@ import { at, el } from "./elements.mjs";
 import { KIND } from "./kinds.mjs";
 import { Pane } from "./pane.mjs";
 import { unfoldOnPaper } from "./printing.mjs";
+import { nameOfText } from "./refused.mjs";
 import { pageOf, save } from "./saving.mjs";
 import { say } from "./say.mjs";
+import { isSpreadsheet } from "./tables.mjs";
 import { Trial } from "./trial.mjs";
 import { titleOf, view } from "./view.mjs";
 import { count, TRIAL } from "./words.mjs";
@@ -100,7 +102,8 @@ async function read(file) {
 /** Puts the text of the log that is shown into its field. */
 function edit() {
   trial.end();
-  pane.put(new TextDecoder().decode(entries[current]?.text ?? new Uint8Array()));
+  const text = new TextDecoder().decode(entries[current]?.text ?? new Uint8Array());
+  pane.put(isSpreadsheet(text) ? "" : text);
 }
 
 /** Shows the answers to all logs, if there are several, and what is told of one. */
@@ -117,6 +120,7 @@ function show() {
   } else if (entry?.told) {
     shown.replaceChildren(...view(entry.told));
     headed(titleOfEntry(entry));
+    at("named").textContent = nameOfText(entry.told, false);
     pane.mark();
   } else if (entry?.collection) {
     shown.replaceChildren(...collectionView(entry.collection));

@@ -3,6 +3,8 @@ import { collectionView, headlineOf } from "./collection.mjs";
 import { at } from "./elements.mjs";
 import { Pane } from "./pane.mjs";
 import { unfoldOnPaper } from "./printing.mjs";
+import { nameOfText } from "./refused.mjs";
+import { isSpreadsheet } from "./tables.mjs";
 import { tell } from "./told.mjs";
 import { titleOf, view } from "./view.mjs";
 import { printable } from "./words.mjs";
@@ -15,7 +17,8 @@ if ("items" in object) {
   const told = tell(object), pane = new Pane(/** @type {HTMLTextAreaElement} */ (at("text")), shown);
   shown.replaceChildren(...view(told));
   pane.put(object.text);
-  at("beside").hidden = false;
+  at("named").textContent = nameOfText(told, true);
+  at("beside").hidden = isSpreadsheet(object.text);
   document.title = titleOf(told);
 }
 unfoldOnPaper();

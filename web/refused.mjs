@@ -1,6 +1,7 @@
 /** What a person is told of a text that isn't a log. */
 import { advice } from "./faults.mjs";
 import { crcOf, CRC_DIGITS } from "./frames.mjs";
+import { KIND } from "./kinds.mjs";
 import { isSpreadsheet, SAVE_AS_CSV } from "./tables.mjs";
 
 /** @typedef {import("./told.mjs").Told} Told */
@@ -8,7 +9,7 @@ import { isSpreadsheet, SAVE_AS_CSV } from "./tables.mjs";
 const COUNT = "Count again, to a new log. If that is refused too, no count will help: send the log and this page (printed as PDF) " +
   "to whoever maintains the software that writes it.";
 const COPY = "The file may have been cut off, by a full disk or because it was copied while it was written: copy it again.";
-const NO_LIST = "Open the log, not a list: a list of UIDs isn't enough.";
+const NO_LIST = "A list of UIDs isn't enough: open the logs too.";
 const BOTH = "To compare this table with what the logs show, open it together with them.";
 const NAMED = "To compare this table with what the logs show, name its column of UIDs 'uid', and open it together with them.";
 /** A first line in which a column has this name. */
@@ -28,11 +29,31 @@ export function refused(told) {
   if (isSpreadsheet(told.faulty)) {
     return { headline: `This file isn't a log, but a spreadsheet: ${SAVE_AS_CSV}.`, shelf: [NAMED, NO_LIST, UNPACK], causes: [] };
   }
-  const foreign = line === 1 && !OF_A_LOG.test(told.faulty.replace(CODING, "")), table = foreign && isTable(told.faulty);
-  return { headline: table ? "This file isn't a log, but a table." : `This text isn't a log. Line ${line}: ${wrong}.`,
-    shelf: table ? [NO_LIST, HAS_UID.test(told.faulty) ? BOTH : NAMED] : foreign ? [NO_LIST] : last ? [COPY, COUNT] : [COUNT],
+  const foreign = isForeign(told);
+  if (foreign && isTable(told.faulty)) {
+    return { headline: "This file isn't a log, but a table.", shelf: [HAS_UID.test(told.faulty) ? BOTH : NAMED, NO_LIST], causes: [] };
+  }
+  return { headline: `${line > 1 ? "This log can't be used" : "This text isn't a log"}. Line ${line}: ${wrong}.`,
+    shelf: foreign ? [ANOTHER, NO_LIST] : last ? [COPY, COUNT] : [COUNT],
     causes: [...last && !ended ? ["The file may end in the middle of this line: it was cut off, or the software was still writing."] : [],
-      ...line === 1 ? ofFirst(told.faulty, foreign) : [], ...fault === "Crc" ? [rightCrc(told.faulty)] : [], ...table ? [] : [fix]] };
+      ...line === 1 ? ofFirst(told.faulty) : [], ...fault === "Crc" ? [rightCrc(told.faulty)] : [], fix] };
+}
+
+/**
+ * Whether nobody meant a text as a log.
+ * @param {Told} told
+ */
+const isForeign = ({ object: { line }, faulty }) => line === 1 && !OF_A_LOG.test(faulty.replace(CODING, ""));
+
+/**
+ * What a text is called beside its rounds; a page that is kept has it only to the line that is refused.
+ * @param {Told} told
+ * @param {boolean} isKept
+ */
+export function nameOfText(told, isKept) {
+  const { kind, line = 0, lines } = told.object, isRefused = kind === KIND.REFUSED;
+  const name = isRefused && isForeign(told) && !isSpreadsheet(told.faulty) ? "The file" : "The log";
+  return isKept && isRefused && line < lines ? `${name}, to line ${line.toLocaleString("en")} of ${lines.toLocaleString("en")}` : name;
 }
 
 /**
@@ -47,15 +68,11 @@ function rightCrc(line) {
 /** @param {string} text */
 const isTable = (text) => /[,;\t]/.test(text);
 
-/**
- * @param {string} text
- * @param {boolean} foreign
- */
-function ofFirst(text, foreign) {
+/** @param {string} text */
+function ofFirst(text) {
   const causes = [];
   if (text.startsWith("\uFEFF")) causes.push("The file begins with a byte order mark: save it as UTF-8 without one.");
   if (text.includes("\0")) causes.push("The file seems to be UTF-16: save it as ASCII or UTF-8.");
   if (text.includes("\r")) causes.push("The lines end with CR alone: write LF, or CR LF.");
-  if (foreign && isTable(text)) causes.push("This seems to be a table (CSV), not the log of a reader: its first line isn't that of a log.");
   return causes;
 }

@@ -2,7 +2,7 @@
 import { isLarge } from "./conflict.mjs";
 import { el, toLine } from "./elements.mjs";
 import { SLOTS } from "./frames.mjs";
-import { count, ending, hex, printable } from "./words.mjs";
+import { count, ending, hex, lines, printable } from "./words.mjs";
 
 /** @typedef {import("./told.mjs").Told} Told */
 /** @typedef {import("./drawn.mjs").Gap} Gap */
@@ -11,12 +11,14 @@ import { count, ending, hex, printable } from "./words.mjs";
 /** @typedef {import("./log.mjs").Slot} Slot */
 
 /** What a slot held: the sign of its cell, and words. */
-const LOOKS = {
+export const LOOKS = {
   silent: { sign: "·", words: "no tag answered" }, heard: { sign: "", words: "one tag was heard" },
   captured: { sign: "", words: "one tag was heard, and others may have answered under it" },
   collision: { sign: "×", words: "two or more tags answered" }, garbled: { sign: "?", words: "something answered that couldn't be read" },
   unknown: { sign: "~", words: "nothing is known of it" }, unreached: { sign: "", words: "not reached" },
 };
+/** What is said of a table that has to be scrolled. */
+const SCROLLED = { tabindex: "0", role: "group", "aria-label": "The rounds, scrolled sideways" };
 /** What the signs mean. */
 const LEGEND = [["silent", "·", "nobody"], ["heard", "A1", "one tag"], ["captured", "A1", "one tag, perhaps over others"],
   ["heard quiet", "A1", "silenced afterwards"], ["collision", "×", "two or more"], ["garbled", "?", "unreadable"],
@@ -34,10 +36,24 @@ export function rounds(told, names) {
   const body = told.rows.map((row) => rowOf(row, ringed, named, names));
   const table = el("table", { class: "rounds" }, el("caption", {}, "The rounds of the session"), el("thead", {}, head), el("tbody", {}, body));
   const bars = told.strip.map(barOf);
-  const label = `The whole session of ${count(told.counts.rounds, "round")}`;
+  const marked = told.strip.flatMap((bar) => bar.isMarked ? [bar.line] : []);
+  const label = `The whole session of ${count(told.counts.rounds, "round")}${marked.length ? `, marked at ${lines(marked)}` : ""}`;
   const strip = bars.length ? [el("p", { class: "strip", role: "img", "aria-label": label }, bars)] : [];
   return [el("section", {}, el("h2", {}, "The rounds"), ...strip, legend(told),
-    el("div", { class: "wide", tabindex: "0", role: "group", "aria-label": "The rounds, scrolled sideways" }, table))];
+    scrolled(table))];
+}
+
+/**
+ * A table that is reached by the keyboard if it has to be scrolled.
+ * @param {HTMLElement} table
+ */
+function scrolled(table) {
+  const wide = el("div", { class: "wide" }, table);
+  new ResizeObserver(() => {
+    const isWider = wide.scrollWidth > wide.clientWidth;
+    for (const [name, value] of Object.entries(SCROLLED)) if (isWider) wide.setAttribute(name, value); else wide.removeAttribute(name);
+  }).observe(wide);
+  return wide;
 }
 
 /**

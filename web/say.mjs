@@ -30,8 +30,8 @@ const CYCLE = "Switch the reader's field off and on, and count again.";
 const LOOK = "Or look whether the item is there: the answer speaks only of what the log shows.";
 const EMPTY = "If items should be here: check the antenna, switch the reader's field off and on, and count again.";
 const NOTHING = "Nothing to do.";
-const ONE_MORE = "Send this page (printed as PDF) to whoever maintains the reader: only one more round shows whether a strong reply " +
-  "hid a weaker one.";
+const ONE_MORE = "Send this page (printed as PDF) to whoever maintains the reader: only asking again, until none answers, shows whether a " +
+  "strong reply hid a weaker one.";
 const COMPARE = "Compare these tags with what should be here.";
 const MISSING = ["If the list is what was expected here: look for the listed tags that can't be here. If an item is in plain sight, " +
   "its tag is broken or covered: move it, and count again.",
@@ -50,7 +50,7 @@ const NOT_CLAIMED = "If the list is what the reader found: its software has to w
 export const HOLDS = "This is said of tags that had power, heard the reader, and were heard when they answered.";
 /** How it is said whether an answer about tags would also be that of a log whose replies may have hidden others. */
 const IF_HIDDEN = "If a strong reply hid a weaker one, the answer ";
-const TO_KNOW = "silence each tag that was heard, and ask all in one slot, until none answers";
+export const TO_KNOW = "silence each tag that was heard, and ask all in one slot, until none answers";
 const NO_CONFLICT = "If strong replies may have hidden weaker ones (each R read as H), the log doesn't contradict itself.";
 
 /** How many rounds are named as causes. */
@@ -230,7 +230,7 @@ export function alsoHolds({ object: { kind, captured, margin, answer }, counts, 
   const certain = /** @type {string[]} */ ([KIND.COMPLETE, KIND.ABSENT, KIND.UNLISTED]);
   if (!captured || !counts.heard) return null;
   if (!certain.includes(kind)) return null;
-  if (!captured.holds) return { words: `${mayBeWrong("")}:`, ask: requests.all };
+  if (!captured.holds) return { words: `${IF_HIDDEN}may be wrong.`, ask: requests.all };
   return { words: kind === KIND.COMPLETE ? stillHolds(margin, captured.margin) : `${IF_HIDDEN}would still be ${answer}; more may be open.`, ask: "" };
 }
 

@@ -12,7 +12,7 @@ const QUOTED = /"((?:[^"]|"")*)"/y;
 /** How a file of a spreadsheet program begins, read as UTF-8: packed as ZIP (.xlsx, .ods, .numbers), or as OLE has it (.xls). */
 const SPREADSHEET = /^(?:PK\x03\x04|\uFFFD\uFFFD\x11[\u0871\uFFFD])/;
 /** What to do with such a file. */
-export const SAVE_AS_CSV = "save it as CSV, and drop that";
+export const SAVE_AS_CSV = "save it as CSV";
 
 /**
  * Whether a text was that of a spreadsheet.

@@ -4,14 +4,14 @@ import { el, folded, toLine } from "./elements.mjs";
 import { maintainer } from "./maintainer.mjs";
 import { KIND } from "./kinds.mjs";
 import { noted } from "./notes.mjs";
-import { rounds } from "./rounds.mjs";
+import { LOOKS, rounds } from "./rounds.mjs";
 import { alsoHolds, granted, HOLDS, missed, say, silentIn } from "./say.mjs";
 import { count, lines, printable, TRIAL, whom } from "./words.mjs";
 
 /** @typedef {import("./told.mjs").Told} Told */
 /** @typedef {Map<string, string>} Names what a catalogue says of UIDs */
 
-/** How many UIDs are shown without being asked for, and of how many rounds the lines of a conflict are on paper. */
+/** How many UIDs are shown without being asked for beside other things, and of how many rounds the lines of a conflict are on paper. */
 const FEW = 24, MOST_ON_PAPER = 60;
 
 /**
@@ -55,7 +55,7 @@ export function banner(said, what, heading = "h1") {
  */
 function conditions(told) {
   const also = alsoHolds(told), holds = (told.object.kind === KIND.COMPLETE ? [HOLDS, ...missed(told.object)] : []).map((it) => el("p", {}, it));
-  const parts = [...holds, ...also ? [el("p", {}, also.words, ...also.ask ? [" ", el("code", {}, also.ask)] : [])] : []];
+  const parts = [...holds, ...also ? [el("p", {}, also.words)] : []];
   return parts.length ? [el("section", { class: "holds" }, parts)] : [];
 }
 
@@ -69,7 +69,7 @@ function shelf(said) {
  * @param {Told} told
  * @param {Names} names
  */
-function findings({ object: { findings, found }, counts }, names) {
+function findings({ object: { findings, found, open }, counts }, names) {
   const listed = counts.listed > 0;
   const kinds = /** @type {["absent" | "unlisted" | "doubtful", string, string, string][]} */ ([
     [KIND.ABSENT, "listed tag that can't be here", "listed tags that can't be here", "ruled out by "],
@@ -81,7 +81,8 @@ function findings({ object: { findings, found }, counts }, names) {
     const shown = (/** @type {number} */ line, asked = "") => [" ", el("span", { class: "by" }, asked, by), toLine(line)];
     const items = list.map(({ uid = "", line, overlooked }) => el("li", {}, ...tagWith(uid, names),
       ...line ? shown(line, overlooked ? `${silentIn(overlooked)}; ` : "") : []));
-    return folded(count(all, one, many), all <= FEW, el("ul", { class: "uids" }, items), ...rest(all - list.length));
+    const isSeen = all <= FEW || !listed && !open.count;
+    return folded(count(all, one, many), isSeen, el("ul", { class: "uids" }, items), ...rest(all - list.length));
   });
 }
 
@@ -106,10 +107,10 @@ function rest(number) {
  */
 function conflict({ conflict: it }) {
   if (!it || !isLarge(it)) return [];
-  const items = it.parts.map(({ asked, round, lines: numbers, silent }) => el("li", {}, toLine(numbers[0], lines(numbers)),
-    `: line ${round} asked ${whom(asked)}${silent ? ", and none answered" : ""}`));
+  const items = it.parts.map(({ asked, round, lines: numbers, reading }) => el("li", {}, toLine(numbers[0], lines(numbers)),
+    `: line ${round} asked ${whom(asked)}, and ${LOOKS[reading].words}`));
   const part = folded(`The ${count(it.count, "line")} that can't all be true, of ${count(it.rounds, "round")}`, false, el("ul", {}, items),
-    ...rest(it.rounds - items.length));
+    ...rest(it.rounds - new Set(it.parts.map((part) => part.round)).size));
   if (it.rounds > MOST_ON_PAPER) part.classList.add("aside");
   return [part];
 }
@@ -144,13 +145,14 @@ function takenForGranted({ kind, status, captured }) {
 
 /** @param {Told} told */
 function record({ object: { kind, version, sha256 }, counts }) {
-  const said = [count(counts.lines, "line")];
+  const said = [count(counts.lines, "line")], isRefused = kind === KIND.REFUSED;
   const parts = /** @type {[number, string, string?][]} */ ([[counts.rounds, "round"], [counts.slots, "slot"], [counts.heard, "reply", "replies"],
     [counts.quiets, "Stay Quiet"], [counts.cycles, "field cycle"], [counts.listed, "UID listed", "UIDs listed"]]);
   // of a text that isn't a log nothing but its lines is known
-  if (kind !== KIND.REFUSED) said.push(...parts.filter(([number]) => number).map((part) => count(...part)));
+  if (!isRefused) said.push(...parts.filter(([number]) => number).map((part) => count(...part)));
   return el("footer", { class: "record" }, el("p", {}, said.join(" · ")),
-    el("p", {}, `vicinity ${version}`, ...sha256 ? [" · SHA-256 of the log ", el("code", {}, sha256)] : []), signed());
+    el("p", {}, `vicinity ${version}`, ...sha256 ? [` · SHA-256 of the ${isRefused ? "file" : "log"} `, el("code", {}, sha256)] : []),
+    ...isRefused ? [] : [signed()]);
 }
 
 /** Who counted, and when: a line on paper. */
