@@ -840,6 +840,40 @@ def test_a_collection_with_a_tag_that_is_not_in_the_catalogue(page):
     assert sha256(log).hexdigest() in page.said()
 
 
+def test_a_log_of_a_collection_is_compared_with_its_catalogue(page):
+    """So it lacks no list, and nothing is to be compared at the shelf."""
+    page.drop(**{"catalogue": b"uid,title\n", "one.log": log_of("I1 RA QA I1 S"),
+                 "two.log": log_of("I1 S")})
+    page.until("h1", "1 item not in the catalogue.")
+    page.run("for (const it of document.querySelectorAll('details')) it.open = true")
+    page.until(".logs", "Search finished. 1 tag proved.")
+    assert page.texts(".logs h3") == ["Search finished. 1 tag proved.", "The field is empty."]
+    assert page.texts(".logs dt") == ["Search finished"] * 2
+    assert page.texts(".logs h4").count("At the shelf") == 1
+    assert page.texts(".items tbody tr") == ["E0040100000000A1\none.log"]
+
+
+@pytest.mark.parametrize(("items", "log", "is_said"), [
+    (b"", "I16 S RA", False), (b"", "I16 S RA S14", True),
+    (b"E0040100000000B2\n", "I16 S RA S13", True)])
+def test_of_logs_to_be_counted_again_nothing_else_is_said(page, items, log, is_said):
+    """Unless an item is missing: a reply of each field may have hidden it."""
+    page.drop(**{"catalogue": b"uid,title\n" + items, "one.log": log_of(log)})
+    page.until("h1", "not in the catalogue")
+    said = "may be wrong. To know, in the field of one.log, silence" in page.said()
+    assert (said, len(page.texts(".holds"))) == (is_said, is_said)
+
+
+def test_items_are_told_by_their_shelves(page):
+    """Where a log has another name, it is told too."""
+    page.drop_files({it.name: it.read_bytes() for it in sorted(SHELVES.iterdir())})
+    page.until("h1", "1 in the wrong place")
+    page.run("for (const it of document.querySelectorAll('details')) it.open = true")
+    assert "A (shelf-a.log)" in next(it for it in page.texts(".items") if "belongs to" in it)
+    wanted = [f"{it.upper()} \u00B7 shelf-{it}.log" for it in "abc"]
+    assert page.texts("th[scope=rowgroup]") == wanted
+
+
 def test_how_often_a_missing_item_was_asked(page):
     page.drop(**{"catalogue": b"title;uid\nWalden;E0:04:01:00:00:00:00:A1\n",
                  "one.log": log_of("I1 S I1 S I1 S"), "two.log": log_of("I1 S I1 S")})

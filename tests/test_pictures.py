@@ -356,7 +356,7 @@ def test_page_of_a_collection(reconciled):
     assert "Walden" in page.texts("details")[0]
     assert "in 1 slot or more of each field" in page.texts("details")[0]
     assert page.texts(".logs summary")[0] == (
-        "shelf-c.log 3 tags proved; left to ask: UIDs ending in E and UIDs ending in F")
+        "shelf-c.log 3 tags proved; left to ask: UIDs ending in E or F")
 
 
 def test_page_of_a_collection_that_is_not_sure_enough(run, browser, tmp_path):
@@ -390,6 +390,7 @@ def test_a_log_of_a_collection_is_drawn_when_it_is_opened(reconciled):
     chosen = page.run("const it = document.querySelector('.logs textarea');"
                       "return it.value.slice(it.selectionStart, it.selectionEnd)")
     assert chosen == SHELVES[2].read_text().splitlines()[4]
+    assert page.texts(".logs h4")[0] == "At the shelf" and page.texts(".logs h1, .logs h2") == []
 
 
 def test_a_broken_log_comes_first(reconciled):

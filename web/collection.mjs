@@ -1,11 +1,11 @@
 /** Draws a collection: what to look for, what to move, what to count again, what is unknown, and each log. */
-import { el, folded } from "./elements.mjs";
+import { el, folded, lowered } from "./elements.mjs";
 import { KIND } from "./kinds.mjs";
 import { Pane } from "./pane.mjs";
 import { granted, HOLDS, mayBeWrong, missed, notSure, stillHolds } from "./say.mjs";
 import { maskOf, tell } from "./told.mjs";
 import { banner, signed, view } from "./view.mjs";
-import { count, ending, listing, printable } from "./words.mjs";
+import { count, endings, listing, printable } from "./words.mjs";
 
 /** @typedef {import("./told.mjs").LogObject} LogObject */
 /** @typedef {import("./view.mjs").Names} Names */
@@ -67,18 +67,19 @@ const isOpen = (log) => log.open.length > 0;
  */
 export function collectionView(object) {
   const of = (/** @type {State} */ state) => object.items.filter((item) => item.state === state);
-  const names = namesIn(object), again = countAgain(object, of("not provable"), names), first = object.set_aside.length > 0;
+  const names = namesIn(object), placed = placedIn(object), isIn = { "is in": (/** @type {Item} */ item) => namesOf(item.certain_in, placed) };
+  const again = countAgain(object, of("not provable"), names), first = object.set_aside.length > 0;
   const said = object.name ? [printable(object.name)] : [];
   const look = isWhole(object) ? "yes" : "no", sign = isWhole(object) ? "✓" : "!";
   return [banner({ look, sign, headline: headlineOf(object), lights: lights(object) }, [...said, ` · ${count(object.logs.length, "log")}`]),
     ...conditionsOfAll(object),
     ...first ? again : [],
     ...items("Look for", LOOK_FOR, of("missing"), askedIn(of("missing"), object.logs.length), true),
-    ...items("Move", MOVE, of("misplaced"), { "is in": (item) => namesOf(item.certain_in), [BELONGS]: (item) => item.belongs ?? "" }, true),
+    ...items("Move", MOVE, of("misplaced"), { ...isIn, [BELONGS]: (item) => item.belongs ?? "" }, true),
     ...first ? [] : again,
-    ...items("Not in the catalogue", NOT_EXPECTED, of("unexpected"), { "is in": (item) => namesOf(item.certain_in) }, true),
+    ...items("Not in the catalogue", NOT_EXPECTED, of("unexpected"), isIn, true),
     ...items("Without a tag", NO_TAG, of("no tag"), {}, false),
-    ...items(object.items.some((item) => item.belongs) ? "Here, and in place" : "Here", "", of("there"), { "is in": (item) => namesOf(item.certain_in) }, false),
+    ...items(object.items.some((item) => item.belongs) ? "Here, and in place" : "Here", "", of("there"), {}, false, shelfOf),
     ...logs("Read to the end", "", object.logs.filter((log) => !isOpen(log)), false, names), ...grantedOfAll(object), recordOfAll(object)];
 }
 
@@ -91,6 +92,29 @@ function namesIn({ items: all }) {
   const said = (/** @type {Item} */ { columns }) => Object.values(columns).filter((cell) => cell.trim()).slice(0, MOST_CELLS).join(" · ");
   return new Map(all.flatMap((item) => item.uid ? [[item.uid, said(item)]] : []));
 }
+
+/**
+ * What a log is called: by its place, if one is known by what is in place there, and by its file, if that is named otherwise.
+ * @param {CollectionObject} object
+ */
+function placedIn({ items: all }) {
+  /** @type {Map<string, Set<string>>} */
+  const places = new Map();
+  for (const { state, certain_in: [file, ...others], belongs } of all) {
+    if (state === "there" && belongs && !others.length) places.set(file, new Set(places.get(file)).add(belongs));
+  }
+  return (/** @type {string} */ file) => {
+    const name = nameOf(file), [place, ...others] = places.get(file) ?? [];
+    if (!place || others.length) return name;
+    return name.replace(/\.[^.]*$/, "") === place ? printable(place) : `${printable(place)} (${name})`;
+  };
+}
+
+/**
+ * Where an item is that is in place: its place, and its logs.
+ * @param {Item} item
+ */
+const shelfOf = ({ belongs, certain_in: files }) => [...belongs ? [printable(belongs)] : [], namesOf(files)].join(" · ");
 
 /**
  * A collection as it is saved: with so many of its logs as there is room for, those first that have to be counted again.
@@ -145,11 +169,13 @@ function lights(object) {
  */
 function conditionsOfAll(object) {
   const { counts } = object, all = object.logs.filter((log) => !isAside(log));
-  const hidden = all.filter((log) => log.captured?.holds === false).map((log) => log.file);
+  const hidden = all.filter((log) => log.captured?.holds === false);
   const isAll = isWhole(object) || object.kind === KIND.SMALL;
-  if (!isAll && !counts.missing && !counts.unexpected) return [];
+  // of what is here nothing is wrong, and what else is in these fields is known when they are counted again
+  const isAgain = hidden.length > 0 && hidden.every(isOpen);
+  if (!isAll && !counts.missing && (isAgain || !counts.unexpected)) return [];
   const known = all.every((log) => log.captured);
-  const also = hidden.length ? `${mayBeWrong(` in the field of ${namesOf(hidden)},`)}.` : stillHolds(isAll ? object.margin : undefined);
+  const also = hidden.length ? `${mayBeWrong(` in the field of ${namesOf(hidden.map((log) => log.file))},`)}.` : stillHolds(isAll ? object.margin : undefined);
   const sure = isAll ? [HOLDS, ...missed(object, ` in the field of ${nameOf(object.weakest?.file ?? "")}`)] : [];
   return [el("section", { class: "holds" }, ...sure.map((it) => el("p", {}, it)),
     ...known || hidden.length ? [el("p", {}, also)] : [])];
@@ -179,34 +205,43 @@ function askedIn(missing, logs) {
 }
 
 /**
- * A table of items: what the catalogue says of each, where it is, and last its UID.
+ * A table of items, those of a shelf below its name: what the catalogue says of each, where it is, and last its UID. An item of
+ * which the catalogue says nothing else is named by its UID.
  * @param {string} title
  * @param {string} words
  * @param {Item[]} list
  * @param {Record<string, (item: Item) => string>} where
  * @param {boolean} open
+ * @param {(item: Item) => string} [shelf]
  */
-function items(title, words, list, where, open) {
+function items(title, words, list, where, open, shelf = () => "") {
   if (!list.length) return [];
-  const isSaid = (/** @type {string} */ column) => list.some((item) => item.columns[column] && !(BELONGS in where && item.columns[column] === item.belongs));
-  const columns = [...new Set(list.slice(0, MOST_ROWS).flatMap((item) => Object.keys(item.columns)))].filter(isSaid);
-  const heads = [...columns, ...Object.keys(where), "UID"];
-  const said = (/** @type {Item} */ item) => columns.map((column) => printable(item.columns[column] ?? ""));
-  const rows = list.slice(0, MOST_ROWS).map((item) => el("tr", {}, cellsOf(heads,
-    [...said(item), ...Object.values(where).map((cell) => cell(item)), el("code", {}, item.uid ?? "none")])));
+  const shown = list.slice(0, MOST_ROWS), shelves = /** @type {Map<string, Node[]>} */ (new Map(shown.map((item) => [shelf(item), []])));
+  const isPlace = (/** @type {string} */ cell, /** @type {Item} */ item) => (BELONGS in where || !shelves.has("")) && cell === item.belongs;
+  const isSaid = (/** @type {string} */ column) => list.some((item) => item.columns[column] && !isPlace(item.columns[column], item));
+  const columns = [...new Set(shown.flatMap((item) => Object.keys(item.columns)))].filter(isSaid), asked = Object.keys(where);
+  const heads = columns.length ? [...columns, ...asked, "UID"] : ["UID", ...asked];
+  for (const item of shown) {
+    const uid = el("code", {}, item.uid ?? "none"), cells = Object.values(where).map((cell) => cell(item));
+    const said = columns.map((column) => printable(item.columns[column] ?? ""));
+    shelves.get(shelf(item))?.push(el("tr", {}, cellsOf(heads, said.length ? [...said, ...cells, uid] : [uid, ...cells])));
+  }
   const more = list.length > MOST_ROWS ? [el("p", {}, `and ${(list.length - MOST_ROWS).toLocaleString("en")} more`)] : [];
   return [folded(`${title} (${list.length.toLocaleString("en")})`, open && list.length <= FEW_ROWS, ...words ? [el("p", {}, words)] : [],
-    table(title, heads, rows), ...more)];
+    table(title, heads, shelves), ...more)];
 }
 
 /**
  * @param {string} caption
  * @param {string[]} heads
- * @param {Node[]} rows
+ * @param {Map<string, Node[]>} shelves rows, by the name above them
  */
-function table(caption, heads, rows) {
+function table(caption, heads, shelves) {
+  const name = (/** @type {string} */ shelf) => shelf ? [el("tr", {}, el("th", { scope: "rowgroup", colspan: String(heads.length) }, shelf))] : [];
+
   return el("table", { class: "items" }, el("caption", {}, caption),
-    el("thead", {}, el("tr", {}, heads.map((head) => el("th", { scope: "col" }, printable(head))))), el("tbody", {}, rows));
+    el("thead", {}, el("tr", {}, heads.map((head) => el("th", { scope: "col" }, printable(head))))),
+    ...[...shelves].map(([shelf, rows]) => el("tbody", {}, ...name(shelf), ...rows)));
 }
 
 /**
@@ -218,10 +253,13 @@ function cellsOf(heads, cells) {
   return cells.map((cell, at) => el(at ? "td" : "th", at ? { "data-head": heads[at] } : { scope: "row" }, cell));
 }
 
-/** @param {string[]} files */
-function namesOf(files) {
+/**
+ * @param {string[]} files
+ * @param {(file: string) => string} [name]
+ */
+function namesOf(files, name = nameOf) {
   const more = files.length - MOST_NAMES;
-  return listing([...files.slice(0, more === 1 ? MOST_NAMES + 1 : MOST_NAMES).map(nameOf), ...more > 1 ? [`${more} more`] : []]);
+  return listing([...files.slice(0, more === 1 ? MOST_NAMES + 1 : MOST_NAMES).map(name), ...more > 1 ? [`${more} more`] : []]);
 }
 
 /**
@@ -266,7 +304,7 @@ function oneLog(log, names) {
  * @param {Names} names
  */
 function drawnLog(object, names) {
-  const label = `The text of ${printable(object.file)}`, shown = el("div", {}, view(tell(object), "h3", names));
+  const label = `The text of ${printable(object.file)}`, shown = lowered(view(tell(object), names, false));
   const field = /** @type {HTMLTextAreaElement} */ (el("textarea", { class: "text", readonly: "", "aria-label": label }));
   new Pane(field, shown).put(object.text);
   return el("div", { class: "both" }, shown, el("div", { class: "beside" }, field));
@@ -285,8 +323,8 @@ function saidOf({ list, certain, open, more_open, object }) {
   // its own masks are wider than what no other log has proved
   const masks = object?.open.masks ?? open, all = object?.open.count ?? open.length, more = all - MOST_MASKS;
   const others = more_open && !object ? ["others"] : more > 1 ? [`${more.toLocaleString("en")} others`] : [];
-  const first = masks.slice(0, others.length ? MOST_MASKS : MOST_MASKS + 1).map((mask) => ending(maskOf(mask)));
-  return `${proved}; left to ask: ${listing([...first, ...others])}`;
+  const first = masks.slice(0, others.length ? MOST_MASKS : MOST_MASKS + 1).map(maskOf);
+  return `${proved}; left to ask: ${endings(first, others)}`;
 }
 
 /** @param {CollectionObject} object */

@@ -31,6 +31,19 @@ export function toLine(line, ...words) {
 }
 
 /**
+ * What stands below a heading of the second level: its own headings are two levels lower.
+ * @param {Node[]} nodes
+ */
+export function lowered(nodes) {
+  const made = el("div", {}, nodes);
+  for (const it of made.querySelectorAll("h1, h2")) {
+    const attributes = Object.fromEntries([...it.attributes].map(({ name, value }) => [name, value]));
+    it.replaceWith(el(`h${Number(it.tagName[1]) + 2}`, attributes, ...it.childNodes));
+  }
+  return made;
+}
+
+/**
  * A part with a heading, folded or not.
  * @param {string} heading
  * @param {boolean} open

@@ -75,12 +75,13 @@ export const granted = (holds) => [
 
 /**
  * @param {Told} told
+ * @param {boolean} isAlone whether it is no log of a collection, which is compared with a catalogue
  * @returns {Said}
  */
-export function say(told) {
+export function say(told, isAlone = true) {
   const none = { lights: [], why: "", lead: "", test: "" };
   if (told.object.kind === KIND.REFUSED) return { ...none, look: "refused", sign: "?", ...refused(told) };
-  if (!told.conflict) return possible(told);
+  if (!told.conflict) return possible(told, isAlone);
   const { sentence: found, causes, test } = contradiction(told.conflict), other = told.object.captured?.kind ?? KIND.IMPOSSIBLE;
   return { ...none, look: "broken", sign: "≠", headline: `The log contradicts itself: ${found}`, shelf: [NEW_LOG, STAYS],
     lead: "Mostly it is one of these:", causes, test: [test, other === KIND.IMPOSSIBLE ? "" : NO_CONFLICT].filter((it) => it).join(" ") };
@@ -88,27 +89,30 @@ export function say(told) {
 
 /**
  * @param {Told} told
+ * @param {boolean} isAlone
  * @returns {Said}
  */
-function possible(told) {
+function possible(told, isAlone) {
   const { object: { found, kind, open }, counts } = told, ended = open.count === 0, hasList = counts.listed > 0;
   const whole = kind === KIND.COMPLETE && hasList, only = ended && !hasList;
   const differs = found.absent || found.unlisted, why = whyOpen(told);
   const list = !hasList ? "none given" : whole ? "matches" : differs ? "differs" : "not known yet";
+  const finished = /** @type {Light} */ ({ name: "Search finished", value: ended ? "yes" : "no", look: ended ? "yes" : "no" });
+  const listLight = /** @type {Light} */ ({ name: "List", value: list, look: whole ? "yes" : list === "differs" ? "no" : "plain" });
   const causes = [...why, ...hasList && found.absent ? [NOT_HEARD] : [], ...hasList && found.unlisted ? [NOT_CLAIMED] : []];
-  return { look: whole ? "yes" : only ? "read" : "no", sign: whole ? "✓" : only ? "i" : "!", headline: headline(told),
-    lights: [{ name: "Search finished", value: ended ? "yes" : "no", look: ended ? "yes" : "no" },
-      { name: "List", value: list, look: whole ? "yes" : list === "differs" ? "no" : "plain" }],
-    shelf: steps(told), why: why[0] ?? "", lead: "", causes, test: "" };
+  return { look: whole ? "yes" : only ? "read" : "no", sign: whole ? "✓" : only ? "i" : "!", headline: headline(told, isAlone),
+    lights: [finished, ...hasList || isAlone ? [listLight] : []],
+    shelf: steps(told, isAlone), why: why[0] ?? "", lead: "", causes, test: "" };
 }
 
 /**
  * What to do at the shelf.
  * @param {Told} told
+ * @param {boolean} isAlone
  */
-function steps({ object: { kind, found, open, captured }, counts, quiet, notes }) {
+function steps({ object: { kind, found, open, captured }, counts, quiet, notes }, isAlone) {
   if (kind === KIND.COMPLETE) return [!counts.listed ? EMPTY : captured?.holds === false ? ONE_MORE : NOTHING];
-  if (!open.count && !counts.listed) return [COMPARE];
+  if (!open.count && !counts.listed) return isAlone ? [COMPARE] : [];
   const steps = [];
   if (kind === KIND.DOUBTFUL) steps.push(CYCLE, LOOK);
   else if (open.count) steps.push(quiet === open.count ? CYCLE : AGAIN);
@@ -118,17 +122,20 @@ function steps({ object: { kind, found, open, captured }, counts, quiet, notes }
   return [...steps, ...differs.map(([first]) => first), ...differs.map(([, second]) => second), STAYS];
 }
 
-/** @param {Told} told */
-function headline({ object: { kind, count: number = 0, found, certain, open }, counts, silenced, quiet }) {
+/**
+ * @param {Told} told
+ * @param {boolean} isAlone
+ */
+function headline({ object: { kind, count: number = 0, found, certain, open }, counts, silenced, quiet }, isAlone) {
   const parts = [], only = open.count > 0 && quiet === open.count;
-  if (kind === KIND.COMPLETE) return whole(number);
+  if (kind === KIND.COMPLETE) return number || isAlone ? whole(number) : "The field is empty.";
   if (found.absent) parts.push(`${count(found.absent, "listed tag")} can't be here`);
   if (counts.listed && found.unlisted) parts.push(count(found.unlisted, "tag here isn't listed", "tags here aren't listed"));
   if (certain.count && (open.count || !counts.listed)) parts.push(`${count(certain.count, "tag")} proved`);
   if (only) parts.push(unproved(silenced.length, found.doubtful));
   else if (found.doubtful) parts.push(`${count(found.doubtful, "listed tag")} not proved`);
   const said = only ? "" : open.count ? `Not finished: ${settled(open.share)} of all UIDs settled.` : "Search finished.";
-  const without = counts.listed ? "" : "The log has no list to compare with.";
+  const without = counts.listed || !isAlone ? "" : "The log has no list to compare with.";
   return [said, sentence(parts), without].filter((it) => it).join(" ");
 }
 
@@ -218,7 +225,7 @@ function because(cause) {
   const slots = `slot${cause.slots.length > 1 ? "s" : ""} ${runs(cause.slots)}`;
   if (cause.reading === "unreached") return cause.slots[0] === 0 ? `Of the ${round} no slot was logged.` : `The ${round} ended before ${slots}.`;
   const held = cause.reading === "captured" ? readIn(cause.uids) : HELD[cause.reading];
-  return `In ${slots} of the ${round} ${held}, and not all of these UIDs were asked again.`;
+  return `In ${slots} of the ${round} ${held}, and no later request settled all of these UIDs.`;
 }
 
 /**

@@ -17,16 +17,16 @@ const FEW = 24, MOST_ON_PAPER = 60;
 /**
  * The whole of what is drawn of a log.
  * @param {Told} told
- * @param {string} [heading] the element of its heading
  * @param {Names} [names]
+ * @param {boolean} [isAlone] whether it is no log of a collection
  * @returns {Node[]}
  */
-export function view(told, heading = "h1", names = new Map()) {
-  const said = say(told), what = [printable(told.object.file), " · ", el("code", {}, told.object.answer)];
+export function view(told, names = new Map(), isAlone = true) {
+  const said = say(told, isAlone), what = [printable(told.object.file), " · ", el("code", {}, told.object.answer)];
   // what is only tried is never green
   const trial = TRIAL.test(told.object.file) ? { look: /** @type {const} */ ("read"), sign: "?", headline: `A trial: ${said.headline}` } : {};
   const rests = conditions(told), isWhole = told.object.kind === KIND.COMPLETE;
-  return [banner({ ...said, ...trial }, what, heading), ...isWhole ? [...rests, shelf(said)] : [shelf(said), ...rests],
+  return [banner({ ...said, ...trial }, what), ...isWhole ? [...rests, ...shelf(said)] : [...shelf(said), ...rests],
     ...findings(told, names), ...tags(told, names), ...conflict(told), ...rounds(told, names),
     ...maintainer(told, said), ...notes(told), ...takenForGranted(told.object), record(told)];
 }
@@ -40,12 +40,11 @@ export function titleOf(told) {
  * The answer: a sentence, what was judged, and lights.
  * @param {Pick<import("./say.mjs").Said, "look" | "sign" | "headline" | "lights">} said
  * @param {import("./elements.mjs").Content} what
- * @param {string} heading
  */
-export function banner(said, what, heading = "h1") {
+export function banner(said, what) {
   const lights = said.lights.map(({ name, value, look }) => el("div", { class: `light ${look}` }, el("dt", {}, name), el("dd", {}, value)));
   return el("header", { class: `banner ${said.look}` }, el("p", { class: "sign", "aria-hidden": "true" }, said.sign),
-    el("div", {}, el(heading, { class: "answer", tabindex: "-1" }, said.headline), el("p", {}, what)),
+    el("div", {}, el("h1", { class: "answer", tabindex: "-1" }, said.headline), el("p", {}, what)),
     ...lights.length ? [el("dl", { class: "lights" }, lights)] : []);
 }
 
@@ -61,8 +60,9 @@ function conditions(told) {
 
 /** @param {import("./say.mjs").Said} said */
 function shelf(said) {
+  if (!said.shelf.length) return [];
   const why = said.why ? [el("p", { class: "why" }, `The cause: ${said.why}`)] : [];
-  return el("section", {}, el("h2", {}, "At the shelf"), el("ul", { class: "steps" }, said.shelf.map((step) => el("li", {}, step))), ...why);
+  return [el("section", {}, el("h2", {}, "At the shelf"), el("ul", { class: "steps" }, said.shelf.map((step) => el("li", {}, step))), ...why)];
 }
 
 /**
