@@ -865,13 +865,16 @@ def test_of_logs_to_be_counted_again_nothing_else_is_said(page, items, log, is_s
 
 
 def test_items_are_told_by_their_shelves(page):
-    """Where a log has another name, it is told too."""
+    """Where a log has another name, it is told too. On paper they stand in columns."""
     page.drop_files({it.name: it.read_bytes() for it in sorted(SHELVES.iterdir())})
     page.until("h1", "1 in the wrong place")
     page.run("for (const it of document.querySelectorAll('details')) it.open = true")
     assert "A (shelf-a.log)" in next(it for it in page.texts(".items") if "belongs to" in it)
     wanted = [f"{it.upper()} \u00B7 shelf-{it}.log" for it in "abc"]
     assert page.texts("th[scope=rowgroup]") == wanted
+    page.media("print")
+    assert page.run("const it = document.querySelector('details:has([scope=rowgroup])');"
+                    "return getComputedStyle(it).columnWidth") != "auto"
 
 
 def test_how_often_a_missing_item_was_asked(page):
