@@ -83,7 +83,7 @@ class Said(Command):
         other = vicinity.write_line("T", vicinity.write_inventory(0, 1))
         for lines, wanted in (
                 (ALONE, f"{also} yes; a tag would then have had to be missed in 1 slot."),
-                (ALL + HEARD_A, f"{also} yes."),
+                (ALL + HEARD_A, f"{also} yes; more may be open."),
                 (ALL + HEARD_A + LIST_A, f"{also} no, 'unsettled 1 00'. {ask} (T 260100F60A)."),
                 (other + HEARD_A + LIST_A,
                  f"{also} no, 'unsettled 1 00'. {ask} ({other.decode().strip()})."),

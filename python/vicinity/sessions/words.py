@@ -88,7 +88,7 @@ def conditions(told: Told) -> Iterator[str]:
         return
     if reread == answer:
         least = told.weakest_reread
-        then = "" if least is None else (
+        then = "; more may be open" if answer.status == 1 else "" if least is None else (
             f"; a tag would then have had to be missed in {count(least.margin, 'slot')}")
         yield f"{ALSO} yes{then}."
     elif answer.kind is Kind.IMPOSSIBLE:
