@@ -1,6 +1,6 @@
 /** The object of a log, of what the library says of it: the same as python/vicinity/pages/log.py makes. */
 import { withCaptures } from "./captured.mjs";
-import { ANY_LINK, linkOf } from "./frames.mjs";
+import { linkIn } from "./frames.mjs";
 import { FOUND, KIND } from "./kinds.mjs";
 import { LF } from "./log.mjs";
 import { marginFields, maskFields } from "./margins.mjs";
@@ -32,13 +32,13 @@ const DECODED = new TextDecoder("utf-8", { ignoreBOM: true });
 export async function judge(library, text, name, left) {
   const { answer, list, counts, conflict } = library.report(text, MOST_TOLD), possible = answer.status < 2;
   const absent = list.filter((it) => it.kind === FOUND.ABSENT).map((it) => it.uid);
-  const { certain, open } = left ?? (possible ? library.survey(text) : { certain: [], open: [] });
+  const surveyed = left ?? (possible ? library.survey(text) : { certain: [], open: [] }), { certain, open } = surveyed;
   const kept = untilRefused(text, answer), decoded = DECODED.decode(kept), link = linkIn(decoded);
   const masks = open.slice(0, MOST_TOLD).map(({ len, value }) => ({ ...maskFields(len, value),
     ask: (len ? [1] : [16, 1]).map((slots) => `T ${hexOf(library.writeInventory(slots, len, value, link))}`) }));
   const weakest = answer.status ? null : library.margin(text).weakest, overlooked = absent.length ? library.overlooked(text, absent).list : [];
   return { schema: SCHEMA, version: versionOf(library.version), file: name, ...fields(library, answer), ...marginFields(weakest),
-    ...capturedOf(library, text, answer, weakest), answer: answer.text.trim(),
+    ...capturedOf(library, text, answer, weakest, surveyed), answer: answer.text.trim(),
     lines: linesIn(text), ended: text[text.length - 1] === LF, sha256: await sumOf(text),
     findings: [...findingsOf(list.filter((it) => it.kind !== FOUND.CONFLICT), overlooked), ...conflict.map((line) => ({ kind: "conflict", line }))],
     found: { absent: counts[FOUND.ABSENT], unlisted: counts[FOUND.UNLISTED], doubtful: counts[FOUND.DOUBTFUL] },
@@ -69,18 +69,22 @@ function shareOf(masks) {
 
 /**
  * Whether an answer also holds if strong replies hid weaker ones, with the margin that it has then, and if not, the answer that
- * does; nothing of what is refused.
+ * does; and what is known then of a field in which nothing is left to ask. Nothing of what is refused.
  * @param {Library} library
  * @param {Uint8Array} text
  * @param {Answer} answer
  * @param {Weakest | null} weakest of a complete list
+ * @param {{certain: bigint[], open: Mask[]}} left
  * @returns {{captured?: Captured}}
  */
-function capturedOf(library, text, answer, weakest) {
+function capturedOf(library, text, answer, weakest, left) {
   if (answer.fault) return {};
   const read = withCaptures(text), { answer: other, weakest: then } = !read ? { answer, weakest }
     : answer.status ? { answer: library.check(read), weakest } : library.margin(read);
-  return { captured: other.text === answer.text ? { holds: true, ...marginFields(then) } : { holds: false, ...fields(library, other) } };
+  const { certain, open } = answer.status === 1 && !left.open.length && read ? library.survey(read) : left;
+  const known = answer.status === 1 && !left.open.length ? { certain: certain.length, open: open.length } : {};
+  return { captured: { ...known,
+    ...other.text === answer.text ? { holds: true, ...marginFields(then) } : { holds: false, ...fields(library, other) } } };
 }
 
 /**
@@ -120,15 +124,6 @@ function linesIn(text) {
   let lines = text.length && text[text.length - 1] !== LF ? 1 : 0;
   for (let at = text.indexOf(LF); at >= 0; at = text.indexOf(LF, at + 1)) lines++;
   return lines;
-}
-
-/**
- * The link of the first request.
- * @param {string} text
- */
-function linkIn(text) {
-  const first = text.match(/^T ([0-9A-Fa-f]{2})/m);
-  return first ? linkOf(first[1]) : ANY_LINK;
 }
 
 /**

@@ -17,8 +17,8 @@ const NEW_VERSION = "Tags that were silenced before they were heard answer only 
  * @param {import("./say.mjs").Said} said
  */
 export function maintainer(told, said) {
-  const parts = [], ask = alsoHolds(told)?.ask;
-  if (!said.causes.length && !ask) return [];
+  const parts = [], ask = alsoHolds(told)?.ask ?? [];
+  if (!said.causes.length && !ask.length) return [];
   if (told.faulty) parts.push(el("p", {}, toLine(told.object.line ?? 1), ": ", el("code", {}, visible(told.faulty).slice(0, MOST_SHOWN))));
   if (said.lead) parts.push(el("p", {}, said.lead));
   if (said.causes.length) parts.push(el("ul", {}, said.causes.map((cause) => el("li", {}, cause))));
@@ -26,7 +26,7 @@ export function maintainer(told, said) {
   if (told.object.unnoticed) {
     parts.push(el("p", {}, "A tag ", el("code", {}, told.object.unnoticed), " could be here: the log would be the same."));
   }
-  if (ask) parts.push(el("p", {}, `To know whether a strong reply hid a weaker one, ${TO_KNOW}:`), copied([ask]));
+  if (ask.length) parts.push(el("p", {}, `To know whether a strong reply hid a weaker one, ${TO_KNOW}:`), copied(ask));
   return [folded("For whoever maintains the reader", true, ...parts, ...left(told))];
 }
 

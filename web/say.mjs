@@ -32,7 +32,10 @@ const EMPTY = "If items should be here: check the antenna, switch the reader's f
 const NOTHING = "Nothing to do.";
 const ONE_MORE = "Send this page (printed as PDF) to whoever maintains the reader: only asking again, until none answers, shows whether a " +
   "strong reply hid a weaker one.";
-const COMPARE = "Compare these tags with what should be here.";
+const ONE_ROUND = "To see whether others are here: have the reader ask all tags once more, until none answers. What to send stands below, " +
+  "for whoever maintains the reader.";
+const COMPARE = "Compare these tags with what should be here: drop a catalogue (CSV) onto the page that judges this log, or add a U line " +
+  "to the log for each UID that should be here.";
 const MISSING = ["If the list is what was expected here: look for the listed tags that can't be here. If an item is in plain sight, " +
   "its tag is broken or covered: move it, and count again.",
   "If the list is what the reader found: a tag left, or the list is that of another session. Count again."];
@@ -51,6 +54,7 @@ export const HOLDS = "This is said of tags that had power, heard the reader, and
 /** How it is said whether an answer about tags would also be that of a log whose replies may have hidden others. */
 const IF_HIDDEN = "If a strong reply hid a weaker one, the answer ";
 export const TO_KNOW = "silence each tag that was heard, and ask all in one slot, until none answers";
+const NO_LIST_GIVEN = " The log has no list to compare with.";
 const NO_CONFLICT = "If strong replies may have hidden weaker ones (each R read as H), the log doesn't contradict itself.";
 
 /** How many rounds are named as causes. */
@@ -97,7 +101,9 @@ function possible(told, isAlone) {
   const whole = kind === KIND.COMPLETE && hasList, only = ended && !hasList;
   const differs = found.absent || found.unlisted, why = whyOpen(told);
   const list = !hasList ? "none given" : whole ? "matches" : differs ? "differs" : "not known yet";
-  const finished = /** @type {Light} */ ({ name: "Search finished", value: ended ? "yes" : "no", look: ended ? "yes" : "no" });
+  const isSure = ended && (whole || !told.object.captured?.open), isPlain = ended && !isSure;
+  const finished = /** @type {Light} */ ({ name: "Search finished", value: isSure ? "yes" : isPlain ? "not known yet" : "no",
+    look: isSure ? "yes" : isPlain ? "plain" : "no" });
   const listLight = /** @type {Light} */ ({ name: "List", value: list, look: whole ? "yes" : list === "differs" ? "no" : "plain" });
   const causes = [...why, ...hasList && found.absent ? [NOT_HEARD] : [], ...hasList && found.unlisted ? [NOT_CLAIMED] : []];
   return { look: whole ? "yes" : only ? "read" : "no", sign: whole ? "✓" : only ? "i" : "!", headline: headline(told, isAlone),
@@ -112,7 +118,7 @@ function possible(told, isAlone) {
  */
 function steps({ object: { kind, found, open, captured }, counts, quiet, notes }, isAlone) {
   if (kind === KIND.COMPLETE) return [!counts.listed ? EMPTY : captured?.holds === false ? ONE_MORE : NOTHING];
-  if (!open.count && !counts.listed) return isAlone ? [COMPARE] : [];
+  if (!open.count && !counts.listed) return [...captured?.open ? [ONE_ROUND] : [], ...isAlone ? [COMPARE] : []];
   const steps = [];
   if (kind === KIND.DOUBTFUL) steps.push(CYCLE, LOOK);
   else if (open.count) steps.push(quiet === open.count ? CYCLE : AGAIN);
@@ -126,17 +132,30 @@ function steps({ object: { kind, found, open, captured }, counts, quiet, notes }
  * @param {Told} told
  * @param {boolean} isAlone
  */
-function headline({ object: { kind, count: number = 0, found, certain, open }, counts, silenced, quiet }, isAlone) {
-  const parts = [], only = open.count > 0 && quiet === open.count;
+function headline({ object: { kind, count: number = 0, found, certain, open, captured }, counts, silenced, quiet }, isAlone) {
+  const parts = [], only = open.count > 0 && quiet === open.count, without = counts.listed || !isAlone ? "" : NO_LIST_GIVEN;
   if (kind === KIND.COMPLETE) return number || isAlone ? whole(number) : "The field is empty.";
+  if (!open.count && !counts.listed) return `${tagsHere(certain.count, (captured?.open ?? 0) > 0)}${without}`;
+  if (counts.listed && !found.absent && !found.unlisted && !found.doubtful) {
+    return `${allListed(counts.listed)}; ${only ? unproved(silenced.length, 0) : "others may be too"}.`;
+  }
   if (found.absent) parts.push(`${count(found.absent, "listed tag")} can't be here`);
   if (counts.listed && found.unlisted) parts.push(count(found.unlisted, "tag here isn't listed", "tags here aren't listed"));
   if (certain.count && (open.count || !counts.listed)) parts.push(`${count(certain.count, "tag")} proved`);
   if (only) parts.push(unproved(silenced.length, found.doubtful));
   else if (found.doubtful) parts.push(`${count(found.doubtful, "listed tag")} not proved`);
-  const said = only ? "" : open.count ? `Not finished: ${settled(open.share)} of all UIDs settled.` : "Search finished.";
-  const without = counts.listed || !isAlone ? "" : "The log has no list to compare with.";
-  return [said, sentence(parts), without].filter((it) => it).join(" ");
+  const said = only ? "" : open.count ? `Not finished: ${settled(open.share)} of all UIDs settled. ` : "Search finished. ";
+  return `${said}${sentence(parts)}${without}`.trim();
+}
+
+/**
+ * The tags of a log without a list in which nothing is left to ask.
+ * @param {number} number
+ * @param {boolean} isHiding whether others may be there if their replies were hidden
+ */
+function tagsHere(number, isHiding) {
+  const others = isHiding ? "; others may be, if stronger replies hid them." : number === 1 ? ", and no other." : ", and no others.";
+  return `${count(number, "tag is", "tags are")} here${others}`;
 }
 
 /**
@@ -159,8 +178,11 @@ function sentence(parts) {
 /** @param {number} number */
 function whole(number) {
   if (number === 0) return "The field is empty, and nothing is listed.";
-  return number === 1 ? "The one listed tag is here, and no other." : `All ${count(number, "listed tag")} are here, and no others.`;
+  return `${allListed(number)}, and no other${number === 1 ? "" : "s"}.`;
 }
+
+/** @param {number} number */
+const allListed = (number) => number === 1 ? "The one listed tag is here" : `All ${count(number, "listed tag")} are here`;
 
 /**
  * The share of the UIDs that are settled, never rounded up to all.
@@ -238,8 +260,18 @@ export function alsoHolds({ object: { kind, captured, margin, answer }, counts, 
   if (!captured || !counts.heard) return null;
   if (!certain.includes(kind)) return null;
   if (!captured.holds) return { words: `${IF_HIDDEN}may be wrong.`, ask: requests.all };
-  return { words: kind === KIND.COMPLETE ? stillHolds(margin, captured.margin) : `${IF_HIDDEN}would still be ${answer}; more may be open.`, ask: "" };
+  if (kind === KIND.COMPLETE || captured.open === 0) return { words: stillHolds(margin, captured.margin), ask: [] };
+  // without a list the headline says it
+  if (!counts.listed && captured.open) return { words: "", ask: requests.all };
+  return { words: `${IF_HIDDEN}would still be ${answer}; more may be open.`, ask: captured.open ? requests.all : [] };
 }
+
+/**
+ * Whether nothing that is said rests on it that no strong reply hid a weaker one.
+ * @param {Told} told
+ */
+export const isApart = ({ object: { kind, captured, certain }, counts }) => captured !== undefined && captured.holds &&
+  (kind === KIND.COMPLETE || captured.open === 0 || !counts.listed && captured.certain === certain.count);
 
 /**
  * An answer that also holds then: beside the margin that it has, the one that it has then, if that is known.

@@ -7,7 +7,7 @@
 import { causesOf, silencedUnheard } from "./causes.mjs";
 import { conflictOf, isLarge, keyLines } from "./conflict.mjs";
 import { drawn } from "./drawn.mjs";
-import { ANY_LINK, linkOf, oneSlotOf, stayQuietOf } from "./frames.mjs";
+import { linkIn, linkOf, oneSlotOf, stayQuietOf, uidIn } from "./frames.mjs";
 import { KIND } from "./kinds.mjs";
 import { Log } from "./log.mjs";
 import { notesOf } from "./notes.mjs";
@@ -57,6 +57,8 @@ import { strip } from "./strip.mjs";
  * @property {boolean} holds whether the answer also holds if strong replies hid weaker ones
  * @property {string} [kind] of the answer that does, if it doesn't
  * @property {number} [margin] of a complete list, if they did
+ * @property {number} [certain] how many UIDs must be there, if they did, where nothing is left to ask otherwise
+ * @property {number} [open] how many open masks there are then
  */
 /**
  * @typedef {Object} Told
@@ -68,8 +70,8 @@ import { strip } from "./strip.mjs";
  * @property {Silenced[]} silenced the tags that are open since they were silenced before they were heard
  * @property {number} quiet how many open masks have no other tags
  * @property {number} hidden how many open masks only a reply may have hidden
- * @property {{open: string[], silenced: string[], hidden: string[], all: string}} requests what is left to ask, as lines: at once; after a
- *   field cycle; and where a reply may have hidden others; and what asks for all tags in one slot
+ * @property {{open: string[], silenced: string[], hidden: string[], all: string[]}} requests what is left to ask, as lines: at once; after a
+ *   field cycle; and where a reply may have hidden others; and what asks all in one slot but those that were heard
  * @property {Cause[]} causes slots in which the other open UIDs would answer, by their rounds
  * @property {boolean} neverAsked whether some open mask has no such slot
  * @property {import("./notes.mjs").Notes} notes
@@ -102,7 +104,7 @@ export function tell(object, text = new TextEncoder().encode(object.text)) {
   /** @type {Told} */
   const told = { object, faulty: refused && line <= log.lineCount ? log.line(line) : "",
     cycles: log.version > 1, conflict: null, open: object.open.masks.map(maskOf), silenced: [], quiet: 0, hidden: 0,
-    requests: { open: [], silenced: [], hidden: [], all: "" }, causes: [], neverAsked: false, notes: { lost: [], cut: [], last: null },
+    requests: { open: [], silenced: [], hidden: [], all: [] }, causes: [], neverAsked: false, notes: { lost: [], cut: [], last: null },
     counts: log.counts, rows: [], strip: [], ringed: [], named: [] };
   if (!refused) explain(log, told);
   return told;
@@ -122,7 +124,7 @@ function explain(log, told) {
     .slice(0, MOST_REQUESTS).flatMap((mask) => mask.ask);
   Object.assign(told, { silenced: tags, quiet: masks.length, hidden: hidden.size, causes, neverAsked, requests: {
     open: asked((mask) => !quiet.has(mask) && !hidden.has(mask)), silenced: asked((mask) => quiet.has(mask)),
-    hidden: askedAgain(log, causes), all: `T ${oneSlotOf(log.rowCount ? linkOf(log.frame(log.lineOf(0))) : ANY_LINK)}` } });
+    hidden: askedAgain(log, causes), all: object.captured?.holds && !object.captured.open ? [] : allButHeard(log, linkIn(object.text)) } });
   told.named = named(told);
   told.notes = notesOf(log, object);
   told.ringed = causes.flatMap((cause) => cause.slots.map((number) => `${cause.round}:${number}`));
@@ -141,6 +143,27 @@ function askedAgain(log, causes) {
     const request = log.frame(round).toUpperCase(), link = linkOf(request);
     return [...uids.map((uid) => `T ${stayQuietOf(uid, link)}`), `T ${request}`];
   }).slice(0, MOST_REQUESTS);
+}
+
+/**
+ * The lines that silence the tags that were heard and aren't silenced, unless these are too many, and ask all in one slot.
+ * @param {Log} log
+ * @param {number} link
+ */
+function allButHeard(log, link) {
+  const heard = /** @type {Set<bigint>} */ (new Set()), ready = /** @type {Set<bigint>} */ (new Set());
+  for (let at = 0; at < log.rowCount; at++) {
+    if (log.isQuiet(at)) ready.delete(uidIn(log.frame(log.lineOf(at))));
+    else if (!log.isRound(at)) for (const uid of heard) ready.add(uid);
+    for (const line of log.outcomes(at)) {
+      if (!log.isReply(line)) continue;
+      const uid = uidIn(log.frame(line));
+      heard.add(uid);
+      ready.add(uid);
+    }
+  }
+  const quiets = ready.size > MOST_REQUESTS ? [] : [...ready];
+  return [...quiets.map((uid) => `T ${stayQuietOf(uid, link)}`), `T ${oneSlotOf(link)}`];
 }
 
 /**

@@ -5,7 +5,7 @@ import { maintainer } from "./maintainer.mjs";
 import { KIND } from "./kinds.mjs";
 import { noted } from "./notes.mjs";
 import { LOOKS, rounds } from "./rounds.mjs";
-import { alsoHolds, granted, HOLDS, missed, say, silentIn } from "./say.mjs";
+import { alsoHolds, granted, HOLDS, isApart, missed, say, silentIn } from "./say.mjs";
 import { count, lines, printable, TRIAL, whom } from "./words.mjs";
 
 /** @typedef {import("./told.mjs").Told} Told */
@@ -28,7 +28,7 @@ export function view(told, names = new Map(), isAlone = true) {
   const rests = conditions(told), isWhole = told.object.kind === KIND.COMPLETE;
   return [banner({ ...said, ...trial }, what), ...isWhole ? [...rests, ...shelf(said)] : [...shelf(said), ...rests],
     ...findings(told, names), ...tags(told, names), ...conflict(told), ...rounds(told, names),
-    ...maintainer(told, said), ...notes(told), ...takenForGranted(told.object), record(told)];
+    ...maintainer(told, said), ...notes(told), ...takenForGranted(told), record(told)];
 }
 
 /** @param {Told} told */
@@ -53,8 +53,9 @@ export function banner(said, what) {
  * @param {Told} told
  */
 function conditions(told) {
-  const also = alsoHolds(told), holds = (told.object.kind === KIND.COMPLETE ? [HOLDS, ...missed(told.object)] : []).map((it) => el("p", {}, it));
-  const parts = [...holds, ...also ? [el("p", {}, also.words)] : []];
+  const { object: { kind, open, status }, counts } = told, also = alsoHolds(told)?.words;
+  const isOfAll = kind === KIND.COMPLETE || status === 1 && !open.count && !counts.listed;
+  const parts = [...isOfAll ? [HOLDS, ...missed(told.object)] : [], ...also ? [also] : []].map((it) => el("p", {}, it));
   return parts.length ? [el("section", { class: "holds" }, parts)] : [];
 }
 
@@ -135,12 +136,12 @@ function notes(told) {
 
 /**
  * What an answer about tags takes for granted; open where there is nothing else to do.
- * @param {import("./told.mjs").LogObject} object
+ * @param {Told} told
  */
-function takenForGranted({ kind, status, captured }) {
-  if (status > 1) return [];
-  const all = granted(kind === KIND.COMPLETE && captured?.holds === true);
-  return [folded(`What this takes for granted (${all.length})`, !status, el("ul", {}, all.map((it) => el("li", {}, it))))];
+function takenForGranted(told) {
+  if (told.object.status > 1) return [];
+  const all = granted(isApart(told));
+  return [folded(`What this takes for granted (${all.length})`, !told.object.status, el("ul", {}, all.map((it) => el("li", {}, it))))];
 }
 
 /** @param {Told} told */

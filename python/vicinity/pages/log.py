@@ -6,7 +6,7 @@ from hashlib import sha256
 from typing import Any, Iterator
 
 from .._answers import Answer, FindingKind, Kind
-from .._calls import explain, survey
+from .._calls import explain, survey, with_captures
 from .._fields import mask_fields, object_of
 from ..frames import uid_text
 from ..sessions.findings import WORDS, Told
@@ -33,12 +33,15 @@ def page_object(name: str, told: Told) -> dict[str, Any]:
     answer, text = told.answer, told.session.text
     left = survey(text)
     shown_by = explain(text).population if answer.kind is Kind.UNSETTLED else []
+    said = object_of(name, answer, told.weakest, told.reread, told.weakest_reread)
+    if answer.status == 1 and not left.open_masks:
+        then = survey(with_captures(text))
+        said["captured"].update(certain=len(then.certain), open=len(then.open_masks))
     return {
-        **object_of(name, answer, told.weakest, told.reread, told.weakest_reread),
+        **said,
         "version": version(), "answer": answer.text,
         "lines": text.count(b"\n") + (not text.endswith(b"\n") and bool(text)),
-        "ended": text.endswith(b"\n"),
-        "sha256": sha256(text).hexdigest(),
+        "ended": text.endswith(b"\n"), "sha256": sha256(text).hexdigest(),
         "findings": [it for it in told.objects(MOST_TOLD) if it["kind"] not in OF_MASKS],
         "found": {WORDS[kind]: len(told.of(kind)) for kind in COUNTED},
         "certain": {"count": len(left.certain),
@@ -47,8 +50,7 @@ def page_object(name: str, told: Told) -> dict[str, Any]:
                  "share": sum(2.0 ** -mask.length for mask in left.open_masks),
                  # all tags are asked first in sixteen slots
                  "masks": [{**mask_fields(mask),
-                            "ask": [ask(text, slots, mask)
-                                    for slots in ((1,) if mask.length else (16, 1))]}
+                            "ask": [ask(text, slots, mask) for slots in (16, 1)[mask.length > 0:]]}
                            for mask in left.open_masks[:MOST_TOLD]]},
         # a UID that isn't listed, and could be there
         "unnoticed": next((uid_text(uid) for uid in shown_by if answer.mask.has(uid)), None),
