@@ -3,7 +3,7 @@
 /** @typedef {import("./log.mjs").Log} Log */
 /** @typedef {import("./log.mjs").Row} Row */
 /** @typedef {import("./log.mjs").Round} Round */
-/** @typedef {{kind: "gap", rows: number}} Gap */
+/** @typedef {{kind: "gap", rounds: number, quiets: number, cycles: number}} Gap */
 
 /** How many rows are drawn, and how many at each end at least. */
 const MOST_DRAWN = 60, EDGE = 3;
@@ -27,14 +27,27 @@ export function drawn(log, named, causing, whole) {
   let next = 0;
   for (const at of rows) {
     if (at < next) continue;
-    if (at > next) result.push({ kind: "gap", rows: at - next });
+    if (at > next) result.push(gap(log, next, at));
     const row = log.row(at);
     next = at + 1;
     result.push(row);
     if (row.kind === "round") next = withQuiets(log, row, next, named);
   }
-  if (next < log.rowCount) result.push({ kind: "gap", rows: log.rowCount - next });
+  if (next < log.rowCount) result.push(gap(log, next, log.rowCount));
   return result;
+}
+
+/**
+ * What isn't drawn from a row to another.
+ * @param {Log} log
+ * @param {number} from
+ * @param {number} to
+ * @returns {Gap}
+ */
+function gap(log, from, to) {
+  const rows = Array.from({ length: to - from }, (_, at) => from + at), rounds = rows.filter((at) => log.isRound(at)).length;
+  const quiets = rows.filter((at) => log.isQuiet(at)).length;
+  return { kind: "gap", rounds, quiets, cycles: rows.length - rounds - quiets };
 }
 
 /**

@@ -1,13 +1,13 @@
 /** Draws what whoever maintains the reader needs: the causes, what tells them apart, and what is left to ask. */
 import { el, folded, toLine } from "./elements.mjs";
 import { alsoHolds, TO_KNOW } from "./say.mjs";
-import { visible } from "./words.mjs";
+import { count, visible } from "./words.mjs";
 
 /** @typedef {import("./told.mjs").Told} Told */
 
-const MOST_SHOWN = 160;
+const MOST_SHOWN = 160, MOST_ON_PAPER = 96;
 const INSERT = "If a slot has a collision, ask its mask in sixteen slots. In the log, the new lines go before the U lines.";
-const ASK_UNDER = "What is left to ask where a reply may have hidden others: silence the tags that were read there, and ask again.";
+const ASK_UNDER = "where a reply may have hidden others, to silence the tags that were read there and to ask again.";
 const SILENCED = "tags that were silenced before they were heard: only then do they answer";
 const NEW_VERSION = "Tags that were silenced before they were heard answer only after the field was switched off and on, and a log of " +
   "version 1 has no line for that. Begin a new log, of version 3, and ask for the whole field again.";
@@ -26,7 +26,7 @@ export function maintainer(told, said) {
   if (told.object.unnoticed) {
     parts.push(el("p", {}, "A tag ", el("code", {}, told.object.unnoticed), " could be here: the log would be the same."));
   }
-  if (ask.length) parts.push(el("p", {}, `To know whether a strong reply hid a weaker one, ${TO_KNOW}:`), copied(ask));
+  if (ask.length) parts.push(el("p", {}, `To know whether a strong reply hid a weaker one, ${TO_KNOW}:`), ...copied(ask));
   return [folded("For whoever maintains the reader", true, ...parts, ...left(told))];
 }
 
@@ -37,22 +37,27 @@ export function maintainer(told, said) {
 function left(told) {
   const { open, silenced, hidden } = told.requests, parts = [], all = told.open[0]?.len === 0;
   const masks = told.object.open.count - told.quiet - told.hidden;
-  const more = !all && masks > open.length ? ` (the first ${open.length} of ${masks.toLocaleString("en")})` : "";
-  const how = all ? "in sixteen slots, or in one" : `one request for each open mask${more}`;
-  if (open.length) parts.push(el("p", {}, `What is left to ask, ${how}. ${INSERT}`), copied(open));
-  if (hidden.length) parts.push(el("p", {}, ASK_UNDER), copied(hidden));
+  const more = masks > open.length ? ` Here are the first ${count(open.length, "request")}: when these are asked, judge the log again.` : "";
+  const how = all ? "What is left to ask, in sixteen slots, or in one." : `${requests(masks)} left, one for each open mask.${more}`;
+  if (open.length) parts.push(el("p", {}, `${how} ${INSERT}`), ...copied(open));
+  if (hidden.length) parts.push(el("p", {}, `${requests(hidden.length)} left ${ASK_UNDER}`), ...copied(hidden));
   if (silenced.length && !told.cycles) parts.push(el("p", {}, NEW_VERSION));
   else if (silenced.length) {
-    parts.push(el("p", {}, `${open.length || hidden.length ? "Then switch" : "Switch"} the field off and on, write F, and ask for the ${SILENCED}.`),
-      copied(["F", ...silenced]));
+    parts.push(el("p", {}, `${open.length || hidden.length ? "Then switch" : "Switch"} the field off and on, write F, and send ${count(silenced.length, "request")} for ${SILENCED}.`),
+      ...copied(["F", ...silenced]));
   }
   return parts;
 }
 
+/** @param {number} number */
+const requests = (number) => count(number, "request is", "requests are");
+
 /**
- * Lines to be copied.
+ * Lines to be copied. Many are cut off on paper.
  * @param {string[]} lines
  */
 function copied(lines) {
-  return el("pre", { class: "copy", tabindex: "0", role: "group", "aria-label": "Requests" }, lines.join("\n"));
+  const isLong = lines.length > MOST_ON_PAPER, name = count(lines.length, "request");
+  const box = el("pre", { class: isLong ? "copy long" : "copy", tabindex: "0", role: "group", "aria-label": name }, lines.join("\n"));
+  return isLong ? [box, el("p", { class: "cut" }, `On paper only the first of these ${name} are seen.`)] : [box];
 }

@@ -2,7 +2,7 @@
 import { isLarge } from "./conflict.mjs";
 import { el, toLine } from "./elements.mjs";
 import { SLOTS } from "./frames.mjs";
-import { count, ending, hex, lines, printable } from "./words.mjs";
+import { count, ending, hex, lines, listing, printable } from "./words.mjs";
 
 /** @typedef {import("./told.mjs").Told} Told */
 /** @typedef {import("./drawn.mjs").Gap} Gap */
@@ -76,7 +76,7 @@ function barOf({ line, isMarked, held }) {
  * @param {import("./view.mjs").Names} names
  */
 function rowOf(row, ringed, named, names) {
-  if (row.kind === "gap") return wide("⋮", count(row.rows, "more request"), 0, false);
+  if (row.kind === "gap") return wide("⋮", `not shown: ${missing(row)}`, 0, false);
   if (row.kind === "cycle") return wide(String(row.line), "field off and on", row.line, named.has(row.line));
   if (row.kind === "quiet") return wide(String(row.line), `Stay Quiet ${hex(row.uid)}`, row.line, named.has(row.line));
   const isNamed = (/** @type {Slot} */ slot) => ringed.has(`${row.line}:${slot.number}`) || named.has(slot.line);
@@ -84,6 +84,12 @@ function rowOf(row, ringed, named, names) {
   const till = row.end > row.line ? [el("span", { class: "till" }, `–${row.end}`)] : [];
   return el("tr", {}, el("th", { scope: "row" }, toLine(row.line, String(row.line), ...till),
     el("span", { class: "unseen" }, summary(row))), el("td", { class: "mask" }, row.asked.len ? `..${tail(row.asked)}` : "all"), ...cells);
+}
+
+/** @param {Gap} gap */
+function missing({ rounds, quiets, cycles }) {
+  const parts = /** @type {[number, string][]} */ ([[rounds, "round"], [quiets, "Stay Quiet"], [cycles, "field cycle"]]);
+  return listing(parts.filter(([number]) => number).map((part) => count(...part)));
 }
 
 /**

@@ -82,8 +82,8 @@ import { strip } from "./strip.mjs";
  * @property {number[]} named the lines that are marked
  */
 
-/** How many lines are marked, and how many requests are told. */
-const MOST_NAMED = 24, MOST_REQUESTS = 64;
+/** How many lines of findings are marked, and how many tags are silenced by requests that are told. */
+const MOST_NAMED = 24, MOST_REQUESTS = 1000;
 
 /**
  * @param {{mask_len: number, mask_value: string}} written
@@ -121,7 +121,7 @@ function explain(log, told) {
   const { masks, tags } = silencedUnheard(log, open), quiet = new Set(masks);
   const { causes, rows, neverAsked, hidden } = causesOf(log, open.filter((mask) => !quiet.has(mask)));
   const asked = (/** @type {(mask: Mask) => boolean} */ isIt) => object.open.masks.filter((_, at) => isIt(open[at]))
-    .slice(0, MOST_REQUESTS).flatMap((mask) => mask.ask);
+    .flatMap((mask) => mask.ask);
   Object.assign(told, { silenced: tags, quiet: masks.length, hidden: hidden.size, causes, neverAsked, requests: {
     open: asked((mask) => !quiet.has(mask) && !hidden.has(mask)), silenced: asked((mask) => quiet.has(mask)),
     hidden: askedAgain(log, causes), all: object.captured?.holds && !object.captured.open ? [] : allButHeard(log, linkIn(object.text)) } });
@@ -142,7 +142,7 @@ function askedAgain(log, causes) {
   return captured.flatMap(({ round, uids }) => {
     const request = log.frame(round).toUpperCase(), link = linkOf(request);
     return [...uids.map((uid) => `T ${stayQuietOf(uid, link)}`), `T ${request}`];
-  }).slice(0, MOST_REQUESTS);
+  });
 }
 
 /**

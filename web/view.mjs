@@ -12,7 +12,7 @@ import { count, lines, printable, TRIAL, whom } from "./words.mjs";
 /** @typedef {Map<string, string>} Names what a catalogue says of UIDs */
 
 /** How many UIDs are shown without being asked for beside other things, and of how many rounds the lines of a conflict are on paper. */
-const FEW = 24, MOST_ON_PAPER = 60;
+const FEW = 24, MOST_ROUNDS = 60;
 
 /**
  * The whole of what is drawn of a log.
@@ -112,7 +112,7 @@ function conflict({ conflict: it }) {
     `: line ${round} asked ${whom(asked)}, and ${LOOKS[reading].words}`));
   const part = folded(`The ${count(it.count, "line")} that can't all be true, of ${count(it.rounds, "round")}`, false, el("ul", {}, items),
     ...rest(it.rounds - new Set(it.parts.map((part) => part.round)).size));
-  if (it.rounds > MOST_ON_PAPER) part.classList.add("aside");
+  if (it.rounds > MOST_ROUNDS) part.classList.add("aside");
   return [part];
 }
 
