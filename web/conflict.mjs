@@ -18,14 +18,14 @@
  * @property {number} silencer the line of the Stay Quiet that had silenced the tag of its reply, 0 if there is none
  */
 
-/** How many rounds of a conflict are told, and how many of its lines are seen in the rounds. */
-const MOST_PARTS = 1000, MOST_SEEN = 8;
+/** How many rounds of a conflict are told, and how many lines make one that has a list of its own. */
+const MOST_PARTS = 1000, MOST_FEW = 8;
 
 /**
- * Whether a conflict has too many lines to be seen in the rounds.
+ * Whether a conflict has so many lines that not all rounds are drawn beside them.
  * @param {Conflict | null} conflict
  */
-export const isLarge = (conflict) => conflict !== null && conflict.count > MOST_SEEN;
+export const isLarge = (conflict) => conflict !== null && conflict.count > MOST_FEW;
 
 /**
  * Over all of its lines, however many they are, and whether they are drawn or not.
@@ -65,12 +65,11 @@ function partsOf(log, lines) {
 }
 
 /**
- * The lines of a conflict; of a large one those without which it isn't understood.
+ * The lines without which a conflict isn't understood.
  * @param {Conflict | null} conflict
  */
 export function keyLines(conflict) {
   if (!conflict) return [];
-  const slots = [...conflict.unread ? [conflict.unread] : [], ...conflict.heard];
-  const shown = isLarge(conflict) ? [...slots.map((slot) => slot.line), conflict.last] : conflict.parts.flatMap((part) => part.lines);
-  return [...shown, conflict.silencer].filter((line) => line);
+  const { unread, heard, last, silencer } = conflict;
+  return [...unread ? [unread.line] : [], ...heard.map((slot) => slot.line), last, silencer].filter((line) => line);
 }

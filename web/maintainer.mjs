@@ -38,7 +38,7 @@ function left(told) {
   const { open, silenced, hidden } = told.requests, parts = [], all = told.open[0]?.len === 0;
   const masks = told.object.open.count - told.quiet - told.hidden;
   const more = masks > open.length ? ` Here are the first ${count(open.length, "request")}: when these are asked, judge the log again.` : "";
-  const how = all ? "What is left to ask, in sixteen slots, or in one." : `${requests(masks)} left, one for each open mask.${more}`;
+  const how = all ? "What is left to ask, in sixteen slots, or in one." : `${requests(masks)} left${masks > 1 ? ", one for each open mask" : ""}.${more}`;
   if (open.length) parts.push(el("p", {}, `${how} ${INSERT}`), ...copied(open));
   if (hidden.length) parts.push(el("p", {}, `${requests(hidden.length)} left ${ASK_UNDER}`), ...copied(hidden));
   if (silenced.length && !told.cycles) parts.push(el("p", {}, NEW_VERSION));

@@ -1,5 +1,4 @@
 /** Draws the rounds of a log: a row for each, a cell for each slot. */
-import { isLarge } from "./conflict.mjs";
 import { el, toLine } from "./elements.mjs";
 import { SLOTS } from "./frames.mjs";
 import { count, ending, hex, lines, listing, printable } from "./words.mjs";
@@ -66,7 +65,7 @@ function barOf({ line, isMarked, held }) {
     part.style.flexGrow = String(many);
     return part;
   });
-  return el("i", { class: isMarked ? "marked" : "", "data-line": String(line) }, ...isMarked ? [] : parts);
+  return el("i", { class: isMarked ? "marked" : "", "data-line": String(line) }, ...parts);
 }
 
 /**
@@ -163,7 +162,9 @@ function legend(told) {
   if (slots.some((slot) => slot.silenced)) drawn.add("heard quiet");
   if (told.ringed.length || told.named.length) drawn.add("silent named");
   const classOf = (/** @type {string} */ look) => look === "heard quiet" && !drawn.has("heard") ? "captured quiet" : look;
-  const others = (/** @type {string} */ look) => look === "silent named" && isLarge(told.conflict) ? ", and on others" : "";
-  return el("ul", { class: "legend" }, LEGEND.filter(([look]) => drawn.has(look))
+  const seen = new Set(told.rows.flatMap((row) => row.kind === "gap" ? [] : row.kind === "round" ? row.slots.map((slot) => slot.line) : row.line));
+  const isAll = told.named.every((line) => seen.has(line));
+  const others = (/** @type {string} */ look) => look === "silent named" && !isAll ? ", and on others" : "";
+  return el("ul", { class: "legend", "aria-label": "What the signs mean" }, LEGEND.filter(([look]) => drawn.has(look))
     .map(([look, sign, words]) => el("li", {}, el("span", { class: `cell ${classOf(look)}` }, sign), ` ${words}${others(look)}`)), digits);
 }

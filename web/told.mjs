@@ -176,13 +176,12 @@ function linesOf(object, kind) {
 }
 
 /**
- * The lines that are marked: those that findings name, the first few and the last; those that a conflict is told by; and Stay
- * Quiets to tags that weren't heard. Without a list the findings are all tags that are there, and none is marked.
+ * The lines that are marked: those of a conflict, first those that it is told by; those that findings name, the first few and the
+ * last; and Stay Quiets to tags that weren't heard. Without a list the findings are all tags that are there, and none is marked.
  * @param {Told} told
  */
 function named({ object, conflict, silenced, counts }) {
   const shown = [...linesOf(object, KIND.ABSENT), ...counts.listed ? linesOf(object, KIND.UNLISTED) : []];
   const lines = [...shown, ...silenced.map((it) => it.line)];
-  const marked = new Set([...keyLines(conflict), ...lines.slice(0, MOST_NAMED), ...lines.slice(-1)]);
-  return [...marked].sort((one, other) => one - other);
+  return [...new Set([...keyLines(conflict), ...linesOf(object, "conflict"), ...lines.slice(0, MOST_NAMED), ...lines.slice(-1)])];
 }

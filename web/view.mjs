@@ -28,7 +28,7 @@ export function view(told, names = new Map(), isAlone = true) {
   const rests = conditions(told), isWhole = told.object.kind === KIND.COMPLETE;
   return [banner({ ...said, ...trial }, what), ...isWhole ? [...rests, ...shelf(said)] : [...shelf(said), ...rests],
     ...findings(told, names), ...tags(told, names), ...conflict(told), ...rounds(told, names),
-    ...maintainer(told, said), ...notes(told), ...takenForGranted(told), record(told)];
+    ...maintainer(told, said), ...notes(told), ...takenForGranted(told), record(told, isAlone)];
 }
 
 /** @param {Told} told */
@@ -63,7 +63,7 @@ function conditions(told) {
 function shelf(said) {
   if (!said.shelf.length) return [];
   const why = said.why ? [el("p", { class: "why" }, `The cause: ${said.why}`)] : [];
-  return [el("section", {}, el("h2", {}, "At the shelf"), el("ul", { class: "steps" }, said.shelf.map((step) => el("li", {}, step))), ...why)];
+  return [el("section", {}, el("h2", {}, said.look === "refused" ? "What to do" : "At the shelf"), el("ul", { class: "steps" }, said.shelf.map((step) => el("li", {}, step))), ...why)];
 }
 
 /**
@@ -83,7 +83,7 @@ function findings({ object: { findings, found, open }, counts }, names) {
     const items = list.map(({ uid = "", line, overlooked }) => el("li", {}, ...tagWith(uid, names),
       ...line ? shown(line, overlooked ? `${silentIn(overlooked)}; ` : "") : []));
     const isSeen = all <= FEW || !listed && !open.count;
-    return folded(count(all, one, many), isSeen, el("ul", { class: "uids" }, items), ...rest(all - list.length));
+    return lengthy(folded(count(all, one, many), isSeen, el("ul", { class: "uids" }, items), ...rest(all - list.length)), items.length);
   });
 }
 
@@ -113,7 +113,17 @@ function conflict({ conflict: it }) {
   const part = folded(`The ${count(it.count, "line")} that can't all be true, of ${count(it.rounds, "round")}`, false, el("ul", {}, items),
     ...rest(it.rounds - new Set(it.parts.map((part) => part.round)).size));
   if (it.rounds > MOST_ROUNDS) part.classList.add("aside");
-  return [part];
+  return [lengthy(part, items.length)];
+}
+
+/**
+ * A part that stands behind the rounds on paper, if it is long.
+ * @param {HTMLElement} part
+ * @param {number} items
+ */
+function lengthy(part, items) {
+  if (items > FEW) part.classList.add("lengthy");
+  return part;
 }
 
 /**
@@ -124,8 +134,8 @@ function conflict({ conflict: it }) {
 function tags({ object: { certain, found } }, names) {
   if (!certain.count || found.unlisted === certain.count) return [];
   const items = certain.uids.map((uid) => el("li", {}, ...tagWith(uid, names)));
-  return [folded(certain.count === 1 ? "The tag that is here" : `The ${count(certain.count, "tag")} that are here`, false,
-    el("ul", { class: "uids" }, items), ...rest(certain.count - items.length))];
+  const title = certain.count === 1 ? "The tag that is here" : `The ${count(certain.count, "tag")} that are here`;
+  return [lengthy(folded(title, false, el("ul", { class: "uids" }, items), ...rest(certain.count - items.length)), items.length)];
 }
 
 /** @param {Told} told */
@@ -144,8 +154,11 @@ function takenForGranted(told) {
   return [folded(`What this takes for granted (${all.length})`, !told.object.status, el("ul", {}, all.map((it) => el("li", {}, it))))];
 }
 
-/** @param {Told} told */
-function record({ object: { kind, version, sha256 }, counts }) {
+/**
+ * @param {Told} told
+ * @param {boolean} isAlone
+ */
+function record({ object: { kind, version, sha256 }, counts }, isAlone) {
   const said = [count(counts.lines, "line")], isRefused = kind === KIND.REFUSED;
   const parts = /** @type {[number, string, string?][]} */ ([[counts.rounds, "round"], [counts.slots, "slot"], [counts.heard, "reply", "replies"],
     [counts.quiets, "Stay Quiet"], [counts.cycles, "field cycle"], [counts.listed, "UID listed", "UIDs listed"]]);
@@ -153,7 +166,7 @@ function record({ object: { kind, version, sha256 }, counts }) {
   if (!isRefused) said.push(...parts.filter(([number]) => number).map((part) => count(...part)));
   return el("footer", { class: "record" }, el("p", {}, said.join(" · ")),
     el("p", {}, `vicinity ${version}`, ...sha256 ? [` · SHA-256 of the ${isRefused ? "file" : "log"} `, el("code", {}, sha256)] : []),
-    ...isRefused ? [] : [signed()]);
+    ...isRefused || !isAlone ? [] : [signed()]);
 }
 
 /** Who counted, and when: a line on paper. */
