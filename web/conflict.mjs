@@ -1,4 +1,5 @@
 /** What there is of a conflict's lines: the slots that its form is told by. */
+import { linkOf } from "./frames.mjs";
 
 /** @typedef {import("./log.mjs").Log} Log */
 /** @typedef {import("./log.mjs").Slot} Slot */
@@ -15,6 +16,7 @@
  * @property {number} silent its first silent slot's line, 0 if it has none
  * @property {Part[]} parts its lines by rounds, the first of many
  * @property {number} rounds of how many rounds they are
+ * @property {number} link of the request of its first line
  * @property {number} silencer the line of the Stay Quiet that had silenced the tag of its reply, 0 if there is none
  */
 
@@ -37,7 +39,7 @@ export const isLarge = (conflict) => conflict !== null && conflict.count > MOST_
 export function conflictOf(log, lines, silencer) {
   const heard = lines.filter((line) => log.isReply(line)), isSilent = (/** @type {number} */ line) => log.reading(line) === "silent";
   const unread = lines.find((line) => !log.isReply(line) && !isSilent(line));
-  return { count: lines.length, first: lines[0], last: lines[lines.length - 1], silencer,
+  return { link: linkOf(log.frame(log.lineOf(log.rowAt(lines[0])))), count: lines.length, first: lines[0], last: lines[lines.length - 1], silencer,
     unread: unread ? log.slot(unread) : null,
     heard: [...new Set([...heard.slice(0, 1), ...heard.slice(-1)])].flatMap((line) => log.slot(line) ?? []),
     silent: lines.find(isSilent) ?? 0, ...partsOf(log, lines) };

@@ -1,10 +1,14 @@
 /** What a contradiction says, by the form of its lines: a sentence, what may have happened, and what tells these apart. */
+import { requestOf, SLOTS } from "./frames.mjs";
 import { count, short } from "./words.mjs";
 
 /** @typedef {import("./conflict.mjs").Conflict} Conflict */
 /** @typedef {import("./log.mjs").Slot} Slot */
-/** @typedef {{sentence: string, causes: string[], test: string}} Contradiction */
+/** @typedef {import("./frames.mjs").Mask} Mask */
+/** @typedef {{sentence: string, causes: string[], test: string, ask?: string[]}} Contradiction with lines that send what the test asks */
 
+/** The bits of a UID, and of the longest mask that sixteen slots have. */
+const UID_LEN = 64, MOST_ASKED = 60;
 const NOISE = "Noise was logged as an answer: a slot that may have been noise gets the line N; in a log of version 1 or 2 it gets no " +
   "line, nor does the rest of its round.";
 const ONE_DAMAGED = "One damaged reply was logged as a collision: if the chip can't tell these apart, write D, in a log of version 2 or 3.";
@@ -21,12 +25,25 @@ export function contradiction(conflict) {
   const { heard, unread, silent, silencer } = conflict, two = conflict.count === 2;
   if (silencer && heard.length) return woke(heard[heard.length - 1], silencer);
   if (conflict.count === 1 && (unread ?? heard[0])) return alone(unread ?? heard[0]);
-  if (unread) return unmet(conflict, unread);
-  if (two && heard.length === 2) return hidden(heard[0], heard[1]);
-  if (two && heard.length && silent) return lost(heard[0], silent);
+  if (unread) return { ...unmet(conflict, unread), ask: sixteen(unread.mask, conflict.link) };
+  if (two && heard.length === 2) return { ...hidden(heard[0], heard[1]), ask: sixteen(widest(heard[0].mask, heard[1].mask), conflict.link) };
+  if (two && heard.length && silent) return { ...lost(heard[0], silent), ask: [`T ${requestOf(1, { len: UID_LEN, value: heard[0].uid ?? 0n }, conflict.link)}`] };
   return { sentence: `${count(conflict.count, "line")} from ${conflict.first} to ${conflict.last} can't all be true.`,
     causes: [LEFT_OUT, WRONG_PLACE], test: "" };
 }
+
+/**
+ * @param {Mask} one
+ * @param {Mask} other
+ */
+const widest = (one, other) => one.len < other.len ? one : other;
+
+/**
+ * What asks for a mask in sixteen slots, or in one if it is too narrow for these.
+ * @param {Mask} mask
+ * @param {number} link
+ */
+const sixteen = (mask, link) => [`T ${requestOf(mask.len > MOST_ASKED ? 1 : SLOTS, mask, link)}`];
 
 /** @param {Slot} slot */
 const name = (slot) => short(slot.uid ?? 0n);

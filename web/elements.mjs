@@ -30,6 +30,17 @@ export function toLine(line, ...words) {
   return el("button", { type: "button", class: "to-line", "data-line": String(line) }, ...words.length ? words : [`line ${line}`]);
 }
 
+/** A line in a sentence, with its word if it is one alone. */
+const LINE = /(\bline \d+|(?<=\blines (?:\d+(?:, | and ))*)\d+)/;
+
+/**
+ * A sentence in which each line that it names is a button.
+ * @param {string} sentence
+ */
+export function linked(sentence) {
+  return sentence.split(LINE).map((part, at) => at % 2 ? toLine(Number(part.match(/\d+/)), part) : part);
+}
+
 /**
  * What stands below a heading of the second level: its own headings are two levels lower.
  * @param {Node[]} nodes

@@ -26,12 +26,19 @@ export const CRC_DIGITS = 4;
 const CRC_START = 0xFFFF, CRC_POLYNOMIAL = 0x8408;
 
 /**
+ * The digits of bytes in the opposite order.
+ * @param {string} digits
+ */
+const turnedOf = (digits) => (digits.match(/../g) ?? []).reverse().join("");
+
+/**
  * The number that bytes have, which are sent low byte first.
  * @param {string} digits
  */
-function numberOf(digits) {
-  return BigInt(`0x${(digits.match(/../g) ?? []).reverse().join("") || "0"}`);
-}
+const numberOf = (digits) => BigInt(`0x${turnedOf(digits) || "0"}`);
+
+/** @param {string} frame */
+const withCrc = (frame) => frame + crcOf(frame);
 
 /** @param {number} flags of an Inventory request */
 export const slotsOf = (flags) => flags & ONE_SLOT ? 1 : SLOTS;
@@ -63,18 +70,18 @@ const pairOf = (byte) => hex(BigInt(byte), 2);
  * @param {number} link
  */
 export function stayQuietOf(uid, link) {
-  const turned = (hex(uid).match(/../g) ?? []).reverse().join("");
-  const frame = pairOf(ADDRESSED | link) + pairOf(STAY_QUIET) + turned;
-  return frame + crcOf(frame);
+  return withCrc(pairOf(ADDRESSED | link) + pairOf(STAY_QUIET) + turnedOf(hex(uid)));
 }
 
 /**
- * The frame that asks for all tags in one slot.
+ * The frame that asks for a mask.
+ * @param {number} slots
+ * @param {Mask} mask
  * @param {number} link
  */
-export function oneSlotOf(link) {
-  const frame = pairOf(ONE_SLOT | INVENTORY_FLAG | link) + pairOf(INVENTORY) + pairOf(0);
-  return frame + crcOf(frame);
+export function requestOf(slots, { len, value }, link) {
+  const frame = pairOf((slots === 1 ? ONE_SLOT : 0) | INVENTORY_FLAG | link) + pairOf(INVENTORY) + pairOf(len);
+  return withCrc(frame + (len ? turnedOf(hex(value, 2 * Math.ceil(len / 8))) : ""));
 }
 
 /**

@@ -1,5 +1,5 @@
 /** Draws what whoever maintains the reader needs: the causes, what tells them apart, and what is left to ask. */
-import { el, folded, toLine } from "./elements.mjs";
+import { el, folded, linked, toLine } from "./elements.mjs";
 import { alsoHolds, TO_KNOW } from "./say.mjs";
 import { count, visible } from "./words.mjs";
 
@@ -21,8 +21,8 @@ export function maintainer(told, said) {
   if (!said.causes.length && !ask.length) return [];
   if (told.faulty) parts.push(el("p", {}, toLine(told.object.line ?? 1), ": ", el("code", {}, visible(told.faulty).slice(0, MOST_SHOWN))));
   if (said.lead) parts.push(el("p", {}, said.lead));
-  if (said.causes.length) parts.push(el("ul", {}, said.causes.map((cause) => el("li", {}, cause))));
-  if (said.test) parts.push(el("p", {}, said.test));
+  if (said.causes.length) parts.push(el("ul", {}, said.causes.map((cause) => el("li", {}, linked(cause)))));
+  if (said.test) parts.push(el("p", {}, linked(said.test)), ...said.ask.length ? copied(said.ask) : []);
   if (told.object.unnoticed) {
     parts.push(el("p", {}, "A tag ", el("code", {}, told.object.unnoticed), " could be here: the log would be the same."));
   }

@@ -40,10 +40,12 @@ export class Pane {
     return this.#firstLine - 1 + this.field.value.slice(0, this.field.selectionStart).split(NEW_LINE).length;
   }
 
-  /** Marks the cell of the line in which the cursor is. */
+  /** Marks the cell of the line in which the cursor is, and says the line in the heading. */
   mark() {
+    const place = this.field.parentElement?.querySelector(".place"), line = document.activeElement === this.field && this.field.value ? this.line : 0;
     this.shown.querySelector(".here")?.classList.remove("here");
-    if (document.activeElement === this.field) this.shown.querySelector(`td[data-line="${this.line}"]`)?.classList.add("here");
+    this.shown.querySelector(`td[data-line="${line}"]`)?.classList.add("here");
+    if (place) place.textContent = line ? `, line ${line}` : "";
   }
 
   /**

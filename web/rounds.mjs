@@ -16,6 +16,7 @@ export const LOOKS = {
   collision: { sign: "×", words: "two or more tags answered" }, garbled: { sign: "?", words: "something answered that couldn't be read" },
   unknown: { sign: "~", words: "nothing is known of it" }, unreached: { sign: "", words: "not reached" },
 };
+const MOST_DIGITS = 4;
 /** What is said of a table that has to be scrolled. */
 const SCROLLED = { tabindex: "0", role: "group", "aria-label": "The rounds, scrolled sideways" };
 /** What the signs mean. */
@@ -82,7 +83,7 @@ function rowOf(row, ringed, named, names) {
   const cells = row.slots.map((slot) => cell(row, slot, isNamed(slot), slot.uid === null ? "" : names.get(hex(slot.uid)) ?? ""));
   const till = row.end > row.line ? [el("span", { class: "till" }, `–${row.end}`)] : [];
   return el("tr", {}, el("th", { scope: "row" }, toLine(row.line, String(row.line), ...till),
-    el("span", { class: "unseen" }, summary(row))), el("td", { class: "mask" }, row.asked.len ? `..${tail(row.asked)}` : "all"), ...cells);
+    el("span", { class: "unseen" }, summary(row))), el("td", { class: "mask" }, row.asked.len ? tail(row.asked) : "all"), ...cells);
 }
 
 /** @param {Gap} gap */
@@ -92,12 +93,12 @@ function missing({ rounds, quiets, cycles }) {
 }
 
 /**
- * The low bits of a mask as a number's last digits; where they are no whole digits, with their number.
+ * The low bits of a mask as a number's last digits, of which a phone shows a few; where they are no whole digits, with their number.
  * @param {import("./frames.mjs").Mask} mask
  */
 function tail(mask) {
-  const digits = hex(mask.value, Math.ceil(mask.len / 4));
-  return mask.len % 4 ? `${digits} (${count(mask.len, "bit")})` : digits;
+  const digits = hex(mask.value, Math.ceil(mask.len / 4)), bits = mask.len % 4 ? ` (${count(mask.len, "bit").replace(" ", "\u00A0")})` : "";
+  return ["..", el("span", { class: "before" }, digits.slice(0, -MOST_DIGITS)), `${digits.slice(-MOST_DIGITS)}${bits}`];
 }
 
 /**

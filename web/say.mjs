@@ -21,6 +21,7 @@ import { count, ending, lines, listing, short, whom } from "./words.mjs";
  * @property {string} lead what the causes are
  * @property {string[]} causes why it came so, for whoever maintains the reader
  * @property {string} test what tells the causes apart
+ * @property {string[]} ask lines that send it
  */
 
 const AGAIN = "Run the inventory again, to its end.";
@@ -83,12 +84,12 @@ export const granted = (holds) => [
  * @returns {Said}
  */
 export function say(told, isAlone = true) {
-  const none = { lights: [], why: "", lead: "", test: "" };
+  const none = { lights: [], why: "", lead: "", test: "", ask: [] };
   if (told.object.kind === KIND.REFUSED) return { ...none, look: "refused", sign: "?", ...refused(told) };
   if (!told.conflict) return possible(told, isAlone);
-  const { sentence: found, causes, test } = contradiction(told.conflict), other = told.object.captured?.kind ?? KIND.IMPOSSIBLE;
+  const { sentence: found, causes, test, ask = [] } = contradiction(told.conflict), other = told.object.captured?.kind ?? KIND.IMPOSSIBLE;
   return { ...none, look: "broken", sign: "≠", headline: `The log contradicts itself: ${found}`, shelf: [NEW_LOG, STAYS],
-    lead: "Mostly it is one of these:", causes, test: [test, other === KIND.IMPOSSIBLE ? "" : NO_CONFLICT].filter((it) => it).join(" ") };
+    lead: "Mostly it is one of these:", causes, ask, test: [test, other === KIND.IMPOSSIBLE ? "" : NO_CONFLICT].filter((it) => it).join(" ") };
 }
 
 /**
@@ -108,7 +109,7 @@ function possible(told, isAlone) {
   const causes = [...why, ...hasList && found.absent ? [NOT_HEARD] : [], ...hasList && found.unlisted ? [NOT_CLAIMED] : []];
   return { look: whole ? "yes" : only ? "read" : "no", sign: whole ? "✓" : only ? "i" : "!", headline: headline(told, isAlone),
     lights: [finished, ...hasList || isAlone ? [listLight] : []],
-    shelf: steps(told, isAlone), why: why[0] ?? "", lead: "", causes, test: "" };
+    shelf: steps(told, isAlone), why: why[0] ?? "", lead: "", causes, test: "", ask: [] };
 }
 
 /**

@@ -7,7 +7,7 @@
 import { causesOf, silencedUnheard } from "./causes.mjs";
 import { conflictOf, isLarge, keyLines } from "./conflict.mjs";
 import { drawn } from "./drawn.mjs";
-import { linkIn, linkOf, oneSlotOf, stayQuietOf, uidIn } from "./frames.mjs";
+import { linkIn, linkOf, requestOf, stayQuietOf, uidIn } from "./frames.mjs";
 import { KIND } from "./kinds.mjs";
 import { Log } from "./log.mjs";
 import { notesOf } from "./notes.mjs";
@@ -84,6 +84,7 @@ import { strip } from "./strip.mjs";
 
 /** How many lines of findings are marked, and how many tags are silenced by requests that are told. */
 const MOST_NAMED = 24, MOST_REQUESTS = 1000;
+const NO_MASK = { len: 0, value: 0n };
 
 /**
  * @param {{mask_len: number, mask_value: string}} written
@@ -163,7 +164,7 @@ function allButHeard(log, link) {
     }
   }
   const quiets = ready.size > MOST_REQUESTS ? [] : [...ready];
-  return [...quiets.map((uid) => `T ${stayQuietOf(uid, link)}`), `T ${oneSlotOf(link)}`];
+  return [...quiets.map((uid) => `T ${stayQuietOf(uid, link)}`), `T ${requestOf(1, NO_MASK, link)}`];
 }
 
 /**

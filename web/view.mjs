@@ -1,6 +1,6 @@
 /** Draws what is told of a log. */
 import { isLarge } from "./conflict.mjs";
-import { el, folded, toLine } from "./elements.mjs";
+import { el, folded, linked, toLine } from "./elements.mjs";
 import { maintainer } from "./maintainer.mjs";
 import { KIND } from "./kinds.mjs";
 import { noted } from "./notes.mjs";
@@ -62,7 +62,7 @@ function conditions(told) {
 /** @param {import("./say.mjs").Said} said */
 function shelf(said) {
   if (!said.shelf.length) return [];
-  const why = said.why ? [el("p", { class: "why" }, `The cause: ${said.why}`)] : [];
+  const why = said.why ? [el("p", { class: "why" }, "The cause: ", linked(said.why))] : [];
   return [el("section", {}, el("h2", {}, said.look === "refused" ? "What to do" : "At the shelf"), el("ul", { class: "steps" }, said.shelf.map((step) => el("li", {}, step))), ...why)];
 }
 
@@ -140,7 +140,7 @@ function tags({ object: { certain, found } }, names) {
 
 /** @param {Told} told */
 function notes(told) {
-  const all = noted(told.notes).map(([line, words]) => el("li", {}, toLine(line), `: ${words}`));
+  const all = noted(told.notes).map(([line, words]) => el("li", {}, toLine(line), linked(`: ${words}`)));
   return all.length ? [folded(`Notes, which are no part of the answer (${all.length})`, told.object.status > 0, el("ul", {}, all))] : [];
 }
 
