@@ -10,7 +10,7 @@ from hashlib import sha256
 import pytest
 
 import biglog
-from helpers.lines import log_of, text_of
+from helpers.lines import log_lines, log_of, text_of
 from helpers.program import TOP
 from helpers.records import drawn_in
 from helpers.screen import PHONE, Screen
@@ -24,7 +24,11 @@ LOGS = (
     ("I16 S RA RB S13 UA UB", "All 2 listed tags are here, and no others."),
     ("I1 RA UA", "The one listed tag is here, and no other."),
     ("I1 S", "The field is empty, and nothing is listed."),
-    ("I1 RA", "Search finished. 1 tag proved. The log has no list to compare with."),
+    ("I1 RA", "1 tag is here; others may be, if stronger replies hid them. The log has no list to "
+     "compare with."),
+    ("I1 RA QA I1 S", "1 tag is here, and no other. The log has no list to compare with."),
+    ("I16 S RA RB S12 C UA UB", "All 2 listed tags are here; others may be too."),
+    ("QB I1 RA UA", "The one listed tag is here; 1 tag may be here or not: it was silenced before"),
     ("I1 S UA", "Search finished. 1 listed tag can't be here."),
     ("I16 S RA RB S13 UA", "Search finished. 1 tag here isn't listed."),
     ("I1 C UA", "Not finished: 0 % of all UIDs settled. 1 listed tag not proved."),
@@ -44,7 +48,8 @@ LOGS = (
     ("MB RA", "The log contradicts itself: line 3 is a reply of ..00A1, a tag that wasn't asked"),
     ("UA UA", "This log can't be used. Line 3: an earlier U line has the same UID."))
 # How the two lights are for some of them.
-LIGHTS = (("I16 S RA RB S13 UA UB", "yes", "matches"), ("I1 RA", "yes", "none given"),
+LIGHTS = (("I16 S RA RB S13 UA UB", "yes", "matches"), ("I1 RA", "not known yet", "none given"),
+          ("I1 RA QA I1 S", "yes", "none given"), ("I16 S RA RB S12 C UA UB", "no", "not known yet"),
           ("I1 S UA", "yes", "differs"), ("I1 C UA", "no", "not known yet"),
           ("I1 S", "yes", "none given"))
 # What is said besides, at the shelf and to whoever maintains the reader; and what isn't.
@@ -74,7 +79,13 @@ SAID = (
     ("QA QB I1 S UA UB", "Lines 2 and 3 silenced 2 tags before they were heard.", "not proved"),
     ("I16 S14", "ended before slots E and F.", "E to F"),
     ("I1 QA I1 S UA", "Begin a new log, of version 3", "What is left to ask"),
-    ("V2 I1 QA I1 S UA", "write F, and ask for the tags that were silenced", "Begin a new log"),
+    ("V2 I1 QA I1 S UA", "write F, and send 1 request for tags that were silenced", "a new log"),
+    ("I1 RA", "have the reader ask all tags once more, until none answers", "Nothing to do"),
+    ("I1 RA QA I1 S", "drop a catalogue (CSV) onto the page that judges this log", "once more"),
+    ("I16 C C S14", "2 requests are left, one for each open mask.", "What is left to ask"),
+    ("I1 RA I1 RB", "ask in sixteen slots, so that fewer tags answer at once. If strong replies may "
+     "have hidden weaker ones (each R read as H), the log doesn't contradict itself.\n\n"
+     "T 060100CD09", "each open mask"),
     ("I1 C", "in sixteen slots, or in one", "one request for each"),
     ("I1 S QA UA", "its reply may have been lost in line 3", "stronger replies"),
     ("I1 S MB S UA", "one that stronger replies hid would go unnoticed", "no earlier round"),
@@ -109,7 +120,7 @@ LIST_A, LIST_B = "U E0040100000000A1", "U E0040100000000B2"
 # These logs, how the headline begins, and what is said besides.
 THIRD = {
     "a reply that may hide others": (
-        (ALL, OVER_A, LIST_A), "Not finished: 0 % of all UIDs settled. 1 tag proved.",
+        (ALL, OVER_A, LIST_A), "The one listed tag is here; others may be too.",
         "In slot 0 of the round of line 2, which asked all UIDs, ..00A1 was read, perhaps over "
         "others"),
     "none was hidden": (
@@ -117,7 +128,7 @@ THIRD = {
         "If a strong reply hid a weaker one, the answer still holds, and a tag would still have "
         "had to be missed in 1 slot."),
     "two were hidden": (
-        (ALL, OVER_A, QUIET_A, ALL, "C", LIST_A), "Not finished: 0 % of all UIDs settled. 1 tag",
+        (ALL, OVER_A, QUIET_A, ALL, "C", LIST_A), "The one listed tag is here; others may be too.",
         "In slot 0 of the round of line 5, which asked all UIDs, two or more tags answered"),
     "a slot that isn't known": (
         (EACH, "N", *"S" * 15), "Not finished: 93 % of all UIDs settled. The log has no list",
@@ -144,15 +155,19 @@ THIRD = {
     "one slot too many": ((ALL, "N", "N"), "This log can't be used. Line 4", "no slot"),
     "a reply cut short": (
         (ALL, "H 0000A1"), "This log can't be used. Line 3: the reply doesn't", "gets the line D")}
-# What each answer says of strong replies that hid weaker ones.
+# What each answer says of strong replies that hid weaker ones, and the lines of requests below.
 HIDDEN = (
-    ("I16 S RA RB S13 UA UB", "may be wrong."),
-    ("I1 RA QA I1 S UA", "still holds, but a tag would have had to be missed in only 1 slot."),
+    ("I16 S RA RB S13 UA UB", "may be wrong.", "QA QB I1"),
+    ("I1 RA QA I1 S UA", "still holds, but a tag would have had to be missed in only 1 slot.", ""),
     ("I1 RA QA I1 S I1 S UA", "still holds, but a tag would have had to be missed in only 2 "
-     "slots."),
-    ("I1 RA UB", "may be wrong."),
-    ("I1 RA", "would still be unlisted E0040100000000A1; more may be open."),
-    ("I1 RA I1 S UB", None), ("I1 S", None), ("I1 C UA", None), ("UA UA", None))
+     "slots.", ""),
+    ("I1 RA UB", "may be wrong.", "QA I1"),
+    ("I1 RA", None, "QA I1"), ("I16 S RA RB S13 QA", None, "QB I1"),
+    ("V3 I16 S RA RB S13 QA QB F", None, "QA QB I1"), ("I1 RA QA I1 S", "still holds.", ""),
+    ("I16 S RA RB S13 UA", "would still be unlisted E0040100000000B2; more may be open.",
+     "QA QB I1"),
+    ("I1 RA QA I1 S UB", "still holds.", ""), ("I1 S", None, ""), ("I1 C UA", None, "I16 I1"),
+    ("UA UA", None, ""))
 # Logs whose pages are read by everybody: each look of the answer.
 READ = ("I16 S RA RB S13 UA UB", "I16 S C S14 UA", "I1 RA I1 S", "UA UA", "I1 RA")
 TYPE = """
@@ -288,6 +303,7 @@ def test_a_foreign_text_is_told_from_a_log(page, text, words):
     is_table = "but a table" in page.said()
     assert ("whoever maintains the reader" in page.said()) != is_table
     assert "SHA-256 of the file" in page.said()
+    assert page.texts("h2")[0] == "What to do"
     if is_table:
         assert page.texts("label[for=text]") == ["The file"]
 
@@ -353,13 +369,13 @@ def test_what_is_left_to_ask_under_a_reply(page):
     assert page.texts(".copy") == [f"{QUIET_A}\n{ALL}"]
 
 
-@pytest.mark.parametrize(("names", "words"), HIDDEN, ids=[row[0] for row in HIDDEN])
-def test_whether_it_also_holds_if_replies_were_hidden(page, names, words):
+@pytest.mark.parametrize(("names", "words", "ask"), HIDDEN, ids=[row[0] for row in HIDDEN])
+def test_whether_it_also_holds_if_replies_were_hidden(page, names, words, ask):
     page.drop(log=log_of(names))
     page.until(".banner h1", "")
     said = [it.partition("hid a weaker one, the answer ")[2] for it in page.texts(".holds p")]
     assert [it for it in said if it] == ([words] if words else [])
-    assert (page.texts(".copy") == [ALL]) == (words == "may be wrong.")
+    assert page.texts(".copy") == ["\n".join(log_lines(ask)[1:])] * bool(ask)
 
 
 def test_a_contradiction_that_hidden_replies_explain(page):
@@ -368,10 +384,10 @@ def test_a_contradiction_that_hidden_replies_explain(page):
 
 
 @pytest.mark.parametrize(("names", "holds"), [
-    ("I1 RA QA I1 S UA", True), ("I16 S RA RB S13 UA UB", False), ("I1 S", True), ("I1 RA", False),
-    ("I1 S UA", False)])
+    ("I1 RA QA I1 S UA", True), ("I16 S RA RB S13 UA UB", False), ("I1 S", True), ("I1 RA", True),
+    ("I1 S UA", True), ("I1 RA UB", False), ("I1 C", False)])
 def test_what_is_not_needed_is_not_taken_for_granted(page, names, holds):
-    """That no reply was hidden, where a complete answer also holds if one was."""
+    """That no reply was hidden, where what is said also holds if one was."""
     page.drop(log=log_of(names))
     page.until("details:last-of-type", "What this takes for granted (7)")
     said = page.run("return [...document.querySelectorAll('details:last-of-type li')]"
@@ -381,7 +397,7 @@ def test_what_is_not_needed_is_not_taken_for_granted(page, names, holds):
 
 
 @pytest.mark.parametrize(("names", "conditions"), [
-    ("I1 RA UA", 1), ("I1 S", 1), ("I1 RA", 0), ("I1 C UA", 0), ("I1 RA I1 S", 0)])
+    ("I1 RA UA", 1), ("I1 S", 1), ("I1 RA", 1), ("I1 C UA", 0), ("I1 RA I1 S", 0)])
 def test_what_a_complete_answer_is_said_of(page, names, conditions):
     page.drop(log=log_of(names))
     page.until(".banner h1", "")
@@ -405,7 +421,7 @@ def test_a_reply_is_tried_over_others(page):
     page.until("h1", "The one listed tag is here")
     page.press("td[data-line='3']")
     page.press("#trial button")
-    page.until("h1", "A trial: Not finished: 0 %")
+    page.until("h1", "A trial: The one listed tag is here; others may be too.")
     field = page.driver.find_element("id", "text").get_property("value")
     assert field == third(ALL, OVER_A, LIST_A).decode()
     page.press("#trial button", -1)
@@ -422,7 +438,7 @@ def test_letters_are_tried_by_the_keyboard(page):
 
 def test_a_table_is_compared_with_the_logs_that_are_here(page):
     page.drop(log=log_of("I1 RA"))
-    page.until("h1", "1 tag proved")
+    page.until("h1", "1 tag is here")
     page.drop(**{"books.csv": b"title;uid\nWalden;E0:04:01:00:00:00:00:A1\n"})
     page.until(".banner.yes h1", "The one expected item is here, and no other.")
     page.press(".logs summary")
@@ -532,12 +548,12 @@ def test_the_last_stay_quiets_of_a_long_log_are_drawn_with_their_round(page):
                            QUIET_A, biglog.silence(0xE0040100000000B2)]))
     page.until(".rounds td.quiet", "B2")
     assert len(page.texts(".rounds td.quiet")) == 2
-    assert page.texts(".rounds .say") == ["68 more requests"]
+    assert page.texts(".rounds .say") == ["not shown: 68 rounds"]
 
 
 def test_without_a_list_no_tag_is_ringed(page):
     page.drop(log=log_of("I16 S RA RB S13"))
-    page.until("h1", "2 tags proved")
+    page.until("h1", "2 tags are here")
     assert page.texts(".named") == []
 
 
@@ -545,7 +561,7 @@ def test_without_a_list_all_tags_are_seen(page):
     """Where nothing is left to ask. What isn't scrolled is no stop for the keyboard."""
     tags = biglog.new_tags(random.Random(1), 30)
     page.drop(log=text_of(["vicinity-log 1", *biglog.search(tags)]))
-    page.until("h1", "30 tags proved")
+    page.until("h1", "30 tags are here")
     assert len([it for it in page.texts(".uids code") if it]) == 30
     page.wait(lambda: not page.driver.find_elements("css selector", ".wide[tabindex]"))
 
@@ -655,7 +671,7 @@ def test_text_and_rounds_are_linked(page):
     page.press('td[data-line="4"]')
     assert page.run(CHOSEN).startswith("R 0000A1")
     marked = "return [...document.querySelectorAll('td.here')].map((it) => it.dataset.line)"
-    assert page.run(marked) == ["4"]
+    assert (page.run(marked), page.texts("#beside h2")) == (["4"], ["The log, line 4"])
 
 
 def test_several_logs(page):
@@ -846,8 +862,8 @@ def test_a_log_of_a_collection_is_compared_with_its_catalogue(page):
                  "two.log": log_of("I1 S")})
     page.until("h1", "1 item not in the catalogue.")
     page.run("for (const it of document.querySelectorAll('details')) it.open = true")
-    page.until(".logs", "Search finished. 1 tag proved.")
-    assert page.texts(".logs h3") == ["Search finished. 1 tag proved.", "The field is empty."]
+    page.until(".logs", "1 tag is here, and no other.")
+    assert page.texts(".logs h3") == ["1 tag is here, and no other.", "The field is empty."]
     assert page.texts(".logs dt") == ["Search finished"] * 2
     assert page.texts(".logs h4").count("At the shelf") == 1
     assert page.texts(".items tbody tr") == ["E0040100000000A1\none.log"]

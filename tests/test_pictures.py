@@ -32,7 +32,7 @@ HEADLINES = {
     "second-version": "Not finished: 6 % of all UIDs settled. The log has no list",
     "shelf": "Not finished: 87 % of all UIDs settled. 1 listed tag can't be here, 1 tag here isn't "
              "listed, 2 tags proved and 1 listed tag not proved.",
-    "unfinished-count": "Not finished: 96 % of all UIDs settled. 2 tags proved.",
+    "unfinished-count": "All 2 listed tags are here; others may be too.",
     "whole-shelf": "All 4 listed tags are here, and no others.",
     "woke": "The log contradicts itself: tag ..00A1 was silenced in line 4, but answered in line 6",
 }

@@ -9,6 +9,7 @@ import sys
 import vicinity
 from cases import (ALL, ANSWERS, COLLECTION, HEARD_A, HEARD_B, LIST_A, LIST_B, SHELVES,
                    SILENCE_A, SIXTEEN, Command, frame, log, within)
+from helpers.records import drawn_in
 
 CAPTURED_A, CAPTURED_B = (line.replace(b"R", b"H") for line in (HEARD_A, HEARD_B))
 SILENCE_B = b"T %s\n" % frame(bytes.fromhex("2202B2000000000104E0"))
@@ -67,6 +68,15 @@ class Said(Command):
                               (SILENCE_B + ALL + HEARD_A + LIST_A, HIDDEN)):
             name = self.write("one.log", log(lines))
             self.assertEqual(json.loads(within("--json", name)[0])["captured"], wanted)
+
+    def test_in_a_page(self):
+        """Where nothing is left to ask, also how many UIDs must be there and how many masks are
+        open then: beside A, one at each of its 56 bits."""
+        for lines, wanted in ((ALL + HEARD_A, {"holds": True, "certain": 1, "open": 56}),
+                              (ALL + HEARD_A + SILENCE_A + ALL + b"S\n",
+                               {"holds": True, "certain": 1, "open": 0}),
+                              (SILENCE_B + ALL + HEARD_A, {"holds": True})):
+            self.assertEqual(drawn_in(vicinity.page(log(lines)))[0]["captured"], wanted)
 
     def test_it_is_no_part_of_the_answer(self):
         """Neither of its line nor of its status."""

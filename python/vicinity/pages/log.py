@@ -31,27 +31,24 @@ def of_log(text: bytes, name: str) -> tuple[Answer, Iterator[str]]:
 def page_object(name: str, told: Told) -> dict[str, Any]:
     """All that a page draws of a log."""
     answer, text = told.answer, told.session.text
-    left = survey(text)
+    _, certain, masks = survey(text)
     shown_by = explain(text).population if answer.kind is Kind.UNSETTLED else []
     said = object_of(name, answer, told.weakest, told.reread, told.weakest_reread)
-    if answer.status == 1 and not left.open_masks:
+    if answer.status == 1 and not masks:
         then = survey(with_captures(text))
         said["captured"].update(certain=len(then.certain), open=len(then.open_masks))
     return {
-        **said,
-        "version": version(), "answer": answer.text,
+        **said, "version": version(), "answer": answer.text,
         "lines": text.count(b"\n") + (not text.endswith(b"\n") and bool(text)),
         "ended": text.endswith(b"\n"), "sha256": sha256(text).hexdigest(),
         "findings": [it for it in told.objects(MOST_TOLD) if it["kind"] not in OF_MASKS],
         "found": {WORDS[kind]: len(told.of(kind)) for kind in COUNTED},
-        "certain": {"count": len(left.certain),
-                    "uids": list(map(uid_text, left.certain[:MOST_LISTED]))},
-        "open": {"count": len(left.open_masks),
-                 "share": sum(2.0 ** -mask.length for mask in left.open_masks),
+        "certain": {"count": len(certain), "uids": [*map(uid_text, certain[:MOST_LISTED])]},
+        "open": {"count": len(masks), "share": sum(2.0 ** -mask.length for mask in masks),
                  # all tags are asked first in sixteen slots
                  "masks": [{**mask_fields(mask),
                             "ask": [ask(text, slots, mask) for slots in (16, 1)[mask.length > 0:]]}
-                           for mask in left.open_masks[:MOST_TOLD]]},
+                           for mask in masks[:MOST_TOLD]]},
         # a UID that isn't listed, and could be there
         "unnoticed": next((uid_text(uid) for uid in shown_by if answer.mask.has(uid)), None),
         "text": told.session.until_refused.decode("utf-8", "replace")}
