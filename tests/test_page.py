@@ -49,7 +49,8 @@ LOGS = (
     ("UA UA", "This log can't be used. Line 3: an earlier U line has the same UID."))
 # How the two lights are for some of them.
 LIGHTS = (("I16 S RA RB S13 UA UB", "yes", "matches"), ("I1 RA", "not known yet", "none given"),
-          ("I1 RA QA I1 S", "yes", "none given"), ("I16 S RA RB S12 C UA UB", "no", "not known yet"),
+          ("I1 RA QA I1 S", "yes", "none given"),
+          ("I16 S RA RB S12 C UA UB", "no", "not known yet"),
           ("I1 S UA", "yes", "differs"), ("I1 C UA", "no", "not known yet"),
           ("I1 S", "yes", "none given"))
 # What is said besides, at the shelf and to whoever maintains the reader; and what isn't.
@@ -83,8 +84,8 @@ SAID = (
     ("I1 RA", "have the reader ask all tags once more, until none answers", "Nothing to do"),
     ("I1 RA QA I1 S", "drop a catalogue (CSV) onto the page that judges this log", "once more"),
     ("I16 C C S14", "2 requests are left, one for each open mask.", "What is left to ask"),
-    ("I1 RA I1 RB", "ask in sixteen slots, so that fewer tags answer at once. If strong replies may "
-     "have hidden weaker ones (each R read as H), the log doesn't contradict itself.\n\n"
+    ("I1 RA I1 RB", "ask in sixteen slots, so that fewer tags answer at once. If strong replies "
+     "may have hidden weaker ones (each R read as H), the log doesn't contradict itself.\n\n"
      "T 060100CD09", "each open mask"),
     ("I1 C", "in sixteen slots, or in one", "one request for each"),
     ("I1 S QA UA", "its reply may have been lost in line 3", "stronger replies"),
@@ -284,6 +285,7 @@ def test_rings_are_explained_on_paper(page):
     page.until(".lights", "no")
     page.media("print")
     assert page.driver.find_element("css selector", ".legend .named").is_displayed()
+    assert page.run("return document.querySelector('.legend').ariaLabel") == "What the signs mean"
     size = "return getComputedStyle(document.body).fontSize"
     assert page.run(size) == "12px"
 
@@ -293,6 +295,31 @@ def test_the_cause_is_ringed(page):
     page.until(".lights", "no")
     ringed = page.run(RINGED)
     assert ringed and all("not reached" in it["title"] for it in ringed)
+    page.press(".why .to-line")
+    assert page.run(CHOSEN) == "T 06010401719B"
+
+
+def test_all_requests_that_are_left_are_there(page):
+    """In each of ten rounds eight slots collide, of which no two make one mask."""
+    slots = ["C" if number.bit_count() % 2 else "S" for number in range(16)]
+    asked = [line for low in range(16) for line in (
+        biglog.ask((4, low), 16), *(slots if low < 10 else ["S"] * 16))]
+    page.drop(log=text_of(["vicinity-log 1", *asked]))
+    page.until("#told", "80 requests are left, one for each open mask.")
+    masks = [(8, number << 4 | low) for number in range(16) for low in range(10)
+             if slots[number] == "C"]
+    assert sorted(page.texts(".copy")[0].split()[1::2]) == sorted(
+        biglog.ask(mask)[2:] for mask in masks)
+
+
+def test_on_paper_long_lists_come_last(page):
+    tags = biglog.new_tags(random.Random(1), 30)
+    page.drop(log=text_of(["vicinity-log 1", *biglog.search(tags)]))
+    page.until("h1", "30 tags are here")
+    page.media("print")
+    tops = page.run("return ['.banner', '.rounds', '.lengthy', '.record'].map((it) => "
+                    "document.querySelector(it).getBoundingClientRect().top)")
+    assert tops == sorted(tops)
 
 
 @pytest.mark.parametrize(("text", "words"), FOREIGN)
@@ -471,7 +498,7 @@ def a_tag_late():
 
 def a_collision_amid():
     """One tag is heard and silenced; two collide; every mask is silent, some before and some
-    after."""
+    after, in sixteen rounds and others that say no more."""
     uid, silent = 0xE004010000000000, ["S"] * 16
     lines = ["vicinity-log 1", biglog.ask((4, 0), 16), biglog.reply(uid), *silent[1:],
              biglog.silence(uid), biglog.ask((4, 1), 16), *silent,
@@ -485,12 +512,14 @@ def a_collision_amid():
 def test_a_large_conflict_is_told_by_its_collision(page, program, make):
     lines, collision = make()
     log = text_of(lines)
-    others = program.run("report", given=log).out.count(b"\nby line ") - 1
+    by = set(re.findall(r"\nby line (\d+)", program.run("report", given=log).out.decode()))
     page.drop(log=log)
-    page.until("h1", f"in line {collision} two or more tags answered, but {others:,} other lines "
-               "leave at most one.")
-    assert str(collision) in [it["line"] for it in page.run(RINGED)]
-    assert any("and on others" in it for it in page.texts(".legend li"))
+    page.until("h1", f"in line {collision} two or more tags answered, but {len(by) - 1:,} other "
+               "lines leave at most one.")
+    ringed = {it["line"] for it in page.run(RINGED)}
+    assert str(collision) in ringed <= by and (by <= ringed) == (make is a_collision_amid)
+    assert any("and on others" in it for it in page.texts(".legend li")) == (make is a_tag_late)
+    assert make is a_collision_amid or len(page.texts(".strip .marked")) > 24
 
 
 def test_the_cause_is_found_far_above(page):
@@ -867,6 +896,8 @@ def test_a_log_of_a_collection_is_compared_with_its_catalogue(page):
     assert page.texts(".logs dt") == ["Search finished"] * 2
     assert page.texts(".logs h4").count("At the shelf") == 1
     assert page.texts(".items tbody tr") == ["E0040100000000A1\none.log"]
+    page.media("print")
+    assert page.said().count("Counted on") == 1
 
 
 @pytest.mark.parametrize(("items", "log", "is_said"), [

@@ -413,7 +413,7 @@ def test_picture_of_a_page(pytestconfig, run, browser, tmp_path):
     (tmp_path / "page.html").write_bytes(run("page", "examples/unfinished-count.log").stdout)
     page = Screen(browser)
     page.open(tmp_path / "page.html")
-    page.until("header h1", "Not finished")
+    page.until("header h1", "others may be too")
     picture = page.picture(1000, ".rounds")
     assert picture.startswith(b"\x89PNG")
     if pytestconfig.getoption("--write"):

@@ -102,9 +102,8 @@ function possible(told, isAlone) {
   const whole = kind === KIND.COMPLETE && hasList, only = ended && !hasList;
   const differs = found.absent || found.unlisted, why = whyOpen(told);
   const list = !hasList ? "none given" : whole ? "matches" : differs ? "differs" : "not known yet";
-  const isSure = ended && (whole || !told.object.captured?.open), isPlain = ended && !isSure;
-  const finished = /** @type {Light} */ ({ name: "Search finished", value: isSure ? "yes" : isPlain ? "not known yet" : "no",
-    look: isSure ? "yes" : isPlain ? "plain" : "no" });
+  const look = !ended ? "no" : told.object.captured?.open ? "plain" : "yes";
+  const finished = /** @type {Light} */ ({ name: "Search finished", value: look === "plain" ? "not known yet" : look, look });
   const listLight = /** @type {Light} */ ({ name: "List", value: list, look: whole ? "yes" : list === "differs" ? "no" : "plain" });
   const causes = [...why, ...hasList && found.absent ? [NOT_HEARD] : [], ...hasList && found.unlisted ? [NOT_CLAIMED] : []];
   return { look: whole ? "yes" : only ? "read" : "no", sign: whole ? "✓" : only ? "i" : "!", headline: headline(told, isAlone),
