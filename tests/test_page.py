@@ -30,7 +30,7 @@ LOGS = (
     ("I16 S RA RB S12 C UA UB", "All 2 listed tags are here; others may be too."),
     ("QB I1 RA UA", "The one listed tag is here; 1 tag may be here or not: it was silenced before"),
     ("I1 S UA", "Search finished. 1 listed tag can't be here."),
-    ("I16 S RA RB S13 UA", "Search finished. 1 tag here isn't listed."),
+    ("I16 S RA RB S13 UA", "1 tag here isn't listed."),
     ("I1 C UA", "Not finished: 0 % of all UIDs settled. 1 listed tag not proved."),
     ("I16 S12", "Not finished: 75 % of all UIDs settled. The log has no list"),
     ("", "Not finished: 0 % of all UIDs settled."),
@@ -789,7 +789,7 @@ def test_a_slot_is_tried_otherwise(page, tmp_path):
     page.press('td[data-line="5"]')
     assert page.texts("#trial button") == ["S nobody", "C two or more"]
     page.press("#trial button")
-    page.until("h1", "A trial: Search finished. 1 listed tag can't be here")
+    page.until("h1", "A trial: 1 listed tag can't be here")
     page.until(".banner", "log (trial: line 5 is S)")
     page.press('td[data-line="3"]')
     page.press("#trial button")

@@ -39,8 +39,8 @@ export const isLarge = (conflict) => conflict !== null && conflict.count > MOST_
 export function conflictOf(log, lines, silencer) {
   const heard = lines.filter((line) => log.isReply(line)), isSilent = (/** @type {number} */ line) => log.reading(line) === "silent";
   const unread = lines.find((line) => !log.isReply(line) && !isSilent(line));
-  return { link: linkOf(log.frame(log.lineOf(log.rowAt(lines[0])))), count: lines.length, first: lines[0], last: lines[lines.length - 1], silencer,
-    unread: unread ? log.slot(unread) : null,
+  return { count: lines.length, first: lines[0], last: lines[lines.length - 1], silencer,
+    link: linkOf(log.frame(log.lineOf(log.rowAt(lines[0])))), unread: unread ? log.slot(unread) : null,
     heard: [...new Set([...heard.slice(0, 1), ...heard.slice(-1)])].flatMap((line) => log.slot(line) ?? []),
     silent: lines.find(isSilent) ?? 0, ...partsOf(log, lines) };
 }

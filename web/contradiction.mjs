@@ -22,12 +22,12 @@ const LEFT_OUT = "A Stay Quiet or another request was sent that isn't in the log
  * @returns {Contradiction}
  */
 export function contradiction(conflict) {
-  const { heard, unread, silent, silencer } = conflict, two = conflict.count === 2;
+  const { heard, unread, silent, silencer, link } = conflict, two = conflict.count === 2;
   if (silencer && heard.length) return woke(heard[heard.length - 1], silencer);
   if (conflict.count === 1 && (unread ?? heard[0])) return alone(unread ?? heard[0]);
-  if (unread) return { ...unmet(conflict, unread), ask: sixteen(unread.mask, conflict.link) };
-  if (two && heard.length === 2) return { ...hidden(heard[0], heard[1]), ask: sixteen(widest(heard[0].mask, heard[1].mask), conflict.link) };
-  if (two && heard.length && silent) return { ...lost(heard[0], silent), ask: [`T ${requestOf(1, { len: UID_LEN, value: heard[0].uid ?? 0n }, conflict.link)}`] };
+  if (unread) return { ...unmet(conflict, unread), ask: sixteen(unread.mask, link) };
+  if (two && heard.length === 2) return { ...hidden(heard[0], heard[1]), ask: sixteen(widest(heard[0].mask, heard[1].mask), link) };
+  if (two && heard.length && silent) return { ...lost(heard[0], silent), ask: sixteen({ len: UID_LEN, value: heard[0].uid ?? 0n }, link) };
   return { sentence: `${count(conflict.count, "line")} from ${conflict.first} to ${conflict.last} can't all be true.`,
     causes: [LEFT_OUT, WRONG_PLACE], test: "" };
 }

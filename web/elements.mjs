@@ -31,7 +31,7 @@ export function toLine(line, ...words) {
 }
 
 /** A line in a sentence, with its word if it is one alone. */
-const LINE = /(\bline \d+|(?<=\blines (?:\d+(?:, | and ))*)\d+)/;
+const LINE = /(\bline \d+|(?<=\blines (?:\d+(?:, | and ))*)\d+)/i;
 
 /**
  * A sentence in which each line that it names is a button.

@@ -37,14 +37,15 @@ export function maintainer(told, said) {
 function left(told) {
   const { open, silenced, hidden } = told.requests, parts = [], all = told.open[0]?.len === 0;
   const masks = told.object.open.count - told.quiet - told.hidden;
-  const more = masks > open.length ? ` Here are the first ${count(open.length, "request")}: when these are asked, judge the log again.` : "";
-  const how = all ? "What is left to ask, in sixteen slots, or in one." : `${requests(masks)} left${masks > 1 ? ", one for each open mask" : ""}.${more}`;
+  const more = masks > open.length ? ` Here are the first ${count(open.length, "request")}: ask these, and judge the log again.` : "";
+  const each = masks > 1 ? ", one for each open mask" : "";
+  const how = all ? "What is left to ask, in sixteen slots, or in one." : `${requests(masks)} left${each}.${more}`;
   if (open.length) parts.push(el("p", {}, `${how} ${INSERT}`), ...copied(open));
   if (hidden.length) parts.push(el("p", {}, `${requests(hidden.length)} left ${ASK_UNDER}`), ...copied(hidden));
   if (silenced.length && !told.cycles) parts.push(el("p", {}, NEW_VERSION));
   else if (silenced.length) {
-    parts.push(el("p", {}, `${open.length || hidden.length ? "Then switch" : "Switch"} the field off and on, write F, and send ${count(silenced.length, "request")} for ${SILENCED}.`),
-      ...copied(["F", ...silenced]));
+    const then = open.length || hidden.length ? "Then switch" : "Switch", number = count(silenced.length, "request");
+    parts.push(el("p", {}, `${then} the field off and on, write F, and send ${number} for ${SILENCED}.`), ...copied(["F", ...silenced]));
   }
   return parts;
 }
@@ -57,7 +58,8 @@ const requests = (number) => count(number, "request is", "requests are");
  * @param {string[]} lines
  */
 function copied(lines) {
-  const isLong = lines.length > MOST_ON_PAPER, name = count(lines.length, "request");
-  const box = el("pre", { class: isLong ? "copy long" : "copy", tabindex: "0", role: "group", "aria-label": name }, lines.join("\n"));
-  return isLong ? [box, el("p", { class: "cut" }, `On paper only the first of these ${name} are seen.`)] : [box];
+  const isLong = lines.length > MOST_ON_PAPER, number = count(lines.length, "line");
+  const attributes = { class: isLong ? "copy long" : "copy", tabindex: "0", role: "group", "aria-label": `Requests, ${number}` };
+  const cut = el("p", { class: "cut" }, `On paper only the first of these ${number} are seen.`);
+  return [el("pre", attributes, lines.join("\n")), ...isLong ? [cut] : []];
 }

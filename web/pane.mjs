@@ -42,7 +42,8 @@ export class Pane {
 
   /** Marks the cell of the line in which the cursor is, and says the line in the heading. */
   mark() {
-    const place = this.field.parentElement?.querySelector(".place"), line = document.activeElement === this.field && this.field.value ? this.line : 0;
+    const place = this.field.parentElement?.querySelector(".place");
+    const line = document.activeElement === this.field && this.field.value ? this.line : 0;
     this.shown.querySelector(".here")?.classList.remove("here");
     this.shown.querySelector(`td[data-line="${line}"]`)?.classList.add("here");
     if (place) place.textContent = line ? `, line ${line}` : "";

@@ -163,7 +163,7 @@ function legend(told) {
   if (slots.some((slot) => slot.silenced)) drawn.add("heard quiet");
   if (told.ringed.length || told.named.length) drawn.add("silent named");
   const classOf = (/** @type {string} */ look) => look === "heard quiet" && !drawn.has("heard") ? "captured quiet" : look;
-  const seen = new Set(told.rows.flatMap((row) => row.kind === "gap" ? [] : row.kind === "round" ? row.slots.map((slot) => slot.line) : row.line));
+  const seen = new Set([...slots.map((slot) => slot.line), ...told.rows.flatMap((row) => row.kind === "gap" ? [] : row.line)]);
   const isAll = told.named.every((line) => seen.has(line));
   const others = (/** @type {string} */ look) => look === "silent named" && !isAll ? ", and on others" : "";
   return el("ul", { class: "legend", "aria-label": "What the signs mean" }, LEGEND.filter(([look]) => drawn.has(look))

@@ -33,8 +33,8 @@ const EMPTY = "If items should be here: check the antenna, switch the reader's f
 const NOTHING = "Nothing to do.";
 const ONE_MORE = "Send this page (printed as PDF) to whoever maintains the reader: only asking again, until none answers, shows whether a " +
   "strong reply hid a weaker one.";
-const ONE_ROUND = "To see whether others are here: have the reader ask all tags once more, until none answers. What to send stands below, " +
-  "for whoever maintains the reader.";
+const ONE_ROUND = "To see whether others are here: have the reader ask all tags once more, until none answers. What to send stands " +
+  "below, for whoever maintains the reader.";
 const COMPARE = "Compare these tags with what should be here: drop a catalogue (CSV) onto the page that judges this log, or add a U line " +
   "to the log for each UID that should be here.";
 const MISSING = ["If the list is what was expected here: look for the listed tags that can't be here. If an item is in plain sight, " +
@@ -89,7 +89,8 @@ export function say(told, isAlone = true) {
   if (!told.conflict) return possible(told, isAlone);
   const { sentence: found, causes, test, ask = [] } = contradiction(told.conflict), other = told.object.captured?.kind ?? KIND.IMPOSSIBLE;
   return { ...none, look: "broken", sign: "≠", headline: `The log contradicts itself: ${found}`, shelf: [NEW_LOG, STAYS],
-    lead: "Mostly it is one of these:", causes, ask, test: [test, other === KIND.IMPOSSIBLE ? "" : NO_CONFLICT].filter((it) => it).join(" ") };
+    lead: "Mostly it is one of these:", causes, ask,
+    test: [test, other === KIND.IMPOSSIBLE ? "" : NO_CONFLICT].filter((it) => it).join(" ") };
 }
 
 /**
@@ -135,7 +136,7 @@ function steps({ object: { kind, found, open, captured }, counts, quiet, notes }
 function headline({ object: { kind, count: number = 0, found, certain, open, captured }, counts, silenced, quiet }, isAlone) {
   const parts = [], only = open.count > 0 && quiet === open.count, without = counts.listed || !isAlone ? "" : NO_LIST_GIVEN;
   if (kind === KIND.COMPLETE) return number || isAlone ? whole(number) : "The field is empty.";
-  if (!open.count && !counts.listed) return `${tagsHere(certain.count, (captured?.open ?? 0) > 0)}${without}`;
+  if (!open.count && !counts.listed) return `${tagsHere(certain.count, captured?.open !== 0)}${without}`;
   if (counts.listed && !found.absent && !found.unlisted && !found.doubtful) {
     return `${allListed(counts.listed)}; ${only ? unproved(silenced.length, 0) : "others may be too"}.`;
   }
@@ -144,7 +145,8 @@ function headline({ object: { kind, count: number = 0, found, certain, open, cap
   if (certain.count && (open.count || !counts.listed)) parts.push(`${count(certain.count, "tag")} proved`);
   if (only) parts.push(unproved(silenced.length, found.doubtful));
   else if (found.doubtful) parts.push(`${count(found.doubtful, "listed tag")} not proved`);
-  const said = only ? "" : open.count ? `Not finished: ${settled(open.share)} of all UIDs settled. ` : "Search finished. ";
+  const left = open.count ? `Not finished: ${settled(open.share)} of all UIDs settled. ` : "Search finished. ";
+  const said = only || captured?.open ? "" : left;
   return `${said}${sentence(parts)}${without}`.trim();
 }
 

@@ -70,8 +70,8 @@ import { strip } from "./strip.mjs";
  * @property {Silenced[]} silenced the tags that are open since they were silenced before they were heard
  * @property {number} quiet how many open masks have no other tags
  * @property {number} hidden how many open masks only a reply may have hidden
- * @property {{open: string[], silenced: string[], hidden: string[], all: string[]}} requests what is left to ask, as lines: at once; after a
- *   field cycle; and where a reply may have hidden others; and what asks all in one slot but those that were heard
+ * @property {{open: string[], silenced: string[], hidden: string[], all: string[]}} requests what is left to ask, as lines: at once;
+ *   after a field cycle; and where a reply may have hidden others; and what asks all in one slot but those that were heard
  * @property {Cause[]} causes slots in which the other open UIDs would answer, by their rounds
  * @property {boolean} neverAsked whether some open mask has no such slot
  * @property {import("./notes.mjs").Notes} notes

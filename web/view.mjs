@@ -63,7 +63,8 @@ function conditions(told) {
 function shelf(said) {
   if (!said.shelf.length) return [];
   const why = said.why ? [el("p", { class: "why" }, "The cause: ", linked(said.why))] : [];
-  return [el("section", {}, el("h2", {}, said.look === "refused" ? "What to do" : "At the shelf"), el("ul", { class: "steps" }, said.shelf.map((step) => el("li", {}, step))), ...why)];
+  const heading = el("h2", {}, said.look === "refused" ? "What to do" : "At the shelf");
+  return [el("section", {}, heading, el("ul", { class: "steps" }, said.shelf.map((step) => el("li", {}, step))), ...why)];
 }
 
 /**
