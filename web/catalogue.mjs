@@ -5,6 +5,8 @@ import { count, hex, listing, printable } from "./words.mjs";
 /** @typedef {{row: number, uid: bigint | null, cells: string[]}} Entry */
 /** @typedef {{name: string, heads: string[], uidAt: number, entries: Entry[]}} Catalogue */
 /** @typedef {{name: string, text: Uint8Array}} Given a file */
+/** @typedef {{logs: Map<string, number[]>, written: Map<string, string>}} Places the logs of each place, by their positions, and how a file
+ *   of places writes it */
 
 const HEADER = "vicinity-log", OF_UIDS = "uid", PLACE = "place", LOG = "log";
 /** What may be among the digits of a UID, and before them. */
@@ -112,23 +114,41 @@ function uidOfCell(name, row, cell) {
 }
 
 /**
- * The logs of each place, by their positions: those that a table names, or else that are named like it.
+ * The logs of each place: those that a table names, or else that are named like it.
  * @param {Given | null} file
  * @param {string[]} names
- * @returns {Map<string, number[]>}
+ * @returns {Places}
  */
 export function placesOf(file, names) {
   /** @type {Map<string, number[]>} */
-  const byName = new Map(), places = new Map();
-  const add = (/** @type {Map<string, number[]>} */ to, /** @type {string} */ key, /** @type {number[]} */ logs) =>
-    to.set(key, [...to.get(key) ?? [], ...logs]);
+  const byName = new Map(), logs = new Map(), written = new Map();
+  const add = (/** @type {Map<string, number[]>} */ to, /** @type {string} */ key, /** @type {number[]} */ more) =>
+    to.set(key, [...to.get(key) ?? [], ...more]);
   names.forEach((name, at) => {
     for (const key of new Set([name.toLowerCase(), name.toLowerCase().replace(/\.[^.]*$/, "")])) add(byName, key, [at]);
   });
-  if (!file) return byName;
+  if (!file) return { logs: byName, written };
   const table = readTable(file.name, file.text), placeAt = columnOf(table, PLACE), logAt = columnOf(table, LOG);
-  for (const { cells } of table.rows) add(places, cells[placeAt].trim().toLowerCase(), byName.get(cells[logAt].trim().toLowerCase()) ?? []);
-  return places;
+  for (const { cells } of table.rows) {
+    const place = cells[placeAt].trim(), key = place.toLowerCase();
+    if (place && !written.has(key)) written.set(key, place);
+    add(logs, key, byName.get(cells[logAt].trim().toLowerCase()) ?? []);
+  }
+  return { logs, written };
+}
+
+/**
+ * The places of each log, as the catalogue writes them, or else the file of places.
+ * @param {Catalogue} catalogue
+ * @param {Places} places
+ */
+export function placesWritten(catalogue, { logs, written }) {
+  const at = placeColumn(catalogue, logs), cells = at < 0 ? [] : catalogue.entries.map((entry) => entry.cells[at].trim()).filter((cell) => cell);
+  const all = new Map([...written, ...cells.map((cell) => /** @type {[string, string]} */ ([cell.toLowerCase(), cell]))]);
+  /** @type {Map<number, string[]>} */
+  const found = new Map();
+  for (const [key, place] of all) for (const log of new Set(logs.get(key))) found.set(log, [...found.get(log) ?? [], place]);
+  return found;
 }
 
 /**

@@ -1,7 +1,7 @@
 /** The object of a collection, of what the library says of its logs: the same as `python3 -m vicinity reconcile` writes. */
-import { placeColumn, placesOf, readCatalogue } from "./catalogue.mjs";
+import { placeColumn, placesOf, placesWritten, readCatalogue } from "./catalogue.mjs";
 import { withCaptures } from "./captured.mjs";
-import { fields, judge } from "./judge.mjs";
+import { fields, judge, sumOf } from "./judge.mjs";
 import { FOUND, KIND } from "./kinds.mjs";
 import { leastOf, marginFields, maskFields, overlookedIn, withoutList } from "./margins.mjs";
 import { UID_BITS, hex } from "./words.mjs";
@@ -69,7 +69,8 @@ export async function reconciled(library, given) {
   const { answer, list } = library.reconcile(uids, logs.flatMap((log) => log.certain),
     logs.flatMap((log) => log.open.map((mask) => ({ fault: 0, ...mask }))));
   const missing = overlookedIn(library, logs, list.filter((it) => it.kind === FOUND.ABSENT).map((it) => it.uid));
-  const items = itemsOf(catalogue, placesOf(given.places, files), logs, list, files, missing), aside = logs.filter((log) => log.aside);
+  const places = placesOf(given.places, files), items = itemsOf(catalogue, places.logs, logs, list, files, missing);
+  const aside = logs.filter((log) => log.aside), written = placesWritten(catalogue, places);
   const misplaced = items.filter((item) => item.state === "misplaced"), unsettled = list.find((it) => it.kind === FOUND.UNSETTLED);
   const said = fields(library, answer), worst = Math.max(...aside.map((log) => log.object.status));
   const first = aside.length ? asideOf(/** @type {Surveyed} */ (aside.find((log) => log.object.status === worst)))
@@ -78,8 +79,15 @@ export async function reconciled(library, given) {
     counts: Object.fromEntries(ALL_STATES.map((state) => [state, items.filter((item) => item.state === state).length])),
     unsettled: unsettled ? maskFields(unsettled.maskLen, unsettled.maskValue) : null,
     set_aside: aside.map((log) => ({ ...asideOf(log), do: log.object.kind === KIND.IMPOSSIBLE ? COUNT_IT : CORRECT_IT })),
-    items, logs: leftOf(logs) };
+    files: [await sumGiven("catalogue", given.expected), ...given.places ? [await sumGiven("places", given.places)] : []],
+    items, logs: leftOf(logs).map((log, at) => ({ ...log, places: written.get(at) ?? [] })) };
 }
+
+/**
+ * @param {"catalogue" | "places"} what
+ * @param {Given} file
+ */
+const sumGiven = async (what, { name, text }) => ({ what, file: name, sha256: await sumOf(text) });
 
 /** @param {Mask} mask */
 const maskKey = ({ len, value }) => `${len}:${value}`;

@@ -5,6 +5,7 @@ from __future__ import annotations
 import json
 import os
 from collections import Counter
+from hashlib import sha256
 from typing import Any, Callable, Iterable, Iterator, Mapping, Union
 
 from .._answers import Answer, Finding, FindingKind
@@ -149,12 +150,15 @@ def _object(found: Collection) -> dict[str, Any]:
         "unsettled": unsettled[0] if unsettled else None,
         "set_aside": [{"file": log.name, **fields(log.answer), "do": ADVICE[log.status]}
                       for log in found.aside],
+        "files": [{"what": what, "file": name, "sha256": sha256(text).hexdigest()}
+                  for what, (name, text) in found.files.items()],
         "items": [_of_item(found, item, overlooked) for item in found.items],
-        "logs": [{"file": log.name, "certain": len(log.certain),
+        "logs": [{"file": log.name, "places": found.places.written.get(at, []),
+                  "certain": len(log.certain),
                   "open": list(map(mask_fields, masks)), "more_open": has_more,
                   "list": fields(log.answer), **margin_fields(log.weakest),
                   **({"captured": log.captured} if log.captured else {})}
-                 for log, (masks, has_more) in zip(found.logs, found.left())]}
+                 for at, (log, (masks, has_more)) in enumerate(zip(found.logs, found.left()))]}
 
 
 def _answer(found: Collection) -> dict[str, object]:
