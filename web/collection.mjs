@@ -4,6 +4,7 @@ import { el, folded, lowered } from "./elements.mjs";
 import { KIND } from "./kinds.mjs";
 import { Pane } from "./pane.mjs";
 import { granted, HOLDS, mayBeWrong, missed, notSure, stillHolds } from "./say.mjs";
+import { inOrder, MOST_NAMES, nameOf, shelved, Shelves } from "./shelves.mjs";
 import { maskOf, tell } from "./told.mjs";
 import { banner, signed, view } from "./view.mjs";
 import { count, endings, listing, printable } from "./words.mjs";
@@ -36,17 +37,14 @@ import { count, endings, listing, printable } from "./words.mjs";
  * @property {import("./told.mjs").Margin["weakest"]} [weakest]
  */
 
-/** How many rows of a table are drawn, how many are seen unfolded, and how many logs and masks are named. */
-const MOST_ROWS = 2000, FEW_ROWS = 200, MOST_NAMES = 3, MOST_MASKS = 3;
+/** How many logs are drawn, how many items are seen unfolded, and how many masks are named. */
+const MOST_LOGS = 2000, FEW_ITEMS = 200, MOST_MASKS = 3;
 /** How many cells of the catalogue are the name of an item. */
 const MOST_CELLS = 2;
-/** The head of what to do with an item, which stands before its name. */
-const TO_DO = "to do";
 const CANNOT_BE_READ = 4;
 /** How much text of logs stands in a page that is saved. */
 const MOST_TEXT = 4_000_000;
-const LOOK_FOR = "What to look for is in none of the fields. If an item is in plain sight, its tag is broken or covered: move it, and count " +
-  "again. Keep what isn't found in the catalogue.";
+const LOOK_FOR = "If it is in plain sight, its tag is broken or covered: move it, and count again. Keep what isn't found in the catalogue.";
 const NOT_EXPECTED = "What isn't in the catalogue: bring it to where it belongs, or add it.";
 const AWAY = "The logs of their shelves rule these out. They are in none of the fields, or where a log has to be counted again.";
 const NO_TAG = "These rows of the catalogue have no UID, so nothing is known of them: look for them by eye.";
@@ -66,90 +64,54 @@ const isOpen = (log) => log.open.length > 0;
  * @returns {Node[]}
  */
 export function collectionView(object) {
-  const of = (/** @type {State} */ state) => object.items.filter((item) => item.state === state);
-  const names = namesIn(object), places = new Places(object), { away, unknown } = split(of("not provable"), places);
-  const said = object.name ? [printable(object.name)] : [], open = object.logs.filter(isOpen), aside = open.filter(isAside);
-  const look = isWhole(object) ? "yes" : "no", sign = isWhole(object) ? "✓" : "!";
-  const todo = [...of("missing"), ...of("misplaced"), ...of("unexpected")];
-  const belongs = (/** @type {Item} */ item) => printable(item.belongs ?? ""), mayBe = { "may be in": (/** @type {Item} */ item) => places.names(item.may_be_in) };
+  const of = (/** @type {State} */ state) => object.items.filter((item) => item.state === state), shelves = new Shelves(object.logs);
+  const unknown = of("not provable"), away = unknown.filter((item) => shelves.isAway(item)), others = unknown.filter((item) => !shelves.isAway(item));
+  const look = isWhole(object) ? "yes" : "no", sign = isWhole(object) ? "✓" : "!", said = object.name ? [printable(object.name)] : [];
+  const home = (/** @type {Item} */ { belongs = "" }) => printable(belongs), mayBe = { "may be in": (/** @type {Item} */ item) => shelves.names(item.may_be_in) };
+  const todo = [...of("missing"), ...of("misplaced"), ...of("unexpected")], rests = conditionsOfAll(object, shelves);
+  const known = new Set(of("there").map(home)), some = others.filter((item) => !home(item) || known.has(home(item)));
   return [banner({ look, sign, headline: headlineOf(object), lights: lights(object) }, [...said, ` · ${count(object.logs.length, "log")}`]),
-    ...conditionsOfAll(object, places),
-    ...logs("Count again", COUNT_EACH, [...aside, ...open.filter((log) => !isAside(log))], true, names, places),
-    ...items("At the shelves", howTo(object), todo, { [TO_DO]: (item) => toDo(item, places) }, true, (item) => shelfOf(item, places)),
-    ...items("Not on their shelves", AWAY, away, mayBe, true, belongs),
-    ...items("Not known yet", UNKNOWN_YET, unknown, unknown.every((item) => item.belongs) ? {} : mayBe, false, belongs),
-    ...items("Without a tag", NO_TAG, of("no tag"), {}, false, belongs), ...inPlace(object),
-    ...logs("Read to the end", "", object.logs.filter((log) => !isOpen(log)), false, names, places), ...grantedOfAll(object), recordOfAll(object)];
-}
-
-/** What logs are called: by their places, where these are known. */
-class Places {
-  /** @param {CollectionObject} object */
-  constructor({ logs: all }) {
-    this.written = new Map(all.map(({ file, places = [] }) => [file, places]));
-    /** @type {Map<string, string[]>} */
-    this.files = new Map();
-    for (const [file, places] of this.written) {
-      for (const place of places) this.files.set(place.toLowerCase(), [...this.files.get(place.toLowerCase()) ?? [], file]);
-    }
-  }
-
-  /** @param {string} file */
-  isKnown(file) { return Boolean(this.written.get(file)?.length); }
-
-  /** @param {string} file */
-  name(file) { return this.isKnown(file) ? listing((this.written.get(file) ?? []).map(printable)) : nameOf(file); }
-
-  /** @param {string[]} files */
-  names(files) {
-    const all = [...new Set(files.map((file) => this.name(file)))], more = all.length - MOST_NAMES;
-    return listing([...all.slice(0, more === 1 ? MOST_NAMES + 1 : MOST_NAMES), ...more > 1 ? [`${more} more`] : []]);
-  }
-
-  /**
-   * Whether the logs of an item's place rule it out there.
-   * @param {Item} item
-   */
-  isAway({ belongs = "", may_be_in: files }) {
-    const its = this.files.get(belongs.toLowerCase()) ?? [];
-    return its.length > 0 && !its.some((file) => files.includes(file));
-  }
+    ...todo.length || unknown.length ? [] : rests,
+    ...logs("Count again", COUNT_EACH, object.logs.filter(isOpen), true, object, shelves),
+    ...part("At the shelves", todo, true, howTo(object), shelved(todo, (item) => shelves.at(item), {}, (item) => shelves.toDo(item))),
+    ...part("Not on their shelves", away, true, AWAY, shelved(away, home, mayBe)),
+    ...part("Not known yet", others, false, unknownYet(others.filter((item) => !some.includes(item)).map(home), some.length),
+      shelved(some, home, some.every(home) ? {} : mayBe)),
+    ...part("Without a tag", of("no tag"), false, NO_TAG, shelved(of("no tag"), home)), ...inPlace(object), ...todo.length || unknown.length ? rests : [],
+    ...logs("Read to the end", "", object.logs.filter((log) => !isOpen(log)), false, object, shelves), ...grantedOfAll(object), recordOfAll(object)];
 }
 
 /**
- * Items that no log proves: those that aren't on their own shelf, and the others.
- * @param {Item[]} unknown
- * @param {Places} places
+ * A part about items, with their number.
+ * @param {string} title
+ * @param {Item[]} list
+ * @param {boolean} open
+ * @param {string} words
+ * @param {Element[]} drawn a table first
  */
-const split = (unknown, places) => ({ away: unknown.filter((item) => places.isAway(item)), unknown: unknown.filter((item) => !places.isAway(item)) });
-
-/**
- * On which shelf there is something to do with an item.
- * @param {Item} item
- * @param {Places} places
- */
-function shelfOf({ state, belongs, certain_in: [file] }, places) {
-  return state === "missing" ? printable(belongs ?? "") : places.name(file);
+function part(title, list, open, words, drawn) {
+  drawn[0]?.prepend(el("caption", {}, title));
+  return list.length ? [folded(`${title} (${list.length.toLocaleString("en")})`, open && list.length <= FEW_ITEMS, el("p", {}, words), ...drawn)] : [];
 }
 
 /**
- * @param {Item} item
- * @param {Places} places
+ * Of which items nothing is known yet: those of shelves of which none is known to be in place aren't named.
+ * @param {string[]} homes of each item that isn't
+ * @param {number} others
  */
-function toDo({ state, belongs, certain_in: [, ...others] }, places) {
-  const also = others.length ? `; also in ${places.names(others)}` : "";
-  if (state === "missing") return "look for";
-  return (state === "misplaced" ? `take to ${printable(belongs ?? "")}` : "not in the catalogue") + also;
+function unknownYet(homes, others) {
+  const all = [...new Set(homes)].sort(inOrder), which = `all items of ${listing(all)} that aren't named above (${homes.length.toLocaleString("en")})`;
+  return `${UNKNOWN_YET}${homes.length ? ` They are ${which}${others ? ", and these:" : "."}` : ""}`;
 }
 
 /**
  * How to do what is to be done at the shelves.
  * @param {CollectionObject} object
  */
-function howTo({ counts, items: all, logs }) {
-  const slots = Math.min(...all.filter((item) => item.state === "missing").map((item) => item.overlooked ?? 0));
-  const asked = counts.missing && slots ? ` They were asked in ${count(slots, "slot")} or more${logs.length > 1 ? " of each field" : ""}, and silent.` : "";
-  return [counts.missing ? LOOK_FOR + asked : "", counts.unexpected ? NOT_EXPECTED : ""].filter((it) => it).join(" ");
+function howTo({ counts, items }) {
+  const slots = Math.min(...items.filter((item) => item.state === "missing").map((item) => item.overlooked ?? 0));
+  const asked = slots ? `: asked in ${count(slots, "slot")} or more of each, and silent` : "";
+  return [...counts.missing ? [`What to look for is in none of the fields${asked}. ${LOOK_FOR}`] : [], ...counts.unexpected ? [NOT_EXPECTED] : []].join(" ");
 }
 
 /**
@@ -191,21 +153,21 @@ const isWhole = (object) => object.kind === KIND.COMPLETE && object.status === 0
 /** @param {CollectionObject} object */
 export function headlineOf(object) {
   const { counts } = object, tags = object.items.filter((item) => item.uid !== null && item.state !== "unexpected").length;
-  const which = counts["no tag"] ? " that have a tag" : "", again = object.logs.filter(isOpen), places = new Places(object);
+  const which = counts["no tag"] ? " that have a tag" : "", again = object.logs.filter(isOpen), shelves = new Shelves(object.logs);
   if (isWhole(object)) {
     if (tags === 0) return "Nothing is expected, and nothing is here.";
     if (tags === 1) return "The one expected item is here, and no other.";
     return `All ${count(tags, "expected item")}${which} are here, and no others.`;
   }
   if (object.kind === KIND.SMALL) return notSure(object.margin, object.wanted ?? 0);
-  const { away, unknown } = split(object.items.filter((item) => item.state === "not provable"), places);
-  const parts = /** @type {[number, string][]} */ ([[counts.missing, "missing"], [away.length, `not on ${away.length === 1 ? "its shelf" : "their shelves"}`],
-    [counts.misplaced, "in the wrong place"], [counts.unexpected, "not in the catalogue"], [unknown.length, "not known yet"]]);
+  const unknown = object.items.filter((item) => item.state === "not provable"), away = unknown.filter((item) => shelves.isAway(item)).length;
+  const parts = /** @type {[number, string][]} */ ([[counts.missing, "missing"], [away, `not on ${away === 1 ? "its shelf" : "their shelves"}`],
+    [counts.misplaced, "in the wrong place"], [counts.unexpected, "not in the catalogue"], [unknown.length - away, "not known yet"]]);
   const said = parts.filter(([number]) => number).map(([number, words], at) => at ? `${number.toLocaleString("en")} ${words}`
     : `${count(number, "item")} ${words}`);
-  const named = again.every(({ file }) => places.isKnown(file)) && again.length <= MOST_NAMES ? places.names(again.map((log) => log.file)) : "";
-  const number = again.length < object.logs.length || again.length === 1 ? count(again.length, "log") : "all logs";
-  const todo = again.length ? `count ${named || number} again` : "";
+  const isNamed = again.length <= MOST_NAMES && again.every(({ file }) => shelves.placeOf(file));
+  const number = isNamed ? shelves.names(again.map((log) => log.file)) : again.length < object.logs.length || again.length === 1 ? count(again.length, "log") : "all logs";
+  const todo = again.length ? `count ${number} again` : "";
   const text = [listing(said), todo].filter((it) => it).join("; ") || "the logs and the catalogue differ";
   return `${text[0].toUpperCase()}${text.slice(1)}.`;
 }
@@ -227,9 +189,9 @@ function lights(object) {
 /**
  * What a complete answer is said of; and whether what is here and missing also holds if strong replies hid weaker ones.
  * @param {CollectionObject} object
- * @param {Places} places
+ * @param {Shelves} shelves
  */
-function conditionsOfAll(object, places) {
+function conditionsOfAll(object, shelves) {
   const { counts } = object, all = object.logs.filter((log) => !isAside(log));
   const hidden = all.filter((log) => log.captured?.holds === false);
   const isAll = isWhole(object) || object.kind === KIND.SMALL;
@@ -237,97 +199,38 @@ function conditionsOfAll(object, places) {
   const isAgain = hidden.length > 0 && hidden.every(isOpen);
   if (!isAll && !counts.missing && (isAgain || !counts.unexpected)) return [];
   const known = all.every((log) => log.captured);
-  const also = hidden.length ? `${mayBeWrong(` in the field of ${places.names(hidden.map((log) => log.file))},`)}.` : stillHolds(isAll ? object.margin : undefined);
-  const sure = isAll ? [HOLDS, ...missed(object, ` in the field of ${places.name(object.weakest?.file ?? "")}`)] : [];
+  const also = hidden.length ? `${mayBeWrong(` in the field of ${shelves.names(hidden.map((log) => log.file))},`)}.` : stillHolds(isAll ? object.margin : undefined);
+  const sure = isAll ? [HOLDS, ...missed(object, ` in the field of ${shelves.name(object.weakest?.file ?? "")}`)] : [];
   return [el("section", { class: "holds" }, ...sure.map((it) => el("p", {}, it)),
     ...known || hidden.length ? [el("p", {}, also)] : [])];
 }
 
 /**
- * A table of items, those of a shelf below its name: what to do, what the catalogue says of each, where it may be, and last its UID.
- * An item of which the catalogue says nothing else is named by its UID.
- * @param {string} title
- * @param {string} words
- * @param {Item[]} list
- * @param {Record<string, (item: Item) => string>} where
- * @param {boolean} open
- * @param {(item: Item) => string} shelf
- */
-function items(title, words, list, where, open, shelf) {
-  if (!list.length) return [];
-  const order = new Intl.Collator("en", { numeric: true }).compare, all = [...new Set(list.map(shelf))].sort(order);
-  const shelves = /** @type {Map<string, Node[]>} */ (new Map(all.map((name) => [name, []]))), isOne = all.join() === "";
-  const isPlace = (/** @type {string} */ cell, /** @type {Item} */ item) => !isOne && cell === item.belongs;
-  const isSaid = (/** @type {string} */ column) => list.some((item) => item.columns[column] && !isPlace(item.columns[column], item));
-  const columns = [...new Set(list.flatMap((item) => Object.keys(item.columns)))].filter(isSaid), { [TO_DO]: first, ...others } = where;
-  const heads = [...first ? [TO_DO] : [], ...columns, ...Object.keys(others), "UID"];
-  const sorted = [...list].sort((one, other) => order(shelf(one), shelf(other)));
-  for (const item of sorted.slice(0, MOST_ROWS)) {
-    const cells = [...columns.map((column) => printable(item.columns[column] ?? "")), ...Object.values(others).map((cell) => cell(item))];
-    shelves.get(shelf(item))?.push(el("tr", {}, ...first ? [el("td", {}, first(item))] : [], ...cellsOf(heads.slice(first ? 1 : 0), cells, item.uid)));
-  }
-  const more = list.length > MOST_ROWS ? [el("p", {}, `and ${(list.length - MOST_ROWS).toLocaleString("en")} more`)] : [];
-  return [folded(`${title} (${list.length.toLocaleString("en")})`, open && list.length <= FEW_ROWS, ...words ? [el("p", {}, words)] : [],
-    table(title, heads, shelves, isOne ? "" : "Place not known"), ...more)];
-}
-
-/**
- * @param {string} caption
- * @param {string[]} heads
- * @param {Map<string, Node[]>} shelves rows, by the name above them
- * @param {string} other what stands above those without a name
- */
-function table(caption, heads, shelves, other) {
-  const words = (/** @type {string} */ shelf) => el("tr", {}, el("th", { scope: "rowgroup", colspan: String(heads.length) }, shelf));
-  const name = (/** @type {string} */ shelf) => shelf || other ? [words(shelf || other)] : [];
-  return el("table", { class: "items" }, el("caption", {}, caption),
-    el("thead", {}, el("tr", {}, heads.map((head) => el("th", { scope: "col" }, printable(head))))),
-    ...[...shelves].map(([shelf, rows]) => el("tbody", {}, ...name(shelf), ...rows)));
-}
-
-/**
- * Cells that know their heads, for screens on which each row is a card; the first with anything in it names the row.
- * @param {string[]} heads
- * @param {string[]} cells
- * @param {string | null} uid
- */
-function cellsOf(heads, cells, uid) {
-  const code = el("code", {}, uid ?? "none"), isNamed = cells.some((cell) => cell), all = isNamed ? [...cells, code] : [code, ...cells];
-  const first = all.findIndex((cell) => cell);
-  return all.map((cell, at) => el(at === first ? "th" : "td", at === first ? { scope: "row" } : { "data-head": heads[at] }, cell));
-}
-
-/**
- * A file without its folders.
- * @param {string} file
- */
-const nameOf = (file) => printable(file.split("/").pop() || file);
-
-/**
- * Logs, each drawn when it is opened.
+ * Logs, each drawn when it is opened; those first that say nothing.
  * @param {string} title
  * @param {string} words
  * @param {OneLog[]} list
  * @param {boolean} open
- * @param {Names} names
- * @param {Places} places
+ * @param {CollectionObject} object
+ * @param {Shelves} shelves
  */
-function logs(title, words, list, open, names, places) {
+function logs(title, words, list, open, object, shelves) {
   if (!list.length) return [];
-  const more = list.length > MOST_ROWS ? [el("p", {}, `and ${(list.length - MOST_ROWS).toLocaleString("en")} more`)] : [];
+  const more = list.length > MOST_LOGS ? [el("p", {}, `and ${(list.length - MOST_LOGS).toLocaleString("en")} more`)] : [], names = namesIn(object);
+  const sorted = [...list].sort((one, other) => Number(isAside(other)) - Number(isAside(one)) || inOrder(shelves.name(one.file), shelves.name(other.file)));
   return [folded(`${title} (${count(list.length, "log")})`, open, ...words ? [el("p", {}, words)] : [],
-    el("ul", { class: "logs" }, list.slice(0, MOST_ROWS).map((log) => el("li", {}, oneLog(log, names, places)))), ...more)];
+    el("ul", { class: "logs" }, sorted.slice(0, MOST_LOGS).map((log) => el("li", {}, oneLog(log, names, shelves)))), ...more)];
 }
 
 /**
  * @param {OneLog} log
  * @param {Names} names
- * @param {Places} places
+ * @param {Shelves} shelves
  */
-function oneLog(log, names, places) {
+function oneLog(log, names, shelves) {
   const { object } = log, sum = object?.sha256 ? [" ", el("code", { class: "sum" }, `SHA-256 ${object.sha256}`)] : [];
-  const file = places.isKnown(log.file) ? [" ", el("span", { class: "by" }, nameOf(log.file))] : [];
-  const words = [el("b", { title: printable(log.file) }, places.name(log.file)), ` ${saidOf(log)}`, ...file, ...sum];
+  const name = shelves.name(log.file), file = nameOf(log.file), isSame = [file, file.replace(/\.[^.]*$/, "")].includes(name);
+  const words = [el("b", { title: printable(log.file) }, name), `${isSame ? "" : ` (${file})`}: ${saidOf(log)}`, ...sum];
   if (!object) return el("p", { class: "log" }, words);
   const it = /** @type {HTMLDetailsElement} */ (el("details", { class: "log aside" }, el("summary", {}, words)));
   it.addEventListener("toggle", () => {
