@@ -24,16 +24,15 @@ def places_of(expected: Catalogue, names: Sequence[str], file: Optional[tuple[st
               encoding: Optional[str]) -> Places:
     """The logs of each place of a catalogue.
     Raises Wrong if no item belongs to one that has a log."""
-    places, spelled, written = _by_names(names), {}, {}
+    places, spelled = _by_names(names), dict[str, str]()
     if file is not None:
         table = read_table(*file, encoding)
         place_at, log_at = (table.column(it, NAMES_PLACES) for it in ("place", "log"))
         by_name, places = places, {}
         for _, cells in table.rows:
-            its_own, place = by_name.get(cells[log_at].strip().casefold(), []), cells[place_at].strip()
-            if place:
-                spelled.setdefault(place.casefold(), place)
-            places.setdefault(place.casefold(), []).extend(its_own)
+            place, log = (cells[at].strip() for at in (place_at, log_at))
+            places.setdefault(place.casefold(), []).extend(by_name.get(log.casefold(), []))
+            spelled.setdefault(place.casefold(), place)
     belongs = {it.belongs.casefold(): it.belongs for it in expected.entries if it.belongs}
     for key, place in belongs.items():
         if file is None and len(places.get(key, [])) > 1:
@@ -43,9 +42,10 @@ def places_of(expected: Catalogue, names: Sequence[str], file: Optional[tuple[st
     if belongs and not any(places.get(key) for key in belongs):
         one = shown(next(iter(belongs.values())))
         raise Wrong(f"no log is of any place of the catalogue, such as {one}; {SAYS_PLACES}")
+    written: dict[int, list[str]] = {}
     for key, place in {**spelled, **belongs}.items():
-        for log in dict.fromkeys(places.get(key, [])):
-            written.setdefault(log, []).append(place)
+        for index in set(places.get(key, ())) if place else ():
+            written.setdefault(index, []).append(place)
     return Places(places, written)
 
 
