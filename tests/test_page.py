@@ -903,7 +903,7 @@ def test_a_place_that_is_not_in_the_catalogue(page):
                  "places.csv": b"place,log\none,1.log\nReturns,2.log\n",
                  "1.log": log_of("I1 S"), "2.log": log_of("I1 RA QA I1 S")})
     page.until("h1", "1 item in the wrong place.")
-    assert page.texts(".items tbody tr") == ["Returns", "take to one\tWalden\tE0040100000000A1"]
+    assert page.texts(".items tbody tr") == ["Returns", "take to one\nWalden\nE0040100000000A1"]
 
 
 def test_how_often_a_missing_item_was_asked(page):

@@ -8,7 +8,6 @@ from .._process import shown
 from .catalogue import Catalogue
 from .tables import Wrong, read_table
 
-NAMES_PLACES = "it has the columns place and log"
 SAYS_PLACES = "--places FILE says which logs are of which place"
 
 
@@ -27,7 +26,8 @@ def places_of(expected: Catalogue, names: Sequence[str], file: Optional[tuple[st
     places, spelled = _by_names(names), dict[str, str]()
     if file is not None:
         table = read_table(*file, encoding)
-        place_at, log_at = (table.column(it, NAMES_PLACES) for it in ("place", "log"))
+        place_at, log_at = (table.column(it, "it has the columns place and log")
+                            for it in ("place", "log"))
         by_name, places = places, {}
         for _, cells in table.rows:
             place, log = (cells[at].strip() for at in (place_at, log_at))

@@ -23,9 +23,8 @@ def reconcile(asked: argparse.Namespace) -> int:
     names = names_of(asked, not asked.surveys)
     try:
         said = [(name, read(name)) for name in asked.surveys]
-        files = {what: (name, read(name)) for what, name in (
-            ("catalogue", asked.expected), ("tags", asked.tags), ("places", asked.places))
-                 if name is not None}
+        given = {"catalogue": asked.expected, "tags": asked.tags, "places": asked.places}
+        files = {what: (name, read(name)) for what, name in given.items() if name is not None}
         how = How(asked.column, asked.place, asked.encoding, files.get("tags"))
         expected, recorded = catalogue(*files["catalogue"], how), records(said)
         places = Places() if asked.place is None else places_of(
