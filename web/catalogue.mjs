@@ -5,8 +5,6 @@ import { count, hex, listing, printable } from "./words.mjs";
 /** @typedef {{row: number, uid: bigint | null, cells: string[]}} Entry */
 /** @typedef {{name: string, heads: string[], uidAt: number, entries: Entry[]}} Catalogue */
 /** @typedef {{name: string, text: Uint8Array}} Given a file */
-/** @typedef {{logs: Map<string, number[]>, written: Map<string, string>}} Places the logs of each place, by their positions, and how a file
- *   of places writes it */
 
 const HEADER = "vicinity-log", OF_UIDS = "uid", PLACE = "place", LOG = "log";
 /** What may be among the digits of a UID, and before them. */
@@ -114,41 +112,29 @@ function uidOfCell(name, row, cell) {
 }
 
 /**
- * The logs of each place: those that a table names, or else that are named like it.
+ * The logs of each place, by their positions: those that a table names, or else that are named like it; which column of a catalogue says
+ * where items belong; and the places of each log, as the catalogue writes them, or else the table.
+ * @param {Catalogue} catalogue
  * @param {Given | null} file
  * @param {string[]} names
- * @returns {Places}
  */
-export function placesOf(file, names) {
+export function placesOf(catalogue, file, names) {
   /** @type {Map<string, number[]>} */
-  const byName = new Map(), logs = new Map(), written = new Map();
-  const add = (/** @type {Map<string, number[]>} */ to, /** @type {string} */ key, /** @type {number[]} */ more) =>
-    to.set(key, [...to.get(key) ?? [], ...more]);
+  const byName = new Map(), logs = file ? new Map() : byName, spelled = /** @type {Map<string, string>} */ (new Map());
+  const add = (/** @type {Map<any, any[]>} */ to, /** @type {string | number} */ key, /** @type {any[]} */ more) => to.set(key, [...to.get(key) ?? [], ...more]);
   names.forEach((name, at) => {
     for (const key of new Set([name.toLowerCase(), name.toLowerCase().replace(/\.[^.]*$/, "")])) add(byName, key, [at]);
   });
-  if (!file) return { logs: byName, written };
-  const table = readTable(file.name, file.text), placeAt = columnOf(table, PLACE), logAt = columnOf(table, LOG);
-  for (const { cells } of table.rows) {
+  const table = file && readTable(file.name, file.text), placeAt = table ? columnOf(table, PLACE) : -1, logAt = table ? columnOf(table, LOG) : -1;
+  for (const { cells } of table?.rows ?? []) {
     const place = cells[placeAt].trim(), key = place.toLowerCase();
-    if (place && !written.has(key)) written.set(key, place);
+    if (place && !spelled.has(key)) spelled.set(key, place);
     add(logs, key, byName.get(cells[logAt].trim().toLowerCase()) ?? []);
   }
-  return { logs, written };
-}
-
-/**
- * The places of each log, as the catalogue writes them, or else the file of places.
- * @param {Catalogue} catalogue
- * @param {Places} places
- */
-export function placesWritten(catalogue, { logs, written }) {
-  const at = placeColumn(catalogue, logs), cells = at < 0 ? [] : catalogue.entries.map((entry) => entry.cells[at].trim()).filter((cell) => cell);
-  const all = new Map([...written, ...cells.map((cell) => /** @type {[string, string]} */ ([cell.toLowerCase(), cell]))]);
-  /** @type {Map<number, string[]>} */
-  const found = new Map();
-  for (const [key, place] of all) for (const log of new Set(logs.get(key))) found.set(log, [...found.get(log) ?? [], place]);
-  return found;
+  const at = placeColumn(catalogue, logs), written = /** @type {Map<number, string[]>} */ (new Map());
+  for (const { cells } of at < 0 ? [] : catalogue.entries) if (cells[at].trim()) spelled.set(cells[at].trim().toLowerCase(), cells[at].trim());
+  for (const [key, place] of spelled) for (const log of new Set(logs.get(key))) add(written, log, [place]);
+  return { logs, at, written };
 }
 
 /**
@@ -156,7 +142,7 @@ export function placesWritten(catalogue, { logs, written }) {
  * @param {Catalogue} catalogue
  * @param {Map<string, number[]>} places
  */
-export function placeColumn({ heads, uidAt, entries }, places) {
+function placeColumn({ heads, uidAt, entries }, places) {
   const isPlace = (/** @type {string} */ cell) => places.get(cell.trim().toLowerCase())?.length;
   const named = (/** @type {number} */ at) => at === uidAt ? 0 : entries.filter(({ cells }) => isPlace(cells[at])).length;
   const best = heads.reduce((one, _, at) => named(at) > named(one) ? at : one, 0);

@@ -66,18 +66,17 @@ const isOpen = (log) => log.open.length > 0;
 export function collectionView(object) {
   const of = (/** @type {State} */ state) => object.items.filter((item) => item.state === state), shelves = new Shelves(object.logs);
   const unknown = of("not provable"), away = unknown.filter((item) => shelves.isAway(item)), others = unknown.filter((item) => !shelves.isAway(item));
-  const look = isWhole(object) ? "yes" : "no", sign = isWhole(object) ? "✓" : "!", said = object.name ? [printable(object.name)] : [];
   const home = (/** @type {Item} */ { belongs = "" }) => printable(belongs), mayBe = { "may be in": (/** @type {Item} */ item) => shelves.names(item.may_be_in) };
-  const todo = [...of("missing"), ...of("misplaced"), ...of("unexpected")], rests = conditionsOfAll(object, shelves);
-  const known = new Set(of("there").map(home)), some = others.filter((item) => !home(item) || known.has(home(item)));
-  return [banner({ look, sign, headline: headlineOf(object), lights: lights(object) }, [...said, ` · ${count(object.logs.length, "log")}`]),
-    ...todo.length || unknown.length ? [] : rests,
+  const known = new Set(["", ...of("there").map(home)]), some = others.filter((item) => known.has(home(item))), none = others.filter((item) => !known.has(home(item)));
+  const todo = [...of("missing"), ...of("misplaced"), ...of("unexpected")], rests = conditionsOfAll(object, shelves), isKnown = !todo.length && !unknown.length;
+  return [banner({ ...isWhole(object) ? { look: "yes", sign: "✓" } : { look: "no", sign: "!" }, headline: headlineOf(object), lights: lights(object) },
+    `${printable(object.name)} · ${count(object.logs.length, "log")}`), ...isKnown ? rests : [],
     ...logs("Count again", COUNT_EACH, object.logs.filter(isOpen), true, object, shelves),
     ...part("At the shelves", todo, true, howTo(object), shelved(todo, (item) => shelves.at(item), {}, (item) => shelves.toDo(item))),
     ...part("Not on their shelves", away, true, AWAY, shelved(away, home, mayBe)),
-    ...part("Not known yet", others, false, unknownYet(others.filter((item) => !some.includes(item)).map(home), some.length),
-      shelved(some, home, some.every(home) ? {} : mayBe)),
-    ...part("Without a tag", of("no tag"), false, NO_TAG, shelved(of("no tag"), home)), ...inPlace(object), ...todo.length || unknown.length ? rests : [],
+    ...part("Without a tag", of("no tag"), false, NO_TAG, shelved(of("no tag"), home)),
+    ...part("Not known yet", others, false, unknownYet(none.map(home), some.length), shelved(some, home, some.every(home) ? {} : mayBe)),
+    ...inPlace(object), ...isKnown ? [] : rests,
     ...logs("Read to the end", "", object.logs.filter((log) => !isOpen(log)), false, object, shelves), ...grantedOfAll(object), recordOfAll(object)];
 }
 
@@ -109,7 +108,7 @@ function unknownYet(homes, others) {
  * @param {CollectionObject} object
  */
 function howTo({ counts, items }) {
-  const slots = Math.min(...items.filter((item) => item.state === "missing").map((item) => item.overlooked ?? 0));
+  const slots = items.reduce((least, { state, overlooked = 0 }) => state === "missing" ? Math.min(least, overlooked) : least, Infinity);
   const asked = slots ? `: asked in ${count(slots, "slot")} or more of each, and silent` : "";
   return [...counts.missing ? [`What to look for is in none of the fields${asked}. ${LOOK_FOR}`] : [], ...counts.unexpected ? [NOT_EXPECTED] : []].join(" ");
 }

@@ -8,9 +8,6 @@ import { listing, printable } from "./words.mjs";
 /** How many rows of a table are drawn, and how many places are named. */
 const MOST_ROWS = 2000;
 export const MOST_NAMES = 3;
-/** What stands before the name of an item. */
-const TO_DO = "to do";
-
 /** Shelf 2 before Shelf 10. */
 export const inOrder = new Intl.Collator("en", { numeric: true }).compare;
 
@@ -21,24 +18,17 @@ export const inOrder = new Intl.Collator("en", { numeric: true }).compare;
 export const nameOf = (file) => printable(file.split("/").pop() || file);
 
 export class Shelves {
-  /** @type {Map<string, string[]>} */
-  #places = new Map();
-  /** @type {Map<string, string[]>} */
-  #files = new Map();
-
   /** @param {import("./collection.mjs").OneLog[]} logs */
   constructor(logs) {
-    for (const { file, places = [] } of logs) {
-      this.#places.set(file, places);
-      for (const place of places.map((it) => it.toLowerCase())) this.#files.set(place, [...this.#files.get(place) ?? [], file]);
-    }
+    this.places = new Map(logs.map(({ file, places = [] }) => [file, places]));
+    this.counted = new Set(logs.flatMap(({ places = [] }) => places.map((place) => place.toLowerCase())));
   }
 
   /**
    * The place of a log; nothing if it isn't known.
    * @param {string} file
    */
-  placeOf(file) { return listing((this.#places.get(file) ?? []).map(printable)); }
+  placeOf(file) { return listing((this.places.get(file) ?? []).map(printable)); }
 
   /** @param {string} file */
   name(file) { return this.placeOf(file) || nameOf(file); }
@@ -54,8 +44,8 @@ export class Shelves {
    * @param {Item} item
    */
   isAway({ belongs = "", may_be_in: files }) {
-    const its = this.#files.get(belongs.toLowerCase()) ?? [];
-    return its.length > 0 && !its.some((file) => files.includes(file));
+    const own = belongs.toLowerCase(), isOwn = (/** @type {string} */ file) => this.places.get(file)?.some((place) => place.toLowerCase() === own);
+    return this.counted.has(own) && !files.some(isOwn);
   }
 
   /**
@@ -79,21 +69,24 @@ export class Shelves {
  * @param {Cell} [toDo]
  */
 export function shelved(list, shelf, where = {}, toDo) {
-  if (!list.length) return [];
-  const isOne = list.every((item) => !shelf(item)), isTagged = list.some((item) => item.uid), asked = Object.keys(where);
+  const groups = /** @type {Map<string, Item[]>} */ (new Map(list.map((item) => [shelf(item), []]))), isOne = groups.size === 1 && groups.has("");
+  for (const item of list) groups.get(shelf(item))?.push(item);
   const isSaid = (/** @type {string} */ head) => list.some(({ columns: { [head]: cell }, belongs }) => cell && (isOne || cell !== belongs));
-  const columns = [...new Set(list.flatMap((item) => Object.keys(item.columns)))].filter(isSaid);
-  const named = [...columns, ...asked, ...isTagged ? ["UID"] : []], heads = toDo ? [TO_DO, ...named] : named;
-  const shelves = /** @type {Map<string, Node[]>} */ (new Map());
-  for (const item of [...list].sort((one, other) => inOrder(shelf(one), shelf(other))).slice(0, MOST_ROWS)) {
-    const name = shelf(item) || (isOne ? "" : "Place not known"), head = el("th", { scope: "rowgroup", colspan: String(heads.length) }, name);
+  const columns = [...new Set(list.flatMap((item) => Object.keys(item.columns)))].filter(isSaid), asked = Object.keys(where);
+  const named = [...columns, ...asked, ...list.some((item) => item.uid) ? ["UID"] : []], heads = toDo ? ["to do", ...named] : named;
+  const rowOf = (/** @type {Item} */ item) => {
     const cells = [...columns.map((column) => printable(item.columns[column] ?? "")), ...asked.map((it) => where[it](item))];
-    if (!shelves.has(name)) shelves.set(name, name ? [el("tr", {}, head)] : []);
-    shelves.get(name)?.push(el("tr", {}, ...toDo ? [el("td", {}, toDo(item))] : [], ...cellsOf(named, cells, item.uid)));
-  }
+    return el("tr", {}, ...toDo ? [el("td", {}, toDo(item))] : [], ...cellsOf(named, cells, item.uid));
+  };
+  let room = MOST_ROWS;
+  const bodies = [...groups].sort(([one], [other]) => inOrder(one, other)).map(([name, group]) => {
+    const rows = group.slice(0, Math.max(0, room)).map(rowOf), head = el("th", { scope: "rowgroup", colspan: String(heads.length) }, name || "Place not known");
+    room -= rows.length;
+    return el("tbody", {}, ...rows.length && !isOne ? [el("tr", {}, head)] : [], ...rows);
+  });
   const more = list.length > MOST_ROWS ? [el("p", {}, `and ${(list.length - MOST_ROWS).toLocaleString("en")} more`)] : [];
-  return [el("table", { class: "items" }, el("thead", {}, el("tr", {}, heads.map((head) => el("th", { scope: "col" }, printable(head))))),
-    ...[...shelves.values()].map((rows) => el("tbody", {}, ...rows))), ...more];
+  return !list.length ? [] : [el("table", { class: "items" }, el("thead", {}, el("tr", {}, heads.map((head) => el("th", { scope: "col" }, printable(head))))),
+    ...bodies), ...more];
 }
 
 /**
