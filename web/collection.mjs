@@ -68,6 +68,9 @@ export function collectionView(object) {
   const unknown = of("not provable"), away = unknown.filter((item) => shelves.isAway(item)), others = unknown.filter((item) => !shelves.isAway(item));
   const home = (/** @type {Item} */ { belongs = "" }) => printable(belongs), mayBe = { "may be in": (/** @type {Item} */ item) => shelves.names(item.may_be_in) };
   const known = new Set(["", ...of("there").map(home)]), some = others.filter((item) => known.has(home(item))), none = others.filter((item) => !known.has(home(item)));
+  // of a shelf of which nothing is known to be in place no items are named
+  const all = `all items of ${listing([...new Set(none.map(home))].sort(inOrder))} that aren't named above (${none.length.toLocaleString("en")})`;
+  const which = none.length ? ` They are ${all}${some.length ? ", and these:" : "."}` : "";
   const todo = [...of("missing"), ...of("misplaced"), ...of("unexpected")], rests = conditionsOfAll(object, shelves), isKnown = !todo.length && !unknown.length;
   return [banner({ ...isWhole(object) ? { look: "yes", sign: "✓" } : { look: "no", sign: "!" }, headline: headlineOf(object), lights: lights(object) },
     `${printable(object.name)} · ${count(object.logs.length, "log")}`), ...isKnown ? rests : [],
@@ -75,7 +78,7 @@ export function collectionView(object) {
     ...part("At the shelves", todo, true, howTo(object), shelved(todo, (item) => shelves.at(item), {}, (item) => shelves.toDo(item))),
     ...part("Not on their shelves", away, true, AWAY, shelved(away, home, mayBe)),
     ...part("Without a tag", of("no tag"), false, NO_TAG, shelved(of("no tag"), home)),
-    ...part("Not known yet", others, false, unknownYet(none.map(home), some.length), shelved(some, home, some.every(home) ? {} : mayBe)),
+    ...part("Not known yet", others, false, UNKNOWN_YET + which, shelved(some, home, some.every(home) ? {} : mayBe)),
     ...inPlace(object), ...isKnown ? [] : rests,
     ...logs("Read to the end", "", object.logs.filter((log) => !isOpen(log)), false, object, shelves), ...grantedOfAll(object), recordOfAll(object)];
 }
@@ -93,35 +96,18 @@ function part(title, list, open, words, drawn) {
   return list.length ? [folded(`${title} (${list.length.toLocaleString("en")})`, open && list.length <= FEW_ITEMS, el("p", {}, words), ...drawn)] : [];
 }
 
-/**
- * Of which items nothing is known yet: those of shelves of which none is known to be in place aren't named.
- * @param {string[]} homes of each item that isn't
- * @param {number} others
- */
-function unknownYet(homes, others) {
-  const all = [...new Set(homes)].sort(inOrder), which = `all items of ${listing(all)} that aren't named above (${homes.length.toLocaleString("en")})`;
-  return `${UNKNOWN_YET}${homes.length ? ` They are ${which}${others ? ", and these:" : "."}` : ""}`;
-}
-
-/**
- * How to do what is to be done at the shelves.
- * @param {CollectionObject} object
- */
+/** @param {CollectionObject} object */
 function howTo({ counts, items }) {
   const slots = items.reduce((least, { state, overlooked = 0 }) => state === "missing" ? Math.min(least, overlooked) : least, Infinity);
-  const asked = slots ? `: asked in ${count(slots, "slot")} or more of each, and silent` : "";
+  const asked = slots ? `: it was asked in ${count(slots, "slot")} or more of each, and silent` : "";
   return [...counts.missing ? [`What to look for is in none of the fields${asked}. ${LOOK_FOR}`] : [], ...counts.unexpected ? [NOT_EXPECTED] : []].join(" ");
 }
 
-/**
- * The items of which there is nothing to say.
- * @param {CollectionObject} object
- */
+/** @param {CollectionObject} object */
 function inPlace({ counts, items: all }) {
-  const isPlaced = all.some((item) => item.belongs), rest = all.length - counts.unexpected - counts.there;
-  if (!counts.there || !rest) return [];
-  const words = count(counts.there, "other item");
-  return [el("p", {}, `The ${words} of the catalogue ${counts.there === 1 ? "is" : "are"} here${isPlaced ? ", and in place" : ""}.`)];
+  const place = all.some((item) => item.belongs) ? ", and in place" : "", { there } = counts;
+  if (!there || there === all.length - counts.unexpected) return [];
+  return [el("p", {}, `The ${count(there, "other item")} of the catalogue ${there === 1 ? "is" : "are"} here${place}.`)];
 }
 
 /**
