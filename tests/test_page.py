@@ -906,6 +906,14 @@ def test_a_place_that_is_not_in_the_catalogue(page):
     assert page.texts(".items tbody tr") == ["Returns", "take to one\nWalden\nE0040100000000A1"]
 
 
+def test_an_item_of_which_the_catalogue_says_nothing_is_named_by_its_uid(page):
+    page.drop(**{"catalogue": b"uid\nE0040100000000A1\n", "one.log": log_of("I16 S")})
+    page.until("h1", "1 item not known yet; count 1 log again.")
+    page.run("for (const it of document.querySelectorAll('#told > details')) it.open = true")
+    assert page.texts(".items thead th") == ["UID", "may be in"]
+    assert page.texts(".items th[scope=row]") == ["E0040100000000A1"]
+
+
 def test_how_often_a_missing_item_was_asked(page):
     page.drop(**{"catalogue": b"title;uid\nWalden;E0:04:01:00:00:00:00:A1\n",
                  "one.log": log_of("I1 S I1 S I1 S"), "two.log": log_of("I1 S I1 S")})

@@ -63,6 +63,7 @@ export class Shelves {
 
 /**
  * A table of items, those of a shelf below its name: what to do, what the catalogue says of each, where it may be, and last its UID.
+ * An item of which the catalogue says nothing else is named by its UID.
  * @param {Item[]} list
  * @param {Cell} shelf
  * @param {Record<string, Cell>} where
@@ -73,10 +74,14 @@ export function shelved(list, shelf, where = {}, toDo) {
   for (const item of list) groups.get(shelf(item))?.push(item);
   const isSaid = (/** @type {string} */ head) => list.some(({ columns: { [head]: cell }, belongs }) => cell && (isOne || cell !== belongs));
   const columns = [...new Set(list.flatMap((item) => Object.keys(item.columns)))].filter(isSaid), asked = Object.keys(where);
-  const named = [...columns, ...asked, ...list.some((item) => item.uid) ? ["UID"] : []], heads = toDo ? ["to do", ...named] : named;
+  const isTagged = list.some((item) => item.uid), last = columns.length && isTagged ? ["UID"] : [];
+  const heads = [...toDo ? ["to do"] : [], ...columns.length ? columns : ["UID"], ...asked, ...last];
   const rowOf = (/** @type {Item} */ item) => {
-    const cells = [...columns.map((column) => printable(item.columns[column] ?? "")), ...asked.map((it) => where[it](item))];
-    return el("tr", {}, ...toDo ? [el("td", {}, toDo(item))] : [], ...cellsOf(named, cells, item.uid));
+    const said = columns.map((column) => printable(item.columns[column] ?? "")), first = said.findIndex((cell) => cell), uid = el("code", {}, item.uid ?? "no UID");
+    const named = first < 0 ? [el("th", { scope: "row", colspan: String(columns.length || 1) }, uid)]
+      : said.map((cell, at) => at === first ? el("th", { scope: "row" }, cell) : cellOf(columns[at], cell));
+    return el("tr", {}, ...toDo ? [el("td", {}, toDo(item))] : [], ...named, ...asked.map((head) => cellOf(head, where[head](item))),
+      ...last.map((head) => cellOf(head, first < 0 || !item.uid ? "" : uid)));
   };
   let room = MOST_ROWS;
   const bodies = [...groups].sort(([one], [other]) => inOrder(one, other)).map(([name, group]) => {
@@ -90,13 +95,8 @@ export function shelved(list, shelf, where = {}, toDo) {
 }
 
 /**
- * Cells that know their heads, for screens on which each row is a card; the first with anything in it names the row, or the UID.
- * @param {string[]} heads
- * @param {string[]} cells
- * @param {string | null} uid
+ * A cell that knows its head, for screens on which each row is a card.
+ * @param {string} head
+ * @param {Node | string} cell
  */
-function cellsOf(heads, cells, uid) {
-  const first = cells.findIndex((cell) => cell), code = el("code", {}, uid ?? "no UID");
-  if (first < 0) return [el("th", { scope: "row", colspan: String(heads.length) }, code)];
-  return [...cells, ...uid ? [code] : []].map((cell, at) => at === first ? el("th", { scope: "row" }, cell) : el("td", { "data-head": heads[at] }, cell));
-}
+const cellOf = (head, cell) => el("td", { "data-head": head }, ...cell ? [cell] : []);
