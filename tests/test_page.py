@@ -821,13 +821,14 @@ def of_python(release, vicinity):
 
 
 def collected(told):
-    """An object of a collection, with its logs by their names without folders."""
-    return json.loads(re.sub(r'"/[^" ]*/([^"/]*[.](?:log|txt))"', r'"\1"', json.dumps(told)))
+    """An object of a collection, with its files by their names without folders."""
+    return json.loads(re.sub(r'"/[^" ]*/([^"/]*[.](?:log|txt|csv))"', r'"\1"', json.dumps(told)))
 
 
 @pytest.mark.parametrize(("more", "words"), [
-    ({}, "1 item missing, 1 in the wrong place and 1 not known yet; count 1 log again."),
-    ({"broken.log": log_of("I1 RA I1 S")}, "count 2 logs again."),
+    ({}, "1 item missing, 1 in the wrong place and 1 not known yet; count C again."),
+    ({"broken.log": log_of("I1 RA I1 S")},
+     "1 item not on its shelf, 1 in the wrong place and 1 not known yet; count 2 logs again."),
     ({"none.txt": b"no log\n", "open.log": log_of("QA I1 S")}, "count 3 logs again.")])
 def test_a_collection_is_judged_as_python_judges_it(page, of_python, tmp_path, more, words):
     files = {it.name: it.read_bytes() for it in sorted(SHELVES.iterdir())} | more
@@ -875,11 +876,12 @@ def test_a_collection_of_which_one_field_has_a_silenced_tag_of_another(page, of_
 
 
 def test_a_collection_with_a_tag_that_is_not_in_the_catalogue(page):
-    """It is no item of it. On paper each log has its sum."""
-    log = log_of("I1 RA QA I1 S")
-    page.drop(**{"catalogue": b"uid,title\n", "one.log": log})
+    """It is no item of it. The catalogue has its sum, and on paper each log."""
+    log, catalogue = log_of("I1 RA QA I1 S"), b"uid,title\n"
+    page.drop(**{"catalogue": catalogue, "one.log": log})
     page.until("h1", "1 item not in the catalogue.")
     assert "0 items" in page.texts(".record")[0] and sha256(log).hexdigest() not in page.said()
+    assert page.texts(".record code") == [sha256(catalogue).hexdigest()]
     page.media("print")
     page.run("window.dispatchEvent(new Event('beforeprint'))")
     assert sha256(log).hexdigest() in page.said()
@@ -895,7 +897,7 @@ def test_a_log_of_a_collection_is_compared_with_its_catalogue(page):
     assert page.texts(".logs h3") == ["1 tag is here, and no other.", "The field is empty."]
     assert page.texts(".logs dt") == ["Search finished"] * 2
     assert page.texts(".logs h4").count("At the shelf") == 1
-    assert page.texts(".items tbody tr") == ["E0040100000000A1\none.log"]
+    assert page.texts(".items tbody tr") == ["one.log", "not in the catalogue\nE0040100000000A1"]
     page.media("print")
     assert page.said().count("Counted on") == 1
 
@@ -912,23 +914,55 @@ def test_of_logs_to_be_counted_again_nothing_else_is_said(page, items, log, is_s
 
 
 def test_items_are_told_by_their_shelves(page):
-    """Where a log has another name, it is told too. On paper they stand in columns."""
+    """What there is to do at each, and what isn't known. What is in place is only counted."""
     page.drop_files({it.name: it.read_bytes() for it in sorted(SHELVES.iterdir())})
     page.until("h1", "1 in the wrong place")
-    page.run("for (const it of document.querySelectorAll('details')) it.open = true")
-    assert "A (shelf-a.log)" in next(it for it in page.texts(".items") if "belongs to" in it)
-    wanted = [f"{it.upper()} \u00B7 shelf-{it}.log" for it in "abc"]
-    assert page.texts("th[scope=rowgroup]") == wanted
-    page.media("print")
-    assert page.run("const it = document.querySelector('details:has([scope=rowgroup])');"
-                    "return getComputedStyle(it).columnWidth") != "auto"
+    assert page.texts(".logs summary")[0] == (
+        "C (shelf-c.log): 3 tags proved; left to ask, by 2 requests or more: UIDs ending in E or F")
+    page.run("for (const it of document.querySelectorAll('details:has(> .items)')) it.open = true")
+    assert page.texts(".items tbody tr") == [
+        "A", "look for\nWalden\nE00401502B91C435", "take to B\nThe Time Machine\nE00401504477EB73",
+        "C", "Ulysses\nE00401506D9320CE"]
+    page.until("#told > p", "The 9 other items of the catalogue are here, and in place.")
+    assert page.texts(".lights dd") == ["2 of 3 logs", "9 of 12 items"]
+
+
+def test_items_that_are_not_on_their_shelves(page):
+    """The first log rules Emma out. Of the items of the other shelf nothing is known."""
+    page.drop(**{"catalogue": b"uid,title,shelf\nE0040100000000A1,Walden,one\n"
+                 b"E0040100000000B2,Emma,one\nE0040100000000C3,Kim,two\n",
+                 "one.log": log_of("I1 RA QA I1 S"), "two.log": log_of("I1 RA I1 S")})
+    page.until("h1", "1 item not on its shelf and 1 not known yet; count two again.")
+    assert page.texts(".logs summary")[0] == (
+        "two: nothing is known of its field, since its log contradicts itself: tag ..00A1 "
+        "answered in line 3, but not in line 5, where it was also asked")
+    assert page.texts(".items tbody tr") == ["one", "Emma\ntwo\nE0040100000000B2"]
+    page.run("for (const it of document.querySelectorAll('#told > details')) it.open = true")
+    page.until("details p", "They are all items of two that aren't named above (1).")
+
+
+def test_a_place_that_is_not_in_the_catalogue(page):
+    """What is found there is told by it."""
+    page.drop(**{"catalogue.csv": b"uid,title,shelf\nE0040100000000A1,Walden,one\n",
+                 "places.csv": b"place,log\none,1.log\nReturns,2.log\n",
+                 "1.log": log_of("I1 S"), "2.log": log_of("I1 RA QA I1 S")})
+    page.until("h1", "1 item in the wrong place.")
+    assert page.texts(".items tbody tr") == ["Returns", "take to one\nWalden\nE0040100000000A1"]
+
+
+def test_an_item_of_which_the_catalogue_says_nothing_is_named_by_its_uid(page):
+    page.drop(**{"catalogue": b"uid\nE0040100000000A1\n", "one.log": log_of("I16 S")})
+    page.until("h1", "1 item not known yet; count 1 log again.")
+    page.run("for (const it of document.querySelectorAll('#told > details')) it.open = true")
+    assert page.texts(".items thead th") == ["UID", "may be in"]
+    assert page.texts(".items th[scope=row]") == ["E0040100000000A1"]
 
 
 def test_how_often_a_missing_item_was_asked(page):
     page.drop(**{"catalogue": b"title;uid\nWalden;E0:04:01:00:00:00:00:A1\n",
                  "one.log": log_of("I1 S I1 S I1 S"), "two.log": log_of("I1 S I1 S")})
     page.until("h1", "1 item missing.")
-    assert "in 2 slots or more of each field" in page.texts("details")[0]
+    assert "asked in 2 slots or more of each, and silent" in page.texts("details")[0]
 
 
 @pytest.mark.parametrize(("name", "content", "words"), [

@@ -349,14 +349,14 @@ def reconciled(run, browser, tmp_path):
 def test_page_of_a_collection(reconciled):
     page = reconciled(*SHELVES)
     assert page.texts("h1") == ["1 item missing and 1 not known yet; count 1 log again."]
-    assert page.texts(".lights dd") == ["2 of 3 logs", "differs"]
-    groups = ["Look for (1)", "Count again (1 log)", "Not known yet (1)", "Here (10)",
+    assert page.texts(".lights dd") == ["2 of 3 logs", "10 of 12 items"]
+    groups = ["Count again (1 log)", "At the shelves (1)", "Not known yet (1)",
               "Read to the end (2 logs)", "What this takes for granted (9)"]
     assert page.texts("details > summary h2") == groups
-    assert "Walden" in page.texts("details")[0]
-    assert "in 1 slot or more of each field" in page.texts("details")[0]
+    assert page.texts(".items tbody tr")[0] == "look for\nWalden\nA\nE00401502B91C435"
+    assert "asked in 1 slot or more of each, and silent" in page.texts("#told > details")[1]
     assert page.texts(".logs summary")[0] == (
-        "shelf-c.log 3 tags proved; left to ask: UIDs ending in E or F")
+        "shelf-c.log: 3 tags proved; left to ask, by 2 requests or more: UIDs ending in E or F")
 
 
 def test_page_of_a_collection_that_is_not_sure_enough(run, browser, tmp_path):
@@ -397,7 +397,7 @@ def test_a_broken_log_comes_first(reconciled):
     page = reconciled(*SHELVES, TOP / "examples/contradiction.log", "nowhere.log", "README.md")
     assert page.texts("h1") == ["2 items not known yet; count 4 logs again."]
     assert page.texts("details > summary h2")[0] == "Count again (4 logs)"
-    assert [it.split()[0] for it in page.texts(".log")[:4]] == [
+    assert [it.split(":")[0] for it in page.texts(".log")[:4]] == [
         "contradiction.log", "nowhere.log", "README.md", "shelf-c.log"]
     assert page.texts(".banner.yes") == []
 

@@ -112,23 +112,29 @@ function uidOfCell(name, row, cell) {
 }
 
 /**
- * The logs of each place, by their positions: those that a table names, or else that are named like it.
+ * The logs of each place, by their positions: those that a table names, or else that are named like it; which column of a catalogue says
+ * where items belong; and the places of each log, as the catalogue writes them, or else the table.
+ * @param {Catalogue} catalogue
  * @param {Given | null} file
  * @param {string[]} names
- * @returns {Map<string, number[]>}
  */
-export function placesOf(file, names) {
+export function placesOf(catalogue, file, names) {
   /** @type {Map<string, number[]>} */
-  const byName = new Map(), places = new Map();
-  const add = (/** @type {Map<string, number[]>} */ to, /** @type {string} */ key, /** @type {number[]} */ logs) =>
-    to.set(key, [...to.get(key) ?? [], ...logs]);
+  const byName = new Map(), logs = file ? new Map() : byName, spelled = /** @type {Map<string, string>} */ (new Map());
+  const add = (/** @type {Map<any, any[]>} */ to, /** @type {string | number} */ key, /** @type {any[]} */ more) => to.set(key, [...to.get(key) ?? [], ...more]);
   names.forEach((name, at) => {
     for (const key of new Set([name.toLowerCase(), name.toLowerCase().replace(/\.[^.]*$/, "")])) add(byName, key, [at]);
   });
-  if (!file) return byName;
-  const table = readTable(file.name, file.text), placeAt = columnOf(table, PLACE), logAt = columnOf(table, LOG);
-  for (const { cells } of table.rows) add(places, cells[placeAt].trim().toLowerCase(), byName.get(cells[logAt].trim().toLowerCase()) ?? []);
-  return places;
+  const table = file && readTable(file.name, file.text), placeAt = table ? columnOf(table, PLACE) : -1, logAt = table ? columnOf(table, LOG) : -1;
+  for (const { cells } of table?.rows ?? []) {
+    const place = cells[placeAt].trim(), key = place.toLowerCase();
+    if (place && !spelled.has(key)) spelled.set(key, place);
+    add(logs, key, byName.get(cells[logAt].trim().toLowerCase()) ?? []);
+  }
+  const at = placeColumn(catalogue, logs), written = /** @type {Map<number, string[]>} */ (new Map());
+  for (const { cells } of at < 0 ? [] : catalogue.entries) if (cells[at].trim()) spelled.set(cells[at].trim().toLowerCase(), cells[at].trim());
+  for (const [key, place] of spelled) for (const log of new Set(logs.get(key))) add(written, log, [place]);
+  return { logs, at, written };
 }
 
 /**
@@ -136,7 +142,7 @@ export function placesOf(file, names) {
  * @param {Catalogue} catalogue
  * @param {Map<string, number[]>} places
  */
-export function placeColumn({ heads, uidAt, entries }, places) {
+function placeColumn({ heads, uidAt, entries }, places) {
   const isPlace = (/** @type {string} */ cell) => places.get(cell.trim().toLowerCase())?.length;
   const named = (/** @type {number} */ at) => at === uidAt ? 0 : entries.filter(({ cells }) => isPlace(cells[at])).length;
   const best = heads.reduce((one, _, at) => named(at) > named(one) ? at : one, 0);

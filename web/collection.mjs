@@ -1,8 +1,10 @@
-/** Draws a collection: what to look for, what to move, what to count again, what is unknown, and each log. */
+/** Draws a collection: what to count again, what to do at each shelf, what isn't known yet, and each log. */
+import { contradiction } from "./contradiction.mjs";
 import { el, folded, lowered } from "./elements.mjs";
 import { KIND } from "./kinds.mjs";
 import { Pane } from "./pane.mjs";
 import { granted, HOLDS, mayBeWrong, missed, notSure, stillHolds } from "./say.mjs";
+import { inOrder, MOST_NAMES, nameOf, shelved, Shelves } from "./shelves.mjs";
 import { maskOf, tell } from "./told.mjs";
 import { banner, signed, view } from "./view.mjs";
 import { count, endings, listing, printable } from "./words.mjs";
@@ -12,7 +14,7 @@ import { count, endings, listing, printable } from "./words.mjs";
 /** @typedef {"there" | "misplaced" | "missing" | "not provable" | "unexpected" | "no tag"} State */
 /** @typedef {{uid: string | null, state: State, columns: Record<string, string>, certain_in: string[], may_be_in: string[],
  *   belongs?: string, overlooked?: number}} Item */
-/** @typedef {{file: string, certain: number, open: {mask_len: number, mask_value: string, ask?: string}[], more_open: boolean,
+/** @typedef {{file: string, places?: string[], certain: number, open: {mask_len: number, mask_value: string, ask?: string}[], more_open: boolean,
  *   list: {kind: string, status: number, line?: number, error?: string}, captured?: OfField, object?: LogObject}} OneLog */
 /** @typedef {{holds: boolean, mask_len?: number, mask_value?: string}} OfField whether a log says the same of its field if strong
  *   replies hid weaker ones, and if not, a mask that may have more tags */
@@ -27,6 +29,7 @@ import { count, endings, listing, printable } from "./words.mjs";
  * @property {Record<string, number>} counts how many items there are of each state
  * @property {{mask_len: number, mask_value: string} | null} unsettled
  * @property {{file: string, kind: string, do: string}[]} set_aside
+ * @property {{what: string, file: string, sha256: string}[]} [files] what was given beside the logs
  * @property {Item[]} items
  * @property {OneLog[]} logs
  * @property {number} [margin] of a complete collection
@@ -34,21 +37,16 @@ import { count, endings, listing, printable } from "./words.mjs";
  * @property {import("./told.mjs").Margin["weakest"]} [weakest]
  */
 
-/** How many rows of a table are drawn, how many are seen unfolded, and how many logs and masks are named. */
-const MOST_ROWS = 2000, FEW_ROWS = 40, MOST_NAMES = 3, MOST_MASKS = 3;
+/** How many logs are drawn, how many items are seen unfolded, and how many masks are named. */
+const MOST_LOGS = 2000, FEW_ITEMS = 200, MOST_MASKS = 3;
 /** How many cells of the catalogue are the name of an item. */
 const MOST_CELLS = 2;
-/** The head of where items belong, which the catalogue's own column of places repeats. */
-const BELONGS = "belongs to";
-/** The head of how often a missing item was asked. */
-const SILENT = "asked, and silent";
 const CANNOT_BE_READ = 4;
 /** How much text of logs stands in a page that is saved. */
 const MOST_TEXT = 4_000_000;
-const LOOK_FOR = "These are in none of the fields. If an item is in plain sight, its tag is broken or covered: move it, and count again. " +
-  "Keep what isn't found in the catalogue.";
-const MOVE = "These are here, but not where they belong.";
-const NOT_EXPECTED = "These tags are here, and aren't in the catalogue: bring them to where they belong, or add them.";
+const LOOK_FOR = "If it is in plain sight, its tag is broken or covered: move it, and count again. Keep what isn't found in the catalogue.";
+const NOT_EXPECTED = "What isn't in the catalogue: bring it to where it belongs, or add it.";
+const AWAY = "The logs of their shelves rule these out. They are in none of the fields, or where a log has to be counted again.";
 const NO_TAG = "These rows of the catalogue have no UID, so nothing is known of them: look for them by eye.";
 const UNKNOWN_YET = "Whether these are here isn't known until the logs above are counted again.";
 const COUNT_EACH = "Run the inventory of each again, to its end, in a new log.";
@@ -66,21 +64,50 @@ const isOpen = (log) => log.open.length > 0;
  * @returns {Node[]}
  */
 export function collectionView(object) {
-  const of = (/** @type {State} */ state) => object.items.filter((item) => item.state === state);
-  const names = namesIn(object), placed = placedIn(object), isIn = { "is in": (/** @type {Item} */ item) => namesOf(item.certain_in, placed) };
-  const again = countAgain(object, of("not provable"), names), first = object.set_aside.length > 0;
-  const said = object.name ? [printable(object.name)] : [];
-  const look = isWhole(object) ? "yes" : "no", sign = isWhole(object) ? "✓" : "!";
-  return [banner({ look, sign, headline: headlineOf(object), lights: lights(object) }, [...said, ` · ${count(object.logs.length, "log")}`]),
-    ...conditionsOfAll(object),
-    ...first ? again : [],
-    ...items("Look for", LOOK_FOR, of("missing"), askedIn(of("missing"), object.logs.length), true),
-    ...items("Move", MOVE, of("misplaced"), { ...isIn, [BELONGS]: (item) => item.belongs ?? "" }, true),
-    ...first ? [] : again,
-    ...items("Not in the catalogue", NOT_EXPECTED, of("unexpected"), isIn, true),
-    ...items("Without a tag", NO_TAG, of("no tag"), {}, false),
-    ...items(object.items.some((item) => item.belongs) ? "Here, and in place" : "Here", "", of("there"), {}, false, shelfOf),
-    ...logs("Read to the end", "", object.logs.filter((log) => !isOpen(log)), false, names), ...grantedOfAll(object), recordOfAll(object)];
+  const of = (/** @type {State} */ state) => object.items.filter((item) => item.state === state), shelves = new Shelves(object.logs);
+  const unknown = of("not provable"), away = unknown.filter((item) => shelves.isAway(item)), others = unknown.filter((item) => !shelves.isAway(item));
+  const home = (/** @type {Item} */ { belongs = "" }) => printable(belongs), mayBe = { "may be in": (/** @type {Item} */ item) => shelves.names(item.may_be_in) };
+  const known = new Set(["", ...of("there").map(home)]), some = others.filter((item) => known.has(home(item))), none = others.filter((item) => !known.has(home(item)));
+  // of a shelf of which nothing is known to be in place no items are named
+  const all = `all items of ${listing([...new Set(none.map(home))].sort(inOrder))} that aren't named above (${none.length.toLocaleString("en")})`;
+  const which = none.length ? ` They are ${all}${some.length ? ", and these:" : "."}` : "";
+  const todo = [...of("missing"), ...of("misplaced"), ...of("unexpected")], rests = conditionsOfAll(object, shelves), isKnown = !todo.length && !unknown.length;
+  return [banner({ ...isWhole(object) ? { look: "yes", sign: "✓" } : { look: "no", sign: "!" }, headline: headlineOf(object), lights: lights(object) },
+    `${printable(object.name)} · ${count(object.logs.length, "log")}`), ...isKnown ? rests : [],
+    ...logs("Count again", COUNT_EACH, object.logs.filter(isOpen), true, object, shelves),
+    ...part("At the shelves", todo, true, howTo(object), shelved(todo, (item) => shelves.at(item), {}, (item) => shelves.toDo(item))),
+    ...part("Not on their shelves", away, true, AWAY, shelved(away, home, mayBe)),
+    ...part("Without a tag", of("no tag"), false, NO_TAG, shelved(of("no tag"), home)),
+    ...part("Not known yet", others, false, UNKNOWN_YET + which, shelved(some, home, some.every(home) ? {} : mayBe)),
+    ...inPlace(object), ...isKnown ? [] : rests,
+    ...logs("Read to the end", "", object.logs.filter((log) => !isOpen(log)), false, object, shelves), ...grantedOfAll(object), recordOfAll(object)];
+}
+
+/**
+ * A part about items, with their number.
+ * @param {string} title
+ * @param {Item[]} list
+ * @param {boolean} open
+ * @param {string} words
+ * @param {Element[]} drawn a table first
+ */
+function part(title, list, open, words, drawn) {
+  drawn[0]?.prepend(el("caption", {}, title));
+  return list.length ? [folded(`${title} (${list.length.toLocaleString("en")})`, open && list.length <= FEW_ITEMS, el("p", {}, words), ...drawn)] : [];
+}
+
+/** @param {CollectionObject} object */
+function howTo({ counts, items }) {
+  const slots = items.reduce((least, { state, overlooked = 0 }) => state === "missing" ? Math.min(least, overlooked) : least, Infinity);
+  const asked = slots ? `: it was asked in ${count(slots, "slot")} or more of each, and silent` : "";
+  return [...counts.missing ? [`What to look for is in none of the fields${asked}. ${LOOK_FOR}`] : [], ...counts.unexpected ? [NOT_EXPECTED] : []].join(" ");
+}
+
+/** @param {CollectionObject} object */
+function inPlace({ counts, items: all }) {
+  const place = all.some((item) => item.belongs) ? ", and in place" : "", { there } = counts;
+  if (!there || there === all.length - counts.unexpected) return [];
+  return [el("p", {}, `The ${count(there, "other item")} of the catalogue ${there === 1 ? "is" : "are"} here${place}.`)];
 }
 
 /**
@@ -92,29 +119,6 @@ function namesIn({ items: all }) {
   const said = (/** @type {Item} */ { columns }) => Object.values(columns).filter((cell) => cell.trim()).slice(0, MOST_CELLS).join(" · ");
   return new Map(all.flatMap((item) => item.uid ? [[item.uid, said(item)]] : []));
 }
-
-/**
- * What a log is called: by its place, if one is known by what is in place there, and by its file, if that is named otherwise.
- * @param {CollectionObject} object
- */
-function placedIn({ items: all }) {
-  /** @type {Map<string, Set<string>>} */
-  const places = new Map();
-  for (const { state, certain_in: [file, ...others], belongs } of all) {
-    if (state === "there" && belongs && !others.length) places.set(file, new Set(places.get(file)).add(belongs));
-  }
-  return (/** @type {string} */ file) => {
-    const name = nameOf(file), [place, ...others] = places.get(file) ?? [];
-    if (!place || others.length) return name;
-    return name.replace(/\.[^.]*$/, "") === place ? printable(place) : `${printable(place)} (${name})`;
-  };
-}
-
-/**
- * Where an item is that is in place: its place, and its logs.
- * @param {Item} item
- */
-const shelfOf = ({ belongs, certain_in: files }) => [...belongs ? [printable(belongs)] : [], namesOf(files)].join(" · ");
 
 /**
  * A collection as it is saved: with so many of its logs as there is room for, those first that have to be counted again.
@@ -134,18 +138,21 @@ const isWhole = (object) => object.kind === KIND.COMPLETE && object.status === 0
 /** @param {CollectionObject} object */
 export function headlineOf(object) {
   const { counts } = object, tags = object.items.filter((item) => item.uid !== null && item.state !== "unexpected").length;
-  const which = counts["no tag"] ? " that have a tag" : "", again = object.logs.filter(isOpen).length;
+  const which = counts["no tag"] ? " that have a tag" : "", again = object.logs.filter(isOpen), shelves = new Shelves(object.logs);
   if (isWhole(object)) {
     if (tags === 0) return "Nothing is expected, and nothing is here.";
     if (tags === 1) return "The one expected item is here, and no other.";
     return `All ${count(tags, "expected item")}${which} are here, and no others.`;
   }
   if (object.kind === KIND.SMALL) return notSure(object.margin, object.wanted ?? 0);
-  const parts = /** @type {[number, string][]} */ ([[counts.missing, "missing"], [counts.misplaced, "in the wrong place"],
-    [counts.unexpected, "not in the catalogue"], [counts["not provable"], "not known yet"]]);
+  const unknown = object.items.filter((item) => item.state === "not provable"), away = unknown.filter((item) => shelves.isAway(item)).length;
+  const parts = /** @type {[number, string][]} */ ([[counts.missing, "missing"], [away, `not on ${away === 1 ? "its shelf" : "their shelves"}`],
+    [counts.misplaced, "in the wrong place"], [counts.unexpected, "not in the catalogue"], [unknown.length - away, "not known yet"]]);
   const said = parts.filter(([number]) => number).map(([number, words], at) => at ? `${number.toLocaleString("en")} ${words}`
     : `${count(number, "item")} ${words}`);
-  const todo = !again ? "" : again < object.logs.length || again === 1 ? `count ${count(again, "log")} again` : "count all logs again";
+  const isNamed = again.length <= MOST_NAMES && again.every(({ file }) => shelves.placeOf(file));
+  const number = isNamed ? shelves.names(again.map((log) => log.file)) : again.length < object.logs.length || again.length === 1 ? count(again.length, "log") : "all logs";
+  const todo = again.length ? `count ${number} again` : "";
   const text = [listing(said), todo].filter((it) => it).join("; ") || "the logs and the catalogue differ";
   return `${text[0].toUpperCase()}${text.slice(1)}.`;
 }
@@ -157,17 +164,19 @@ export function headlineOf(object) {
 function lights(object) {
   const { counts, logs } = object, done = logs.filter((log) => !isOpen(log)).length;
   const differs = counts.missing || counts.misplaced || counts.unexpected;
-  const value = isWhole(object) ? "matches" : differs ? "differs" : "not known yet";
+  const items = object.items.length - counts.unexpected, isPlaced = object.items.some((item) => item.belongs);
   const read = `${done.toLocaleString("en")} of ${count(logs.length, "log")}`;
   return [{ name: "Read to the end", value: read, look: done === logs.length ? "yes" : "no" },
-    { name: "Catalogue", value, look: value === "matches" ? "yes" : differs ? "no" : "plain" }];
+    { name: isPlaced ? "In place" : "Here", value: `${counts.there.toLocaleString("en")} of ${count(items, "item")}`,
+      look: counts.there === items ? "yes" : differs ? "no" : "plain" }];
 }
 
 /**
  * What a complete answer is said of; and whether what is here and missing also holds if strong replies hid weaker ones.
  * @param {CollectionObject} object
+ * @param {Shelves} shelves
  */
-function conditionsOfAll(object) {
+function conditionsOfAll(object, shelves) {
   const { counts } = object, all = object.logs.filter((log) => !isAside(log));
   const hidden = all.filter((log) => log.captured?.holds === false);
   const isAll = isWhole(object) || object.kind === KIND.SMALL;
@@ -175,121 +184,38 @@ function conditionsOfAll(object) {
   const isAgain = hidden.length > 0 && hidden.every(isOpen);
   if (!isAll && !counts.missing && (isAgain || !counts.unexpected)) return [];
   const known = all.every((log) => log.captured);
-  const also = hidden.length ? `${mayBeWrong(` in the field of ${namesOf(hidden.map((log) => log.file))},`)}.` : stillHolds(isAll ? object.margin : undefined);
-  const sure = isAll ? [HOLDS, ...missed(object, ` in the field of ${nameOf(object.weakest?.file ?? "")}`)] : [];
+  const also = hidden.length ? `${mayBeWrong(` in the field of ${shelves.names(hidden.map((log) => log.file))},`)}.` : stillHolds(isAll ? object.margin : undefined);
+  const sure = isAll ? [HOLDS, ...missed(object, ` in the field of ${shelves.name(object.weakest?.file ?? "")}`)] : [];
   return [el("section", { class: "holds" }, ...sure.map((it) => el("p", {}, it)),
     ...known || hidden.length ? [el("p", {}, also)] : [])];
 }
 
 /**
- * The logs to be counted again, those first that say nothing, and the items that may be in their fields.
- * @param {CollectionObject} object
- * @param {Item[]} unknown
- * @param {Names} names
- */
-function countAgain(object, unknown, names) {
-  const open = object.logs.filter(isOpen), aside = open.filter(isAside);
-  return [...logs("Count again", COUNT_EACH, [...aside, ...open.filter((log) => !isAside(log))], true, names),
-    ...items("Not known yet", UNKNOWN_YET, unknown, { "may be in": (item) => namesOf(item.may_be_in) }, false)];
-}
-
-/**
- * In how many slots missing items were asked, if that is known: of several fields in the one in which it was least.
- * @param {Item[]} missing
- * @param {number} logs
- * @returns {Record<string, (item: Item) => string>}
- */
-function askedIn(missing, logs) {
-  if (missing.some((item) => !item.overlooked)) return {};
-  return { [SILENT]: ({ overlooked = 0 }) => `in ${count(overlooked, "slot")}${logs > 1 ? " or more of each field" : ""}` };
-}
-
-/**
- * A table of items, those of a shelf below its name: what the catalogue says of each, where it is, and last its UID. An item of
- * which the catalogue says nothing else is named by its UID.
- * @param {string} title
- * @param {string} words
- * @param {Item[]} list
- * @param {Record<string, (item: Item) => string>} where
- * @param {boolean} open
- * @param {(item: Item) => string} [shelf]
- */
-function items(title, words, list, where, open, shelf = () => "") {
-  if (!list.length) return [];
-  const shown = list.slice(0, MOST_ROWS), shelves = /** @type {Map<string, Node[]>} */ (new Map(shown.map((item) => [shelf(item), []])));
-  const isPlace = (/** @type {string} */ cell, /** @type {Item} */ item) => (BELONGS in where || !shelves.has("")) && cell === item.belongs;
-  const isSaid = (/** @type {string} */ column) => list.some((item) => item.columns[column] && !isPlace(item.columns[column], item));
-  const columns = [...new Set(shown.flatMap((item) => Object.keys(item.columns)))].filter(isSaid), asked = Object.keys(where);
-  const heads = columns.length ? [...columns, ...asked, "UID"] : ["UID", ...asked];
-  for (const item of shown) {
-    const uid = el("code", {}, item.uid ?? "none"), cells = Object.values(where).map((cell) => cell(item));
-    const said = columns.map((column) => printable(item.columns[column] ?? ""));
-    shelves.get(shelf(item))?.push(el("tr", {}, cellsOf(heads, said.length ? [...said, ...cells, uid] : [uid, ...cells])));
-  }
-  const more = list.length > MOST_ROWS ? [el("p", {}, `and ${(list.length - MOST_ROWS).toLocaleString("en")} more`)] : [];
-  return [folded(`${title} (${list.length.toLocaleString("en")})`, open && list.length <= FEW_ROWS, ...words ? [el("p", {}, words)] : [],
-    table(title, heads, shelves), ...more)];
-}
-
-/**
- * @param {string} caption
- * @param {string[]} heads
- * @param {Map<string, Node[]>} shelves rows, by the name above them
- */
-function table(caption, heads, shelves) {
-  const name = (/** @type {string} */ shelf) => shelf ? [el("tr", {}, el("th", { scope: "rowgroup", colspan: String(heads.length) }, shelf))] : [];
-
-  return el("table", { class: "items" }, el("caption", {}, caption),
-    el("thead", {}, el("tr", {}, heads.map((head) => el("th", { scope: "col" }, printable(head))))),
-    ...[...shelves].map(([shelf, rows]) => el("tbody", {}, ...name(shelf), ...rows)));
-}
-
-/**
- * Cells that know their heads, for screens on which each row is a card.
- * @param {string[]} heads
- * @param {(Node | string)[]} cells
- */
-function cellsOf(heads, cells) {
-  return cells.map((cell, at) => el(at ? "td" : "th", at ? { "data-head": heads[at] } : { scope: "row" }, cell));
-}
-
-/**
- * @param {string[]} files
- * @param {(file: string) => string} [name]
- */
-function namesOf(files, name = nameOf) {
-  const more = files.length - MOST_NAMES;
-  return listing([...files.slice(0, more === 1 ? MOST_NAMES + 1 : MOST_NAMES).map(name), ...more > 1 ? [`${more} more`] : []]);
-}
-
-/**
- * A file without its folders.
- * @param {string} file
- */
-const nameOf = (file) => printable(file.split("/").pop() || file);
-
-/**
- * Logs, each drawn when it is opened.
+ * Logs, each drawn when it is opened; those first that say nothing.
  * @param {string} title
  * @param {string} words
  * @param {OneLog[]} list
  * @param {boolean} open
- * @param {Names} names
+ * @param {CollectionObject} object
+ * @param {Shelves} shelves
  */
-function logs(title, words, list, open, names) {
+function logs(title, words, list, open, object, shelves) {
   if (!list.length) return [];
-  const more = list.length > MOST_ROWS ? [el("p", {}, `and ${(list.length - MOST_ROWS).toLocaleString("en")} more`)] : [];
+  const more = list.length > MOST_LOGS ? [el("p", {}, `and ${(list.length - MOST_LOGS).toLocaleString("en")} more`)] : [], names = namesIn(object);
+  const sorted = [...list].sort((one, other) => Number(isAside(other)) - Number(isAside(one)) || inOrder(shelves.name(one.file), shelves.name(other.file)));
   return [folded(`${title} (${count(list.length, "log")})`, open, ...words ? [el("p", {}, words)] : [],
-    el("ul", { class: "logs" }, list.slice(0, MOST_ROWS).map((log) => el("li", {}, oneLog(log, names)))), ...more)];
+    el("ul", { class: "logs" }, sorted.slice(0, MOST_LOGS).map((log) => el("li", {}, oneLog(log, names, shelves)))), ...more)];
 }
 
 /**
  * @param {OneLog} log
  * @param {Names} names
+ * @param {Shelves} shelves
  */
-function oneLog(log, names) {
+function oneLog(log, names, shelves) {
   const { object } = log, sum = object?.sha256 ? [" ", el("code", { class: "sum" }, `SHA-256 ${object.sha256}`)] : [];
-  const words = [el("b", { title: printable(log.file) }, nameOf(log.file)), ` ${saidOf(log)}`, ...sum];
+  const name = shelves.name(log.file), file = nameOf(log.file), isSame = [file, file.replace(/\.[^.]*$/, "")].includes(name);
+  const words = [el("b", { title: printable(log.file) }, name), `${isSame ? "" : ` (${file})`}: ${saidOf(log)}`, ...sum];
   if (!object) return el("p", { class: "log" }, words);
   const it = /** @type {HTMLDetailsElement} */ (el("details", { class: "log aside" }, el("summary", {}, words)));
   it.addEventListener("toggle", () => {
@@ -317,14 +243,19 @@ function drawnLog(object, names) {
 function saidOf({ list, certain, open, more_open, object }) {
   if (list.status === CANNOT_BE_READ) return `can't be read: ${list.error ?? ""}`;
   if (list.kind === KIND.REFUSED) return `isn't a log (line ${list.line}), so nothing is known of its field`;
-  if (list.kind === KIND.IMPOSSIBLE) return `contradicts itself (line ${list.line}), so nothing is known of its field`;
+  const told = object && tell(object);
+  if (list.kind === KIND.IMPOSSIBLE) {
+    const why = told?.conflict ? `: ${contradiction(told.conflict).sentence.replace(/\.$/, "")}` : ` (line ${list.line})`;
+    return `nothing is known of its field, since its log contradicts itself${why}`;
+  }
   const proved = `${count(certain, "tag")} proved`;
   if (!open.length) return proved;
   // its own masks are wider than what no other log has proved
   const masks = object?.open.masks ?? open, all = object?.open.count ?? open.length, more = all - MOST_MASKS;
   const others = more_open && !object ? ["others"] : more > 1 ? [`${more.toLocaleString("en")} others`] : [];
   const first = masks.slice(0, others.length ? MOST_MASKS : MOST_MASKS + 1).map(maskOf);
-  return `${proved}; left to ask: ${endings(first, others)}`;
+  const plain = told && !told.quiet && !told.hidden ? `, by ${count(told.object.open.count, "request")} or more` : "";
+  return `${proved}; left to ask${plain}: ${endings(first, others)}`;
 }
 
 /** @param {CollectionObject} object */
@@ -337,5 +268,6 @@ function grantedOfAll(object) {
 function recordOfAll(object) {
   const expected = object.items.filter((item) => item.state !== "unexpected").length;
   const said = [count(expected, "item"), count(object.logs.length, "log"), `vicinity ${object.version}`];
-  return el("footer", { class: "record" }, el("p", {}, said.join(" · ")), signed());
+  const sums = (object.files ?? []).map(({ file, sha256 }) => el("p", {}, `${nameOf(file)} · SHA-256 `, el("code", {}, sha256)));
+  return el("footer", { class: "record" }, el("p", {}, said.join(" · ")), ...sums, signed());
 }

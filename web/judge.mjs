@@ -144,6 +144,6 @@ function versionOf(number) {
 }
 
 /** @param {Uint8Array} text */
-async function sumOf(text) {
+export async function sumOf(text) {
   return globalThis.crypto?.subtle ? hexOf(new Uint8Array(await crypto.subtle.digest("SHA-256", text))).toLowerCase() : "";
 }

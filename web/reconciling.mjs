@@ -1,7 +1,7 @@
 /** The object of a collection, of what the library says of its logs: the same as `python3 -m vicinity reconcile` writes. */
-import { placeColumn, placesOf, readCatalogue } from "./catalogue.mjs";
+import { placesOf, readCatalogue } from "./catalogue.mjs";
 import { withCaptures } from "./captured.mjs";
-import { fields, judge } from "./judge.mjs";
+import { fields, judge, sumOf } from "./judge.mjs";
 import { FOUND, KIND } from "./kinds.mjs";
 import { leastOf, marginFields, maskFields, overlookedIn, withoutList } from "./margins.mjs";
 import { UID_BITS, hex } from "./words.mjs";
@@ -69,8 +69,8 @@ export async function reconciled(library, given) {
   const { answer, list } = library.reconcile(uids, logs.flatMap((log) => log.certain),
     logs.flatMap((log) => log.open.map((mask) => ({ fault: 0, ...mask }))));
   const missing = overlookedIn(library, logs, list.filter((it) => it.kind === FOUND.ABSENT).map((it) => it.uid));
-  const items = itemsOf(catalogue, placesOf(given.places, files), logs, list, files, missing), aside = logs.filter((log) => log.aside);
-  const misplaced = items.filter((item) => item.state === "misplaced"), unsettled = list.find((it) => it.kind === FOUND.UNSETTLED);
+  const places = placesOf(catalogue, given.places, files), items = itemsOf(catalogue, places, logs, list, files, missing);
+  const aside = logs.filter((log) => log.aside), misplaced = items.filter((item) => item.state === "misplaced"), unsettled = list.find((it) => it.kind === FOUND.UNSETTLED);
   const said = fields(library, answer), worst = Math.max(...aside.map((log) => log.object.status));
   const first = aside.length ? asideOf(/** @type {Surveyed} */ (aside.find((log) => log.object.status === worst)))
     : !list.length && misplaced.length ? { status: 1, kind: "misplaced", uid: misplaced[0].uid } : said;
@@ -78,8 +78,15 @@ export async function reconciled(library, given) {
     counts: Object.fromEntries(ALL_STATES.map((state) => [state, items.filter((item) => item.state === state).length])),
     unsettled: unsettled ? maskFields(unsettled.maskLen, unsettled.maskValue) : null,
     set_aside: aside.map((log) => ({ ...asideOf(log), do: log.object.kind === KIND.IMPOSSIBLE ? COUNT_IT : CORRECT_IT })),
-    items, logs: leftOf(logs) };
+    files: [await sumGiven("catalogue", given.expected), ...given.places ? [await sumGiven("places", given.places)] : []],
+    items, logs: leftOf(logs).map((log, at) => ({ ...log, places: places.written.get(at) ?? [] })) };
 }
+
+/**
+ * @param {"catalogue" | "places"} what
+ * @param {Given} file
+ */
+const sumGiven = async (what, { name, text }) => ({ what, file: name, sha256: await sumOf(text) });
 
 /** @param {Mask} mask */
 const maskKey = ({ len, value }) => `${len}:${value}`;
@@ -116,7 +123,7 @@ function answerOf({ status, kind, count, line, fault, uid, mask_len, mask_value 
 /**
  * Each row of the catalogue, and then the tags that aren't in it.
  * @param {import("./catalogue.mjs").Catalogue} catalogue
- * @param {Map<string, number[]>} places
+ * @param {ReturnType<typeof placesOf>} places
  * @param {Surveyed[]} logs
  * @param {import("./library.mjs").Finding[]} list
  * @param {string[]} files
@@ -126,13 +133,13 @@ function itemsOf(catalogue, places, logs, list, files, missing) {
   const states = new Map(list.flatMap((it) => STATES[it.kind] ? [[it.uid, STATES[it.kind]]] : []));
   const unlisted = list.filter((it) => it.kind === FOUND.UNLISTED).map((it) => it.uid);
   const uids = [...catalogue.entries.flatMap(({ uid }) => uid ?? []), ...unlisted], { certain, open } = whereOf(logs, uids);
-  const placeAt = placeColumn(catalogue, places), named = (/** @type {number[]} */ at) => at.map((log) => files[log]);
+  const named = (/** @type {number[]} */ at) => at.map((log) => files[log]);
   const beside = catalogue.heads.flatMap((head, at) => head && at !== catalogue.uidAt ? [at] : []);
   const columns = (/** @type {string[]} */ cells) => Object.fromEntries(beside.map((at) => [catalogue.heads[at], cells[at]]));
   const rows = catalogue.entries.map(({ uid, cells }) => {
-    const belongs = placeAt < 0 ? "" : cells[placeAt].trim(), said = belongs ? { belongs } : {};
+    const belongs = places.at < 0 ? "" : cells[places.at].trim(), said = belongs ? { belongs } : {};
     if (uid === null) return { uid, state: /** @type {State} */ ("no tag"), columns: columns(cells), certain_in: [], may_be_in: [], ...said };
-    const where = certain.get(uid) ?? [], own = new Set(places.get(belongs.toLowerCase()) ?? []);
+    const where = certain.get(uid) ?? [], own = new Set(places.logs.get(belongs.toLowerCase()));
     const away = belongs && !where.some((log) => own.has(log));
     const state = /** @type {State} */ (states.get(uid) ?? (away ? "misplaced" : "there"));
     const may = (open.get(uid) ?? []).filter((log) => !where.length || own.has(log) || !logs[log].aside);

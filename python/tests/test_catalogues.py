@@ -200,6 +200,10 @@ class Catalogues(Command):
                             "".join(f"{a};{b}\n" for a, b in [("Place", "Log"), *rows]).encode())
         said = here("lines", catalogue, empty, both, options=[*place, "--places", places])
         self.assertEqual(said, ("complete 2\n", "", 0))
+        told = json.loads(here("json", catalogue, empty, both,
+                               options=[*place, "--places", places])[0])
+        self.assertEqual([it["places"] for it in told["logs"]], [["North"], ["North", "South"]])
+        self.assertEqual([it["what"] for it in told["files"]], ["catalogue", "places"])
 
     def test_an_item_whose_own_log_is_set_aside(self):
         catalogue = self.catalogue("uid,shelf\nE0040100000000A1,a\nE0040100000000B2,b\n")

@@ -9,6 +9,7 @@ import re
 import subprocess
 import sys
 import unittest
+from hashlib import sha256
 from unittest import mock
 
 from cases import (A, ALL, B, COLLECTION, FORMS_OF_RECONCILE, FULL, HEARD_A, HEARD_B, LIST_A,
@@ -199,11 +200,14 @@ class Reconcile(Command):
             self.assertEqual(row, [*wanted, state, *logs])
 
     def test_json(self):
-        said, errors, status = self.ask("--expected", os.path.join(COLLECTION, "catalogue.csv"),
-                                        "--json", *SHELVES)
+        catalogue = os.path.join(COLLECTION, "catalogue.csv")
+        said, errors, status = self.ask("--expected", catalogue, "--json", *SHELVES)
         self.assertEqual((errors, status, said.count(b"\n")), (b"", 1, 1))
         told = json.loads(said)
-        items, logs = told.pop("items"), told.pop("logs")
+        items, logs, files = (told.pop(key) for key in ("items", "logs", "files"))
+        with open(catalogue, "rb") as file:
+            digits = sha256(file.read()).hexdigest()
+        self.assertEqual(files, [{"what": "catalogue", "file": catalogue, "sha256": digits}])
         counts = {"there": 10, "misplaced": 0, "missing": 1, "not provable": 1,
                   "unexpected": 0, "no tag": 0}
         self.assertEqual(told, {
@@ -219,14 +223,14 @@ class Reconcile(Command):
         even, odd = ({"mask_len": 1, "mask_value": it} for it in ("00", "01"))
         self.assertEqual(logs, [
             {"file": SHELVES[0], "certain": 4, "open": [], "more_open": False,
-             "list": {"status": 0, "kind": "complete", "count": 4},
+             "list": {"status": 0, "kind": "complete", "count": 4}, "places": [],
              "margin": 2, "weakest": even, "captured": {"holds": True}},
             {"file": SHELVES[1], "certain": 3, "open": [], "more_open": False,
-             "list": {"status": 0, "kind": "complete", "count": 3},
+             "list": {"status": 0, "kind": "complete", "count": 3}, "places": [],
              "margin": 2, "weakest": odd, "captured": {"holds": True}},
             {"file": SHELVES[2], "certain": 3, "open": masks, "more_open": False,
              "list": {"status": 1, "kind": "unsettled", "mask_len": 4, "mask_value": "0E"},
-             "margin": 0, "weakest": masks[0],
+             "margin": 0, "weakest": masks[0], "places": [],
              "captured": {"holds": False, "mask_len": 5, "mask_value": "01"}}])
 
     def test_page(self):
@@ -405,7 +409,7 @@ class Reconcile(Command):
 
     def test_a_log_that_changes_meanwhile(self):
         name = self.write("a.log", log(ALL + HEARD_A))
-        found = Collection(catalogue("", b"vicinity-log 1\n"), surveys.Surveys([name]), {})
+        found = Collection(catalogue("", b"vicinity-log 1\n"), surveys.Surveys([name]))
         for text in (NOTHING, b""):
             self.write("a.log", text)
             with self.assertRaisesRegex(NoAnswer, "a.log has changed since"):

@@ -11,6 +11,7 @@ import csv
 import io
 import json
 import os
+from hashlib import sha256
 
 from cases import TOP, Command, command, frame, here, within
 from helpers.records import drawn_in
@@ -133,11 +134,15 @@ class Collection(Command):
                           **({"overlooked": 1} if known == "missing" else {}),
                           **({"belongs": shelf} if shelf else {})}
                          for barcode, title, uid, shelf, known, certain, may_be in rows]
+        with open("catalogue.csv", "rb") as file:
+            told["files"] = [{"what": "catalogue", "file": "catalogue.csv",
+                              "sha256": sha256(file.read()).hexdigest()}]
         told["logs"] = []
         for log in self.logs:
             uids = [row[2] for row in rows if row[5] == log]
             said = {"status": 1, "kind": "unlisted", "uid": min(uids, default="")}
-            told["logs"].append({"file": log, "certain": len(uids), "open": [], "more_open": False,
+            told["logs"].append({"file": log, "places": [log.removesuffix(".log")],
+                                 "certain": len(uids), "open": [], "more_open": False,
                                  "list": said, **ONCE})
         for aside in told["set_aside"]:
             said = {key: aside[key] for key in ("status", "kind", "line")}

@@ -71,7 +71,11 @@ def catalogue(name: str, text: bytes, how: How = How()) -> Catalogue:
     if text.startswith(b"vicinity-log"):
         if how._replace(encoding=None) != How():
             raise Wrong(f"{shown(name)} is a list, which has no columns")
-        return _of_list(name, text)
+        try:
+            uids = listed(text)
+        except ListFault as fault:
+            raise Wrong(refusal(name, fault.answer), is_list=True) from None
+        return Catalogue(name, Form(), [COLUMN], [Entry(0, uid, [uid_text(uid)]) for uid in uids])
     table, is_ours = _without_added(read_table(name, text, how.encoding))
     if how.tags is not None:
         found = _tagged(table, is_ours, how, read_table(*how.tags, how.encoding))
@@ -88,14 +92,6 @@ def catalogue(name: str, text: bytes, how: How = How()) -> Catalogue:
     at = table.column(how.place, "--place NAME names the one with the places", True)
     return found._replace(entries=[entry._replace(belongs=entry.cells[at].strip())
                                    for entry in found.entries])
-
-
-def _of_list(name: str, text: bytes) -> Catalogue:
-    try:
-        uids = listed(text)
-    except ListFault as fault:
-        raise Wrong(refusal(name, fault.answer), is_list=True) from None
-    return Catalogue(name, Form(), [COLUMN], [Entry(0, uid, [uid_text(uid)]) for uid in uids])
 
 
 def _without_added(table: Table) -> tuple[Table, bool]:

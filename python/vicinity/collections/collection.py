@@ -3,7 +3,7 @@ from __future__ import annotations
 
 from enum import Enum
 from functools import cached_property
-from typing import Iterable, Iterator, NamedTuple, Optional, Sequence
+from typing import Iterable, Iterator, Mapping, NamedTuple, Optional, Sequence
 
 from .._answers import FindingKind, Mask, Weakest
 from .._calls import margin_listed, overlooked, reconcile_parts
@@ -49,14 +49,16 @@ class Item(NamedTuple):
 
 class Collection:
     """What many logs say together. Logs go by their positions.
-    If it is complete with a margin below `wanted`, it counts as not complete."""
+    If it is complete with a margin below `wanted`, it counts as not complete.
+    `files` has what was given beside the logs, by what it is: names and contents."""
 
-    def __init__(self, expected: Catalogue, read: Surveys, places: Places, wanted: int = 0):
+    def __init__(self, expected: Catalogue, read: Surveys, places: Places = Places(),
+                 wanted: int = 0, files: Mapping[str, tuple[str, bytes]] = {}):
         self.expected, self.logs, self.places = expected, read.all, places
         self.answer, self.findings = reconcile_parts(
             expected.uids, (uid for log in self.logs for uid in log.certain),
             (mask for log in self.logs for mask in log.open_masks))
-        self.read, self.wanted = read, wanted
+        self.read, self.wanted, self.files = read, wanted, files
         self.aside = [log for log in self.logs if log.status]
         self.items = list(self._items())
 
@@ -162,7 +164,7 @@ class Collection:
                 yield Item(*entry, State.NO_TAG)
                 continue
             state, where = states.get(entry.uid, State.THERE), certain[entry.uid]
-            its_own = set(self.places.get(entry.belongs.casefold(), ()))
+            its_own = set(self.places.logs.get(entry.belongs.casefold(), ()))
             if state is State.THERE and entry.belongs and its_own.isdisjoint(where):
                 state = State.MISPLACED
             may_be_in = [log for log in possible[entry.uid]

@@ -2,31 +2,37 @@
 from __future__ import annotations
 
 import os
-from typing import Optional, Sequence
+from typing import NamedTuple, Optional, Sequence
 
 from .._process import shown
 from .catalogue import Catalogue
 from .tables import Wrong, read_table
 
-NAMES_PLACES = "it has the columns place and log"
 SAYS_PLACES = "--places FILE says which logs are of which place"
 
-#: The logs of each place, by their positions. A place goes by its name in lower case.
-Places = dict[str, list[int]]
+
+class Places(NamedTuple):
+    """The logs of each place, by their positions, and the places of each log, as they are written.
+    A place goes by its name in lower case."""
+
+    logs: dict[str, list[int]] = {}
+    written: dict[int, list[str]] = {}
 
 
 def places_of(expected: Catalogue, names: Sequence[str], file: Optional[tuple[str, bytes]],
               encoding: Optional[str]) -> Places:
     """The logs of each place of a catalogue.
     Raises Wrong if no item belongs to one that has a log."""
-    places = _by_names(names)
+    places, spelled = _by_names(names), dict[str, str]()
     if file is not None:
         table = read_table(*file, encoding)
-        place_at, log_at = (table.column(it, NAMES_PLACES) for it in ("place", "log"))
+        place_at, log_at = (table.column(it, "it has the columns place and log")
+                            for it in ("place", "log"))
         by_name, places = places, {}
         for _, cells in table.rows:
-            its_own = by_name.get(cells[log_at].strip().casefold(), [])
-            places.setdefault(cells[place_at].strip().casefold(), []).extend(its_own)
+            place, log = (cells[at].strip() for at in (place_at, log_at))
+            places.setdefault(place.casefold(), []).extend(by_name.get(log.casefold(), []))
+            spelled.setdefault(place.casefold(), place)
     belongs = {it.belongs.casefold(): it.belongs for it in expected.entries if it.belongs}
     for key, place in belongs.items():
         if file is None and len(places.get(key, [])) > 1:
@@ -36,14 +42,18 @@ def places_of(expected: Catalogue, names: Sequence[str], file: Optional[tuple[st
     if belongs and not any(places.get(key) for key in belongs):
         one = shown(next(iter(belongs.values())))
         raise Wrong(f"no log is of any place of the catalogue, such as {one}; {SAYS_PLACES}")
-    return places
+    written: dict[int, list[str]] = {}
+    for key, place in {**spelled, **belongs}.items():
+        for index in set(places.get(key, ())) if place else ():
+            written.setdefault(index, []).append(place)
+    return Places(places, written)
 
 
-def _by_names(names: Sequence[str]) -> Places:
+def _by_names(names: Sequence[str]) -> dict[str, list[int]]:
     """Logs by their names: as given, and if no log has exactly that, without folders,
     and without the ending."""
     given = {name.casefold(): [index] for index, name in enumerate(names)}
-    found: Places = {}
+    found: dict[str, list[int]] = {}
     for index, name in enumerate(names):
         base = os.path.basename(name)
         for key in {base.casefold(), os.path.splitext(base)[0].casefold()} - given.keys():

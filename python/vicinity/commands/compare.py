@@ -107,10 +107,8 @@ def _change(old: Said, new: Said, name: Callable[[str], str]) -> str:
 def _line(change: Change) -> str:
     was_in, is_in = (" and ".join(map(shown, item["certain_in"]))
                      for item in (change.old, change.new))
-    where = ""
-    if was_in != is_in:
-        where = f" from {was_in}" * bool(was_in)
-        where += f" {'to' if was_in else 'in'} {is_in}" * bool(is_in)
+    to = f" {'to' if was_in else 'in'} {is_in}" * bool(is_in)
+    where = "" if was_in == is_in else f" from {was_in}" * bool(was_in) + to
     columns = (change.old if change.new is NONE else change.new)["columns"]
     cells = ", ".join(filter(None, map(str, columns.values())))
     return f"{change.what} {change.uid}{where}{': ' * bool(cells)}{shown(cells)}\n"

@@ -5,6 +5,7 @@ from __future__ import annotations
 import json
 import os
 from collections import Counter
+from hashlib import sha256
 from typing import Any, Callable, Iterable, Iterator, Mapping, Union
 
 from .._answers import Answer, Finding, FindingKind
@@ -60,10 +61,8 @@ def _findings(found: Collection) -> Iterator[str]:
     names, shown_by = [shown(log.name) for log in found.logs], found.shown_by()
     may_be_in = {item.uid: item.may_be_in for item in found.of(State.NOT_PROVABLE)}
     for finding in found.findings:
-        if finding.kind is FindingKind.DOUBTFUL:
-            yield f"{finding} in {names[may_be_in[finding.uid][0]]}\n"
-        else:
-            yield f"{finding}\n"
+        where = may_be_in.get(finding.uid)
+        yield f"{finding} in {names[where[0]]}\n" if where else f"{finding}\n"
         if finding.kind is FindingKind.UNLISTED:
             log, line = shown_by[finding.uid]
             yield f"by line {line} of {names[log]}\n"
@@ -94,15 +93,11 @@ def as_csv(found: Collection) -> Iterator[bytes]:
     """The catalogue in its own form, with the state of each item and where it is;
     then the unexpected tags."""
     names = [shown(log.name).replace(BETWEEN, WITHIN) for log in found.logs]
-
-    def where(logs: Iterable[int]) -> str:
-        return f"{BETWEEN} ".join(names[log] for log in logs)
-
-    rows = ([*item.cells, item.state.value, where(item.certain_in), where(item.may_be_in)]
+    rows = ([*item.cells, item.state.value, *(f"{BETWEEN} ".join(names[log] for log in logs)
+                                              for logs in (item.certain_in, item.may_be_in))]
             for item in found.items)
-    heads = found.expected.heads
-    taken = {head.casefold() for head in heads}
-    head = [*heads, *(name + TWIN * (name in taken) for name in ADDED)]
+    taken = {head.casefold() for head in found.expected.heads}
+    head = [*found.expected.heads, *(name + TWIN * (name in taken) for name in ADDED)]
     return found.expected.form.written(row for part in ([head], rows) for row in part)
 
 
@@ -137,7 +132,6 @@ def _objects(found: Collection) -> Iterator[tuple[int, dict[str, Any]]]:
 def _object(found: Collection) -> dict[str, Any]:
     """The answer, how many items there are of each state,
     the widest mask of which any UID may be there, each item, and each log."""
-    unsettled = [mask_fields(it.mask) for it in found.findings if it.kind is FindingKind.UNSETTLED]
     counts, overlooked = Counter(item.state for item in found.items), found.overlooked()
     margin: dict[str, Any] = {}
     if found.least is not None:
@@ -146,15 +140,19 @@ def _object(found: Collection) -> dict[str, Any]:
     return {
         "schema": SCHEMA, **_answer(found), **margin,
         "counts": {state.value: counts[state] for state in State},
-        "unsettled": unsettled[0] if unsettled else None,
+        "unsettled": next((mask_fields(it.mask) for it in found.findings
+                           if it.kind is FindingKind.UNSETTLED), None),
         "set_aside": [{"file": log.name, **fields(log.answer), "do": ADVICE[log.status]}
                       for log in found.aside],
+        "files": [{"what": what, "file": name, "sha256": sha256(text).hexdigest()}
+                  for what, (name, text) in found.files.items()],
         "items": [_of_item(found, item, overlooked) for item in found.items],
-        "logs": [{"file": log.name, "certain": len(log.certain),
+        "logs": [{"file": log.name, "places": found.places.written.get(at, []),
+                  "certain": len(log.certain),
                   "open": list(map(mask_fields, masks)), "more_open": has_more,
                   "list": fields(log.answer), **margin_fields(log.weakest),
                   **({"captured": log.captured} if log.captured else {})}
-                 for log, (masks, has_more) in zip(found.logs, found.left())]}
+                 for at, (log, (masks, has_more)) in enumerate(zip(found.logs, found.left()))]}
 
 
 def _answer(found: Collection) -> dict[str, object]:
@@ -170,16 +168,15 @@ def _answer(found: Collection) -> dict[str, object]:
 
 
 def _of_item(found: Collection, item: Item, overlooked: Mapping[int, int]) -> dict[str, object]:
-    cells = enumerate(zip(found.expected.heads, item.cells))
-    said: dict[str, object] = {
+    cells, slots = enumerate(zip(found.expected.heads, item.cells)), overlooked.get(item.uid or 0)
+    return {
         "uid": None if item.uid is None else uid_text(item.uid), "state": item.state.value,
         "columns": {head: cell for at, (head, cell) in cells
                     if head and at != found.expected.uid_at},
         "certain_in": [found.logs[log].name for log in item.certain_in],
-        "may_be_in": [found.logs[log].name for log in item.may_be_in]}
-    if item.uid is not None and item.uid in overlooked:
-        said["overlooked"] = overlooked[item.uid]
-    return {**said, "belongs": item.belongs} if item.belongs else said
+        "may_be_in": [found.logs[log].name for log in item.may_be_in],
+        **({"overlooked": slots} if slots else {}),
+        **({"belongs": item.belongs} if item.belongs else {})}
 
 
 FORMS: dict[str, Callable[[Collection], Iterable[Union[str, bytes]]]] = {

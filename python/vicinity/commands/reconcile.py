@@ -3,7 +3,7 @@ from __future__ import annotations
 
 import argparse
 import json
-from typing import Iterator, Optional
+from typing import Iterator
 
 from .._fields import object_of, refusal
 from .._native import library
@@ -11,7 +11,7 @@ from .._process import (REFUSED, NoAnswer, complain, counted, names_of, read, te
                         write)
 from ..collections.catalogue import How, catalogue
 from ..collections.collection import Collection
-from ..collections.places import places_of
+from ..collections.places import Places, places_of
 from ..collections.surveys import Log, Surveys, record, records, survey_file
 from ..collections.tables import Wrong
 from .forms import FORMS, notes, set_aside, small_margin
@@ -23,10 +23,12 @@ def reconcile(asked: argparse.Namespace) -> int:
     names = names_of(asked, not asked.surveys)
     try:
         said = [(name, read(name)) for name in asked.surveys]
-        how = How(asked.column, asked.place, asked.encoding, _file(asked.tags))
-        expected, recorded = catalogue(asked.expected, read(asked.expected), how), records(said)
-        places = {} if asked.place is None else places_of(
-            expected, [*(log.name for log in recorded), *names], _file(asked.places),
+        given = {"catalogue": asked.expected, "tags": asked.tags, "places": asked.places}
+        files = {what: (name, read(name)) for what, name in given.items() if name is not None}
+        how = How(asked.column, asked.place, asked.encoding, files.get("tags"))
+        expected, recorded = catalogue(*files["catalogue"], how), records(said)
+        places = Places() if asked.place is None else places_of(
+            expected, [*(log.name for log in recorded), *names], files.get("places"),
             asked.encoding)
     except Wrong as wrong:
         if wrong.is_list and asked.form == "lines":
@@ -42,7 +44,7 @@ def reconcile(asked: argparse.Namespace) -> int:
         if asked.form != "page":
             write(_ended(asked.form, broken))
             return broken.status
-    found = Collection(expected, logs, places, asked.margin)
+    found = Collection(expected, logs, places, asked.margin, files)
     if asked.form == "csv":
         for log in found.aside:
             complain(set_aside(log))
@@ -52,11 +54,6 @@ def reconcile(asked: argparse.Namespace) -> int:
     if asked.form == "lines":
         tell_terminal(f"{note}\n" for note in notes(found))
     return found.status
-
-
-def _file(name: Optional[str]) -> Optional[tuple[str, bytes]]:
-    """A file that may not be named, with its name."""
-    return None if name is None else (name, read(name))
 
 
 def _ended(form: str, log: Log) -> Iterator[str]:
