@@ -121,18 +121,20 @@ function uidOfCell(name, row, cell) {
 export function placesOf(catalogue, file, names) {
   /** @type {Map<string, number[]>} */
   const byName = new Map(), logs = file ? new Map() : byName, spelled = /** @type {Map<string, string>} */ (new Map());
-  const add = (/** @type {Map<any, any[]>} */ to, /** @type {string | number} */ key, /** @type {any[]} */ more) => to.set(key, [...to.get(key) ?? [], ...more]);
+  const add = (/** @type {Map<any, any[]>} */ to, /** @type {string | number} */ key, /** @type {any[]} */ more) =>
+    to.set(key, [...to.get(key) ?? [], ...more]);
   names.forEach((name, at) => {
     for (const key of new Set([name.toLowerCase(), name.toLowerCase().replace(/\.[^.]*$/, "")])) add(byName, key, [at]);
   });
-  const table = file && readTable(file.name, file.text), placeAt = table ? columnOf(table, PLACE) : -1, logAt = table ? columnOf(table, LOG) : -1;
-  for (const { cells } of table?.rows ?? []) {
+  const table = file ? readTable(file.name, file.text) : { name: "", heads: [], rows: [] };
+  const placeAt = columnOf(table, PLACE), logAt = columnOf(table, LOG);
+  for (const { cells } of table.rows) {
     const place = cells[placeAt].trim(), key = place.toLowerCase();
     if (place && !spelled.has(key)) spelled.set(key, place);
     add(logs, key, byName.get(cells[logAt].trim().toLowerCase()) ?? []);
   }
   const at = placeColumn(catalogue, logs), written = /** @type {Map<number, string[]>} */ (new Map());
-  for (const { cells } of at < 0 ? [] : catalogue.entries) if (cells[at].trim()) spelled.set(cells[at].trim().toLowerCase(), cells[at].trim());
+  for (const { cells: { [at]: cell = "" } } of catalogue.entries) if (cell.trim()) spelled.set(cell.trim().toLowerCase(), cell.trim());
   for (const [key, place] of spelled) for (const log of new Set(logs.get(key))) add(written, log, [place]);
   return { logs, at, written };
 }

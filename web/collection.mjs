@@ -65,14 +65,16 @@ const isOpen = (log) => log.open.length > 0;
  */
 export function collectionView(object) {
   const of = (/** @type {State} */ state) => object.items.filter((item) => item.state === state), shelves = new Shelves(object.logs);
-  const unknown = of("not provable"), away = unknown.filter((item) => shelves.isAway(item)), others = unknown.filter((item) => !shelves.isAway(item));
-  const home = (/** @type {Item} */ { belongs = "" }) => printable(belongs), mayBe = { "may be in": (/** @type {Item} */ item) => shelves.names(item.may_be_in) };
-  const known = new Set(["", ...of("there").map(home)]), some = others.filter((item) => known.has(home(item))), none = others.filter((item) => !known.has(home(item)));
+  const home = (/** @type {Item} */ { belongs = "" }) => printable(belongs), known = new Set(["", ...of("there").map(home)]);
+  const mayBe = { "may be in": (/** @type {Item} */ item) => shelves.names(item.may_be_in) }, unknown = of("not provable");
+  const away = unknown.filter((item) => shelves.isAway(item)), others = unknown.filter((item) => !shelves.isAway(item));
+  const some = others.filter((item) => known.has(home(item))), none = others.filter((item) => !known.has(home(item)));
   // of a shelf of which nothing is known to be in place no items are named
-  const all = `all items of ${listing([...new Set(none.map(home))].sort(inOrder))} that aren't named above (${none.length.toLocaleString("en")})`;
-  const which = none.length ? ` They are ${all}${some.length ? ", and these:" : "."}` : "";
-  const todo = [...of("missing"), ...of("misplaced"), ...of("unexpected")], rests = conditionsOfAll(object, shelves), isKnown = !todo.length && !unknown.length;
-  return [banner({ ...isWhole(object) ? { look: "yes", sign: "✓" } : { look: "no", sign: "!" }, headline: headlineOf(object), lights: lights(object) },
+  const all = listing([...new Set(none.map(home))].sort(inOrder)), these = some.length ? ", and these:" : ".";
+  const which = none.length ? ` They are all items of ${all} that aren't named above (${none.length.toLocaleString("en")})${these}` : "";
+  const todo = [...of("missing"), ...of("misplaced"), ...of("unexpected")], isKnown = !todo.length && !unknown.length;
+  const said = { headline: headlineOf(object), lights: lights(object) }, rests = conditionsOfAll(object, shelves);
+  return [banner(isWhole(object) ? { look: "yes", sign: "✓", ...said } : { look: "no", sign: "!", ...said },
     `${printable(object.name)} · ${count(object.logs.length, "log")}`), ...isKnown ? rests : [],
     ...logs("Count again", COUNT_EACH, object.logs.filter(isOpen), true, object, shelves),
     ...part("At the shelves", todo, true, howTo(object), shelved(todo, (item) => shelves.at(item), {}, (item) => shelves.toDo(item))),
@@ -80,7 +82,8 @@ export function collectionView(object) {
     ...part("Without a tag", of("no tag"), false, NO_TAG, shelved(of("no tag"), home)),
     ...part("Not known yet", others, false, UNKNOWN_YET + which, shelved(some, home, some.every(home) ? {} : mayBe)),
     ...inPlace(object), ...isKnown ? [] : rests,
-    ...logs("Read to the end", "", object.logs.filter((log) => !isOpen(log)), false, object, shelves), ...grantedOfAll(object), recordOfAll(object)];
+    ...logs("Read to the end", "", object.logs.filter((log) => !isOpen(log)), false, object, shelves),
+    ...grantedOfAll(object), recordOfAll(object)];
 }
 
 /**
@@ -93,14 +96,17 @@ export function collectionView(object) {
  */
 function part(title, list, open, words, drawn) {
   drawn[0]?.prepend(el("caption", {}, title));
-  return list.length ? [folded(`${title} (${list.length.toLocaleString("en")})`, open && list.length <= FEW_ITEMS, el("p", {}, words), ...drawn)] : [];
+  if (!list.length) return [];
+  const how = words ? [el("p", {}, words)] : [];
+  return [folded(`${title} (${list.length.toLocaleString("en")})`, open && list.length <= FEW_ITEMS, ...how, ...drawn)];
 }
 
 /** @param {CollectionObject} object */
 function howTo({ counts, items }) {
   const slots = items.reduce((least, { state, overlooked = 0 }) => state === "missing" ? Math.min(least, overlooked) : least, Infinity);
   const asked = slots ? `: it was asked in ${count(slots, "slot")} or more of each, and silent` : "";
-  return [...counts.missing ? [`What to look for is in none of the fields${asked}. ${LOOK_FOR}`] : [], ...counts.unexpected ? [NOT_EXPECTED] : []].join(" ");
+  const look = counts.missing ? `What to look for is in none of the fields${asked}. ${LOOK_FOR} ` : "";
+  return look + (counts.unexpected ? NOT_EXPECTED : "");
 }
 
 /** @param {CollectionObject} object */
@@ -151,7 +157,8 @@ export function headlineOf(object) {
   const said = parts.filter(([number]) => number).map(([number, words], at) => at ? `${number.toLocaleString("en")} ${words}`
     : `${count(number, "item")} ${words}`);
   const isNamed = again.length <= MOST_NAMES && again.every(({ file }) => shelves.placeOf(file));
-  const number = isNamed ? shelves.names(again.map((log) => log.file)) : again.length < object.logs.length || again.length === 1 ? count(again.length, "log") : "all logs";
+  const number = isNamed ? shelves.names(again.map((log) => log.file))
+    : again.length < object.logs.length || again.length === 1 ? count(again.length, "log") : "all logs";
   const todo = again.length ? `count ${number} again` : "";
   const text = [listing(said), todo].filter((it) => it).join("; ") || "the logs and the catalogue differ";
   return `${text[0].toUpperCase()}${text.slice(1)}.`;
@@ -184,7 +191,8 @@ function conditionsOfAll(object, shelves) {
   const isAgain = hidden.length > 0 && hidden.every(isOpen);
   if (!isAll && !counts.missing && (isAgain || !counts.unexpected)) return [];
   const known = all.every((log) => log.captured);
-  const also = hidden.length ? `${mayBeWrong(` in the field of ${shelves.names(hidden.map((log) => log.file))},`)}.` : stillHolds(isAll ? object.margin : undefined);
+  const fields = shelves.names(hidden.map((log) => log.file));
+  const also = hidden.length ? `${mayBeWrong(` in the field of ${fields},`)}.` : stillHolds(isAll ? object.margin : undefined);
   const sure = isAll ? [HOLDS, ...missed(object, ` in the field of ${shelves.name(object.weakest?.file ?? "")}`)] : [];
   return [el("section", { class: "holds" }, ...sure.map((it) => el("p", {}, it)),
     ...known || hidden.length ? [el("p", {}, also)] : [])];
@@ -201,8 +209,9 @@ function conditionsOfAll(object, shelves) {
  */
 function logs(title, words, list, open, object, shelves) {
   if (!list.length) return [];
-  const more = list.length > MOST_LOGS ? [el("p", {}, `and ${(list.length - MOST_LOGS).toLocaleString("en")} more`)] : [], names = namesIn(object);
-  const sorted = [...list].sort((one, other) => Number(isAside(other)) - Number(isAside(one)) || inOrder(shelves.name(one.file), shelves.name(other.file)));
+  const more = list.length > MOST_LOGS ? [el("p", {}, `and ${(list.length - MOST_LOGS).toLocaleString("en")} more`)] : [];
+  const names = namesIn(object), byName = [...list].sort((one, other) => inOrder(shelves.name(one.file), shelves.name(other.file)));
+  const sorted = [...byName.filter(isAside), ...byName.filter((log) => !isAside(log))];
   return [folded(`${title} (${count(list.length, "log")})`, open, ...words ? [el("p", {}, words)] : [],
     el("ul", { class: "logs" }, sorted.slice(0, MOST_LOGS).map((log) => el("li", {}, oneLog(log, names, shelves)))), ...more)];
 }

@@ -70,7 +70,8 @@ export async function reconciled(library, given) {
     logs.flatMap((log) => log.open.map((mask) => ({ fault: 0, ...mask }))));
   const missing = overlookedIn(library, logs, list.filter((it) => it.kind === FOUND.ABSENT).map((it) => it.uid));
   const places = placesOf(catalogue, given.places, files), items = itemsOf(catalogue, places, logs, list, files, missing);
-  const aside = logs.filter((log) => log.aside), misplaced = items.filter((item) => item.state === "misplaced"), unsettled = list.find((it) => it.kind === FOUND.UNSETTLED);
+  const aside = logs.filter((log) => log.aside), unsettled = list.find((it) => it.kind === FOUND.UNSETTLED);
+  const misplaced = items.filter((item) => item.state === "misplaced");
   const said = fields(library, answer), worst = Math.max(...aside.map((log) => log.object.status));
   const first = aside.length ? asideOf(/** @type {Surveyed} */ (aside.find((log) => log.object.status === worst)))
     : !list.length && misplaced.length ? { status: 1, kind: "misplaced", uid: misplaced[0].uid } : said;

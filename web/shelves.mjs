@@ -44,8 +44,8 @@ export class Shelves {
    * @param {Item} item
    */
   isAway({ belongs = "", may_be_in: files }) {
-    const own = belongs.toLowerCase(), isOwn = (/** @type {string} */ file) => this.places.get(file)?.some((place) => place.toLowerCase() === own);
-    return this.counted.has(own) && !files.some(isOwn);
+    const own = belongs.toLowerCase(), places = files.flatMap((file) => this.places.get(file) ?? []);
+    return this.counted.has(own) && !places.some((place) => place.toLowerCase() === own);
   }
 
   /**
@@ -70,14 +70,16 @@ export class Shelves {
  * @param {Cell} [toDo]
  */
 export function shelved(list, shelf, where = {}, toDo) {
-  const groups = /** @type {Map<string, Item[]>} */ (new Map(list.map((item) => [shelf(item), []]))), isOne = groups.size === 1 && groups.has("");
+  const groups = /** @type {Map<string, Item[]>} */ (new Map(list.map((item) => [shelf(item), []])));
+  const isOne = groups.size === 1 && groups.has("");
   for (const item of list) groups.get(shelf(item))?.push(item);
   const isSaid = (/** @type {string} */ head) => list.some(({ columns: { [head]: cell }, belongs }) => cell && (isOne || cell !== belongs));
   const columns = [...new Set(list.flatMap((item) => Object.keys(item.columns)))].filter(isSaid), asked = Object.keys(where);
   const isTagged = list.some((item) => item.uid), last = columns.length && isTagged ? ["UID"] : [];
   const heads = [...toDo ? ["to do"] : [], ...columns.length ? columns : ["UID"], ...asked, ...last];
   const rowOf = (/** @type {Item} */ item) => {
-    const said = columns.map((column) => printable(item.columns[column] ?? "")), first = said.findIndex((cell) => cell), uid = el("code", {}, item.uid ?? "no UID");
+    const said = columns.map((column) => printable(item.columns[column] ?? "")), first = said.findIndex((cell) => cell);
+    const uid = el("code", {}, item.uid ?? "no UID");
     const named = first < 0 ? [el("th", { scope: "row", colspan: String(columns.length || 1) }, uid)]
       : said.map((cell, at) => at === first ? el("th", { scope: "row" }, cell) : cellOf(columns[at], cell));
     return el("tr", {}, ...toDo ? [el("td", {}, toDo(item))] : [], ...named, ...asked.map((head) => cellOf(head, where[head](item))),
@@ -85,13 +87,14 @@ export function shelved(list, shelf, where = {}, toDo) {
   };
   let room = MOST_ROWS;
   const bodies = [...groups].sort(([one], [other]) => inOrder(one, other)).map(([name, group]) => {
-    const rows = group.slice(0, Math.max(0, room)).map(rowOf), head = el("th", { scope: "rowgroup", colspan: String(heads.length) }, name || "Place not known");
+    const rows = group.slice(0, Math.max(0, room)).map(rowOf);
+    const head = el("th", { scope: "rowgroup", colspan: String(heads.length) }, name || "Place not known");
     room -= rows.length;
     return el("tbody", {}, ...rows.length && !isOne ? [el("tr", {}, head)] : [], ...rows);
   });
   const more = list.length > MOST_ROWS ? [el("p", {}, `and ${(list.length - MOST_ROWS).toLocaleString("en")} more`)] : [];
-  return !list.length ? [] : [el("table", { class: "items" }, el("thead", {}, el("tr", {}, heads.map((head) => el("th", { scope: "col" }, printable(head))))),
-    ...bodies), ...more];
+  const head = el("thead", {}, el("tr", {}, heads.map((it) => el("th", { scope: "col" }, printable(it)))));
+  return list.length ? [el("table", { class: "items" }, head, ...bodies), ...more] : [];
 }
 
 /**
