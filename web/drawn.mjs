@@ -21,7 +21,7 @@ export function drawn(log, named, causing, whole) {
   const all = whole && log.rowCount <= MOST_DRAWN ? [...Array(log.rowCount).keys()] : [];
   const wanted = [...all, ...named.map((line) => log.rowAt(line)), ...edges, ...causing]
     .filter((row) => row >= 0 && row < log.rowCount);
-  const rows = [...new Set(wanted)].slice(0, MOST_DRAWN).sort((one, other) => one - other);
+  const marked = new Set(named), rows = [...new Set(wanted)].slice(0, MOST_DRAWN).sort((one, other) => one - other);
   /** @type {(Row | Gap)[]} */
   const result = [];
   let next = 0;
@@ -31,7 +31,7 @@ export function drawn(log, named, causing, whole) {
     const row = log.row(at);
     next = at + 1;
     result.push(row);
-    if (row.kind === "round") next = withQuiets(log, row, next, named);
+    if (row.kind === "round") next = withQuiets(log, row, next, marked);
   }
   if (next < log.rowCount) result.push(gap(log, next, log.rowCount));
   return result;
@@ -65,12 +65,12 @@ function asking(log, row) {
  * @param {Log} log
  * @param {Round} round
  * @param {number} next
- * @param {number[]} named
+ * @param {Set<number>} marked lines
  */
-function withQuiets(log, round, next, named) {
+function withQuiets(log, round, next, marked) {
   for (; next < log.rowCount; next++) {
     const quiet = log.row(next);
-    if (quiet.kind !== "quiet" || named.includes(quiet.line)) break;
+    if (quiet.kind !== "quiet" || marked.has(quiet.line)) break;
     const slot = round.slots.find((it) => it.uid === quiet.uid);
     if (!slot) break;
     slot.silenced = quiet.line;

@@ -3,7 +3,7 @@ import { withCaptures } from "./captured.mjs";
 import { linkIn } from "./frames.mjs";
 import { FOUND, KIND } from "./kinds.mjs";
 import { LF } from "./log.mjs";
-import { marginFields, maskFields } from "./margins.mjs";
+import { marginFields, maskFields, withoutList } from "./margins.mjs";
 import { hex, UID_BITS } from "./words.mjs";
 
 /** @typedef {import("./library.mjs").Library} Library */
@@ -69,7 +69,7 @@ function shareOf(masks) {
 
 /**
  * Whether an answer also holds if strong replies hid weaker ones, with the margin that it has then, and if not, the answer that
- * does; and what is known then of a field in which nothing is left to ask. Nothing of what is refused.
+ * does; and of a field in which nothing is left to ask, whether that is so then. Nothing of what is refused.
  * @param {Library} library
  * @param {Uint8Array} text
  * @param {Answer} answer
@@ -81,9 +81,9 @@ function capturedOf(library, text, answer, weakest, left) {
   if (answer.fault) return {};
   const read = withCaptures(text), { answer: other, weakest: then } = !read ? { answer, weakest }
     : answer.status ? { answer: library.check(read), weakest } : library.margin(read);
-  const { certain, open } = answer.status === 1 && !left.open.length && read ? library.survey(read) : left;
-  const known = answer.status === 1 && !left.open.length ? { certain: certain.length, open: open.length } : {};
-  return { captured: { ...known,
+  const isSettled = () => !read || library.marginListed(withoutList(read), left.certain).answer.status === 0;
+  const settled = answer.status === 1 && !left.open.length ? { settled: isSettled() } : {};
+  return { captured: { ...settled,
     ...other.text === answer.text ? { holds: true, ...marginFields(then) } : { holds: false, ...fields(library, other) } } };
 }
 

@@ -103,7 +103,7 @@ function possible(told, isAlone) {
   const whole = kind === KIND.COMPLETE && hasList, only = ended && !hasList;
   const differs = found.absent || found.unlisted, why = whyOpen(told);
   const list = !hasList ? "none given" : whole ? "matches" : differs ? "differs" : "not known yet";
-  const look = !ended ? "no" : told.object.captured?.open ? "plain" : "yes";
+  const look = !ended ? "no" : told.object.captured?.settled === false ? "plain" : "yes";
   const finished = /** @type {Light} */ ({ name: "Search finished", value: look === "plain" ? "not known yet" : look, look });
   const listLight = /** @type {Light} */ ({ name: "List", value: list, look: whole ? "yes" : list === "differs" ? "no" : "plain" });
   const causes = [...why, ...hasList && found.absent ? [NOT_HEARD] : [], ...hasList && found.unlisted ? [NOT_CLAIMED] : []];
@@ -119,7 +119,7 @@ function possible(told, isAlone) {
  */
 function steps({ object: { kind, found, open, captured }, counts, quiet, notes }, isAlone) {
   if (kind === KIND.COMPLETE) return [!counts.listed ? EMPTY : captured?.holds === false ? ONE_MORE : NOTHING];
-  if (!open.count && !counts.listed) return [...captured?.open ? [ONE_ROUND] : [], ...isAlone ? [COMPARE] : []];
+  if (!open.count && !counts.listed) return [...captured?.settled === false ? [ONE_ROUND] : [], ...isAlone ? [COMPARE] : []];
   const steps = [];
   if (kind === KIND.DOUBTFUL) steps.push(CYCLE, LOOK);
   else if (open.count) steps.push(quiet === open.count ? CYCLE : AGAIN);
@@ -136,7 +136,7 @@ function steps({ object: { kind, found, open, captured }, counts, quiet, notes }
 function headline({ object: { kind, count: number = 0, found, certain, open, captured }, counts, silenced, quiet }, isAlone) {
   const parts = [], only = open.count > 0 && quiet === open.count, without = counts.listed || !isAlone ? "" : NO_LIST_GIVEN;
   if (kind === KIND.COMPLETE) return number || isAlone ? whole(number) : "The field is empty.";
-  if (!open.count && !counts.listed) return `${tagsHere(certain.count, captured?.open !== 0)}${without}`;
+  if (!open.count && !counts.listed) return `${tagsHere(certain.count, captured?.settled === false)}${without}`;
   if (counts.listed && !found.absent && !found.unlisted && !found.doubtful) {
     return `${allListed(counts.listed)}; ${only ? unproved(silenced.length, 0) : "others may be too"}.`;
   }
@@ -146,7 +146,7 @@ function headline({ object: { kind, count: number = 0, found, certain, open, cap
   if (only) parts.push(unproved(silenced.length, found.doubtful));
   else if (found.doubtful) parts.push(`${count(found.doubtful, "listed tag")} not proved`);
   const left = open.count ? `Not finished: ${settled(open.share)} of all UIDs settled. ` : "Search finished. ";
-  const said = only || captured?.open ? "" : left;
+  const said = only || captured?.settled === false ? "" : left;
   return `${said}${sentence(parts)}${without}`.trim();
 }
 
@@ -262,18 +262,18 @@ export function alsoHolds({ object: { kind, captured, margin, answer }, counts, 
   if (!captured || !counts.heard) return null;
   if (!certain.includes(kind)) return null;
   if (!captured.holds) return { words: `${IF_HIDDEN}may be wrong.`, ask: requests.all };
-  if (kind === KIND.COMPLETE || captured.open === 0) return { words: stillHolds(margin, captured.margin), ask: [] };
+  if (kind === KIND.COMPLETE || captured.settled) return { words: stillHolds(margin, captured.margin), ask: [] };
   // without a list the headline says it
-  if (!counts.listed && captured.open) return { words: "", ask: requests.all };
-  return { words: `${IF_HIDDEN}would still be ${answer}; more may be open.`, ask: captured.open ? requests.all : [] };
+  if (!counts.listed && captured.settled === false) return { words: "", ask: requests.all };
+  return { words: `${IF_HIDDEN}would still be ${answer}; more may be open.`, ask: requests.all };
 }
 
 /**
  * Whether nothing that is said rests on it that no strong reply hid a weaker one.
  * @param {Told} told
  */
-export const isApart = ({ object: { kind, captured, certain }, counts }) => captured !== undefined && captured.holds &&
-  (kind === KIND.COMPLETE || captured.open === 0 || !counts.listed && captured.certain === certain.count);
+export const isApart = ({ object: { kind, captured }, counts, requests }) => captured !== undefined && captured.holds &&
+  (kind === KIND.COMPLETE || captured.settled || !counts.listed && requests.hasHeardAll);
 
 /**
  * An answer that also holds then: beside the margin that it has, the one that it has then, if that is known.

@@ -57,8 +57,7 @@ import { strip } from "./strip.mjs";
  * @property {boolean} holds whether the answer also holds if strong replies hid weaker ones
  * @property {string} [kind] of the answer that does, if it doesn't
  * @property {number} [margin] of a complete list, if they did
- * @property {number} [certain] how many UIDs must be there, if they did, where nothing is left to ask otherwise
- * @property {number} [open] how many open masks there are then
+ * @property {boolean} [settled] where nothing is left to ask, whether the same is known and nothing left if they did
  */
 /**
  * @typedef {Object} Told
@@ -70,8 +69,9 @@ import { strip } from "./strip.mjs";
  * @property {Silenced[]} silenced the tags that are open since they were silenced before they were heard
  * @property {number} quiet how many open masks have no other tags
  * @property {number} hidden how many open masks only a reply may have hidden
- * @property {{open: string[], silenced: string[], hidden: string[], all: string[]}} requests what is left to ask, as lines: at once;
- *   after a field cycle; and where a reply may have hidden others; and what asks all in one slot but those that were heard
+ * @property {{open: string[], silenced: string[], hidden: string[], all: string[], hasHeardAll: boolean}} requests what is left to ask,
+ *   as lines: at once; after a field cycle; and where a reply may have hidden others; and where any may have, what asks all in one slot
+ *   but those that were heard, and whether these are all that are certain
  * @property {Cause[]} causes slots in which the other open UIDs would answer, by their rounds
  * @property {boolean} neverAsked whether some open mask has no such slot
  * @property {import("./notes.mjs").Notes} notes
@@ -105,7 +105,7 @@ export function tell(object, text = new TextEncoder().encode(object.text)) {
   /** @type {Told} */
   const told = { object, faulty: refused && line <= log.lineCount ? log.line(line) : "",
     cycles: log.version > 1, conflict: null, open: object.open.masks.map(maskOf), silenced: [], quiet: 0, hidden: 0,
-    requests: { open: [], silenced: [], hidden: [], all: [] }, causes: [], neverAsked: false, notes: { lost: [], cut: [], last: null },
+    requests: { open: [], silenced: [], hidden: [], all: [], hasHeardAll: false }, causes: [], neverAsked: false, notes: { lost: [], cut: [], last: null },
     counts: log.counts, rows: [], strip: [], ringed: [], named: [] };
   if (!refused) explain(log, told);
   return told;
@@ -124,8 +124,10 @@ function explain(log, told) {
   const asked = (/** @type {(mask: Mask) => boolean} */ isIt) => object.open.masks.filter((_, at) => isIt(open[at]))
     .flatMap((mask) => mask.ask);
   Object.assign(told, { silenced: tags, quiet: masks.length, hidden: hidden.size, causes, neverAsked, requests: {
-    open: asked((mask) => !quiet.has(mask) && !hidden.has(mask)), silenced: asked((mask) => quiet.has(mask)),
-    hidden: askedAgain(log, causes), all: object.captured?.holds && !object.captured.open ? [] : allButHeard(log, linkIn(object.text)) } });
+    ...told.requests, open: asked((mask) => !quiet.has(mask) && !hidden.has(mask)), silenced: asked((mask) => quiet.has(mask)),
+    hidden: askedAgain(log, causes) } });
+  const { captured, status } = object, isHiding = status < 2 && (captured?.holds === false || captured?.settled === false);
+  if (isHiding) Object.assign(told.requests, allButHeard(log, linkIn(object.text), object.certain.count));
   told.named = named(told);
   told.notes = notesOf(log, object);
   told.ringed = causes.flatMap((cause) => cause.slots.map((number) => `${cause.round}:${number}`));
@@ -150,8 +152,9 @@ function askedAgain(log, causes) {
  * The lines that silence the tags that were heard and aren't silenced, unless these are too many, and ask all in one slot.
  * @param {Log} log
  * @param {number} link
+ * @param {number} certain how many tags are certain
  */
-function allButHeard(log, link) {
+function allButHeard(log, link, certain) {
   const heard = /** @type {Set<bigint>} */ (new Set()), ready = /** @type {Set<bigint>} */ (new Set());
   for (let at = 0; at < log.rowCount; at++) {
     if (log.isQuiet(at)) ready.delete(uidIn(log.frame(log.lineOf(at))));
@@ -164,7 +167,7 @@ function allButHeard(log, link) {
     }
   }
   const quiets = ready.size > MOST_REQUESTS ? [] : [...ready];
-  return [...quiets.map((uid) => `T ${stayQuietOf(uid, link)}`), `T ${requestOf(1, NO_MASK, link)}`];
+  return { all: [...quiets.map((uid) => `T ${stayQuietOf(uid, link)}`), `T ${requestOf(1, NO_MASK, link)}`], hasHeardAll: heard.size === certain };
 }
 
 /**

@@ -70,11 +70,10 @@ class Said(Command):
             self.assertEqual(json.loads(within("--json", name)[0])["captured"], wanted)
 
     def test_in_a_page(self):
-        """Where nothing is left to ask, also how many UIDs must be there and how many masks are
-        open then: beside A, one at each of its 56 bits."""
-        for lines, wanted in ((ALL + HEARD_A, {"holds": True, "certain": 1, "open": 56}),
+        """Where nothing is left to ask, also whether that is so then."""
+        for lines, wanted in ((ALL + HEARD_A, {"holds": True, "settled": False}),
                               (ALL + HEARD_A + SILENCE_A + ALL + b"S\n",
-                               {"holds": True, "certain": 1, "open": 0}),
+                               {"holds": True, "settled": True}),
                               (SILENCE_B + ALL + HEARD_A, {"holds": True})):
             self.assertEqual(drawn_in(vicinity.page(log(lines)))[0]["captured"], wanted)
 

@@ -6,8 +6,9 @@ from hashlib import sha256
 from typing import Any, Iterator
 
 from .._answers import Answer, FindingKind, Kind
-from .._calls import explain, survey, with_captures
+from .._calls import check_listed, explain, survey, with_captures
 from .._fields import mask_fields, object_of
+from ..collections.surveys import without_list
 from ..frames import uid_text
 from ..sessions.findings import WORDS, Told
 from ..sessions.session import ask
@@ -35,8 +36,8 @@ def page_object(name: str, told: Told) -> dict[str, Any]:
     shown_by = explain(text).population if answer.kind is Kind.UNSETTLED else []
     said = object_of(name, answer, told.weakest, told.reread, told.weakest_reread)
     if answer.status == 1 and not masks:
-        then = survey(with_captures(text))
-        said["captured"].update(certain=len(then.certain), open=len(then.open_masks))
+        then = check_listed(with_captures(without_list(text)), certain)
+        said["captured"]["settled"] = then.is_complete
     return {
         **said, "version": version(), "answer": answer.text,
         "lines": text.count(b"\n") + (not text.endswith(b"\n") and bool(text)),
