@@ -65,10 +65,11 @@ SAID = (
     ("I1 S UA", "ruled out by", "must be here"),
     ("I1 S UA", "asked in 1 slot, silent there; ruled out by line 3", "To go unnoticed"),
     ("I1 S MA S I1 S UA", "asked in 3 slots, silent in each; ruled out by line 3", "silent there"),
-    ("I1 S", "To go unnoticed, a tag would have had to be missed in 1 slot; weakest: any UID.",
+    ("I1 S", "To go unnoticed, a tag would have had to be missed in 1 slot, whatever its UID.",
      "asked in"),
-    ("I1 RA QA I1 S UA", "in 2 slots; weakest: UIDs ending in an even digit.", "asked in"),
-    ("I1 RA QA QB I1 S UA", "in 1 slot; weakest: E0040100000000B2.", "asked in"),
+    ("I1 RA QA I1 S UA", "in 2 slots; among the weakest: UIDs ending in an even digit.",
+     "asked in"),
+    ("I1 RA QA QB I1 S UA", "in 1 slot; among the weakest: E0040100000000B2.", "asked in"),
     ("I1 RA", "1 tag that is here", "To go unnoticed"),
     ("I1 RA", "1 tag that is here", "must be here"),
     ("I1 RA UB", "its software has to write a U line", "Nothing to do"),
@@ -95,7 +96,7 @@ SAID = (
     ("MB S I1 S", "check the antenna", "Notes"),
     ("I1 UA", "no slot was logged", "ended before"),
     ("I16 " * 30, "And slots of more rounds, before these.", "round of line 2,"),
-    ("UA UA", "Count again, to a new log.", "UIDs listed"),
+    ("UA UA", "Count again, in a new log.", "UIDs listed"),
     ('""', "Choose another file, or count again.", "Write the header"))
 # Texts that are no logs, with what is said of them.
 FOREIGN = (("\uFEFFvicinity-log 1\n", "byte order mark"), ("v\0i\0c\0\n\0", "UTF-16"),
@@ -108,7 +109,7 @@ FOREIGN = (("\uFEFFvicinity-log 1\n", "byte order mark"), ("v\0i\0c\0\n\0", "UTF
            ("vicinity-log 1\rT 260100F60A\rS\r", "CR alone"),
            ("vicinity-log 1 \n", "vicinity-log 1‹space›"))
 # Logs that can't be used, with what is said of them.
-UNUSABLE = (("vicinity-log 1\nT 260100F60B\n", "have the CRC F60A, and the line has F60B"),
+UNUSABLE = (("vicinity-log 1\nT 260100F60B\n", "give F60A; the line has F60B"),
             ("vicinity-log 1\nU E0040100000000A1\r", "A1‹CR›"),
             ("vicinity-log 1\nT\t260100F60A\n", "T‹TAB›260100F60A"),
             ("vicinity-log 1\nT 260100F60A\nR 0000A1000000000104E06746\nS\n", "gets the line D"),
@@ -159,13 +160,12 @@ THIRD = {
 # What each answer says of strong replies that hid weaker ones, and the lines of requests below.
 HIDDEN = (
     ("I16 S RA RB S13 UA UB", "may be wrong.", "QA QB I1"),
-    ("I1 RA QA I1 S UA", "still holds, but a tag would have had to be missed in only 1 slot.", ""),
-    ("I1 RA QA I1 S I1 S UA", "still holds, but a tag would have had to be missed in only 2 "
-     "slots.", ""),
+    ("I1 RA QA I1 S UA", "still holds, but 1 missed slot would be enough.", ""),
+    ("I1 RA QA I1 S I1 S UA", "still holds, but 2 missed slots would be enough.", ""),
     ("I1 RA UB", "may be wrong.", "QA I1"),
     ("I1 RA", None, "QA I1"), ("I16 S RA RB S13 QA", None, "QB I1"),
     ("V3 I16 S RA RB S13 QA QB F", None, "QA QB I1"), ("I1 RA QA I1 S", "still holds.", ""),
-    ("I16 S RA RB S13 UA", "would still be unlisted E0040100000000B2; more may be open.",
+    ("I16 S RA RB S13 UA", "still holds, but more UIDs may be open.",
      "QA QB I1"),
     ("I1 RA QA I1 S UB", "still holds.", ""), ("I1 S", None, ""), ("I1 C UA", None, "I16 I1"),
     ("UA UA", None, ""))
@@ -386,7 +386,7 @@ def test_slots_of_version_3_are_drawn(page):
     for words in "one tag, perhaps over others", "nothing known":
         assert words in "\n".join(page.texts(".legend"))
     assert "1 heard, 1 heard, perhaps over others, 13 silent, 1 of which nothing is known" in (
-        page.run("return document.querySelector('.rounds th .unseen').textContent"))
+        page.run("return document.querySelector('.rounds th > .unseen').textContent"))
 
 
 def test_what_is_left_to_ask_under_a_reply(page):
@@ -403,6 +403,20 @@ def test_whether_it_also_holds_if_replies_were_hidden(page, names, words, ask):
     said = [it.partition("hid a weaker one, the answer ")[2] for it in page.texts(".holds p")]
     assert [it for it in said if it] == ([words] if words else [])
     assert page.texts(".copy") == ["\n".join(log_lines(ask)[1:])] * bool(ask)
+
+
+def test_a_slot_is_asked_again_as_a_whole(page):
+    """A collision of one slot, around two tags that are certain: many masks are open, and one
+    request has them all, in sixteen slots. Where the slots are more, each mask is asked."""
+    alone = [line for uid, read in ((0x040100000000A1, READ_A), (0x040100000000B2, READ_B))
+             for line in (biglog.ask((56, uid)), read)]
+    page.drop(log=text_of(["vicinity-log 1", *alone, ALL, "C", LIST_A, LIST_B]))
+    page.until(".copy", "T ")
+    assert page.texts(".copy") == [EACH]
+    assert "1 request is left, for the slot that left UIDs open." in page.said()
+    page.drop(log=log_of("I16 S C C S13"))
+    page.until(".copy", "\n")
+    assert "2 requests are left, one for each open mask." in page.said()
 
 
 def test_a_contradiction_that_hidden_replies_explain(page):
@@ -578,6 +592,20 @@ def test_the_last_stay_quiets_of_a_long_log_are_drawn_with_their_round(page):
     page.until(".rounds td.quiet", "B2")
     assert len(page.texts(".rounds td.quiet")) == 2
     assert page.texts(".rounds .say") == ["not shown: 68 rounds"]
+
+
+def test_stay_quiets_behind_one_that_is_marked_belong_to_their_round(page):
+    """The marked one has a row of its own. For who doesn't see it, each cell says what it held."""
+    page.drop(log=text_of(["vicinity-log 1", EACH, *"S" * 1, READ_A, READ_B, *"S" * 13, QUIET_A,
+                           biglog.silence(0xE0040100000000B2), ALL, READ_A]))
+    page.until("h1", "tag ..00A1 was silenced in line 19, but answered in line 22.")
+    assert page.texts(".steps li")[0].startswith("Move tag E0040100000000A1 further into")
+    cells = page.run("return [...document.querySelectorAll('.rounds tr:nth-child(1) td')]"
+                     ".map((it) => it.textContent)")
+    assert cells[:4] == ["all", "·no tag answered", "A1 (silenced afterwards)",
+                         "B2 (silenced afterwards)"]
+    head = page.run("return document.querySelector('.rounds tbody th').textContent")
+    assert head.startswith("line 2") and head.endswith(", 16 slots: 2 heard, 14 silent")
 
 
 def test_without_a_list_no_tag_is_ringed(page):
@@ -853,8 +881,8 @@ def test_a_collection_that_is_complete(page):
                  "one.log": log_of("I1 RA QA I1 S"), "two.log": log_of("I1 S")})
     page.until(".banner.yes h1", "The one expected item is here, and no other.")
     assert page.texts(".holds p")[1:] == [
-        "To go unnoticed, a tag would have had to be missed in 1 slot in the field of two.log; "
-        "weakest: any UID.",
+        "To go unnoticed, a tag would have had to be missed in 1 slot in the field of two.log, "
+        "whatever its UID.",
         "If a strong reply hid a weaker one, the answer still holds, but fewer slots may be "
         "enough."]
 

@@ -4,7 +4,8 @@ import { UID_BITS } from "./words.mjs";
 /** @typedef {import("./frames.mjs").Mask} Mask */
 /** @typedef {import("./log.mjs").Log} Log */
 /** @typedef {import("./log.mjs").Reading} Reading */
-/** @typedef {{reading: Reading, round: number, slots: number[], asked: Mask, uids: bigint[]}} Cause with the tags that were read */
+/** @typedef {{reading: Reading, round: number, slots: number[], asked: Mask, masks: Mask[], uids: bigint[]}} Cause with the
+ *    slots, their masks, and the tags that were read */
 /** @typedef {{line: number, uid: bigint}} Silenced a Stay Quiet to a tag that was never heard */
 /** @typedef {{row: number, round: number, asked: Mask, number: number, mask: Mask, reading: Reading, uid: bigint | null}} Unread a slot */
 
@@ -122,10 +123,11 @@ function mayAsk(log, row, low) {
 function byRound(causing) {
   /** @type {Map<string, Cause>} */
   const causes = new Map();
-  for (const { reading, round, asked, number, uid } of causing) {
-    const cause = causes.get(`${round} ${reading}`) ?? { reading, round, slots: [], asked, uids: [] };
+  for (const { reading, round, asked, number, mask, uid } of causing) {
+    const cause = causes.get(`${round} ${reading}`) ?? { reading, round, slots: [], asked, masks: [], uids: [] };
     if (!cause.slots.includes(number)) {
       cause.slots.push(number);
+      cause.masks.push(mask);
       cause.uids.push(...uid === null ? [] : [uid]);
     }
     causes.set(`${round} ${reading}`, cause);

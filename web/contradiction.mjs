@@ -1,14 +1,15 @@
 /** What a contradiction says, by the form of its lines: a sentence, what may have happened, and what tells these apart. */
-import { requestOf, SLOTS } from "./frames.mjs";
-import { count, short } from "./words.mjs";
+import { sixteen } from "./frames.mjs";
+import { count, hex, short } from "./words.mjs";
 
 /** @typedef {import("./conflict.mjs").Conflict} Conflict */
 /** @typedef {import("./log.mjs").Slot} Slot */
 /** @typedef {import("./frames.mjs").Mask} Mask */
-/** @typedef {{sentence: string, causes: string[], test: string, ask?: string[]}} Contradiction with lines that send what the test asks */
+/** @typedef {{sentence: string, causes: string[], test: string, ask?: string[], shelf?: string}} Contradiction with lines that send
+ *    what the test asks, and what to do at the shelf, if it is nothing usual */
 
-/** The bits of a UID, and of the longest mask that sixteen slots have. */
-const UID_LEN = 64, MOST_ASKED = 60;
+/** The bits of a UID. */
+const UID_LEN = 64;
 const NOISE = "Noise was logged as an answer: a slot that may have been noise gets the line N; in a log of version 1 or 2 it gets no " +
   "line, nor does the rest of its round.";
 const ONE_DAMAGED = "One damaged reply was logged as a collision: if the chip can't tell these apart, write D, in a log of version 2 or 3.";
@@ -25,9 +26,9 @@ export function contradiction(conflict) {
   const { heard, unread, silent, silencer, link } = conflict, two = conflict.count === 2;
   if (silencer && heard.length) return woke(heard[heard.length - 1], silencer);
   if (conflict.count === 1 && (unread ?? heard[0])) return alone(unread ?? heard[0]);
-  if (unread) return { ...unmet(conflict, unread), ask: sixteen(unread.mask, link) };
-  if (two && heard.length === 2) return { ...hidden(heard[0], heard[1]), ask: sixteen(widest(heard[0].mask, heard[1].mask), link) };
-  if (two && heard.length && silent) return { ...lost(heard[0], silent), ask: sixteen({ len: UID_LEN, value: heard[0].uid ?? 0n }, link) };
+  if (unread) return { ...unmet(conflict, unread), ask: [sixteen(unread.mask, link)] };
+  if (two && heard.length === 2) return { ...hidden(heard[0], heard[1]), ask: [sixteen(widest(heard[0].mask, heard[1].mask), link)] };
+  if (two && heard.length && silent) return { ...lost(heard[0], silent), ask: [sixteen({ len: UID_LEN, value: heard[0].uid ?? 0n }, link)] };
   return { sentence: `${count(conflict.count, "line")} from ${conflict.first} to ${conflict.last} can't all be true.`,
     causes: [LEFT_OUT, WRONG_PLACE], test: "" };
 }
@@ -37,13 +38,6 @@ export function contradiction(conflict) {
  * @param {Mask} other
  */
 const widest = (one, other) => one.len < other.len ? one : other;
-
-/**
- * What asks for a mask in sixteen slots, or in one if it is too narrow for these.
- * @param {Mask} mask
- * @param {number} link
- */
-const sixteen = (mask, link) => [`T ${requestOf(mask.len > MOST_ASKED ? 1 : SLOTS, mask, link)}`];
 
 /** @param {Slot} slot */
 const name = (slot) => short(slot.uid ?? 0n);
@@ -59,10 +53,10 @@ const noise = (unread) => unread.reading === "collision" ? [NOISE, ONE_DAMAGED] 
 function woke(slot, silencer) {
   return { sentence: `tag ${name(slot)} was silenced in line ${silencer}, but answered in line ${slot.line}.`,
     causes: ["The tag lost power for a moment, at the edge of the field or behind another tag, and woke up.",
-      `The tag didn't receive the Stay Quiet of line ${silencer}.`,
+      `The tag didn't receive the Stay Quiet of line ${silencer}, unless it was asked and silent in between.`,
       "The field was switched off and on in between: then the log needs a line F there, and the header 'vicinity-log 3'.",
       "A second reader woke it."],
-    test: "Move the tag further into the field and away from others, and count again, in a new log." };
+    test: "", shelf: `Move tag ${hex(slot.uid ?? 0n)} further into the field and away from others, and count again, in a new log.` };
 }
 
 /**
@@ -126,6 +120,6 @@ function lost(heard, silent) {
   return { sentence: `tag ${name(heard)} answered in line ${heard.line}, but not in line ${silent}, where it was also asked.`,
     causes: [`Its reply in line ${silent} was lost: the tag is at the edge of the field, or something interfered.`,
       came ? `The tag came into the field after line ${silent}.` : `The tag left the field after line ${heard.line}.`, LEFT_OUT, SECOND_READER],
-    test: `Switch the field off and on, and ask only for ${name(heard)}, a few times. If it answers sometimes, replies are being lost; ` +
-      `if always, ${always}; if never, it has left.` };
+    test: `Switch the field off and on, and ask only for ${hex(heard.uid ?? 0n)}, a few times. If it answers sometimes, replies are being lost; ` +
+      `if always, ${always}; if never, it has left or has no power.` };
 }

@@ -61,20 +61,23 @@ function asking(log, row) {
 }
 
 /**
- * Notes with a round the Stay Quiets that follow it, to tags that were heard in it. Returns the row behind them.
+ * Notes with a round the Stay Quiets that follow it, to tags that were heard in it. Returns the row behind those before one that
+ * is marked, as that one has a row of its own.
  * @param {Log} log
  * @param {Round} round
  * @param {number} next
  * @param {Set<number>} marked lines
  */
 function withQuiets(log, round, next, marked) {
-  for (; next < log.rowCount; next++) {
-    const quiet = log.row(next);
-    if (quiet.kind !== "quiet" || marked.has(quiet.line)) break;
-    const slot = round.slots.find((it) => it.uid === quiet.uid);
+  let isApart = false;
+  for (let at = next; at < log.rowCount; at++) {
+    const quiet = log.row(at), slot = quiet.kind === "quiet" ? round.slots.find((it) => it.uid === quiet.uid) : undefined;
     if (!slot) break;
     slot.silenced = quiet.line;
+    isApart ||= marked.has(quiet.line);
+    if (isApart) continue;
     round.end = quiet.line;
+    next = at + 1;
   }
   return next;
 }

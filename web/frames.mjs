@@ -18,6 +18,8 @@ export const COMMAND_AT = 2, LENGTH_AT = 4;
 const ANY_LINK = 2;
 export const SLOTS = 16;
 const SLOT_BITS = 4;
+/** The bits of the longest mask that sixteen slots have. */
+const MOST_ASKED = 60;
 /** Where the digits of a request's mask and of a UID begin. */
 export const VALUE_AT = 6;
 const UID_AT = 4, UID_DIGITS = 16;
@@ -83,6 +85,13 @@ export function requestOf(slots, { len, value }, link) {
   const frame = pairOf((slots === 1 ? ONE_SLOT : 0) | INVENTORY_FLAG | link) + pairOf(INVENTORY) + pairOf(len);
   return withCrc(frame + (len ? turnedOf(hex(value, 2 * Math.ceil(len / 8))) : ""));
 }
+
+/**
+ * The line that asks for a mask in sixteen slots, or in one if it is too narrow for these.
+ * @param {Mask} mask
+ * @param {number} link
+ */
+export const sixteen = (mask, link) => `T ${requestOf(mask.len > MOST_ASKED ? 1 : SLOTS, mask, link)}`;
 
 /**
  * The CRC of bytes as it is sent, low byte first.

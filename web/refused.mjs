@@ -6,7 +6,7 @@ import { isSpreadsheet, SAVE_AS_CSV } from "./tables.mjs";
 
 /** @typedef {import("./told.mjs").Told} Told */
 
-const COUNT = "Count again, to a new log. If that is refused too, no count will help: send the log and this page (printed as PDF) " +
+const COUNT = "Count again, in a new log. If that is refused too, no count will help: send the log and this page (printed as PDF) " +
   "to whoever maintains the software that writes it.";
 const COPY = "The file may have been cut off, by a full disk or because it was copied while it was written: copy it again.";
 const NO_LIST = "A list of UIDs isn't enough: open the logs too.";
@@ -14,7 +14,7 @@ const BOTH = "To compare this table with what the logs show, open it together wi
 const NAMED = "To compare this table with what the logs show, name its column of UIDs 'uid', and open it together with them.";
 /** A first line in which a column has this name. */
 const HAS_UID = /(?:^|[,;\t|"])uid(?:$|[,;\t|"])/i;
-const UNPACK = "If it is a ZIP file with logs in it, unpack it, and open these.";
+const UNPACK = "If it is a ZIP file with logs in it, unpack it, and open the logs.";
 const ANOTHER = "Choose another file, or count again.";
 /** How a text begins that somebody meant as a log: with a header, or with a line of it. */
 const OF_A_LOG = /^(vicinity-log|[TRHU] [0-9A-F]|[SCDNF]$|#)/i;
@@ -62,7 +62,7 @@ export function nameOfText(told, isKept) {
  */
 function rightCrc(line) {
   const frame = line.slice(2).trimEnd();
-  return `The bytes before it have the CRC ${crcOf(frame.slice(0, -CRC_DIGITS))}, and the line has ${frame.slice(-CRC_DIGITS).toUpperCase()}.`;
+  return `The bytes before the CRC give ${crcOf(frame.slice(0, -CRC_DIGITS))}; the line has ${frame.slice(-CRC_DIGITS).toUpperCase()}.`;
 }
 
 /** @param {string} text */

@@ -30,14 +30,15 @@ const LEGEND = [["silent", "·", "nobody"], ["heard", "A1", "one tag"], ["captur
  */
 export function rounds(told, names) {
   if (!told.rows.length) return [];
-  const numbers = Array.from({ length: SLOTS }, (_, slot) => el("th", { scope: "col" }, slot.toString(16).toUpperCase()));
+  const has = told.rows.some((row) => row.kind === "round" && row.slots.length === SLOTS);
+  const numbers = has ? Array.from({ length: SLOTS }, (_, slot) => el("th", { scope: "col" }, slot.toString(16).toUpperCase()))
+    : [el("th", { scope: "col", colspan: String(SLOTS) }, "the one slot")];
   const head = el("tr", {}, el("th", { scope: "col" }, "lines"), el("th", { scope: "col" }, "asked"), ...numbers);
   const ringed = new Set(told.ringed), named = new Set(told.named);
   const body = told.rows.map((row) => rowOf(row, ringed, named, names));
   const table = el("table", { class: "rounds" }, el("caption", {}, "The rounds of the session"), el("thead", {}, head), el("tbody", {}, body));
   const bars = told.strip.map(barOf);
-  const marked = told.strip.flatMap((bar) => bar.isMarked ? [bar.line] : []);
-  const label = `The whole session of ${count(told.counts.rounds, "round")}${marked.length ? `, marked at ${lines(marked)}` : ""}`;
+  const label = `The whole session of ${count(told.counts.rounds, "round")}${told.marked.length ? `, marked at ${lines(told.marked)}` : ""}`;
   const strip = bars.length ? [el("p", { class: "strip", role: "img", "aria-label": label }, bars)] : [];
   return [el("section", {}, el("h2", {}, "The rounds"), ...strip, legend(told),
     scrolled(table))];
@@ -82,8 +83,8 @@ function rowOf(row, ringed, named, names) {
   const isNamed = (/** @type {Slot} */ slot) => ringed.has(`${row.line}:${slot.number}`) || named.has(slot.line);
   const cells = row.slots.map((slot) => cell(row, slot, isNamed(slot), slot.uid === null ? "" : names.get(hex(slot.uid)) ?? ""));
   const till = row.end > row.line ? [el("span", { class: "till" }, `–${row.end}`)] : [];
-  return el("tr", {}, el("th", { scope: "row" }, toLine(row.line, String(row.line), ...till),
-    el("span", { class: "unseen" }, summary(row))), el("td", { class: "mask" }, row.asked.len ? tail(row.asked) : "all"), ...cells);
+  const head = el("th", { scope: "row" }, toLine(row.line, unseen("line "), String(row.line), ...till), unseen(summary(row)));
+  return el("tr", {}, head, el("td", { class: "mask" }, row.asked.len ? tail(row.asked) : "all"), ...cells);
 }
 
 /** @param {Gap} gap */
@@ -110,7 +111,7 @@ function tail(mask) {
 function wide(head, words, line, named) {
   const attributes = /** @type {Record<string, string>} */ ({ colspan: String(SLOTS + 1), class: named ? "say named" : "say" });
   if (line) attributes["data-line"] = String(line);
-  return el("tr", {}, el("th", { scope: "row" }, line ? toLine(line, head) : head), el("td", attributes, words, ...marked(named)));
+  return el("tr", {}, el("th", { scope: "row" }, line ? toLine(line, unseen("line "), head) : head), el("td", attributes, words, ...marked(named)));
 }
 
 /**
@@ -119,10 +120,11 @@ function wide(head, words, line, named) {
  */
 function summary(round) {
   const number = (/** @type {string} */ reading) => round.slots.filter((slot) => slot.reading === reading).length;
-  const parts = [[number("heard"), "heard"], [number("captured"), "heard, perhaps over others"], [number("collision"), "with collisions"],
+  const parts = [[number("heard"), "heard"], [number("captured"), "heard, perhaps over others"],
+    [number("collision"), number("collision") === 1 ? "with a collision" : "with collisions"],
     [number("garbled"), "unreadable"], [number("silent"), "silent"], [number("unknown"), "of which nothing is known"],
     [number("unreached"), "not reached"]];
-  return ` ${count(round.slots.length, "slot")}: ${parts.filter(([many]) => many).map(([many, what]) => `${many} ${what}`).join(", ")}`;
+  return `, ${count(round.slots.length, "slot")}: ${parts.filter(([many]) => many).map(([many, what]) => `${many} ${what}`).join(", ")}`;
 }
 
 /**
@@ -137,12 +139,14 @@ function cell(round, slot, named, name) {
   const one = round.slots.length === 1;
   const sign = uid === null ? look.sign : one ? hex(uid) : hex(BigInt.asUintN(8, uid >> open), 2);
   const title = [slot.line ? `line ${slot.line}` : "", `slot ${slot.number.toString(16).toUpperCase()}`, ending(slot.mask),
-    look.words + (uid === null ? "" : ` ${hex(uid)}`), printable(name), slot.silenced ? `silenced in line ${slot.silenced}` : ""].filter((it) => it).join(", ");
+    look.words + (uid === null ? "" : ` ${hex(uid)}`), printable(name), slot.silenced ? `silenced in line ${slot.silenced}` : ""]
+    .filter((it) => it).join(", ");
   const attributes = /** @type {Record<string, string>} */ ({ title,
     class: `${slot.reading}${slot.silenced ? " quiet" : ""}${named ? " named" : ""}` });
   if (one) attributes.colspan = String(SLOTS);
   attributes["data-line"] = String(slot.line || round.line);
-  return el("td", attributes, sign || "\u00A0", ...marked(named));
+  const said = uid === null ? [el("span", { "aria-hidden": "true" }, sign || "\u00A0"), unseen(look.words)] : [sign];
+  return el("td", attributes, ...said, ...slot.silenced ? [unseen(" (silenced afterwards)")] : [], ...marked(named));
 }
 
 /**
@@ -150,8 +154,14 @@ function cell(round, slot, named, name) {
  * @param {boolean} named
  */
 function marked(named) {
-  return named ? [el("span", { class: "unseen" }, " (the answer rests on it)")] : [];
+  return named ? [unseen(" (the answer rests on it)")] : [];
 }
+
+/**
+ * Words for who doesn't see the signs.
+ * @param {string} words
+ */
+const unseen = (words) => el("span", { class: "unseen" }, words);
 
 /**
  * What the signs mean that are drawn.
@@ -159,7 +169,8 @@ function marked(named) {
  */
 function legend(told) {
   const slots = told.rows.flatMap((row) => row.kind === "round" ? row.slots : []), drawn = new Set(slots.map((slot) => String(slot.reading)));
-  const digits = slots.some((slot) => slot.uid !== null) ? [el("li", {}, "A1: the two digits of the UID before those asked")] : [];
+  const isShort = told.rows.some((row) => row.kind === "round" && row.slots.length > 1 && row.slots.some((slot) => slot.uid !== null));
+  const digits = isShort ? [el("li", {}, "A1: the two digits of the UID before those asked")] : [];
   if (slots.some((slot) => slot.silenced)) drawn.add("heard quiet");
   if (told.ringed.length || told.named.length) drawn.add("silent named");
   const classOf = (/** @type {string} */ look) => look === "heard quiet" && !drawn.has("heard") ? "captured quiet" : look;

@@ -17,7 +17,7 @@ import { count, ending, lines, listing, short, whom } from "./words.mjs";
  * @property {string} headline
  * @property {Light[]} lights
  * @property {string[]} shelf what to do at the shelf
- * @property {string} why the first cause, for the shelf; empty if there is none
+ * @property {string} why a cause, for the shelf; empty if there is none
  * @property {string} lead what the causes are
  * @property {string[]} causes why it came so, for whoever maintains the reader
  * @property {string} test what tells the causes apart
@@ -33,22 +33,21 @@ const EMPTY = "If items should be here: check the antenna, switch the reader's f
 const NOTHING = "Nothing to do.";
 const ONE_MORE = "Send this page (printed as PDF) to whoever maintains the reader: only asking again, until none answers, shows whether a " +
   "strong reply hid a weaker one.";
-const ONE_ROUND = "To see whether others are here: have the reader ask all tags once more, until none answers. What to send stands " +
-  "below, for whoever maintains the reader.";
-const COMPARE = "Compare these tags with what should be here: drop a catalogue (CSV) onto the page that judges this log, or add a U line " +
-  "to the log for each UID that should be here.";
-const MISSING = ["If the list is what was expected here: look for the listed tags that can't be here. If an item is in plain sight, " +
-  "its tag is broken or covered: move it, and count again.",
-  "If the list is what the reader found: a tag left, or the list is that of another session. Count again."];
+const ONE_ROUND = "To see whether others are here: have the reader ask all tags again, until none answers. What to send is below, " +
+  "for whoever maintains the reader.";
+const COMPARE = "Compare these tags with what should be here: open a catalogue (CSV) together with the log.";
+/** If the list is what was expected here, and if it is what the reader found: of tags that can't be here, and of others. */
+const IF_EXPECTED = "If the list is what was expected here: ", IF_READ = "If the list is what the reader found: ";
+const MISSING = ["look for the listed tags that can't be here (if an item is in plain sight, its tag is broken or covered: move it, and " +
+  "count again)", "a tag left, or the list is that of another session"];
 const LOST = "Before you look for tags that can't be here: the reader silenced some of them, so it knew them, and their replies may have " +
   "been lost. Switch its field off and on, and count again.";
-const STRANGERS = ["If the list is what was expected here: the items that aren't on it belong elsewhere, or the list lacks them.",
-  "If the list is what the reader found: its software left out tags that were here. Count again."];
+const STRANGERS = ["the items that aren't on it belong elsewhere, or the list lacks them", "its software left out tags that were here"];
 const STAYS = "If the answer stays so, send the log and this page (printed as PDF) to whoever maintains the reader.";
 /** For whoever maintains it, of tags that can't be here, and of those that aren't listed. */
 const NOT_HEARD = "If a tag that can't be here answers when no other tag is near: the line that rules it out tells of a slot in which " +
   "it should have been heard.";
-const NOT_CLAIMED = "If the list is what the reader found: its software has to write a U line for each UID that it heard.";
+const NOT_CLAIMED = `${IF_READ}its software has to write a U line for each UID that it heard.`;
 
 /** What a complete answer speaks of. */
 export const HOLDS = "This is said of tags that had power, heard the reader, and were heard when they answered.";
@@ -87,8 +86,9 @@ export function say(told, isAlone = true) {
   const none = { lights: [], why: "", lead: "", test: "", ask: [] };
   if (told.object.kind === KIND.REFUSED) return { ...none, look: "refused", sign: "?", ...refused(told) };
   if (!told.conflict) return possible(told, isAlone);
-  const { sentence: found, causes, test, ask = [] } = contradiction(told.conflict), other = told.object.captured?.kind ?? KIND.IMPOSSIBLE;
-  return { ...none, look: "broken", sign: "≠", headline: `The log contradicts itself: ${found}`, shelf: [NEW_LOG, STAYS],
+  const { sentence: found, causes, test, ask = [], shelf = NEW_LOG } = contradiction(told.conflict);
+  const other = told.object.captured?.kind ?? KIND.IMPOSSIBLE;
+  return { ...none, look: "broken", sign: "≠", headline: `The log contradicts itself: ${found}`, shelf: [shelf, STAYS],
     lead: "Mostly it is one of these:", causes, ask,
     test: [test, other === KIND.IMPOSSIBLE ? "" : NO_CONFLICT].filter((it) => it).join(" ") };
 }
@@ -109,7 +109,7 @@ function possible(told, isAlone) {
   const causes = [...why, ...hasList && found.absent ? [NOT_HEARD] : [], ...hasList && found.unlisted ? [NOT_CLAIMED] : []];
   return { look: whole ? "yes" : only ? "read" : "no", sign: whole ? "✓" : only ? "i" : "!", headline: headline(told, isAlone),
     lights: [finished, ...hasList || isAlone ? [listLight] : []],
-    shelf: steps(told, isAlone), why: why[0] ?? "", lead: "", causes, test: "", ask: [] };
+    shelf: steps(told, isAlone), why: mainly(told, why), lead: "", causes, test: "", ask: [] };
 }
 
 /**
@@ -125,8 +125,8 @@ function steps({ object: { kind, found, open, captured }, counts, quiet, notes }
   else if (open.count) steps.push(quiet === open.count ? CYCLE : AGAIN);
   if (found.absent && notes.lost.length) steps.push(LOST);
   const differs = [...found.absent ? [MISSING] : [], ...found.unlisted && counts.listed ? [STRANGERS] : []];
-  // what is expected first, of both, then what was found
-  return [...steps, ...differs.map(([first]) => first), ...differs.map(([, second]) => second), STAYS];
+  const [expected, read] = [0, 1].map((at) => differs.map((it) => it[at]).join("; "));
+  return [...steps, ...differs.length ? [`${IF_EXPECTED}${expected}.`, `${IF_READ}${read}. Count again.`] : [], STAYS];
 }
 
 /**
@@ -213,6 +213,19 @@ function whyOpen({ causes, silenced, neverAsked, counts }) {
 }
 
 /**
+ * A cause for the shelf: where the reader stopped, or else of what is widest.
+ * @param {Told} told
+ * @param {string[]} why
+ */
+function mainly({ causes }, why) {
+  if (!why.length) return "";
+  const width = (/** @type {Cause} */ { slots, asked }) => slots.length * 2 ** -asked.len;
+  const [widest] = [...causes].sort((one, other) => width(other) - width(one));
+  const main = causes.find((it) => it.reading === "unreached") ?? widest;
+  return `${why.length > 1 ? "One of the causes" : "The cause"}: ${main ? because(main) : why[0]}`;
+}
+
+/**
  * What a slot held that wasn't read.
  * @type {Record<string, string>}
  */
@@ -246,10 +259,10 @@ function runs(slots) {
  */
 function because(cause) {
   const round = `round of line ${cause.round}, which asked ${whom(cause.asked)},`;
-  const slots = `slot${cause.slots.length > 1 ? "s" : ""} ${runs(cause.slots)}`;
+  const many = cause.slots.length > 1, slots = `slot${many ? "s" : ""} ${runs(cause.slots)}`;
   if (cause.reading === "unreached") return cause.slots[0] === 0 ? `Of the ${round} no slot was logged.` : `The ${round} ended before ${slots}.`;
   const held = cause.reading === "captured" ? readIn(cause.uids) : HELD[cause.reading];
-  return `In ${slots} of the ${round} ${held}, and no later request settled all of these UIDs.`;
+  return `In ${many ? "each of " : ""}${slots} of the ${round} ${held}, and no later request settled all of these UIDs.`;
 }
 
 /**
@@ -265,7 +278,7 @@ export function alsoHolds({ object: { kind, captured, margin, answer }, counts, 
   if (kind === KIND.COMPLETE || captured.settled) return { words: stillHolds(margin, captured.margin), ask: [] };
   // without a list the headline says it
   if (!counts.listed && captured.settled === false) return { words: "", ask: requests.all };
-  return { words: `${IF_HIDDEN}would still be ${answer}; more may be open.`, ask: requests.all };
+  return { words: `${IF_HIDDEN}still holds, but more UIDs may be open.`, ask: requests.all };
 }
 
 /**
@@ -282,7 +295,7 @@ export const isApart = ({ object: { kind, captured }, counts, requests }) => cap
  */
 export function stillHolds(margin, then) {
   const slots = count(then ?? 0, "slot"), missed = then === undefined ? "but fewer slots may be enough"
-    : then === margin ? `and a tag would still have had to be missed in ${slots}` : `but a tag would have had to be missed in only ${slots}`;
+    : then === margin ? `and a tag would still have had to be missed in ${slots}` : `but ${count(then, "missed slot")} would be enough`;
   return `${IF_HIDDEN}still holds${margin ? `, ${missed}` : ""}.`;
 }
 
@@ -299,7 +312,8 @@ export const mayBeWrong = (where) => `${IF_HIDDEN}may be wrong. To know,${where}
  */
 export function missed({ margin, weakest }, where = "") {
   if (!margin || !weakest) return [];
-  return [`To go unnoticed, a tag would have had to be missed in ${count(margin, "slot")}${where}; weakest: ${ending(maskOf(weakest))}.`];
+  const which = weakest.mask_len ? `; among the weakest: ${ending(maskOf(weakest))}` : ", whatever its UID";
+  return [`To go unnoticed, a tag would have had to be missed in ${count(margin, "slot")}${where}${which}.`];
 }
 
 /**

@@ -7,7 +7,7 @@
 import { causesOf, silencedUnheard } from "./causes.mjs";
 import { conflictOf, isLarge, keyLines } from "./conflict.mjs";
 import { drawn } from "./drawn.mjs";
-import { linkIn, linkOf, requestOf, stayQuietOf, uidIn } from "./frames.mjs";
+import { linkIn, linkOf, requestOf, sixteen, stayQuietOf, uidIn } from "./frames.mjs";
 import { KIND } from "./kinds.mjs";
 import { Log } from "./log.mjs";
 import { notesOf } from "./notes.mjs";
@@ -69,15 +69,17 @@ import { strip } from "./strip.mjs";
  * @property {Silenced[]} silenced the tags that are open since they were silenced before they were heard
  * @property {number} quiet how many open masks have no other tags
  * @property {number} hidden how many open masks only a reply may have hidden
- * @property {{open: string[], silenced: string[], hidden: string[], all: string[], hasHeardAll: boolean}} requests what is left to ask,
- *   as lines: at once; after a field cycle; and where a reply may have hidden others; and where any may have, what asks all in one slot
- *   but those that were heard, and whether these are all that are certain
+ * @property {{open: string[], isBySlots: boolean, silenced: string[], hidden: string[], all: string[],
+ *   hasHeardAll: boolean}} requests what is left to ask, as lines: at once, by the open masks or by the slots that left them; after
+ *   a field cycle; and where a reply may have hidden others; and where any may have, what asks all in one slot but those that were
+ *   heard, and whether these are all that are certain
  * @property {Cause[]} causes slots in which the other open UIDs would answer, by their rounds
  * @property {boolean} neverAsked whether some open mask has no such slot
  * @property {import("./notes.mjs").Notes} notes
  * @property {Log["counts"]} counts
  * @property {(Row | Gap)[]} rows those drawn
  * @property {import("./strip.mjs").Bar[]} strip the whole session, if not all rows are drawn
+ * @property {number[]} marked the lines of the rows that are marked in it
  * @property {string[]} ringed the slots that are marked, as ROUND:NUMBER
  * @property {number[]} named the lines that are marked
  */
@@ -105,8 +107,9 @@ export function tell(object, text = new TextEncoder().encode(object.text)) {
   /** @type {Told} */
   const told = { object, faulty: refused && line <= log.lineCount ? log.line(line) : "",
     cycles: log.version > 1, conflict: null, open: object.open.masks.map(maskOf), silenced: [], quiet: 0, hidden: 0,
-    requests: { open: [], silenced: [], hidden: [], all: [], hasHeardAll: false }, causes: [], neverAsked: false, notes: { lost: [], cut: [], last: null },
-    counts: log.counts, rows: [], strip: [], ringed: [], named: [] };
+    requests: { open: [], isBySlots: false, silenced: [], hidden: [], all: [], hasHeardAll: false }, causes: [], neverAsked: false,
+    notes: { lost: [], cut: [], last: null },
+    counts: log.counts, rows: [], strip: [], marked: [], ringed: [], named: [] };
   if (!refused) explain(log, told);
   return told;
 }
@@ -123,16 +126,33 @@ function explain(log, told) {
   const { causes, rows, neverAsked, hidden } = causesOf(log, open.filter((mask) => !quiet.has(mask)));
   const asked = (/** @type {(mask: Mask) => boolean} */ isIt) => object.open.masks.filter((_, at) => isIt(open[at]))
     .flatMap((mask) => mask.ask);
+  const isOwn = (/** @type {Mask} */ mask) => !quiet.has(mask) && !hidden.has(mask), link = linkIn(object.text);
+  const slots = open.length === object.open.count ? slotsAround(causes, open.filter(isOwn)) : [];
   Object.assign(told, { silenced: tags, quiet: masks.length, hidden: hidden.size, causes, neverAsked, requests: {
-    ...told.requests, open: asked((mask) => !quiet.has(mask) && !hidden.has(mask)), silenced: asked((mask) => quiet.has(mask)),
+    ...told.requests, open: slots.length ? slots.map((mask) => sixteen(mask, link)) : asked(isOwn),
+    isBySlots: slots.length > 0, silenced: asked((mask) => quiet.has(mask)),
     hidden: askedAgain(log, causes) } });
   const { captured, status } = object, isHiding = status < 2 && (captured?.holds === false || captured?.settled === false);
-  if (isHiding) Object.assign(told.requests, allButHeard(log, linkIn(object.text), object.certain.count));
+  if (isHiding) Object.assign(told.requests, allButHeard(log, link, object.certain.count));
   told.named = named(told);
   told.notes = notesOf(log, object);
   told.ringed = causes.flatMap((cause) => cause.slots.map((number) => `${cause.round}:${number}`));
   told.rows = drawn(log, told.named, rows, !isLarge(told.conflict));
-  if (told.rows.some((row) => row.kind === "gap")) told.strip = strip(log, new Set([...rows, ...told.named.map((line) => log.rowAt(line))]));
+  if (!told.rows.some((row) => row.kind === "gap")) return;
+  const marked = new Set([...rows, ...told.named.map((line) => log.rowAt(line))]);
+  told.strip = strip(log, marked);
+  told.marked = [...marked].sort((one, other) => one - other).map((row) => log.lineOf(row));
+}
+
+/**
+ * The slots that left masks open, if they are fewer and have all of them: around tags that are certain, one slot leaves many.
+ * @param {Cause[]} causes
+ * @param {Mask[]} open
+ */
+function slotsAround(causes, open) {
+  const slots = causes.filter((cause) => cause.reading !== "captured").flatMap((cause) => cause.masks);
+  const isIn = (/** @type {Mask} */ { len, value }) => slots.some((slot) => slot.len <= len && !BigInt.asUintN(slot.len, slot.value ^ value));
+  return slots.length < open.length && open.every(isIn) ? slots : [];
 }
 
 /**

@@ -6,6 +6,7 @@ import { KIND } from "./kinds.mjs";
 import { noted } from "./notes.mjs";
 import { LOOKS, rounds } from "./rounds.mjs";
 import { alsoHolds, granted, HOLDS, isApart, missed, say, silentIn } from "./say.mjs";
+import { isSpreadsheet } from "./tables.mjs";
 import { count, lines, printable, TRIAL, whom } from "./words.mjs";
 
 /** @typedef {import("./told.mjs").Told} Told */
@@ -62,7 +63,7 @@ function conditions(told) {
 /** @param {import("./say.mjs").Said} said */
 function shelf(said) {
   if (!said.shelf.length) return [];
-  const why = said.why ? [el("p", { class: "why" }, "The cause: ", linked(said.why))] : [];
+  const why = said.why ? [el("p", { class: "why" }, linked(said.why))] : [];
   const heading = el("h2", {}, said.look === "refused" ? "What to do" : "At the shelf");
   return [el("section", {}, heading, el("ul", { class: "steps" }, said.shelf.map((step) => el("li", {}, step))), ...why)];
 }
@@ -142,7 +143,7 @@ function tags({ object: { certain, found } }, names) {
 /** @param {Told} told */
 function notes(told) {
   const all = noted(told.notes).map(([line, words]) => el("li", {}, toLine(line), linked(`: ${words}`)));
-  return all.length ? [folded(`Notes, which are no part of the answer (${all.length})`, told.object.status > 0, el("ul", {}, all))] : [];
+  return all.length ? [folded(`Notes (${all.length})`, told.object.status > 0, el("ul", {}, all))] : [];
 }
 
 /**
@@ -159,14 +160,14 @@ function takenForGranted(told) {
  * @param {Told} told
  * @param {boolean} isAlone
  */
-function record({ object: { kind, version, sha256 }, counts }, isAlone) {
-  const said = [count(counts.lines, "line")], isRefused = kind === KIND.REFUSED;
+function record({ object: { kind, version, sha256 }, counts, faulty }, isAlone) {
+  const said = isSpreadsheet(faulty) ? [] : [count(counts.lines, "line")], isRefused = kind === KIND.REFUSED;
   const parts = /** @type {[number, string, string?][]} */ ([[counts.rounds, "round"], [counts.slots, "slot"], [counts.heard, "reply", "replies"],
     [counts.quiets, "Stay Quiet"], [counts.cycles, "field cycle"], [counts.listed, "UID listed", "UIDs listed"]]);
   // of a text that isn't a log nothing but its lines is known
   if (!isRefused) said.push(...parts.filter(([number]) => number).map((part) => count(...part)));
-  return el("footer", { class: "record" }, el("p", {}, said.join(" · ")),
-    el("p", {}, `vicinity ${version}`, ...sha256 ? [` · SHA-256 of the ${isRefused ? "file" : "log"} `, el("code", {}, sha256)] : []),
+  const sum = sha256 ? [` · SHA-256 of the ${isRefused ? "file" : "log"} `, el("code", {}, sha256)] : [];
+  return el("footer", { class: "record" }, ...said.length ? [el("p", {}, said.join(" · "))] : [], el("p", {}, `vicinity ${version}`, ...sum),
     ...isRefused || !isAlone ? [] : [signed()]);
 }
 
