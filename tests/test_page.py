@@ -83,7 +83,7 @@ SAID = (
     ("I1 QA I1 S UA", "Begin a new log, of version 3", "What is left to ask"),
     ("V2 I1 QA I1 S UA", "write F, and send 1 request for tags that were silenced", "a new log"),
     ("I1 RA", "have the reader ask all tags again, until none answers", "Nothing to do"),
-    ("I1 RA QA I1 S", "open a catalogue (CSV) together with the log", "once more"),
+    ("I1 RA QA I1 S", "open a catalogue (CSV) together with the log", "ask all tags again"),
     ("I16 C C S14", "2 requests are left, one for each open mask.", "What is left to ask"),
     ("I1 RA I1 RB", "ask in sixteen slots, so that fewer tags answer at once. If strong replies "
      "may have hidden weaker ones (each R read as H), the log doesn't contradict itself.\n\n"
