@@ -165,7 +165,7 @@ function record({ object: { kind, version, sha256 }, counts }, isAlone) {
     [counts.quiets, "Stay Quiet"], [counts.cycles, "field cycle"], [counts.listed, "UID listed", "UIDs listed"]]);
   // of a text that isn't a log nothing but its lines is known
   if (!isRefused) said.push(...parts.filter(([number]) => number).map((part) => count(...part)));
-  return el("footer", { class: "record" }, el("p", {}, said.join(" · ")),
+  return el("footer", { class: "record" }, el("p", {}, said.join("\u00A0· ")),
     el("p", {}, `vicinity ${version}`, ...sha256 ? [` · SHA-256 of the ${isRefused ? "file" : "log"} `, el("code", {}, sha256)] : []),
     ...isRefused || !isAlone ? [] : [signed()]);
 }
