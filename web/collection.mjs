@@ -44,7 +44,8 @@ const MOST_CELLS = 2;
 const CANNOT_BE_READ = 4;
 /** How much text of logs stands in a page that is saved. */
 const MOST_TEXT = 4_000_000;
-const LOOK_FOR = "If it is in plain sight, its tag is broken or covered: move it, and count again. If it isn't found, leave its row in the catalogue.";
+const LOOK_FOR = "If it is in plain sight, its tag is broken or covered: move it, and count again. " +
+  "If it isn't found, leave its row in the catalogue.";
 const NOT_EXPECTED = "What isn't in the catalogue: bring it to where it belongs, or add it.";
 const AWAY = "The logs of their shelves rule these out. They are in none of the fields, or";
 const NO_TAG = "These rows of the catalogue have no UID, so nothing is known of them: look for them by eye.";
@@ -231,7 +232,8 @@ function logs(title, words, list, open, object, shelves) {
  * @param {Shelves} shelves
  */
 function oneLog(log, names, shelves) {
-  const { object } = log, sum = object?.sha256 ? [el("span", { class: "sum" }, "\u00A0· ", el("code", {}, `SHA-256 ${object.sha256}`))] : [];
+  const { object } = log, sha256 = object?.sha256;
+  const sum = sha256 ? [el("span", { class: "sum" }, "\u00A0· ", el("code", {}, `SHA-256 ${sha256}`))] : [];
   const name = shelves.name(log.file), file = nameOf(log.file), isSame = [file, file.replace(/\.[^.]*$/, "")].includes(name);
   const words = [el("b", { title: printable(log.file) }, name), `${isSame ? "" : ` (${file})`}: ${saidOf(log)}`, ...sum];
   if (!object) return el("p", { class: "log" }, words);
