@@ -932,9 +932,10 @@ def test_a_log_of_a_collection_is_compared_with_its_catalogue(page):
 
 @pytest.mark.parametrize(("items", "log", "is_said"), [
     (b"", "I16 S RA", False), (b"", "I16 S RA S14", True),
-    (b"E0040100000000B2\n", "I16 S RA S13", True)])
+    (b"E0040100000000B2\n", "I16 S RA S13", False),
+    (b"E0040100000000B2\n", "I16 S RA S14", True)])
 def test_of_logs_to_be_counted_again_nothing_else_is_said(page, items, log, is_said):
-    """Unless an item is missing: a reply of each field may have hidden it."""
+    """Also if an item is missing: what a reply of such a field hid is known then."""
     page.drop(**{"catalogue": b"uid,title\n" + items, "one.log": log_of(log)})
     page.until("h1", "not in the catalogue")
     said = "may be wrong. To know, in the field of one.log, silence" in page.said()
@@ -952,6 +953,7 @@ def test_items_are_told_by_their_shelves(page):
         "A", "look for\nWalden\nE00401502B91C435", "take to B\nThe Time Machine\nE00401504477EB73",
         "C", "Ulysses\nE00401506D9320CE"]
     page.until("#told > p", "The 9 other items of the catalogue are here, and in place.")
+    page.until("details p", "Run its inventory again, to its end, in a new log.")
     assert page.texts(".lights dd") == ["2 of 3 logs", "9 of 12 items"]
 
 
@@ -967,6 +969,31 @@ def test_items_that_are_not_on_their_shelves(page):
     assert page.texts(".items tbody tr") == ["one", "Emma\ntwo\nE0040100000000B2"]
     page.run("for (const it of document.querySelectorAll('#told > details')) it.open = true")
     page.until("details p", "They are all items of two that aren't named above (1).")
+    page.until("details p", "They are in none of the fields, or on a shelf that has to be counted")
+
+
+@pytest.mark.parametrize(("log", "left"), [
+    ("I16 S8", "8 requests or more: UIDs ending in 8, 9 or A, and 5\u00A0more masks"),
+    ("I16 S", "4 requests or more: UIDs ending in 8, in an odd digit, in 2, 6, A or E and in 4 "
+     "or C")])
+def test_what_is_left_to_ask_in_a_field(page, log, left):
+    page.drop(**{"catalogue": b"uid\n", "one.log": log_of(log)})
+    page.until("h1", "Count 1 log again.")
+    assert page.texts(".logs summary") == [f"one.log: 0 tags proved; left to ask, by {left}"]
+
+
+def test_rows_without_a_tag(page):
+    """They are counted, but nothing is known of them. What has no title is in the column of UIDs."""
+    catalogue = b"uid,title\nE0040100000000A1,Walden\n,Emma\n"
+    page.drop(**{"catalogue": catalogue, "one.log": log_of("I1 RB QB I1 S")})
+    page.until("h1", "1 item missing, 1 not in the catalogue and 1 without a tag.")
+    assert page.texts(".lights dd") == ["1 of 1 log", "0 of 2 items"]
+    names = "return [...document.querySelectorAll('.items th[scope=row]')]"
+    assert page.run(f"{names}.map((it) => [it.cellIndex, it.innerText])") == [
+        [1, "Walden"], [2, "E0040100000000B2"], [1, "Emma"]]
+    page.drop(**{"catalogue": catalogue, "one.log": log_of("I1 RA QA I1 S")})
+    page.until(".banner.yes h1", "The one expected item is here, and no other.")
+    assert page.texts(".lights dd") == ["1 of 1 log", "1 of 2 items, 1 without a tag"]
 
 
 def test_a_place_that_is_not_in_the_catalogue(page):

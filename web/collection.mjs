@@ -44,12 +44,12 @@ const MOST_CELLS = 2;
 const CANNOT_BE_READ = 4;
 /** How much text of logs stands in a page that is saved. */
 const MOST_TEXT = 4_000_000;
-const LOOK_FOR = "If it is in plain sight, its tag is broken or covered: move it, and count again. Keep what isn't found in the catalogue.";
+const LOOK_FOR = "If it is in plain sight, its tag is broken or covered: move it, and count again. " +
+  "If it isn't found, leave its row in the catalogue.";
 const NOT_EXPECTED = "What isn't in the catalogue: bring it to where it belongs, or add it.";
-const AWAY = "The logs of their shelves rule these out. They are in none of the fields, or where a log has to be counted again.";
+const AWAY = "The logs of their shelves rule these out. They are in none of the fields, or";
 const NO_TAG = "These rows of the catalogue have no UID, so nothing is known of them: look for them by eye.";
 const UNKNOWN_YET = "Whether these are here isn't known until the logs above are counted again.";
-const COUNT_EACH = "Run the inventory of each again, to its end, in a new log.";
 const OF_LOGS = ["Nothing was carried from one field to another while the logs were written.", "Each place of the catalogue was " +
   "counted: what stands in a place without a log is called missing."];
 
@@ -58,6 +58,9 @@ const isAside = (log) => log.list.status > 1;
 
 /** @param {OneLog} log */
 const isOpen = (log) => log.open.length > 0;
+
+/** @param {number} logs */
+const countAgain = (logs) => `Run ${logs === 1 ? "its inventory" : "the inventory of each"} again, to its end, in a new log.`;
 
 /**
  * @param {CollectionObject} object
@@ -72,14 +75,16 @@ export function collectionView(object) {
   // of a shelf of which nothing is known to be in place no items are named
   const all = listing([...new Set(none.map(home))].sort(inOrder)), these = some.length ? ", and these:" : ".";
   const which = none.length ? ` They are all items of ${all} that aren't named above (${none.length.toLocaleString("en")})${these}` : "";
+  const open = object.logs.filter(isOpen), isShelf = away.every((item) => item.may_be_in.every((file) => shelves.placeOf(file)));
   const todo = [...of("missing"), ...of("misplaced"), ...of("unexpected")], isKnown = !todo.length && !unknown.length;
   const said = { headline: headlineOf(object), lights: lights(object) }, rests = conditionsOfAll(object, shelves);
   return [banner(isWhole(object) ? { look: "yes", sign: "✓", ...said } : { look: "no", sign: "!", ...said },
     `${printable(object.name)} · ${count(object.logs.length, "log")}`), ...isKnown ? rests : [],
-    ...logs("Count again", COUNT_EACH, object.logs.filter(isOpen), true, object, shelves),
+    ...logs("Count again", countAgain(open.length), open, true, object, shelves),
     ...part("At the shelves", todo, true, howTo(object), shelved(todo, (item) => shelves.at(item), {}, (item) => shelves.toDo(item))),
-    ...part("Not on their shelves", away, true, AWAY, shelved(away, home, mayBe)),
-    ...part("Without a tag", of("no tag"), false, NO_TAG, shelved(of("no tag"), home)),
+    ...part("Not on their shelves", away, true, `${AWAY} ${isShelf ? "on a shelf" : "in a field"} that has to be counted again.`,
+      shelved(away, home, mayBe)),
+    ...part("Without a tag", of("no tag"), true, NO_TAG, shelved(of("no tag"), home, {}, () => "look for")),
     ...part("Not known yet", others, false, UNKNOWN_YET + which, shelved(some, home, some.every(home) ? {} : mayBe)),
     ...inPlace(object), ...isKnown ? [] : rests,
     ...logs("Read to the end", "", object.logs.filter((log) => !isOpen(log)), false, object, shelves),
@@ -142,6 +147,9 @@ export function withRoom(object) {
 const isWhole = (object) => object.kind === KIND.COMPLETE && object.status === 0;
 
 /** @param {CollectionObject} object */
+const isOfAll = (object) => isWhole(object) || object.kind === KIND.SMALL;
+
+/** @param {CollectionObject} object */
 export function headlineOf(object) {
   const { counts } = object, tags = object.items.filter((item) => item.uid !== null && item.state !== "unexpected").length;
   const which = counts["no tag"] ? " that have a tag" : "", again = object.logs.filter(isOpen), shelves = new Shelves(object.logs);
@@ -153,7 +161,8 @@ export function headlineOf(object) {
   if (object.kind === KIND.SMALL) return notSure(object.margin, object.wanted ?? 0);
   const unknown = object.items.filter((item) => item.state === "not provable"), away = unknown.filter((item) => shelves.isAway(item)).length;
   const parts = /** @type {[number, string][]} */ ([[counts.missing, "missing"], [away, `not on ${away === 1 ? "its shelf" : "their shelves"}`],
-    [counts.misplaced, "in the wrong place"], [counts.unexpected, "not in the catalogue"], [unknown.length - away, "not known yet"]]);
+    [counts.misplaced, "in the wrong place"], [counts.unexpected, "not in the catalogue"], [unknown.length - away, "not known yet"],
+    [counts["no tag"], "without a tag"]]);
   const said = parts.filter(([number]) => number).map(([number, words], at) => at ? `${number.toLocaleString("en")} ${words}`
     : `${count(number, "item")} ${words}`);
   const isNamed = again.length <= MOST_NAMES && again.every(({ file }) => shelves.placeOf(file));
@@ -171,10 +180,12 @@ export function headlineOf(object) {
 function lights(object) {
   const { counts, logs } = object, done = logs.filter((log) => !isOpen(log)).length;
   const differs = counts.missing || counts.misplaced || counts.unexpected;
+  // a headline of items that are all here doesn't count these
+  const untagged = isOfAll(object) && counts["no tag"] ? `, ${counts["no tag"].toLocaleString("en")} without a tag` : "";
   const items = object.items.length - counts.unexpected, isPlaced = object.items.some((item) => item.belongs);
   const read = `${done.toLocaleString("en")} of ${count(logs.length, "log")}`;
   return [{ name: "Read to the end", value: read, look: done === logs.length ? "yes" : "no" },
-    { name: isPlaced ? "In place" : "Here", value: `${counts.there.toLocaleString("en")} of ${count(items, "item")}`,
+    { name: isPlaced ? "In place" : "Here", value: `${counts.there.toLocaleString("en")} of ${count(items, "item")}${untagged}`,
       look: counts.there === items ? "yes" : differs ? "no" : "plain" }];
 }
 
@@ -185,11 +196,10 @@ function lights(object) {
  */
 function conditionsOfAll(object, shelves) {
   const { counts } = object, all = object.logs.filter((log) => !isAside(log));
-  const hidden = all.filter((log) => log.captured?.holds === false);
-  const isAll = isWhole(object) || object.kind === KIND.SMALL;
-  // of what is here nothing is wrong, and what else is in these fields is known when they are counted again
-  const isAgain = hidden.length > 0 && hidden.every(isOpen);
-  if (!isAll && !counts.missing && (isAgain || !counts.unexpected)) return [];
+  const hiding = all.filter((log) => log.captured?.holds === false), isAll = isOfAll(object);
+  // what else is in fields that have to be counted again is known then
+  const hidden = hiding.filter((log) => !isOpen(log)), isAgain = hiding.length > 0 && !hidden.length;
+  if (!isAll && (isAgain || !counts.missing && !counts.unexpected)) return [];
   const known = all.every((log) => log.captured);
   const fields = shelves.names(hidden.map((log) => log.file));
   const also = hidden.length ? `${mayBeWrong(` in the field of ${fields},`)}.` : stillHolds(isAll ? object.margin : undefined);
@@ -222,7 +232,8 @@ function logs(title, words, list, open, object, shelves) {
  * @param {Shelves} shelves
  */
 function oneLog(log, names, shelves) {
-  const { object } = log, sum = object?.sha256 ? [" ", el("code", { class: "sum" }, `SHA-256 ${object.sha256}`)] : [];
+  const { object } = log, sha256 = object?.sha256;
+  const sum = sha256 ? [el("span", { class: "sum" }, "\u00A0· ", el("code", {}, `SHA-256 ${sha256}`))] : [];
   const name = shelves.name(log.file), file = nameOf(log.file), isSame = [file, file.replace(/\.[^.]*$/, "")].includes(name);
   const words = [el("b", { title: printable(log.file) }, name), `${isSame ? "" : ` (${file})`}: ${saidOf(log)}`, ...sum];
   if (!object) return el("p", { class: "log" }, words);
@@ -261,8 +272,8 @@ function saidOf({ list, certain, open, more_open, object }) {
   if (!open.length) return proved;
   // its own masks are wider than what no other log has proved
   const masks = object?.open.masks ?? open, all = object?.open.count ?? open.length, more = all - MOST_MASKS;
-  const others = more_open && !object ? ["others"] : more > 1 ? [`${more.toLocaleString("en")} others`] : [];
-  const first = masks.slice(0, others.length ? MOST_MASKS : MOST_MASKS + 1).map(maskOf);
+  const others = more_open && !object ? "more masks" : more > 1 ? `${more.toLocaleString("en")}\u00A0more masks` : "";
+  const first = masks.slice(0, others ? MOST_MASKS : MOST_MASKS + 1).map(maskOf);
   const plain = told && !told.quiet && !told.hidden ? `, by ${count(told.object.open.count, "request")} or more` : "";
   return `${proved}; left to ask${plain}: ${endings(first, others)}`;
 }
@@ -277,6 +288,6 @@ function grantedOfAll(object) {
 function recordOfAll(object) {
   const expected = object.items.filter((item) => item.state !== "unexpected").length;
   const said = [count(expected, "item"), count(object.logs.length, "log"), `vicinity ${object.version}`];
-  const sums = (object.files ?? []).map(({ file, sha256 }) => el("p", {}, `${nameOf(file)} · SHA-256 `, el("code", {}, sha256)));
-  return el("footer", { class: "record" }, el("p", {}, said.join(" · ")), ...sums, signed());
+  const sums = (object.files ?? []).map(({ file, sha256 }) => el("p", {}, `${nameOf(file)}\u00A0· SHA-256 `, el("code", {}, sha256)));
+  return el("footer", { class: "record" }, el("p", {}, said.join("\u00A0· ")), ...sums, signed());
 }

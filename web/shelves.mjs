@@ -63,7 +63,7 @@ export class Shelves {
 
 /**
  * A table of items, those of a shelf below its name: what to do, what the catalogue says of each, where it may be, and last its UID.
- * An item of which the catalogue says nothing else is named by its UID.
+ * An item of which the catalogue says nothing else is named by its UID, in the column of these.
  * @param {Item[]} list
  * @param {Cell} shelf
  * @param {Record<string, Cell>} where
@@ -80,10 +80,10 @@ export function shelved(list, shelf, where = {}, toDo) {
   const rowOf = (/** @type {Item} */ item) => {
     const said = columns.map((column) => printable(item.columns[column] ?? "")), first = said.findIndex((cell) => cell);
     const uid = el("code", {}, item.uid ?? "no UID");
-    const named = first < 0 ? [el("th", { scope: "row", colspan: String(columns.length || 1) }, uid)]
+    const named = first < 0 && !last.length ? [el("th", { scope: "row", colspan: String(columns.length || 1) }, uid)]
       : said.map((cell, at) => at === first ? el("th", { scope: "row" }, cell) : cellOf(columns[at], cell));
     return el("tr", {}, ...toDo ? [el("td", {}, toDo(item))] : [], ...named, ...asked.map((head) => cellOf(head, where[head](item))),
-      ...last.map((head) => cellOf(head, first < 0 || !item.uid ? "" : uid)));
+      ...last.map((head) => first < 0 ? el("th", { scope: "row", "data-head": head }, uid) : cellOf(head, item.uid ? uid : "")));
   };
   let room = MOST_ROWS;
   const bodies = [...groups].sort(([one], [other]) => inOrder(one, other)).map(([name, group]) => {

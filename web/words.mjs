@@ -68,15 +68,16 @@ export function ending(mask) {
 }
 
 /**
- * Which UIDs are in some masks, and in others: UIDs ending in 0, 1 or 8 others.
- * @param {Mask[]} masks
- * @param {string[]} others
+ * Which UIDs are in some masks, and in others: UIDs ending in 0 or 1, in 2 or A, and 8 more masks.
+ * @param {Mask[]} masks in their order, by their lengths
+ * @param {string} [others]
  */
 export function endings(masks, others) {
   const isDigits = (/** @type {Mask} */ { len }) => len > 0 && len < UID_BITS && len % 4 === 0;
   const tails = masks.filter(isDigits).map(({ len, value }) => hex(value, len / 4)), rest = masks.filter((mask) => !isDigits(mask)).map(ending);
-  if (!rest.length) return `UIDs ending in ${listing([...tails, ...others], "or")}`;
-  return listing([...tails.length ? [`UIDs ending in ${listing(tails, "or")}`] : [], ...rest, ...others]);
+  const all = [...tails.length ? [`UIDs ending in ${listing(tails, "or")}`] : [], ...rest]
+    .map((it, at) => at ? it.replace("UIDs ending in", "in") : it);
+  return others ? `${all.join(", ")}, and ${others}` : listing(all);
 }
 
 /**
