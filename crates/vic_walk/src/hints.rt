@@ -9,7 +9,7 @@ use vic_log::Entry;
 pub(crate) struct Near {
     /// Of the first key in a slot's mask.
     pub(crate) from: usize,
-    /// One more than that of the last one.
+    /// One more than that of the last one; the same as `from` if it is near.
     pub(crate) to: usize,
     /// Of the key of the UID that the entry silences or hears.
     pub(crate) own: usize,
@@ -42,9 +42,10 @@ pub(crate) fn asks_for_own(entry: &Entry, sixteen: bool) -> bool {
 
 /// Whether the round that is open after an entry has 16 slots, if it is known before it.
 pub(crate) fn has_sixteen(before: bool, entry: &Entry) -> bool {
-    match *entry {
-        Entry::Sent(Request::Inventory { sixteen, .. }) => sixteen,
-        _ => before,
+    if let Entry::Sent(Request::Inventory { sixteen, .. }) = *entry {
+        sixteen
+    } else {
+        before
     }
 }
 
