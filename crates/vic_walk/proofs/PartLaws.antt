@@ -171,3 +171,10 @@ are_borders old new rising more all first end =
     let high = up_to new stop.0 (length new - 1) rising (let h = stop.1 in omega (arith, h)) (let h = stop.1 in omega (arith, h)) in
     let most = more.borders all (length new - 1) 0 (let h = stop.1 in omega (arith, h)) in
     record { rising = rising; first = omega (arith, low, start_at); last = omega (arith, high, stop_at, most) }
+
+pub all_borders : (bs : List ℕ) → AreBorders bs → All IsBorder bs
+all_borders bs borders i d within =
+    let at = get_or_default bs i 0 d within in
+    let h = up_to bs i (length bs - 1) borders.rising (omega (arith, within)) (omega (arith, within)) in
+    let last = borders.last in
+    omega (arith, at, h, last)

@@ -14,6 +14,7 @@ ghost use Rattle.vic_walk.specs.Walk.{AreOpenParts, HasRoom, IsWalkAt};
 ghost use Rattle.vic_walk.specs.inner.Ready.{IsReadyAt};
 ghost use Rattle.vic_walk.specs.inner.Spans.{IsPlace};
 
+use crate::hints::{Hints, Near};
 use crate::listing::list_start;
 use crate::parts::Parts;
 use crate::three::up_to_three;
@@ -59,6 +60,7 @@ fn pass_again(
     found: &mut Vec<Answering>,
     parts: &Parts,
     rounds: &RoundCursor,
+    near: Near,
     at: usize,
     entry: &Entry,
 ) -> Result<(), AllocError>
@@ -78,7 +80,7 @@ fn pass_again(
 {
     match *entry {
         Entry::Sent(request) => {
-            walk.pass_request(parts, &request)?;
+            walk.pass_request(parts, near, &request)?;
             Ok(())
         }
         Entry::FieldCycle => {
@@ -86,7 +88,7 @@ fn pass_again(
             Ok(())
         }
         Entry::Collision | Entry::Garbled => {
-            let uids = up_to_three(parts, &walk.lasting, span_of(parts, rounds));
+            let uids = up_to_three(parts, &walk.lasting, span_of(parts, rounds, near));
             found.push(Answering {
                 at,
                 need: needs(entry),
@@ -159,10 +161,12 @@ pub fn open_answers(
     walk.wake();
     let mut found = Vec::new(alloc);
     let mut rounds = RoundCursor::first();
+    let mut hints = Hints::first();
     let after = after_unread(lines);
     for index in 0..after {
         let entry = lines[index].item();
-        pass_again(walk, &mut found, parts, &rounds, index, &entry)?;
+        let near = hints.next(parts.hints(), &entry);
+        pass_again(walk, &mut found, parts, &rounds, near, index, &entry)?;
         rounds.advance(&entry);
     }
     // parts that are Quiet at the end are open too

@@ -1,12 +1,14 @@
 //! Borders that are gathered in any order. A log names most of its borders several times, and near
 //! to each other; so what was added lately isn't added again, which makes sorting shorter.
 
-ghost use Rattle.std.specs.Prelude.{◌≡◌, ◌^◌, true, IfOk, OnOk};
+ghost use Rattle.std.specs.Prelude.{◌≡◌, ◌^◌, ℕ, true, IfOk, IfSome, OnOk};
 ghost use Rattle.std.specs.List.{All, Contains};
 ghost use Rattle.std.specs.List.Sorted.{IsStrictlyIncreasing};
 ghost use Rattle.vic_frame.specs.declared.uid.TheConstants.{UID_BITS};
+ghost use Rattle.vic_walk.specs.Borders.{AreBorders};
 ghost use Rattle.vic_walk.specs.inner.Gathered.{HasAll, IsBorder};
 
+use crate::ranked::{Ranked, rank};
 use std::alloc::{AllocError, Global};
 use std::marker::Model;
 use vic_frame::UID_BITS;
@@ -18,12 +20,18 @@ const LATELY_BITS: u32 = 11;
 /// 2^64 divided by the golden ratio.
 const SPREAD: u64 = 0x9E37_79B9_7F4A_7C15;
 
+/// How many borders are ranked at most. More of them don't fit into the processor's memory beside
+/// their ranks, and are sorted faster where they are.
+const MOST_RANKED: usize = 1 << 21;
+
 /// Borders in the order in which they were added.
 #[derive(Drop)]
 pub(crate) struct Gathered {
     borders: Vec<u64>,
     /// In the place that a border selects: where the last one stands that selected it.
-    lately: Vec<usize>,
+    lately: Vec<u32>,
+    /// Where those stand that a walk will look up, in the order in which it will.
+    asked: Vec<u32>,
 }
 
 impl Model for Gathered {
@@ -35,59 +43,169 @@ impl Model for Gathered {
 }
 
 impl Gathered {
-    /// The border before all keys, and the one after them.
-    pub(crate) fn new(alloc: Global) -> Result<Gathered, AllocError>
+    /// The border before all keys, and the one after them; with room for so many that a walk looks
+    /// up.
+    pub(crate) fn new(alloc: Global, asked: usize) -> Result<Gathered, AllocError>
         ensures borders { IfOk result (All IsBorder) }
         ensures first { IfOk result (λ bs. Contains bs 0) }
         ensures end { IfOk result (λ bs. Contains bs (2 ^ UID_BITS)) }
     {
         let lately = vec![in alloc; 0; 1usize << LATELY_BITS]?;
         let borders = Vec::new(alloc);
-        let mut gathered = Gathered { borders, lately };
+        let asked = Vec::with_capacity(alloc, asked)?;
+        let mut gathered = Gathered {
+            borders,
+            lately,
+            asked,
+        };
         gathered.push(0)?;
         gathered.push(1 << UID_BITS)?;
         Ok(gathered)
     }
 
-    /// Whether a border was added, and is remembered.
-    fn has_lately(&self, border: u64) -> bool
-        ensures { result ≡ true → Contains self.now border }
+    /// Where a border stands, if it was added and is remembered.
+    fn place_lately(&self, border: u64) -> Option<u32>
+        ensures { IfSome result (λ _. Contains self.now border) }
     {
-        match self.lately.get(place_of(border)) {
-            Some(at) => *at < self.borders.len() && self.borders[*at] == border,
-            None => false,
+        let at = self.lately.get(place_of(border)).copied()?;
+        let place = at as usize;
+        if place < self.borders.len() && self.borders[place] == border {
+            Some(at)
+        } else {
+            None
         }
     }
 
-    /// Adds a border.
-    pub(crate) fn push(&mut self, border: u64) -> Result<(), AllocError>
+    /// Adds a border. Returns where it stands.
+    pub(crate) fn push(&mut self, border: u64) -> Result<u32, AllocError>
         requires { IsBorder border }
         ensures more { OnOk result (HasAll self.old self.new) }
         ensures there { OnOk result (Contains self.new border) }
     {
-        if self.has_lately(border) {
-            return Ok(());
+        if let Some(at) = self.place_lately(border) {
+            return Ok(at);
         }
-        if let Some(at) = self.lately.get_mut(place_of(border)) {
-            *at = self.borders.len();
+        let at = self.borders.len().min(u32::MAX as usize) as u32;
+        if let Some(place) = self.lately.get_mut(place_of(border)) {
+            *place = at;
         }
         self.borders.push(border)?;
+        Ok(at)
+    }
+
+    /// Adds a border that a walk will look up.
+    pub(crate) fn push_asked(&mut self, border: u64) -> Result<(), AllocError>
+        requires { IsBorder border }
+        ensures more { OnOk result (HasAll self.old self.new) }
+        ensures there { OnOk result (Contains self.new border) }
+    {
+        let at = self.push(border)?;
+        self.asked.push(at)?;
         Ok(())
     }
 
-    /// The borders in rising order, each once.
-    pub(crate) fn in_order(self) -> Vec<u64>
-        ensures rising { IsStrictlyIncreasing result.items }
-        ensures same { HasAll self result.items }
+    /// Adds a border that a walk may look up.
+    pub(crate) fn push_maybe_asked(&mut self, border: u64, asked: bool) -> Result<(), AllocError>
+        requires { IsBorder border }
+        ensures more { OnOk result (HasAll self.old self.new) }
+        ensures there { OnOk result (Contains self.new border) }
     {
-        let mut borders = self.borders;
-        borders.sort_unstable();
-        borders.dedup();
-        borders
+        if asked {
+            self.push_asked(border)
+        } else {
+            self.push(border)?;
+            Ok(())
+        }
+    }
+
+    /// The borders in rising order, each once; and of those that were asked for, in turn, hints of
+    /// where they are among these.
+    pub(crate) fn in_order(self, alloc: Global) -> Result<(Vec<u64>, Vec<u32>), AllocError>
+        requires borders { All IsBorder self }
+        requires first { Contains self 0 }
+        requires end { Contains self (2 ^ UID_BITS) }
+        ensures borders { IfOk result (λ r. AreBorders r.0.items) }
+        ensures same { IfOk result (λ r. HasAll self r.0.items) }
+    {
+        let Gathered { borders, asked, .. } = self;
+        if MOST_RANKED < borders.len() {
+            return Ok((sorted(borders), Vec::new(alloc)));
+        }
+        let Ranked {
+            borders: ranked,
+            ranks,
+        } = rank(alloc, &borders)?;
+        if are_borders(&ranked) && have_ranks(&borders, &ranked, &ranks) {
+            let mut hints = asked;
+            replace_by_ranks(&mut hints, &ranks);
+            return Ok((ranked, hints));
+        }
+        Ok((sorted(borders), Vec::new(alloc)))
     }
 }
 
 /// The place in which a border is remembered.
 fn place_of(border: u64) -> usize {
     (border.wrapping_mul(SPREAD) >> (u64::BITS - LATELY_BITS)) as usize
+}
+
+/// Whether numbers are borders in rising order, from the first key to the end of the keys.
+fn are_borders(numbers: &[u64]) -> bool
+    ensures { result ≡ true → AreBorders numbers.now }
+{
+    if numbers.is_empty() || numbers[0] != 0 || numbers[numbers.len() - 1] != 1 << UID_BITS {
+        return false;
+    }
+    for index in 1..numbers.len() {
+        if numbers[index] <= numbers[index - 1] {
+            return false;
+        }
+    }
+    true
+}
+
+/// Whether each of some borders is among others, where its rank says.
+fn have_ranks(borders: &[u64], ranked: &[u64], ranks: &[u32]) -> bool
+    ensures { result ≡ true → (b : ℕ) → Contains borders.now b → Contains ranked.now b }
+{
+    for index in 0..borders.len() {
+        if !has_at(ranked, ranks.get(index).copied(), borders[index]) {
+            return false;
+        }
+    }
+    true
+}
+
+/// Whether a border is among some, where its rank says.
+fn has_at(ranked: &[u64], rank: Option<u32>, border: u64) -> bool
+    ensures { result ≡ true → Contains ranked.now border }
+{
+    match rank {
+        Some(rank) => {
+            let at = rank as usize;
+            at < ranked.len() && ranked[at] == border
+        }
+        None => false,
+    }
+}
+
+/// Replaces places of borders by their ranks.
+fn replace_by_ranks(places: &mut [u32], ranks: &[u32]) {
+    for place in places.iter_mut() {
+        *place = match ranks.get(*place as usize) {
+            Some(rank) => *rank,
+            None => 0,
+        };
+    }
+}
+
+/// Borders in rising order, each once.
+fn sorted(borders: Vec<u64>) -> Vec<u64>
+    ensures rising { IsStrictlyIncreasing result.items }
+    ensures same { HasAll borders.items result.items }
+{
+    let mut borders = borders;
+    borders.sort_unstable();
+    borders.dedup();
+    borders
 }

@@ -13,6 +13,7 @@ ghost use Rattle.vic_walk.specs.Needs.{needs_at};
 ghost use Rattle.vic_walk.specs.inner.Reach.{AreEndsUpTo, AreRuled, HasReach, IsBackTo, IsReachAt, lasts_to};
 ghost use Rattle.vic_walk.specs.inner.Spans.{IsPlace, IsSpanAt};
 
+use crate::hints::{Hints, Near};
 use crate::marks::Marks;
 use crate::notes::Notes;
 use crate::parts::{Parts, Span};
@@ -61,6 +62,7 @@ impl Reach {
         parts: &Parts,
         ends: &[u32],
         rounds: &RoundCursor,
+        near: Near,
         at: usize,
         entry: &Entry,
     ) -> Result<(), AllocError>
@@ -80,8 +82,8 @@ impl Reach {
     {
         match *entry {
             Entry::Sent(request) => {
-                self.kept.pass_request(parts, &request)?;
-                self.all.pass_request(parts, &request)?;
+                self.kept.pass_request(parts, near, &request)?;
+                self.all.pass_request(parts, near, &request)?;
                 Ok(())
             }
             Entry::FieldCycle => {
@@ -90,11 +92,11 @@ impl Reach {
                 Ok(())
             }
             Entry::Collision => {
-                self.meet(parts, ends, span_of(parts, rounds), at, 2)?;
+                self.meet(parts, ends, span_of(parts, rounds, near), at, 2)?;
                 Ok(())
             }
             Entry::Garbled => {
-                self.meet(parts, ends, span_of(parts, rounds), at, 1)?;
+                self.meet(parts, ends, span_of(parts, rounds, near), at, 1)?;
                 Ok(())
             }
             Entry::Silent
@@ -204,12 +206,14 @@ pub fn first_lack(
 {
     let mut reach = Reach::start(alloc, &walk.ends, upto)?;
     let mut rounds = RoundCursor::first();
+    let mut hints = Hints::first();
     for index in 0..lines.len() {
         if reach.upto <= index {
             return Ok(reach.upto);
         }
         let entry = lines[index].item();
-        reach.pass(parts, &walk.ends, &rounds, index, &entry)?;
+        let near = hints.next(parts.hints(), &entry);
+        reach.pass(parts, &walk.ends, &rounds, near, index, &entry)?;
         rounds.advance(&entry);
     }
     Ok(reach.upto)

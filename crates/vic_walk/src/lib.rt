@@ -6,6 +6,7 @@
 mod answers;
 mod closed;
 mod gathered;
+mod hints;
 mod index;
 mod lacking;
 pub mod laws;
@@ -13,6 +14,7 @@ mod listing;
 mod marks;
 mod notes;
 mod parts;
+mod ranked;
 mod three;
 mod walk;
 

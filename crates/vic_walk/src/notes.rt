@@ -1,10 +1,7 @@
 //! Where the UIDs of the Stay Quiet requests of a log were found among the parts. Each note is a
 //! hint for the next walk over the same log: a wrong one costs time and changes no answer.
 
-use crate::parts::Parts;
 use std::alloc::{AllocError, Global};
-use vic_frame::Uid;
-use vic_frame::low_bits_first::key;
 
 /// Hints of the parts of the UIDs that Stay Quiet requests name, in their order.
 #[derive(Drop)]
@@ -50,17 +47,12 @@ impl Notes {
         }
     }
 
-    /// A hint of the part that has the UID of the next request: its note, which is made now if
-    /// there is none and they are kept.
-    pub(crate) fn next_of(&mut self, parts: &Parts, uid: Uid) -> Result<usize, AllocError> {
-        if !self.kept {
-            return Ok(parts.at(key(uid)));
+    /// Notes where the UID of the next request was found, if notes are kept and it has none.
+    pub(crate) fn note(&mut self, part: usize) -> Result<(), AllocError> {
+        if self.kept && self.read == self.parts.len() {
+            self.parts.push(part.min(u32::MAX as usize) as u32)?;
         }
-        if let Some(part) = self.next() {
-            return Ok(part);
-        }
-        let part = parts.at(key(uid));
-        self.parts.push(part.min(u32::MAX as usize) as u32)?;
-        Ok(part)
+        self.read = self.read.saturating_add(1);
+        Ok(())
     }
 }

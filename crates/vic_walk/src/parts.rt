@@ -16,6 +16,7 @@ ghost use Rattle.vic_walk.specs.inner.Gathered.{HasAll, HasBlock, HasCuts, HasMa
 ghost use Rattle.vic_walk.specs.inner.Searching.{IsBetween};
 
 use crate::gathered::Gathered;
+use crate::hints::{asks_for_end, asks_for_own, has_sixteen};
 use crate::index::{Index, up_to};
 use crate::listing::list_start;
 use std::alloc::{AllocError, Global};
@@ -31,6 +32,8 @@ pub struct Parts {
     borders: Vec<u64>,
     /// A hint of where a key is among them.
     index: Index,
+    /// Hints for the walks over the log, in the order in which they ask.
+    hints: Vec<u32>,
 }
 
 impl Model for Parts {
@@ -62,9 +65,13 @@ impl Parts {
         ensures borders { IfOk result AreBorders }
         ensures cut { IfOk result (λ parts. AreCut parts (entries lines.now)) }
     {
-        let borders = gather(alloc, lines)?.in_order();
+        let (borders, hints) = gather(alloc, lines)?.in_order(alloc)?;
         let index = Index::over(alloc, &borders)?;
-        Ok(Parts { borders, index })
+        Ok(Parts {
+            borders,
+            index,
+            hints,
+        })
     }
 
     /// How many there are. Clause `borders` tells a proof what is so of any `Parts`.
@@ -107,6 +114,18 @@ impl Parts {
         }
     }
 
+    /// The part that has a key, which is expected in this one.
+    pub(crate) fn at_or_in(&self, part: usize, key: u64) -> usize
+        requires { IsKey key }
+        ensures { IsPartOf self.now key result }
+    {
+        if self.is_between(key, part, part.saturating_add(1)) {
+            part
+        } else {
+            self.at(key)
+        }
+    }
+
     /// The part that has a key, which is expected in this part or in one of the next few.
     pub(crate) fn at_or_after(&self, part: usize, key: u64) -> usize
         requires { IsKey key }
@@ -118,6 +137,11 @@ impl Parts {
         } else {
             self.at(key)
         }
+    }
+
+    /// Hints for the walks over the log, in the order in which they ask.
+    pub(crate) fn hints(&self) -> &[u32] {
+        &self.hints
     }
 
     /// Whether a key lies between two borders.
@@ -162,6 +186,22 @@ impl Parts {
             to: self.at_or_after(from, block.last()) + 1,
         }
     }
+
+    /// The same, with hints of the first part and of the one after the last.
+    pub(crate) fn span_near(&self, block: &KeyBlock, near: usize, end: usize) -> Span
+        requires { IsBlock block.now.first block.now.len }
+        ensures within { result.to ≤ part_count self.now }
+        ensures inside { IsByParts self.now (is_in_block block.now.first block.now.len)
+            → (k p : ℕ) → IsKey k → IsPartOf self.now k p
+            → is_in_block block.now.first block.now.len k
+            ≡ (nat_le result.from p && nat_lt p result.to) }
+    {
+        // shows a proof what is so of the borders
+        let _ = &self.borders;
+        let from = self.at_or_in(near, block.first);
+        let last = self.at_or_after(end.saturating_sub(1).max(from), block.last());
+        Span { from, to: last + 1 }
+    }
 }
 
 /// The borders that the lines of a log need, in no order.
@@ -174,19 +214,27 @@ fn gather(alloc: Global, lines: &[PackedLine]) -> Result<Gathered, AllocError>
     ensures first { IfOk result (λ bs. Contains bs 0) }
     ensures end { IfOk result (λ bs. Contains bs (2 ^ UID_BITS)) }
 {
-    let mut borders = Gathered::new(alloc)?;
+    let end = list_start(lines);
+    let mut borders = Gathered::new(alloc, end.saturating_add(end))?;
     let mut cursor = RoundCursor::first();
-    for index in 0..list_start(lines) {
+    let mut sixteen = false;
+    for index in 0..end {
         let entry = lines[index].item();
-        push_mask(&mut borders, &cursor, &entry)?;
-        push_named(&mut borders, &entry)?;
+        push_mask(&mut borders, &cursor, &entry, asks_for_end(&entry, sixteen))?;
+        push_named(&mut borders, &entry, asks_for_own(&entry, sixteen))?;
+        sixteen = has_sixteen(sixteen, &entry);
         cursor.advance(&entry);
     }
     Ok(borders)
 }
 
 /// Adds the borders of a slot line's mask.
-fn push_mask(borders: &mut Gathered, cursor: &RoundCursor, entry: &Entry) -> Result<(), AllocError>
+fn push_mask(
+    borders: &mut Gathered,
+    cursor: &RoundCursor,
+    entry: &Entry,
+    with_end: bool,
+) -> Result<(), AllocError>
     ensures more { OnOk result (HasAll borders.old borders.new) }
     ensures mask { OnOk result ((es : List EntryValue) (i : ℕ) → AreValid es
         → IsCursorAt es i cursor.now → is_slot entry.now ≡ true
@@ -198,13 +246,13 @@ fn push_mask(borders: &mut Gathered, cursor: &RoundCursor, entry: &Entry) -> Res
         | Entry::Heard(_)
         | Entry::Garbled
         | Entry::Captured(_)
-        | Entry::Unknown => push_block(borders, cursor.keys()),
+        | Entry::Unknown => push_block(borders, cursor.keys(), with_end),
         Entry::Sent(_) | Entry::Listed(_) | Entry::FieldCycle => Ok(()),
     }
 }
 
 /// Adds the borders around the UID that an entry silences or hears.
-fn push_named(borders: &mut Gathered, entry: &Entry) -> Result<(), AllocError>
+fn push_named(borders: &mut Gathered, entry: &Entry, asked: bool) -> Result<(), AllocError>
     ensures more { OnOk result (HasAll borders.old borders.new) }
     ensures named { OnOk result ((u : ℕ) → IsUid u → names (Some entry.now) u ≡ true
         → HasUid borders.new u) }
@@ -212,12 +260,16 @@ fn push_named(borders: &mut Gathered, entry: &Entry) -> Result<(), AllocError>
     match *entry {
         Entry::Sent(request) => match request {
             Request::StayQuiet { uid, .. } => match Uid::new(uid) {
-                Some(silenced) => push_uid(borders, silenced),
+                Some(silenced) => push_uid(borders, silenced, asked),
                 None => Ok(()),
             },
             Request::Inventory { .. } => Ok(()),
         },
-        Entry::Heard(response) | Entry::Captured(response) => push_uid(borders, response.uid()),
+        Entry::Heard(response) | Entry::Captured(response) => push_uid(
+            borders,
+            response.uid(),
+            asked,
+        ),
         Entry::Silent
         | Entry::Collision
         | Entry::Garbled
@@ -227,36 +279,43 @@ fn push_named(borders: &mut Gathered, entry: &Entry) -> Result<(), AllocError>
     }
 }
 
-/// Adds the borders of a block, if there is one.
-fn push_block(borders: &mut Gathered, block: Option<KeyBlock>) -> Result<(), AllocError>
+/// Adds the borders of a block, if there is one. A walk asks in any case for the first, and maybe
+/// for the end.
+fn push_block(
+    borders: &mut Gathered,
+    block: Option<KeyBlock>,
+    with_end: bool,
+) -> Result<(), AllocError>
     requires { IfSome block (λ b. IsBlock b.first b.len) }
     ensures more { OnOk result (HasAll borders.old borders.new) }
     ensures block { OnOk result (HasBlock borders.new block) }
 {
     match block {
-        Some(block) => push_both(borders, block.first, block.last() + 1),
-        None => Ok(()),
+        Some(block) => push_both(borders, block.first, block.last() + 1, with_end),
+        None => push_both(borders, 0, 0, with_end),
     }
 }
 
-/// Adds the borders around a UID.
-fn push_uid(borders: &mut Gathered, uid: Uid) -> Result<(), AllocError>
-    ensures more { OnOk result (HasAll borders.old borders.new) }
-    ensures uid { OnOk result (HasUid borders.new uid) }
-{
-    let own = key(uid);
-    push_both(borders, own, own + 1)
-}
-
-/// Adds two borders.
-fn push_both(borders: &mut Gathered, from: u64, end: u64) -> Result<(), AllocError>
+/// Adds two borders. A walk asks for the first, and maybe for the other.
+fn push_both(borders: &mut Gathered, from: u64, end: u64, with_end: bool) -> Result<(), AllocError>
     requires from { IsBorder from }
     requires end { IsBorder end }
     ensures more { OnOk result (HasAll borders.old borders.new) }
     ensures both { OnOk result (Contains borders.new from
         × Contains borders.new end) }
 {
-    borders.push(from)?;
-    borders.push(end)?;
+    borders.push_asked(from)?;
+    borders.push_maybe_asked(end, with_end)?;
+    Ok(())
+}
+
+/// Adds the borders around a UID. A walk may ask for the first.
+fn push_uid(borders: &mut Gathered, uid: Uid, asked: bool) -> Result<(), AllocError>
+    ensures more { OnOk result (HasAll borders.old borders.new) }
+    ensures uid { OnOk result (HasUid borders.new uid) }
+{
+    let own = key(uid);
+    borders.push_maybe_asked(own, asked)?;
+    borders.push(own + 1)?;
     Ok(())
 }

@@ -15,6 +15,7 @@ ghost use Rattle.vic_walk.specs.Walk.{HasRoom, IsWalkAt, IsEndOfWalk, IsWalkOver
 ghost use Rattle.vic_walk.specs.inner.Ready.{IsReadyAt};
 ghost use Rattle.vic_walk.specs.inner.Spans.{is_within, is_other, HasLost, IsSpanAt, IsPlace, IsRuledOut};
 
+use crate::hints::{Hints, Near};
 use crate::listing::list_start;
 use crate::marks::Marks;
 use crate::notes::Notes;
@@ -172,6 +173,7 @@ impl Walk {
     pub(crate) fn pass_request(
         &mut self,
         parts: &Parts,
+        near: Near,
         request: &Request,
     ) -> Result<(), AllocError>
         requires { part_count parts.now ≡ length self.old.lasting }
@@ -186,8 +188,9 @@ impl Walk {
         match *request {
             Request::StayQuiet { uid, .. } => match Uid::new(uid) {
                 Some(uid) => {
-                    let near = self.notes.next_of(parts, uid)?;
-                    self.silence(parts.at_or_after(near, key(uid)))?;
+                    let part = parts.at_or_in(near.own, key(uid));
+                    self.notes.note(part)?;
+                    self.silence(part)?;
                     Ok(())
                 }
                 // no tag has this number
@@ -202,6 +205,7 @@ impl Walk {
         &mut self,
         parts: &Parts,
         rounds: &RoundCursor,
+        near: Near,
         at: u32,
         entry: &Entry,
     ) -> Result<bool, AllocError>
@@ -217,22 +221,22 @@ impl Walk {
     {
         match *entry {
             Entry::Sent(request) => {
-                self.pass_request(parts, &request)?;
+                self.pass_request(parts, near, &request)?;
                 Ok(true)
             }
             Entry::FieldCycle => {
                 self.wake();
                 Ok(true)
             }
-            Entry::Silent => Ok(!self.rule_out(span_of(parts, rounds), at)),
+            Entry::Silent => Ok(!self.rule_out(span_of(parts, rounds, near), at)),
             Entry::Heard(response) => {
-                let span = span_of(parts, rounds);
-                let own = parts.at_or_after(span.from, key(response.uid()));
+                let span = span_of(parts, rounds, near);
+                let own = parts.at_or_after(near.own, key(response.uid()));
                 Ok(self.hear(span, own, at))
             }
             Entry::Captured(response) => {
-                let span = span_of(parts, rounds);
-                let own = parts.at_or_after(span.from, key(response.uid()));
+                let span = span_of(parts, rounds, near);
+                let own = parts.at_or_after(near.own, key(response.uid()));
                 Ok(self.hear_among(span, own))
             }
             // these rule out no UID
@@ -242,14 +246,14 @@ impl Walk {
 }
 
 /// The parts whose UIDs lie in the mask of the next slot.
-pub(crate) fn span_of(parts: &Parts, rounds: &RoundCursor) -> Span
+pub(crate) fn span_of(parts: &Parts, rounds: &RoundCursor, near: Near) -> Span
     ensures within { result.to ≤ part_count parts.now }
     ensures inside { (es : List EntryValue) (i : ℕ) (e : EntryValue)
         → IsPlace parts.now es i e rounds.now → is_slot e ≡ true
         → IsSpanAt parts.now es i result }
 {
     match rounds.keys() {
-        Some(block) => parts.span(&block),
+        Some(block) => parts.span_near(&block, near.from, near.to),
         None => Span { from: 0, to: 0 },
     }
 }
@@ -280,9 +284,11 @@ fn walk_over(
 {
     let mut walk = Walk::start(alloc, parts.count(), notes)?;
     let mut rounds = RoundCursor::first();
+    let mut hints = Hints::first();
     for index in 0..list_start(lines) {
         let entry = entry_of(lines[index]);
-        if !walk.pass(parts, &rounds, index as u32, &entry)? {
+        let near = hints.next(parts.hints(), &entry);
+        if !walk.pass(parts, &rounds, near, index as u32, &entry)? {
             return Ok((walk, Some(index)));
         }
         rounds.advance(&entry);

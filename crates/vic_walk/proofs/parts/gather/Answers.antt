@@ -23,7 +23,7 @@ loop-index-preserved c =
     let masked = c.in_ok-push_mask.ensures in
     let named = c.in_ok-push_named.ensures in
     let more = more_again _ _ _ masked.more named.more in
-    let here : slice_get es l.index ≡ Some c.item-entry.result = entry_at lines l.index c.index-lines-index.result (omega (arith, c.loop-index-test.true, c.list_start-index-end.ensures.within)) c.index-lines-index.is ∙ ap (λ (e : Entry). Some e) (sym c.item-entry.ensures) in
+    let here : slice_get es l.index ≡ Some c.item-entry.result = entry_at lines l.index c.index-lines-index.result (omega (arith, c.loop-index-test.true, c.list_start-end.ensures.within)) c.index-lines-index.is ∙ ap (λ (e : Entry). Some e) (sym c.item-entry.ensures) in
     record {
       cursor = c.advance.ensures es l.index c.requires.order here i.cursor;
       cut = all_cuts es l.index _ _ more i.cut (cuts_here es l.index _ _ _ here (masked.mask es l.index c.requires.valid i.cursor) named.more named.named);
@@ -35,5 +35,5 @@ loop-index-preserved c =
 pub returns-clause-cut : goal.returns-clause-cut
 returns-clause-cut c i within = elim (cases_lt i c.loop-index.index) [
   | inl before ↦ c.loop-index.invariant.cut i before
-  | inr past ↦ cuts_past (entries c.args.lines.now) _ c.list_start-index-end.result i c.list_start-index-end.ensures.list (omega (arith, past, c.loop-index-test.false))
+  | inr past ↦ cuts_past (entries c.args.lines.now) _ c.list_start-end.result i c.list_start-end.ensures.list (omega (arith, past, c.loop-index-test.false))
 ]

@@ -1,17 +1,26 @@
-use Rattle.std.proofs.lemmas.List.Filters.{All-dedup, dedup_is}
-use Rattle.std.proofs.lemmas.List.Kept.{Contains-dedup_nat}
-use Rattle.std.proofs.lemmas.List.Sorted.{All-permutation, Contains-permutation}
-use Rattle.std.proofs.lemmas.Map.Keys.{IsStrictlyIncreasing-dedup}
-use Rattle.vic_walk.specs.inner.Gathered.{IsBorder}
+use Rattle.std.proofs.Common.{List, refl, subst, sym, ℕ, ◌∙◌}
+use Rattle.std.specs.List.{Contains}
+use Rattle.vic_walk.specs.Borders.{AreBorders}
+use Rattle.vic_walk.specs.inner.Gathered.{HasAll}
+use Rattle.vic_walk.proofs.PartLaws.{all_borders, are_borders}
 use Rattle.vic_walk.proofs.gathered.Gathered.in_order.Goals as goal
 
-pub returns-clause-rising : goal.returns-clause-rising
-returns-clause-rising c = rw (dedup_is _ _ _ c.dedup.ensures.filtered) (IsStrictlyIncreasing-dedup _ c.sort_unstable.ensures.sorted)
+pub returns-then-have_ranks-clause-same : goal.returns-then-have_ranks-clause-same
+returns-then-have_ranks-clause-same c =
+    let given = sym (c.deref-then-are_borders.ensures.value ∙ c.self.view_is) in
+    let ranked = c.deref-then-are_borders-2.ensures.value in
+    let borders = subst AreBorders c.deref-2.ensures.value (c.if-are_borders.ensures refl) in
+    record {
+      kept = λ b there. subst (λ (bs : List ℕ). Contains bs b) ranked (c.if-have_ranks.ensures refl b (subst (λ (bs : List ℕ). Contains bs b) given there));
+      borders = λ all. all_borders _ borders;
+    }
 
-pub returns-clause-same : goal.returns-clause-same
-returns-clause-same c =
-    let sort = c.sort_unstable.ensures.permutation in
-    rw (dedup_is _ _ _ c.dedup.ensures.filtered, ← c.self.view_is) (record {
-      kept = λ b there. Contains-dedup_nat _ b (Contains-permutation _ _ b sort there);
-      borders = λ all. All-dedup _ IsBorder _ (All-permutation IsBorder _ _ sort all);
-    })
+pub returns-then-len-gt-MOST_RANKED-clause-borders : goal.returns-then-len-gt-MOST_RANKED-clause-borders
+returns-then-len-gt-MOST_RANKED-clause-borders c =
+    let same : HasAll c.args.self c.sorted.result.items = subst (λ (bs : List ℕ). HasAll bs c.sorted.result.items) c.self.view_is c.sorted.ensures.same in
+    are_borders _ _ c.sorted.ensures.rising same c.requires.borders c.requires.first c.requires.end
+
+pub returns-clause-borders : goal.returns-clause-borders
+returns-clause-borders c =
+    let same : HasAll c.args.self c.sorted-2.result.items = subst (λ (bs : List ℕ). HasAll bs c.sorted-2.result.items) c.self.view_is c.sorted-2.ensures.same in
+    are_borders _ _ c.sorted-2.ensures.rising same c.requires.borders c.requires.first c.requires.end
