@@ -61,15 +61,16 @@ SAID = (
      "one.", "Nothing to do"),
     ("I1 RA UA", "To know whether a strong reply hid a weaker one, silence each tag that was "
      "heard, and ask all in one slot, until none answers:", "may be wrong. To know"),
-    ("I1 S UA", "If the list is what the reader found: a tag left", "shown by"),
+    ("I1 S UA", "If the list is what the reader found: tags left", "shown by"),
     ("I1 S UA", "ruled out by", "must be here"),
     ("I1 S UA", "asked in 1 slot, silent there; ruled out by line 3", "To go unnoticed"),
     ("I1 S MA S I1 S UA", "asked in 3 slots, silent in each; ruled out by line 3", "silent there"),
     ("I1 S", "To go unnoticed, a tag would have had to be missed in 1 slot, whatever its UID.",
      "asked in"),
-    ("I1 RA QA I1 S UA", "in 2 slots; among the weakest: UIDs ending in an even digit.",
+    ("I1 RA QA I1 S UA", "in 2 slots; that is enough for UIDs ending in an even digit",
      "asked in"),
-    ("I1 RA QA QB I1 S UA", "in 1 slot; among the weakest: E0040100000000B2.", "asked in"),
+    ("I1 RA QA QB I1 S UA", "in 1 slot; that is enough for E0040100000000B2, for example.",
+     "asked in"),
     ("I1 RA", "1 tag that is here", "To go unnoticed"),
     ("I1 RA", "1 tag that is here", "must be here"),
     ("I1 RA UB", "its software has to write a U line", "Nothing to do"),
@@ -82,8 +83,8 @@ SAID = (
     ("I16 S14", "ended before slots E and F.", "E to F"),
     ("I1 QA I1 S UA", "Begin a new log, of version 3", "What is left to ask"),
     ("V2 I1 QA I1 S UA", "write F, and send 1 request for tags that were silenced", "a new log"),
-    ("I1 RA", "have the reader ask all tags again, until none answers", "Nothing to do"),
-    ("I1 RA QA I1 S", "open a catalogue (CSV) together with the log", "ask all tags again"),
+    ("I1 RA", "run the inventory again, to a last round that no tag answers.", "Nothing to do"),
+    ("I1 RA QA I1 S", "open a catalogue (CSV) together with the log", "to a last round"),
     ("I16 C C S14", "2 requests are left, one for each open mask.", "What is left to ask"),
     ("I1 RA I1 RB", "ask in sixteen slots, so that fewer tags answer at once. If strong replies "
      "may have hidden weaker ones (each R read as H), the log doesn't contradict itself.\n\n"
@@ -434,7 +435,7 @@ def test_what_is_not_needed_is_not_taken_for_granted(page, names, holds):
     said = page.run("return [...document.querySelectorAll('details:last-of-type li')]"
                     ".map((it) => it.textContent)")
     assert ("Every reply came from a tag." in said) == holds
-    assert any("No strong reply hid a weaker one" in it for it in said) != holds
+    assert any("o strong reply hid a weaker one" in it for it in said) != holds
 
 
 @pytest.mark.parametrize(("names", "conditions"), [
@@ -599,7 +600,7 @@ def test_stay_quiets_behind_one_that_is_marked_belong_to_their_round(page):
     page.drop(log=text_of(["vicinity-log 1", EACH, *"S" * 1, READ_A, READ_B, *"S" * 13, QUIET_A,
                            biglog.silence(0xE0040100000000B2), ALL, READ_A]))
     page.until("h1", "tag ..00A1 was silenced in line 19, but answered in line 22.")
-    assert page.texts(".steps li")[0].startswith("Move tag E0040100000000A1 further into")
+    assert page.texts(".steps li")[0].startswith("Move the item with tag E0040100000000A1 nearer")
     cells = page.run("return [...document.querySelectorAll('.rounds tr:nth-child(1) td')]"
                      ".map((it) => it.textContent)")
     assert cells[:4] == ["all", "·no tag answered", "A1 (silenced afterwards)",
@@ -983,7 +984,7 @@ def test_what_is_left_to_ask_in_a_field(page, log, left):
 
 
 def test_rows_without_a_tag(page):
-    """They are counted, but nothing is known of them. What has no title is in the column of UIDs."""
+    """They are counted, but nothing is known of them. Without a title the UID names an item."""
     catalogue = b"uid,title\nE0040100000000A1,Walden\n,Emma\n"
     page.drop(**{"catalogue": catalogue, "one.log": log_of("I1 RB QB I1 S")})
     page.until("h1", "1 item missing, 1 not in the catalogue and 1 without a tag.")

@@ -375,7 +375,8 @@ def test_page_of_a_collection_that_is_not_sure_enough(run, browser, tmp_path):
         page.open(tmp_path / "page.html")
         page.until("header h1", headline)
         assert (done.returncode, bool(page.texts(".banner.yes"))) == (status, status == 0)
-        where = "in the field of shelf-a.log; among the weakest: UIDs ending in an even digit."
+        where = ("in the field of shelf-a.log; that is enough for UIDs ending in an even digit, "
+                 "for example.")
         assert f"To go unnoticed, {missed} {where}" in page.texts(".holds p")
         page.is_readable()
     page.end()

@@ -47,7 +47,7 @@ const MOST_TEXT = 4_000_000;
 const LOOK_FOR = "If it is in plain sight, its tag is broken or covered: move it, and count again. " +
   "If it isn't found, leave its row in the catalogue.";
 const NOT_EXPECTED = "What isn't in the catalogue: bring it to where it belongs, or add it.";
-const AWAY = "The logs of their shelves rule these out. They are in none of the fields, or";
+const AWAY = "Count again first, as said above. The logs of their shelves rule these out: they are in none of the fields, or";
 const NO_TAG = "These rows of the catalogue have no UID, so nothing is known of them: look for them by eye.";
 const UNKNOWN_YET = "Whether these are here isn't known until the logs above are counted again.";
 const OF_LOGS = ["Nothing was carried from one field to another while the logs were written.", "Each place of the catalogue was " +
@@ -69,7 +69,7 @@ const countAgain = (logs) => `Run ${logs === 1 ? "its inventory" : "the inventor
 export function collectionView(object) {
   const of = (/** @type {State} */ state) => object.items.filter((item) => item.state === state), shelves = new Shelves(object.logs);
   const home = (/** @type {Item} */ { belongs = "" }) => printable(belongs), known = new Set(["", ...of("there").map(home)]);
-  const mayBe = { "may be in": (/** @type {Item} */ item) => shelves.names(item.may_be_in) }, unknown = of("not provable");
+  const mayBe = { "may be in": (/** @type {Item} */ item) => shelves.names(item.may_be_in, "or") }, unknown = of("not provable");
   const away = unknown.filter((item) => shelves.isAway(item)), others = unknown.filter((item) => !shelves.isAway(item));
   const some = others.filter((item) => known.has(home(item))), none = others.filter((item) => !known.has(home(item)));
   // of a shelf of which nothing is known to be in place no items are named

@@ -18,6 +18,7 @@ import { linkOf } from "./frames.mjs";
  * @property {number} rounds of how many rounds they are
  * @property {number} link of the request of its first line
  * @property {number} silencer the line of the Stay Quiet that had silenced the tag of its reply, 0 if there is none
+ * @property {number} quietest the last line in between that shows this tag silent, 0 if there is none
  */
 
 /** How many rounds of a conflict are told, and how many lines make one that has a list of its own. */
@@ -39,10 +40,29 @@ export const isLarge = (conflict) => conflict !== null && conflict.count > MOST_
 export function conflictOf(log, lines, silencer) {
   const heard = lines.filter((line) => log.isReply(line)), isSilent = (/** @type {number} */ line) => log.reading(line) === "silent";
   const unread = lines.find((line) => !log.isReply(line) && !isSilent(line));
-  return { count: lines.length, first: lines[0], last: lines[lines.length - 1], silencer,
+  const last = heard.length ? log.slot(heard[heard.length - 1]) : null;
+  const quietest = silencer && last?.uid ? lastSilence(log, last.uid, log.rowAt(silencer), log.rowAt(last.line)) : 0;
+  return { count: lines.length, first: lines[0], last: lines[lines.length - 1], silencer, quietest,
     link: linkOf(log.frame(log.lineOf(log.rowAt(lines[0])))), unread: unread ? log.slot(unread) : null,
     heard: [...new Set([...heard.slice(0, 1), ...heard.slice(-1)])].flatMap((line) => log.slot(line) ?? []),
     silent: lines.find(isSilent) ?? 0, ...partsOf(log, lines) };
+}
+
+/**
+ * The last line between two rows in which a tag was asked and nobody answered, 0 if there is none.
+ * @param {Log} log
+ * @param {bigint} uid
+ * @param {number} from
+ * @param {number} to
+ */
+function lastSilence(log, uid, from, to) {
+  for (let at = to - 1; at > from; at--) {
+    const row = log.isRound(at) ? log.row(at) : null;
+    if (row?.kind !== "round") continue;
+    const slot = row.slots.find(({ reading, mask }) => reading === "silent" && !BigInt.asUintN(mask.len, mask.value ^ uid));
+    if (slot) return slot.line;
+  }
+  return 0;
 }
 
 /**

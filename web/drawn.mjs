@@ -5,8 +5,8 @@
 /** @typedef {import("./log.mjs").Round} Round */
 /** @typedef {{kind: "gap", rounds: number, quiets: number, cycles: number}} Gap */
 
-/** How many rows are drawn, and how many at each end at least. */
-const MOST_DRAWN = 60, EDGE = 3;
+/** How many rows are drawn, of a conflict with a list of its own, and how many at each end at least. */
+const MOST_DRAWN = 60, MOST_LISTED_TOO = 30, EDGE = 3;
 
 /**
  * The rows that are drawn, with gaps between them: those of the lines that are marked, the first and the last, and those of
@@ -14,14 +14,14 @@ const MOST_DRAWN = 60, EDGE = 3;
  * @param {Log} log
  * @param {number[]} named
  * @param {number[]} causing
- * @param {boolean} whole whether a short log is drawn with all its rows
+ * @param {boolean} whole whether a short log is drawn with all its rows: not beside a list of a conflict's lines
  */
 export function drawn(log, named, causing, whole) {
   const edges = [...Array(EDGE).keys()].flatMap((at) => [at, asking(log, log.rowCount - 1 - at), log.rowCount - 1 - at]);
   const all = whole && log.rowCount <= MOST_DRAWN ? [...Array(log.rowCount).keys()] : [];
   const wanted = [...all, ...named.map((line) => log.rowAt(line)), ...edges, ...causing]
     .filter((row) => row >= 0 && row < log.rowCount);
-  const marked = new Set(named), rows = [...new Set(wanted)].slice(0, MOST_DRAWN).sort((one, other) => one - other);
+  const marked = new Set(named), rows = [...new Set(wanted)].slice(0, whole ? MOST_DRAWN : MOST_LISTED_TOO).sort((one, other) => one - other);
   /** @type {(Row | Gap)[]} */
   const result = [];
   let next = 0;

@@ -38,7 +38,10 @@ const LINE = /(\bline \d+|(?<=\blines (?:\d+(?:, | and ))*)\d+)/i;
  * @param {string} sentence
  */
 export function linked(sentence) {
-  return sentence.split(LINE).map((part, at) => at % 2 ? toLine(Number(part.match(/\d+/)), part) : part);
+  const parts = sentence.split(LINE), mark = (/** @type {string} */ part) => part.match(/^[,.:;]/)?.[0] ?? "";
+  // what follows a line stays with it
+  return parts.map((part, at) => at % 2 ? el("span", { class: "kept" }, toLine(Number(part.match(/\d+/)), part), mark(parts[at + 1]))
+    : at ? part.slice(mark(part).length) : part);
 }
 
 /**

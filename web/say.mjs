@@ -33,16 +33,16 @@ const EMPTY = "If items should be here: check the antenna, switch the reader's f
 const NOTHING = "Nothing to do.";
 const ONE_MORE = "Send this page (printed as PDF) to whoever maintains the reader: only asking again, until none answers, shows whether a " +
   "strong reply hid a weaker one.";
-const ONE_ROUND = "To see whether others are here: have the reader ask all tags again, until none answers. What to send is below, " +
-  "for whoever maintains the reader.";
+const ONE_ROUND = "To see whether others are here: run the inventory again, to a last round that no tag answers.";
 const COMPARE = "Compare these tags with what should be here: open a catalogue (CSV) together with the log.";
 /** If the list is what was expected here, and if it is what the reader found: of tags that can't be here, and of others. */
 const IF_EXPECTED = "If the list is what was expected here: ", IF_READ = "If the list is what the reader found: ";
-const MISSING = ["look for the listed tags that can't be here (if an item is in plain sight, its tag is broken or covered: move it, and " +
-  "count again)", "a tag left, or the list is that of another session"];
+const MISSING = ["look for the listed tags that can't be here. If an item is in plain sight, its tag is broken or covered: move it, and " +
+  "count again.", "tags left, or the list is that of another session"];
 const LOST = "Before you look for tags that can't be here: the reader silenced some of them, so it knew them, and their replies may have " +
   "been lost. Switch its field off and on, and count again.";
-const STRANGERS = ["the items that aren't on it belong elsewhere, or the list lacks them", "its software left out tags that were here"];
+const STRANGERS = ["the tags that aren't listed belong elsewhere, or the list lacks them.",
+  "the reader's software left out tags that were here"];
 const STAYS = "If the answer stays so, send the log and this page (printed as PDF) to whoever maintains the reader.";
 /** For whoever maintains it, of tags that can't be here, and of those that aren't listed. */
 const NOT_HEARD = "If a tag that can't be here answers when no other tag is near: the line that rules it out tells of a slot in which " +
@@ -62,15 +62,17 @@ const MOST_CAUSES = 24;
 
 /**
  * What no program can check. If one of these fails, an answer may be wrong.
- * @param {boolean} holds whether it holds also if strong replies hid weaker ones, so that this isn't taken for granted
+ * @param {boolean} holds whether all of it holds also if strong replies hid weaker ones, so that this isn't taken for granted
+ * @param {boolean} [isAnswered] whether the answer itself does
  */
-export const granted = (holds) => [
+export const granted = (holds, isAnswered = false) => [
   "Each tag has power, hears the reader, and is heard: none is shielded, on metal, at a bad angle, stacked on another, or at " +
     "the edge of the field. A tag that never answers is in no log.",
   "The log is true: it says what was sent and what each logged slot held, in the order in which it happened.",
   "Nothing else was sent that changes which tags answer, by this reader or another: no Select, no Reset to Ready, no quiet " +
     "command of a manufacturer.",
-  holds ? "Every reply came from a tag." : "No strong reply hid a weaker one, and every reply came from a tag.",
+  holds ? "Every reply came from a tag." : isAnswered ? "Every reply came from a tag; and, for all but the answer itself, no strong " +
+    "reply hid a weaker one." : "No strong reply hid a weaker one, and every reply came from a tag.",
   "The tags conform to ISO/IEC 15693-3, and no two have the same UID.",
   "No tag came or went during the log, all were ready when it began, and the field stayed on, except where the log says that " +
     "it was switched off and on.",
@@ -89,7 +91,7 @@ export function say(told, isAlone = true) {
   const { sentence: found, causes, test, ask = [], shelf = NEW_LOG } = contradiction(told.conflict);
   const other = told.object.captured?.kind ?? KIND.IMPOSSIBLE;
   return { ...none, look: "broken", sign: "≠", headline: `The log contradicts itself: ${found}`, shelf: [shelf, STAYS],
-    lead: "Mostly it is one of these:", causes, ask,
+    lead: "Usually it is one of these:", causes, ask,
     test: [test, other === KIND.IMPOSSIBLE ? "" : NO_CONFLICT].filter((it) => it).join(" ") };
 }
 
@@ -119,14 +121,14 @@ function possible(told, isAlone) {
  */
 function steps({ object: { kind, found, open, captured }, counts, quiet, notes }, isAlone) {
   if (kind === KIND.COMPLETE) return [!counts.listed ? EMPTY : captured?.holds === false ? ONE_MORE : NOTHING];
-  if (!open.count && !counts.listed) return [...captured?.settled === false ? [ONE_ROUND] : [], ...isAlone ? [COMPARE] : []];
+  if (!open.count && !counts.listed) return [...captured?.settled === false ? [ONE_ROUND, STAYS] : [], ...isAlone ? [COMPARE] : []];
   const steps = [];
   if (kind === KIND.DOUBTFUL) steps.push(CYCLE, LOOK);
   else if (open.count) steps.push(quiet === open.count ? CYCLE : AGAIN);
   if (found.absent && notes.lost.length) steps.push(LOST);
   const differs = [...found.absent ? [MISSING] : [], ...found.unlisted && counts.listed ? [STRANGERS] : []];
-  const [expected, read] = [0, 1].map((at) => differs.map((it) => it[at]).join("; "));
-  return [...steps, ...differs.length ? [`${IF_EXPECTED}${expected}.`, `${IF_READ}${read}. Count again.`] : [], STAYS];
+  const [expected, read] = [" And ", "; and "].map((and, at) => differs.map((it) => it[at]).join(and));
+  return [...steps, ...differs.length ? [`${IF_EXPECTED}${expected}`, `${IF_READ}${read}. Count again.`] : [], STAYS];
 }
 
 /**
@@ -312,7 +314,7 @@ export const mayBeWrong = (where) => `${IF_HIDDEN}may be wrong. To know,${where}
  */
 export function missed({ margin, weakest }, where = "") {
   if (!margin || !weakest) return [];
-  const which = weakest.mask_len ? `; among the weakest: ${ending(maskOf(weakest))}` : ", whatever its UID";
+  const which = weakest.mask_len ? `; that is enough for ${ending(maskOf(weakest))}, for example` : ", whatever its UID";
   return [`To go unnoticed, a tag would have had to be missed in ${count(margin, "slot")}${where}${which}.`];
 }
 

@@ -33,10 +33,13 @@ export class Shelves {
   /** @param {string} file */
   name(file) { return this.placeOf(file) || nameOf(file); }
 
-  /** @param {string[]} files */
-  names(files) {
+  /**
+   * @param {string[]} files
+   * @param {string} [last]
+   */
+  names(files, last) {
     const all = [...new Set(files.map((file) => this.name(file)))], more = all.length - MOST_NAMES;
-    return listing([...all.slice(0, more === 1 ? MOST_NAMES + 1 : MOST_NAMES), ...more > 1 ? [`${more} more`] : []]);
+    return listing([...all.slice(0, more === 1 ? MOST_NAMES + 1 : MOST_NAMES), ...more > 1 ? [`${more} more`] : []], last);
   }
 
   /**

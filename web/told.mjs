@@ -136,6 +136,7 @@ function explain(log, told) {
   if (isHiding) Object.assign(told.requests, allButHeard(log, link, object.certain.count));
   told.named = named(told);
   told.notes = notesOf(log, object);
+  if (told.conflict) told.notes.last = null;
   told.ringed = causes.flatMap((cause) => cause.slots.map((number) => `${cause.round}:${number}`));
   told.rows = drawn(log, told.named, rows, !isLarge(told.conflict));
   if (!told.rows.some((row) => row.kind === "gap")) return;

@@ -115,7 +115,8 @@ function conflict({ conflict: it }) {
   const part = folded(`The ${count(it.count, "line")} that can't all be true, of ${count(it.rounds, "round")}`, false, el("ul", {}, items),
     ...rest(it.rounds - new Set(it.parts.map((part) => part.round)).size));
   if (it.rounds > MOST_ROUNDS) part.classList.add("aside");
-  return [lengthy(part, items.length)];
+  const where = `The ${count(it.count, "line")} that can't all be true are from line ${it.first} to line ${it.last}; the page lists them on a screen.`;
+  return [lengthy(part, items.length), ...it.rounds > MOST_ROUNDS ? [el("p", { class: "cut" }, where)] : []];
 }
 
 /**
@@ -152,7 +153,7 @@ function notes(told) {
  */
 function takenForGranted(told) {
   if (told.object.status > 1) return [];
-  const all = granted(isApart(told));
+  const all = granted(isApart(told), told.object.captured?.holds);
   return [folded(`What this takes for granted (${all.length})`, !told.object.status, el("ul", {}, all.map((it) => el("li", {}, it))))];
 }
 

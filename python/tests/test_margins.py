@@ -131,9 +131,10 @@ class Said(Command):
 
     def test_in_a_terminal(self):
         for lines, wanted in (
-                (TWICE + LIST_A, f"{SAID} 2 slots; among the weakest: UIDs ending in an even digit."),
-                (ALL + b"S\n", f"{SAID} 1 slot; among the weakest: all UIDs."),
-                (ONCE_B + LIST_A, f"{SAID} 1 slot; among the weakest: E0040100000000B2."),
+                (TWICE + LIST_A,
+                 f"{SAID} 2 slots; that is enough for UIDs ending in an even digit."),
+                (ALL + b"S\n", f"{SAID} 1 slot; that is enough for all UIDs."),
+                (ONCE_B + LIST_A, f"{SAID} 1 slot; that is enough for E0040100000000B2."),
                 (OFTEN + LIST_A + LIST_B,
                  "absent: E0040100000000A1, asked in 4 slots, silent in each"),
                 (ALL + b"S\n" + LIST_A, "absent: E0040100000000A1, asked in 1 slot, silent there")):
@@ -234,4 +235,4 @@ class Collections(Command):
         os.close(ours)
         os.close(theirs)
         self.assertIn(f"{SAID} 2 slots in the field of {self.logs[0]}; "
-                      "among the weakest: UIDs ending in an even digit.", told.decode())
+                      "that is enough for UIDs ending in an even digit.", told.decode())

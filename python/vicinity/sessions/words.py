@@ -101,7 +101,7 @@ def conditions(told: Told) -> Iterator[str]:
 def missed(weakest: Weakest, where: str = "") -> str:
     """How sure it is that no other tag is there."""
     return (f"A tag would have had to be missed in {count(weakest.margin, 'slot')}{where}; "
-            f"among the weakest: {ending(weakest.mask)}.")
+            f"that is enough for {ending(weakest.mask)}.")
 
 
 def _contradiction(told: Told) -> str:
