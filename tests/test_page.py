@@ -970,7 +970,7 @@ def test_items_that_are_not_on_their_shelves(page):
     assert page.texts(".items tbody tr") == ["one", "Emma\ntwo\nE0040100000000B2"]
     page.run("for (const it of document.querySelectorAll('#told > details')) it.open = true")
     page.until("details p", "They are all items of two that aren't named above (1).")
-    page.until("details p", "They are in none of the fields, or on a shelf that has to be counted")
+    page.until("details p", "they are in none of the fields, or on a shelf that has to be counted")
 
 
 @pytest.mark.parametrize(("log", "left"), [
