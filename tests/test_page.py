@@ -31,9 +31,9 @@ LOGS = (
     ("QB I1 RA UA", "The one listed tag is here; 1 tag may be here or not: it was silenced before"),
     ("I1 S UA", "Search finished. 1 listed tag can't be here."),
     ("I16 S RA RB S13 UA", "1 tag here isn't listed."),
-    ("I1 C UA", "Not finished: 0 % of all UIDs settled. 1 listed tag not proved."),
-    ("I16 S12", "Not finished: 75 % of all UIDs settled. The log has no list"),
-    ("", "Not finished: 0 % of all UIDs settled."),
+    ("I1 C UA", "Not finished: 0 % of all possible UIDs settled. 1 listed tag not proved."),
+    ("I16 S12", "Not finished: 75 % of all possible UIDs settled. The log has no list"),
+    ("", "Not finished: 0 % of all possible UIDs settled."),
     ("I1 QA I1 S UA", "1 listed tag isn't proved: it was silenced before it was heard."),
     ("I1 QA I1 S", "1 tag may be here or not: it was silenced before it was heard."),
     ("I1 RA I1 S", "The log contradicts itself: tag ..00A1 answered in line 3, but not in line 5,"),
@@ -134,7 +134,8 @@ THIRD = {
         (ALL, OVER_A, QUIET_A, ALL, "C", LIST_A), "The one listed tag is here; others may be too.",
         "In slot 0 of the round of line 5, which asked all UIDs, two or more tags answered"),
     "a slot that isn't known": (
-        (EACH, "N", *"S" * 15), "Not finished: 93 % of all UIDs settled. The log has no list",
+        (EACH, "N", *"S" * 15),
+        "Not finished: 93 % of all possible UIDs settled. The log has no list",
         "In slot 0 of the round of line 2, which asked all UIDs, nothing is known of who answered"),
     "it is asked again": (
         (EACH, "N", READ_A, *"S" * 14, "T 26010400AB05", "S", LIST_A),

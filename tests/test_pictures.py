@@ -29,9 +29,9 @@ HEADLINES = {
     "contradiction": "The log contradicts itself: tag ..A1B0 answered in line 6, but not in line 4",
     "noise": "The log contradicts itself: in line 3 two or more tags answered, but 2 other lines "
              "leave at most one.",
-    "second-version": "Not finished: 6 % of all UIDs settled. The log has no list",
-    "shelf": "Not finished: 87 % of all UIDs settled. 1 listed tag can't be here, 1 tag here isn't "
-             "listed, 2 tags proved and 1 listed tag not proved.",
+    "second-version": "Not finished: 6 % of all possible UIDs settled. The log has no list",
+    "shelf": "Not finished: 87 % of all possible UIDs settled. 1 listed tag can't be here, 1 tag "
+             "here isn't listed, 2 tags proved and 1 listed tag not proved.",
     "unfinished-count": "All 2 listed tags are here; others may be too.",
     "whole-shelf": "All 4 listed tags are here, and no others.",
     "woke": "The log contradicts itself: tag ..00A1 was silenced in line 4, but answered in line 6",

@@ -43,7 +43,7 @@ const LOST = "Before you look for tags that can't be here: the reader silenced s
   "been lost. Switch its field off and on, and count again.";
 const STRANGERS = ["the tags that aren't listed belong elsewhere, or the list lacks them.",
   "the reader's software left out tags that were here"];
-const STAYS = "If the answer stays so, send the log and this page (printed as PDF) to whoever maintains the reader.";
+const STAYS = "If the answer stays the same, send the log and this page (printed as PDF) to whoever maintains the reader.";
 /** For whoever maintains it, of tags that can't be here, and of those that aren't listed. */
 const NOT_HEARD = "If a tag that can't be here answers when no other tag is near: the line that rules it out tells of a slot in which " +
   "it should have been heard.";
@@ -147,7 +147,7 @@ function headline({ object: { kind, count: number = 0, found, certain, open, cap
   if (certain.count && (open.count || !counts.listed)) parts.push(`${count(certain.count, "tag")} proved`);
   if (only) parts.push(unproved(silenced.length, found.doubtful));
   else if (found.doubtful) parts.push(`${count(found.doubtful, "listed tag")} not proved`);
-  const left = open.count ? `Not finished: ${settled(open.share)} of all UIDs settled. ` : "Search finished. ";
+  const left = open.count ? `Not finished: ${settled(open.share)} of all possible UIDs settled. ` : "Search finished. ";
   const said = only || captured?.settled === false ? "" : left;
   return `${said}${sentence(parts)}${without}`.trim();
 }
