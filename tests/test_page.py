@@ -61,7 +61,7 @@ SAID = (
      "one.", "Nothing to do"),
     ("I1 RA UA", "To know whether a strong reply hid a weaker one, silence each tag that was "
      "heard, and ask all in one slot, until none answers:", "may be wrong. To know"),
-    ("I1 S UA", "If the list is what the reader found: tags left", "shown by"),
+    ("I1 S UA", "If the list is what the reader found: tags were taken", "shown by"),
     ("I1 S UA", "ruled out by", "must be here"),
     ("I1 S UA", "asked in 1 slot, silent there; ruled out by line 3", "To go unnoticed"),
     ("I1 S MA S I1 S UA", "asked in 3 slots, silent in each; ruled out by line 3", "silent there"),
@@ -85,7 +85,7 @@ SAID = (
     ("V2 I1 QA I1 S UA", "write F, and send 1 request for tags that were silenced", "a new log"),
     ("I1 RA", "run the inventory again, to a last round that no tag answers.", "Nothing to do"),
     ("I1 RA QA I1 S", "open a catalogue (CSV) together with the log", "to a last round"),
-    ("I16 C C S14", "2 requests are left, one for each open mask.", "What is left to ask"),
+    ("I16 C C S14", "2 requests or more are left, one for each open mask.", "What is left to ask"),
     ("I1 RA I1 RB", "ask in sixteen slots, so that fewer tags answer at once. If strong replies "
      "may have hidden weaker ones (each R read as H), the log doesn't contradict itself.\n\n"
      "T 060100CD09", "each open mask"),
@@ -307,7 +307,7 @@ def test_all_requests_that_are_left_are_there(page):
     asked = [line for low in range(16) for line in (
         biglog.ask((4, low), 16), *(slots if low < 10 else ["S"] * 16))]
     page.drop(log=text_of(["vicinity-log 1", *asked]))
-    page.until("#told", "80 requests are left, one for each open mask.")
+    page.until("#told", "80 requests or more are left, one for each open mask.")
     masks = [(8, number << 4 | low) for number in range(16) for low in range(10)
              if slots[number] == "C"]
     assert sorted(page.texts(".copy")[0].split()[1::2]) == sorted(
@@ -415,10 +415,10 @@ def test_a_slot_is_asked_again_as_a_whole(page):
     page.drop(log=text_of(["vicinity-log 1", *alone, ALL, "C", LIST_A, LIST_B]))
     page.until(".copy", "T ")
     assert page.texts(".copy") == [EACH]
-    assert "1 request is left, for the slot that left UIDs open." in page.said()
+    assert "1 request or more is left, for the slot that left UIDs open." in page.said()
     page.drop(log=log_of("I16 S C C S13"))
     page.until(".copy", "\n")
-    assert "2 requests are left, one for each open mask." in page.said()
+    assert "2 requests or more are left, one for each open mask." in page.said()
 
 
 def test_a_contradiction_that_hidden_replies_explain(page):

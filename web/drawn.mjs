@@ -6,7 +6,7 @@
 /** @typedef {{kind: "gap", rounds: number, quiets: number, cycles: number}} Gap */
 
 /** How many rows are drawn, of a conflict with a list of its own, and how many at each end at least. */
-const MOST_DRAWN = 60, MOST_LISTED_TOO = 30, EDGE = 3;
+const MOST_DRAWN = 60, MOST_LISTED_TOO = 20, EDGE = 3;
 
 /**
  * The rows that are drawn, with gaps between them: those of the lines that are marked, the first and the last, and those of

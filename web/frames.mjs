@@ -87,6 +87,12 @@ export function requestOf(slots, { len, value }, link) {
 }
 
 /**
+ * What tells a mask from others.
+ * @param {Mask} mask
+ */
+export const maskKey = ({ len, value }) => `${len}:${value}`;
+
+/**
  * The line that asks for a mask in sixteen slots, or in one if it is too narrow for these.
  * @param {Mask} mask
  * @param {number} link

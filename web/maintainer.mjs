@@ -53,7 +53,7 @@ function left(told) {
 }
 
 /** @param {number} number */
-const requests = (number) => count(number, "request is", "requests are");
+const requests = (number) => count(number, "request or more is", "requests or more are");
 
 /**
  * Lines to be copied. Many are cut off on paper.

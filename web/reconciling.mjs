@@ -4,6 +4,7 @@ import { withCaptures } from "./captured.mjs";
 import { fields, judge, sumOf } from "./judge.mjs";
 import { FOUND, KIND } from "./kinds.mjs";
 import { leastOf, marginFields, maskFields, overlookedIn, withoutList } from "./margins.mjs";
+import { maskKey } from "./frames.mjs";
 import { UID_BITS, hex } from "./words.mjs";
 
 /** @typedef {import("./library.mjs").Library} Library */
@@ -88,9 +89,6 @@ export async function reconciled(library, given) {
  * @param {Given} file
  */
 const sumGiven = async (what, { name, text }) => ({ what, file: name, sha256: await sumOf(text) });
-
-/** @param {Mask} mask */
-const maskKey = ({ len, value }) => `${len}:${value}`;
 
 /**
  * What a log says of its field, and whether it would say so if strong replies hid weaker ones.

@@ -1,7 +1,7 @@
 /** Draws the rounds of a log: a row for each, a cell for each slot. */
 import { el, toLine } from "./elements.mjs";
 import { SLOTS } from "./frames.mjs";
-import { count, ending, hex, lines, listing, printable } from "./words.mjs";
+import { count, ending, hex, listing, printable } from "./words.mjs";
 
 /** @typedef {import("./told.mjs").Told} Told */
 /** @typedef {import("./drawn.mjs").Gap} Gap */
@@ -38,10 +38,19 @@ export function rounds(told, names) {
   const body = told.rows.map((row) => rowOf(row, ringed, named, names));
   const table = el("table", { class: "rounds" }, el("caption", {}, "The rounds of the session"), el("thead", {}, head), el("tbody", {}, body));
   const bars = told.strip.map(barOf);
-  const label = `The whole session of ${count(told.counts.rounds, "round")}${told.marked.length ? `, marked at ${lines(told.marked)}` : ""}`;
+  const label = `The whole session of ${count(told.counts.rounds, "round")}${markedAt(told.marked)}`;
   const strip = bars.length ? [el("p", { class: "strip", role: "img", "aria-label": label }, bars)] : [];
   return [el("section", {}, el("h2", {}, "The rounds"), ...strip, legend(told),
     scrolled(table))];
+}
+
+/**
+ * Where the strip is marked.
+ * @param {number[]} marked
+ */
+function markedAt(marked) {
+  if (marked.length < 2) return marked.length ? `, marked at line ${marked[0]}` : "";
+  return `, marked at ${marked.length.toLocaleString("en")} rounds and requests, from line ${marked[0]} to line ${marked[marked.length - 1]}`;
 }
 
 /**

@@ -37,12 +37,12 @@ const ONE_ROUND = "To see whether others are here: run the inventory again, to a
 const COMPARE = "Compare these tags with what should be here: open a catalogue (CSV) together with the log.";
 /** If the list is what was expected here, and if it is what the reader found: of tags that can't be here, and of others. */
 const IF_EXPECTED = "If the list is what was expected here: ", IF_READ = "If the list is what the reader found: ";
-const MISSING = ["look for the listed tags that can't be here. If an item is in plain sight, its tag is broken or covered: move it, and " +
-  "count again.", "tags left, or the list is that of another session"];
+const MISSING = ["look for the listed items that can't be here. If one is in plain sight, its tag is broken or covered: move it, and " +
+  "count again.", "tags were taken away since, or the list is that of another session"];
 const LOST = "Before you look for tags that can't be here: the reader silenced some of them, so it knew them, and their replies may have " +
   "been lost. Switch its field off and on, and count again.";
 const STRANGERS = ["the tags that aren't listed belong elsewhere, or the list lacks them.",
-  "the reader's software left out tags that were here"];
+  "the reader's software omitted tags that were here"];
 const STAYS = "If the answer stays the same, send the log and this page (printed as PDF) to whoever maintains the reader.";
 /** For whoever maintains it, of tags that can't be here, and of those that aren't listed. */
 const NOT_HEARD = "If a tag that can't be here answers when no other tag is near: the line that rules it out tells of a slot in which " +

@@ -7,7 +7,7 @@
 import { causesOf, silencedUnheard } from "./causes.mjs";
 import { conflictOf, isLarge, keyLines } from "./conflict.mjs";
 import { drawn } from "./drawn.mjs";
-import { linkIn, linkOf, requestOf, sixteen, stayQuietOf, uidIn } from "./frames.mjs";
+import { linkIn, linkOf, maskKey, requestOf, sixteen, stayQuietOf, uidIn } from "./frames.mjs";
 import { KIND } from "./kinds.mjs";
 import { Log } from "./log.mjs";
 import { notesOf } from "./notes.mjs";
@@ -124,9 +124,10 @@ function explain(log, told) {
   if (object.kind === KIND.IMPOSSIBLE) told.conflict = conflictOf(log, lines, linesOf(object, "silenced by")[0] ?? 0);
   const { masks, tags } = silencedUnheard(log, open), quiet = new Set(masks);
   const { causes, rows, neverAsked, hidden } = causesOf(log, open.filter((mask) => !quiet.has(mask)));
-  const asked = (/** @type {(mask: Mask) => boolean} */ isIt) => object.open.masks.filter((_, at) => isIt(open[at]))
-    .flatMap((mask) => mask.ask);
-  const isOwn = (/** @type {Mask} */ mask) => !quiet.has(mask) && !hidden.has(mask), link = linkIn(object.text);
+  const link = linkIn(object.text), collided = new Set(causes.flatMap((cause) => cause.reading === "collision" ? cause.masks.map(maskKey) : []));
+  const asked = (/** @type {(mask: Mask) => boolean} */ isIt) => object.open.masks.flatMap((mask, at) => !isIt(open[at]) ? []
+    : open[at].len && collided.has(maskKey(open[at])) ? [sixteen(open[at], link)] : mask.ask);
+  const isOwn = (/** @type {Mask} */ mask) => !quiet.has(mask) && !hidden.has(mask);
   const slots = open.length === object.open.count ? slotsAround(causes, open.filter(isOwn)) : [];
   Object.assign(told, { silenced: tags, quiet: masks.length, hidden: hidden.size, causes, neverAsked, requests: {
     ...told.requests, open: slots.length ? slots.map((mask) => sixteen(mask, link)) : asked(isOwn),
