@@ -302,7 +302,8 @@ def test_the_cause_is_ringed(page):
 
 
 def test_all_requests_that_are_left_are_there(page):
-    """In each of ten rounds eight slots collide, of which no two make one mask."""
+    """In each of ten rounds eight slots collide, of which no two make one mask. They are asked in
+    sixteen slots, since one would collide again."""
     slots = ["C" if number.bit_count() % 2 else "S" for number in range(16)]
     asked = [line for low in range(16) for line in (
         biglog.ask((4, low), 16), *(slots if low < 10 else ["S"] * 16))]
@@ -311,7 +312,7 @@ def test_all_requests_that_are_left_are_there(page):
     masks = [(8, number << 4 | low) for number in range(16) for low in range(10)
              if slots[number] == "C"]
     assert sorted(page.texts(".copy")[0].split()[1::2]) == sorted(
-        biglog.ask(mask)[2:] for mask in masks)
+        biglog.ask(mask, 16)[2:] for mask in masks)
 
 
 def test_on_paper_long_lists_come_last(page):
