@@ -63,14 +63,14 @@ SAID = (
      "heard, and ask all in one slot, until none answers:", "may be wrong. To know"),
     ("I1 S UA", "If the list is what the reader found: tags were taken", "shown by"),
     ("I1 S UA", "ruled out by", "must be here"),
-    ("I1 S UA", "asked in 1 slot, silent there; ruled out by line 3", "To go unnoticed"),
-    ("I1 S MA S I1 S UA", "asked in 3 slots, silent in each; ruled out by line 3", "silent there"),
+    ("I1 S UA", "would have been missed in 1 slot; ruled out by line 3", "To go unnoticed"),
+    ("I1 S MA S I1 S UA", "would have been missed in 3 slots; ruled out by line 3", "in 1 slot"),
     ("I1 S", "To go unnoticed, a tag would have had to be missed in 1 slot, whatever its UID.",
-     "asked in"),
+     "been missed in"),
     ("I1 RA QA I1 S UA", "in 2 slots; that is enough for UIDs ending in an even digit",
-     "asked in"),
+     "been missed in"),
     ("I1 RA QA QB I1 S UA", "in 1 slot; that is enough for E0040100000000B2, for example.",
-     "asked in"),
+     "been missed in"),
     ("I1 RA", "1 tag that is here", "To go unnoticed"),
     ("I1 RA", "1 tag that is here", "must be here"),
     ("I1 RA UB", "its software has to write a U line", "Nothing to do"),
@@ -188,6 +188,8 @@ STOP = """
 const stop = document.getElementById("stop");
 new MutationObserver(() => { if (!stop.hidden) stop.click(); }).observe(stop, { attributes: true });
 """
+# The rows of tables of items: shelves, of which one alone stands at the head, and items.
+ROWS = ".items :is(thead tr + tr, tbody tr)"
 CHOSEN = """
 const it = document.getElementById("text");
 return it.value.slice(it.selectionStart, it.selectionEnd);
@@ -535,7 +537,8 @@ def test_a_large_conflict_is_told_by_its_collision(page, program, make):
                "lines leave at most one.")
     ringed = {it["line"] for it in page.run(RINGED)}
     assert str(collision) in ringed <= by and (by <= ringed) == (make is a_collision_amid)
-    assert any("and on others" in it for it in page.texts(".legend li")) == (make is a_tag_late)
+    is_more = any("and on slots not shown" in it for it in page.texts(".legend li"))
+    assert is_more == (make is a_tag_late)
     assert make is a_collision_amid or len(page.texts(".strip .marked")) > 24
 
 
@@ -928,7 +931,7 @@ def test_a_log_of_a_collection_is_compared_with_its_catalogue(page):
     assert page.texts(".logs h3") == ["1 tag is here, and no other.", "The field is empty."]
     assert page.texts(".logs dt") == ["Search finished"] * 2
     assert page.texts(".logs h4").count("At the shelf") == 1
-    assert page.texts(".items tbody tr") == ["one.log", "not in the catalogue\nE0040100000000A1"]
+    assert page.texts(ROWS) == ["one.log", "not in the catalogue\nE0040100000000A1"]
     page.media("print")
     assert page.said().count("Counted on") == 1
 
@@ -952,8 +955,9 @@ def test_items_are_told_by_their_shelves(page):
     assert page.texts(".logs summary")[0] == (
         "C (shelf-c.log): 3 tags proved; left to ask, by 2 requests or more: UIDs ending in E or F")
     page.run("for (const it of document.querySelectorAll('details:has(> .items)')) it.open = true")
-    assert page.texts(".items tbody tr") == [
-        "A", "look for\nWalden\nE00401502B91C435", "take to B\nThe Time Machine\nE00401504477EB73",
+    assert page.texts(ROWS) == [
+        "A", "missing: look for it\nWalden\nE00401502B91C435",
+        "take to B\nThe Time Machine\nE00401504477EB73",
         "C", "Ulysses\nE00401506D9320CE"]
     page.until("#told > p", "The 9 other items of the catalogue are here, and in place.")
     page.until("details p", "Run its inventory again, to its end, in a new log.")
@@ -969,7 +973,7 @@ def test_items_that_are_not_on_their_shelves(page):
     assert page.texts(".logs summary")[0] == (
         "two: nothing is known of its field, since its log contradicts itself: tag ..00A1 "
         "answered in line 3, but not in line 5, where it was also asked")
-    assert page.texts(".items tbody tr") == ["one", "Emma\ntwo\nE0040100000000B2"]
+    assert page.texts(ROWS) == ["one", "Emma\ntwo\nE0040100000000B2"]
     page.run("for (const it of document.querySelectorAll('#told > details')) it.open = true")
     page.until("details p", "They are all items of two that aren't named above (1).")
     page.until("details p", "they are in none of the fields, or on a shelf that has to be counted")
@@ -1005,7 +1009,7 @@ def test_a_place_that_is_not_in_the_catalogue(page):
                  "places.csv": b"place,log\none,1.log\nReturns,2.log\n",
                  "1.log": log_of("I1 S"), "2.log": log_of("I1 RA QA I1 S")})
     page.until("h1", "1 item in the wrong place.")
-    assert page.texts(".items tbody tr") == ["Returns", "take to one\nWalden\nE0040100000000A1"]
+    assert page.texts(ROWS) == ["Returns", "take to one\nWalden\nE0040100000000A1"]
 
 
 def test_an_item_of_which_the_catalogue_says_nothing_is_named_by_its_uid(page):
@@ -1020,7 +1024,7 @@ def test_how_often_a_missing_item_was_asked(page):
     page.drop(**{"catalogue": b"title;uid\nWalden;E0:04:01:00:00:00:00:A1\n",
                  "one.log": log_of("I1 S I1 S I1 S"), "two.log": log_of("I1 S I1 S")})
     page.until("h1", "1 item missing.")
-    assert "asked in 2 slots or more of each, and silent" in page.texts("details")[0]
+    assert "would have been missed in 2 slots or more of each" in page.texts("details")[0]
 
 
 @pytest.mark.parametrize(("name", "content", "words"), [

@@ -353,8 +353,8 @@ def test_page_of_a_collection(reconciled):
     groups = ["Count again (1 log)", "At the shelves (1)", "Not known yet (1)",
               "Read to the end (2 logs)", "What this takes for granted (9)"]
     assert page.texts("details > summary h2") == groups
-    assert page.texts(".items tbody tr")[0] == "look for\nWalden\nA\nE00401502B91C435"
-    assert "asked in 1 slot or more of each, and silent" in page.texts("#told > details")[1]
+    assert page.texts(".items tbody tr")[0] == "missing: look for it\nWalden\nA\nE00401502B91C435"
+    assert "would have been missed in 1 slot or more of each" in page.texts("#told > details")[1]
     assert page.texts(".logs summary")[0] == (
         "shelf-c.log: 3 tags proved; left to ask, by 2 requests or more: UIDs ending in E or F")
 

@@ -109,7 +109,7 @@ function part(title, list, open, words, drawn) {
 /** @param {CollectionObject} object */
 function howTo({ counts, items }) {
   const slots = items.reduce((least, { state, overlooked = 0 }) => state === "missing" ? Math.min(least, overlooked) : least, Infinity);
-  const asked = slots ? `: it was asked in ${count(slots, "slot")} or more of each, and silent` : "";
+  const asked = slots ? `: it would have been missed in ${count(slots, "slot")} or more of each` : "";
   const look = counts.missing ? `What to look for is in none of the fields${asked}. ${LOOK_FOR} ` : "";
   return look + (counts.unexpected ? NOT_EXPECTED : "");
 }

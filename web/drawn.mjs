@@ -5,8 +5,8 @@
 /** @typedef {import("./log.mjs").Round} Round */
 /** @typedef {{kind: "gap", rounds: number, quiets: number, cycles: number}} Gap */
 
-/** How many rows are drawn, of a conflict with a list of its own, and how many at each end at least. */
-const MOST_DRAWN = 60, MOST_LISTED_TOO = 20, EDGE = 3;
+/** How many rows are drawn, how many if all are rounds of one slot beside a list, and how many at each end at least. */
+const MOST_DRAWN = 60, MOST_ALIKE = 20, EDGE = 3;
 
 /**
  * The rows that are drawn, with gaps between them: those of the lines that are marked, the first and the last, and those of
@@ -21,7 +21,8 @@ export function drawn(log, named, causing, whole) {
   const all = whole && log.rowCount <= MOST_DRAWN ? [...Array(log.rowCount).keys()] : [];
   const wanted = [...all, ...named.map((line) => log.rowAt(line)), ...edges, ...causing]
     .filter((row) => row >= 0 && row < log.rowCount);
-  const marked = new Set(named), rows = [...new Set(wanted)].slice(0, whole ? MOST_DRAWN : MOST_LISTED_TOO).sort((one, other) => one - other);
+  const most = whole || wanted.some((row) => log.isRound(row) && log.shape(row).slots > 1) ? MOST_DRAWN : MOST_ALIKE;
+  const marked = new Set(named), rows = [...new Set(wanted)].slice(0, most).sort((one, other) => one - other);
   /** @type {(Row | Gap)[]} */
   const result = [];
   let next = 0;

@@ -185,7 +185,7 @@ function legend(told) {
   const classOf = (/** @type {string} */ look) => look === "heard quiet" && !drawn.has("heard") ? "captured quiet" : look;
   const seen = new Set([...slots.map((slot) => slot.line), ...told.rows.flatMap((row) => row.kind === "gap" ? [] : row.line)]);
   const isAll = told.named.every((line) => seen.has(line));
-  const others = (/** @type {string} */ look) => look === "silent named" && !isAll ? ", and on others" : "";
+  const others = (/** @type {string} */ look) => look === "silent named" && !isAll ? ", and on slots not shown" : "";
   return el("ul", { class: "legend", "aria-label": "What the signs mean" }, LEGEND.filter(([look]) => drawn.has(look))
     .map(([look, sign, words]) => el("li", {}, el("span", { class: `cell ${classOf(look)}` }, sign), ` ${words}${others(look)}`)), digits);
 }

@@ -333,5 +333,5 @@ export function notSure(margin, wanted) {
  * @param {number} slots
  */
 export function silentIn(slots) {
-  return `asked in ${count(slots, "slot")}, silent ${slots === 1 ? "there" : "in each"}`;
+  return `would have been missed in ${count(slots, "slot")}`;
 }

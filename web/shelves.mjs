@@ -60,7 +60,7 @@ export class Shelves {
   /** @param {Item} item */
   toDo({ state, belongs = "", certain_in: [, ...others] }) {
     const also = others.length ? `; also in ${this.names(others)}` : "";
-    return state === "missing" ? "look for" : (state === "misplaced" ? `take to ${printable(belongs)}` : "not in the catalogue") + also;
+    return state === "missing" ? "missing: look for it" : (state === "misplaced" ? `take to ${printable(belongs)}` : "not in the catalogue") + also;
   }
 }
 
@@ -74,7 +74,8 @@ export class Shelves {
  */
 export function shelved(list, shelf, where = {}, toDo) {
   const groups = /** @type {Map<string, Item[]>} */ (new Map(list.map((item) => [shelf(item), []])));
-  const isOne = groups.size === 1 && groups.has("");
+  const isOne = groups.size === 1 && groups.has(""), named = (/** @type {string} */ name, /** @type {string} */ scope) =>
+    el("tr", {}, el("th", { scope, colspan: String(heads.length) }, name || "Place not known"));
   for (const item of list) groups.get(shelf(item))?.push(item);
   const isSaid = (/** @type {string} */ head) => list.some(({ columns: { [head]: cell }, belongs }) => cell && (isOne || cell !== belongs));
   const columns = [...new Set(list.flatMap((item) => Object.keys(item.columns)))].filter(isSaid), asked = Object.keys(where);
@@ -83,20 +84,21 @@ export function shelved(list, shelf, where = {}, toDo) {
   const rowOf = (/** @type {Item} */ item) => {
     const said = columns.map((column) => printable(item.columns[column] ?? "")), first = said.findIndex((cell) => cell);
     const uid = el("code", {}, item.uid ?? "no UID");
-    const named = first < 0 && !last.length ? [el("th", { scope: "row", colspan: String(columns.length || 1) }, uid)]
+    const own = first < 0 && !last.length ? [el("th", { scope: "row", colspan: String(columns.length || 1) }, uid)]
       : said.map((cell, at) => at === first ? el("th", { scope: "row" }, cell) : cellOf(columns[at], cell));
-    return el("tr", {}, ...toDo ? [el("td", {}, toDo(item))] : [], ...named, ...asked.map((head) => cellOf(head, where[head](item))),
+    return el("tr", {}, ...toDo ? [el("td", {}, toDo(item))] : [], ...own, ...asked.map((head) => cellOf(head, where[head](item))),
       ...last.map((head) => first < 0 ? el("th", { scope: "row", "data-head": head }, uid) : cellOf(head, item.uid ? uid : "")));
   };
   let room = MOST_ROWS;
   const bodies = [...groups].sort(([one], [other]) => inOrder(one, other)).map(([name, group]) => {
     const rows = group.slice(0, Math.max(0, room)).map(rowOf);
-    const head = el("th", { scope: "rowgroup", colspan: String(heads.length) }, name || "Place not known");
     room -= rows.length;
-    return el("tbody", {}, ...rows.length && !isOne ? [el("tr", {}, head)] : [], ...rows);
+    return el("tbody", {}, ...rows.length && groups.size > 1 ? [named(name, "rowgroup")] : [], ...rows);
   });
   const more = list.length > MOST_ROWS ? [el("p", {}, `and ${(list.length - MOST_ROWS).toLocaleString("en")} more`)] : [];
-  const head = el("thead", {}, el("tr", {}, heads.map((it) => el("th", { scope: "col" }, printable(it)))));
+  // what is at the head stands on each sheet of paper again
+  const head = el("thead", {}, el("tr", {}, heads.map((it) => el("th", { scope: "col" }, printable(it)))),
+    ...groups.size === 1 && !isOne ? [named([...groups.keys()][0], "colgroup")] : []);
   return list.length ? [el("table", { class: "items" }, head, ...bodies), ...more] : [];
 }
 
