@@ -1,5 +1,5 @@
 /** What a contradiction says, by the form of its lines: a sentence, what may have happened, and what tells these apart. */
-import { sixteen } from "./frames.mjs";
+import { sixteen, stayQuietOf } from "./frames.mjs";
 import { count, hex, short } from "./words.mjs";
 
 /** @typedef {import("./conflict.mjs").Conflict} Conflict */
@@ -24,7 +24,7 @@ const LEFT_OUT = "A Stay Quiet or another request was sent that isn't in the log
  */
 export function contradiction(conflict) {
   const { heard, unread, silent, silencer, quietest, link } = conflict, two = conflict.count === 2;
-  if (silencer && heard.length) return woke(heard[heard.length - 1], silencer, quietest);
+  if (silencer && heard.length) return woke(heard[heard.length - 1], silencer, quietest, link);
   if (conflict.count === 1 && (unread ?? heard[0])) return alone(unread ?? heard[0]);
   if (unread) return { ...unmet(conflict, unread), ask: [sixteen(unread.mask, link)] };
   if (two && heard.length === 2) return { ...hidden(heard[0], heard[1]), ask: [sixteen(widest(heard[0].mask, heard[1].mask), link)] };
@@ -49,15 +49,19 @@ const noise = (unread) => unread.reading === "collision" ? [NOISE, ONE_DAMAGED] 
  * @param {Slot} slot
  * @param {number} silencer
  * @param {number} quietest the last line in between that shows it silent, 0 if there is none
+ * @param {number} link
  * @returns {Contradiction}
  */
-function woke(slot, silencer, quietest) {
+function woke(slot, silencer, quietest, link) {
+  const uid = slot.uid ?? 0n;
   return { sentence: `tag ${name(slot)} was silenced in line ${silencer}, but answered in line ${slot.line}.`,
     causes: [`The tag lost power for a moment${quietest ? ` after line ${quietest}` : ""}, at the edge of the field or behind another tag, ` +
       "and woke up.", ...quietest ? [] : [`The tag didn't receive the Stay Quiet of line ${silencer}.`],
       "The field was switched off and on in between: then the log needs a line F there, and the header 'vicinity-log 3'.",
       "A second reader woke it."],
-    test: "", shelf: `Move the item with tag ${hex(slot.uid ?? 0n)} nearer to the antenna and away from ` +
+    test: `Silence ${hex(uid)} again, and ask only for it, a few times. If it answers at once, it didn't receive the Stay Quiet; if later, ` +
+      "it loses power, or another reader wakes it.", ask: [`T ${stayQuietOf(uid, link)}`, sixteen({ len: UID_LEN, value: uid }, link)],
+    shelf: `Move the item with tag ${hex(uid)} nearer to the antenna and away from ` +
       "others, and count again, in a new log. If you can't tell which it is, spread all of them out." };
 }
 

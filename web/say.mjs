@@ -35,6 +35,7 @@ const ONE_MORE = "Send this page (printed as PDF) to whoever maintains the reade
   "strong reply hid a weaker one.";
 const ONE_ROUND = "To see whether others are here: run the inventory again, to a last round that no tag answers.";
 const COMPARE = "Compare these tags with what should be here: open a catalogue (CSV) together with the log.";
+const TITLES = "To see their titles: open a catalogue (CSV) together with the log.";
 /** If the list is what was expected here, and if it is what the reader found: of tags that can't be here, and of others. */
 const IF_EXPECTED = "If the list is what was expected here: ", IF_READ = "If the list is what the reader found: ";
 const MISSING = ["look for the listed items that can't be here. If one is in plain sight, its tag is broken or covered: move it, and " +
@@ -71,8 +72,8 @@ export const granted = (holds, isAnswered = false) => [
   "The log is true: it says what was sent and what each logged slot held, in the order in which it happened.",
   "Nothing else was sent that changes which tags answer, by this reader or another: no Select, no Reset to Ready, no quiet " +
     "command of a manufacturer.",
-  holds ? "Every reply came from a tag." : isAnswered ? "Every reply came from a tag; and, for all but the answer itself, no strong " +
-    "reply hid a weaker one." : "No strong reply hid a weaker one, and every reply came from a tag.",
+  holds ? "Every reply came from a tag." : isAnswered ? "Every reply came from a tag. The answer doesn't need it, but what else " +
+    "is said here does: no strong reply hid a weaker one." : "No strong reply hid a weaker one, and every reply came from a tag.",
   "The tags conform to ISO/IEC 15693-3, and no two have the same UID.",
   "No tag came or went during the log, all were ready when it began, and the field stayed on, except where the log says that " +
     "it was switched off and on.",
@@ -128,7 +129,8 @@ function steps({ object: { kind, found, open, captured }, counts, quiet, notes }
   if (found.absent && notes.lost.length) steps.push(LOST);
   const differs = [...found.absent ? [MISSING] : [], ...found.unlisted && counts.listed ? [STRANGERS] : []];
   const [expected, read] = [" And ", "; and "].map((and, at) => differs.map((it) => it[at]).join(and));
-  return [...steps, ...differs.length ? [`${IF_EXPECTED}${expected}`, `${IF_READ}${read}. Count again.`] : [], STAYS];
+  const titles = isAlone && differs.length ? [TITLES] : [];
+  return [...steps, ...differs.length ? [`${IF_EXPECTED}${expected}`, `${IF_READ}${read}. Count again.`] : [], ...titles, STAYS];
 }
 
 /**

@@ -85,7 +85,7 @@ function findings({ object: { findings, found, open }, counts }, names) {
     const items = list.map(({ uid = "", line, overlooked }) => el("li", {}, ...tagWith(uid, names),
       ...line ? shown(line, overlooked ? `${silentIn(overlooked)}; ` : "") : []));
     const isSeen = all <= FEW || !listed && !open.count;
-    return lengthy(folded(count(all, one, many), isSeen, el("ul", { class: "uids" }, items), ...rest(all - list.length)), items.length);
+    return lengthy(folded(count(all, one, many), isSeen, el("ul", { class: `uids ${kind}` }, items), ...rest(all - list.length)), items.length);
   });
 }
 
