@@ -52,6 +52,7 @@ LIGHTS = (("I16 S RA RB S13 UA UB", "yes", "matches"), ("I1 RA", "not known yet"
           ("I1 RA QA I1 S", "yes", "none given"),
           ("I16 S RA RB S12 C UA UB", "no", "not known yet"),
           ("I1 S UA", "yes", "differs"), ("I1 C UA", "no", "not known yet"),
+          ("I1 RA I1 S UA", "not known", "not known"), ("I1 RA I1 S", "not known", "none given"),
           ("I1 S", "yes", "none given"))
 # What is said besides, at the shelf and to whoever maintains the reader; and what isn't.
 SAID = (
@@ -85,14 +86,21 @@ SAID = (
     ("V2 I1 QA I1 S UA", "write F, and send 1 request for tags that were silenced", "a new log"),
     ("I1 RA", "run the inventory again, to a last round that no tag answers.", "Nothing to do"),
     ("I1 RA QA I1 S", "open a catalogue (CSV) together with the log", "to a last round"),
-    ("I16 C C S14", "2 requests or more are left, one for each open mask.", "What is left to ask"),
+    ("I16 C C S14", "2 requests are left, one for each open mask.", "What is left to ask"),
     ("I1 RA I1 RB", "ask in sixteen slots, so that fewer tags answer at once. If strong replies "
      "may have hidden weaker ones (each R read as H), the log doesn't contradict itself.\n\n"
      "T 060100CD09", "each open mask"),
     ("I1 C", "in sixteen slots, or in one", "one request for each"),
     ("I1 S QA UA", "its reply may have been lost in line 3", "stronger replies"),
     ("I1 S MB S UA", "one that stronger replies hid would go unnoticed", "no earlier round"),
-    ("I16 S12", "This round was cut short after 12 of 16 slots.", "None of this round's"),
+    ("I16 S12 I1 S UA", "This round was cut short after 12 of 16 slots.", "None of this round's"),
+    ("I16 S12", "1 request is left, for the round that was cut short.", "after 12 of"),
+    ("I1 RA QA I1 RA", "The field was switched off and on in between", "The field stayed on"),
+    ("I16 S RA RB S13 QB QA I16 S RA S14", "The field stayed on: others that were silenced stayed "
+     "silent.", "The field was switched off"),
+    ("I1 S UA", "look on this shelf for the item below. If it is here, its tag is broken", "Then "),
+    ("I1 RA QA I1 S UB UZ", "for the 2 items below. If one is here", "for the item below"),
+    ("I1 RA QA I1 S UB", "Then the tags here that aren't listed belong elsewhere", "for the 1"),
     ("MB S", "one that no earlier round asked would go unnoticed", "stronger replies"),
     ("MB S I1 S", "check the antenna", "Notes"),
     ("I1 UA", "no slot was logged", "ended before"),
@@ -310,7 +318,7 @@ def test_all_requests_that_are_left_are_there(page):
     asked = [line for low in range(16) for line in (
         biglog.ask((4, low), 16), *(slots if low < 10 else ["S"] * 16))]
     page.drop(log=text_of(["vicinity-log 1", *asked]))
-    page.until("#told", "80 requests or more are left, one for each open mask.")
+    page.until("#told", "80 requests are left, one for each open mask.")
     masks = [(8, number << 4 | low) for number in range(16) for low in range(10)
              if slots[number] == "C"]
     assert sorted(page.texts(".copy")[0].split()[1::2]) == sorted(
@@ -418,10 +426,10 @@ def test_a_slot_is_asked_again_as_a_whole(page):
     page.drop(log=text_of(["vicinity-log 1", *alone, ALL, "C", LIST_A, LIST_B]))
     page.until(".copy", "T ")
     assert page.texts(".copy") == [EACH]
-    assert "1 request or more is left, for the slot that left UIDs open." in page.said()
+    assert "1 request is left, for the slot that left UIDs open." in page.said()
     page.drop(log=log_of("I16 S C C S13"))
     page.until(".copy", "\n")
-    assert "2 requests or more are left, one for each open mask." in page.said()
+    assert "2 requests are left, one for each open mask." in page.said()
 
 
 def test_a_contradiction_that_hidden_replies_explain(page):
@@ -629,9 +637,8 @@ def test_without_a_list_all_tags_are_seen(page):
     page.wait(lambda: not page.driver.find_elements("css selector", ".wide[tabindex]"))
 
 
-@pytest.mark.parametrize("names", ["I1 RA I1 S", "UA UA"])
-def test_without_a_verdict_there_are_no_lights(page, names):
-    page.drop(log=log_of(names))
+def test_a_text_that_is_refused_has_no_lights(page):
+    page.drop(log=log_of("UA UA"))
     page.until(".banner", "log")
     assert page.texts(".lights") == []
 
@@ -953,7 +960,7 @@ def test_items_are_told_by_their_shelves(page):
     page.drop_files({it.name: it.read_bytes() for it in sorted(SHELVES.iterdir())})
     page.until("h1", "1 in the wrong place")
     assert page.texts(".logs summary")[0] == (
-        "C (shelf-c.log): 3 tags proved; left to ask, by 2 requests or more: UIDs ending in E or F")
+        "C (shelf-c.log): 3 tags proved; left to ask, by 1 request or more: UIDs ending in E or F")
     page.run("for (const it of document.querySelectorAll('details:has(> .items)')) it.open = true")
     assert page.texts(ROWS) == [
         "A", "missing: look for it\nWalden\nE00401502B91C435",
@@ -980,8 +987,8 @@ def test_items_that_are_not_on_their_shelves(page):
 
 
 @pytest.mark.parametrize(("log", "left"), [
-    ("I16 S8", "8 requests or more: UIDs ending in 8, 9 or A, and 5\u00A0more masks"),
-    ("I16 S", "4 requests or more: UIDs ending in 8, in an odd digit, in 2, 6, A or E and in 4 "
+    ("I16 S8", "1 request or more: UIDs ending in 8, 9 or A, and 5\u00A0more masks"),
+    ("I16 S", "1 request or more: UIDs ending in 8, in an odd digit, in 2, 6, A or E and in 4 "
      "or C")])
 def test_what_is_left_to_ask_in_a_field(page, log, left):
     page.drop(**{"catalogue": b"uid\n", "one.log": log_of(log)})

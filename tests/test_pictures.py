@@ -356,7 +356,7 @@ def test_page_of_a_collection(reconciled):
     assert page.texts(".items tbody tr")[0] == "missing: look for it\nWalden\nA\nE00401502B91C435"
     assert "would have been missed in 1 slot or more of each" in page.texts("#told > details")[1]
     assert page.texts(".logs summary")[0] == (
-        "shelf-c.log: 3 tags proved; left to ask, by 2 requests or more: UIDs ending in E or F")
+        "shelf-c.log: 3 tags proved; left to ask, by 1 request or more: UIDs ending in E or F")
 
 
 def test_page_of_a_collection_that_is_not_sure_enough(run, browser, tmp_path):

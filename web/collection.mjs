@@ -274,7 +274,7 @@ function saidOf({ list, certain, open, more_open, object }) {
   const masks = object?.open.masks ?? open, all = object?.open.count ?? open.length, more = all - MOST_MASKS;
   const others = more_open && !object ? "more masks" : more > 1 ? `${more.toLocaleString("en")}\u00A0more masks` : "";
   const first = masks.slice(0, others ? MOST_MASKS : MOST_MASKS + 1).map(maskOf);
-  const plain = told && !told.quiet && !told.hidden ? `, by ${count(told.object.open.count, "request")} or more` : "";
+  const plain = told && !told.quiet && !told.requests.hidden.length ? `, by ${count(told.requests.number, "request")} or more` : "";
   return `${proved}; left to ask${plain}: ${endings(first, others)}`;
 }
 

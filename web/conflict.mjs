@@ -1,5 +1,5 @@
 /** What there is of a conflict's lines: the slots that its form is told by. */
-import { linkOf } from "./frames.mjs";
+import { linkOf, uidIn } from "./frames.mjs";
 
 /** @typedef {import("./log.mjs").Log} Log */
 /** @typedef {import("./log.mjs").Slot} Slot */
@@ -19,6 +19,7 @@ import { linkOf } from "./frames.mjs";
  * @property {number} link of the request of its first line
  * @property {number} silencer the line of the Stay Quiet that had silenced the tag of its reply, 0 if there is none
  * @property {number} quietest the last line in between that shows this tag silent, 0 if there is none
+ * @property {boolean} isAlone whether another tag that was silenced too was asked in the round of this reply, and stayed silent
  */
 
 /** How many rounds of a conflict are told, and how many lines make one that has a list of its own. */
@@ -42,7 +43,8 @@ export function conflictOf(log, lines, silencer) {
   const unread = lines.find((line) => !log.isReply(line) && !isSilent(line));
   const last = heard.length ? log.slot(heard[heard.length - 1]) : null;
   const quietest = silencer && last?.uid ? lastSilence(log, last.uid, log.rowAt(silencer), log.rowAt(last.line)) : 0;
-  return { count: lines.length, first: lines[0], last: lines[lines.length - 1], silencer, quietest,
+  const isAlone = silencer > 0 && last !== null && stayedSilent(log, log.rowAt(last.line), log.rowAt(quietest || silencer), last.uid);
+  return { count: lines.length, first: lines[0], last: lines[lines.length - 1], silencer, quietest, isAlone,
     link: linkOf(log.frame(log.lineOf(log.rowAt(lines[0])))), unread: unread ? log.slot(unread) : null,
     heard: [...new Set([...heard.slice(0, 1), ...heard.slice(-1)])].flatMap((line) => log.slot(line) ?? []),
     silent: lines.find(isSilent) ?? 0, ...partsOf(log, lines) };
@@ -63,6 +65,26 @@ function lastSilence(log, uid, from, to) {
     if (slot) return slot.line;
   }
   return 0;
+}
+
+/**
+ * Whether a tag that was heard and silenced, other than one, stayed silent in a round in which it was asked.
+ * @param {Log} log
+ * @param {number} round its row
+ * @param {number} till the last row that may have silenced it
+ * @param {bigint | null} except
+ */
+function stayedSilent(log, round, till, except) {
+  const heard = new Set(), silenced = /** @type {Set<bigint>} */ (new Set()), asked = log.row(round);
+  for (let at = 0; at <= till; at++) {
+    const row = log.isRound(at) ? null : log.row(at);
+    if (!row) for (const line of log.outcomes(at)) heard.add(log.isReply(line) ? uidIn(log.frame(line)) : null);
+    else if (row.kind === "cycle") silenced.clear();
+    else if (row.kind === "quiet" && heard.has(row.uid)) silenced.add(row.uid);
+  }
+  silenced.delete(except ?? 0n);
+  const slots = asked.kind === "round" ? asked.slots.filter(({ reading }) => reading === "silent" || reading === "heard") : [];
+  return slots.some(({ mask, uid: read }) => [...silenced].some((uid) => uid !== read && !BigInt.asUintN(mask.len, mask.value ^ uid)));
 }
 
 /**

@@ -16,6 +16,7 @@ const ONE_DAMAGED = "One damaged reply was logged as a collision: if the chip ca
 const HIDDEN = "A strong reply hid a weaker one: if the chip can't rule that out, write H for R, in a log of version 3.";
 const SECOND_READER = "A second reader kept tags powered and silent, or silenced some.";
 const WRONG_PLACE = "The line was logged under the wrong request: a late reply, or lines in the wrong order.";
+const FIELD_OFF = "The field was switched off and on in between: then the log needs a line F there, and the header 'vicinity-log 3'.";
 const LEFT_OUT = "A Stay Quiet or another request was sent that isn't in the log, or the field was off and the log has no line F.";
 
 /**
@@ -23,8 +24,8 @@ const LEFT_OUT = "A Stay Quiet or another request was sent that isn't in the log
  * @returns {Contradiction}
  */
 export function contradiction(conflict) {
-  const { heard, unread, silent, silencer, quietest, link } = conflict, two = conflict.count === 2;
-  if (silencer && heard.length) return woke(heard[heard.length - 1], silencer, quietest, link);
+  const { heard, unread, silent, silencer, link } = conflict, two = conflict.count === 2;
+  if (silencer && heard.length) return woke(heard[heard.length - 1], conflict);
   if (conflict.count === 1 && (unread ?? heard[0])) return alone(unread ?? heard[0]);
   if (unread) return { ...unmet(conflict, unread), ask: [sixteen(unread.mask, link)] };
   if (two && heard.length === 2) return { ...hidden(heard[0], heard[1]), ask: [sixteen(widest(heard[0].mask, heard[1].mask), link)] };
@@ -47,19 +48,16 @@ const noise = (unread) => unread.reading === "collision" ? [NOISE, ONE_DAMAGED] 
 
 /**
  * @param {Slot} slot
- * @param {number} silencer
- * @param {number} quietest the last line in between that shows it silent, 0 if there is none
- * @param {number} link
+ * @param {Conflict} conflict
  * @returns {Contradiction}
  */
-function woke(slot, silencer, quietest, link) {
+function woke(slot, { silencer, quietest, isAlone, link }) {
   const uid = slot.uid ?? 0n;
   return { sentence: `tag ${name(slot)} was silenced in line ${silencer}, but answered in line ${slot.line}.`,
     causes: [`The tag lost power for a moment${quietest ? ` after line ${quietest}` : ""}, at the edge of the field or behind another tag, ` +
-      "and woke up.", ...quietest ? [] : [`The tag didn't receive the Stay Quiet of line ${silencer}.`],
-      "The field was switched off and on in between: then the log needs a line F there, and the header 'vicinity-log 3'.",
-      "A second reader woke it."],
-    test: `Silence ${hex(uid)} again, and ask only for it, a few times. If it answers at once, it didn't receive the Stay Quiet; if later, ` +
+      `and woke up.${isAlone ? " The field stayed on: others that were silenced stayed silent." : ""}`,
+      ...quietest ? [] : [`The tag didn't receive the Stay Quiet of line ${silencer}.`], ...isAlone ? [] : [FIELD_OFF], "A second reader woke it."],
+    test: `Silence ${hex(uid)} again, and ask only for it, a few times. If it answers at once, it didn't receive this one; if later, ` +
       "it loses power, or another reader wakes it.", ask: [`T ${stayQuietOf(uid, link)}`, sixteen({ len: UID_LEN, value: uid }, link)],
     shelf: `Move the item with tag ${hex(uid)} nearer to the antenna and away from ` +
       "others, and count again, in a new log. If you can't tell which it is, spread all of them out." };

@@ -6,7 +6,7 @@ import { count, visible } from "./words.mjs";
 /** @typedef {import("./told.mjs").Told} Told */
 
 const MOST_SHOWN = 160, MOST_ON_PAPER = 96;
-const INSERT = "If a slot has a collision, ask its mask in sixteen slots. In the log, the new lines go ";
+const INSERT = "If a slot has a collision, ask its mask in sixteen slots too. In the log, the new lines go ";
 const ASK_UNDER = "where a reply may have hidden others, to silence the tags that were read there and to ask again.";
 const SILENCED = "tags that were silenced before they were heard: only then do they answer";
 const NEW_VERSION = "Tags that were silenced before they were heard answer only after the field was switched off and on, and a log of " +
@@ -35,13 +35,10 @@ export function maintainer(told, said) {
  * @param {Told} told
  */
 function left(told) {
-  const { open, isBySlots, silenced, hidden } = told.requests, parts = [], all = told.open[0]?.len === 0;
-  const masks = isBySlots ? open.length : told.object.open.count - told.quiet - told.hidden;
+  const { open, number, by, silenced, hidden } = told.requests, parts = [], all = told.open[0]?.len === 0;
   const end = told.counts.listed ? "before the U lines." : "at the end.";
-  const more = masks > open.length ? ` Here are the first ${count(open.length, "request")}: ask these, and judge the log again.` : "";
-  const slot = `, ${masks > 1 ? "one for each" : "for the"} slot that left UIDs open`;
-  const each = isBySlots ? slot : masks > 1 ? ", one for each open mask" : "";
-  const how = all ? "What is left to ask, in sixteen slots, or in one." : `${requests(masks)} left${each}.${more}`;
+  const more = number > open.length ? ` Here are the first ${count(open.length, "request")}: ask these, and judge the log again.` : "";
+  const how = all ? "What is left to ask, in sixteen slots, or in one." : `${requests(number)} left, ${number > 1 ? "one for each" : "for the"} ${by}.${more}`;
   if (open.length) parts.push(el("p", {}, `${how} ${INSERT}${end}`), ...copied(open));
   if (hidden.length) parts.push(el("p", {}, `${requests(hidden.length)} left ${ASK_UNDER}`), ...copied(hidden));
   if (silenced.length && !told.cycles) parts.push(el("p", {}, NEW_VERSION));
@@ -53,7 +50,7 @@ function left(told) {
 }
 
 /** @param {number} number */
-const requests = (number) => count(number, "request or more is", "requests or more are");
+const requests = (number) => count(number, "request is", "requests are");
 
 /**
  * Lines to be copied. Many are cut off on paper.

@@ -33,7 +33,7 @@ export function rounds(told, names) {
   const has = told.rows.some((row) => row.kind === "round" && row.slots.length === SLOTS);
   const numbers = has ? Array.from({ length: SLOTS }, (_, slot) => el("th", { scope: "col" }, slot.toString(16).toUpperCase()))
     : [el("th", { scope: "col", colspan: String(SLOTS) }, "the one slot")];
-  const head = el("tr", {}, el("th", { scope: "col" }, "lines"), el("th", { scope: "col" }, "asked"), ...numbers);
+  const head = el("tr", {}, el("th", { scope: "col" }, "line", el("span", { class: "till" }, "s")), el("th", { scope: "col" }, "asked"), ...numbers);
   const ringed = new Set(told.ringed), named = new Set(told.named);
   const body = told.rows.map((row) => rowOf(row, ringed, named, names));
   const table = el("table", { class: "rounds" }, el("caption", {}, "The rounds of the session"), el("thead", {}, head), el("tbody", {}, body));
@@ -108,7 +108,8 @@ function missing({ rounds, quiets, cycles }) {
  */
 function tail(mask) {
   const digits = hex(mask.value, Math.ceil(mask.len / 4)), bits = mask.len % 4 ? ` (${count(mask.len, "bit").replace(" ", "\u00A0")})` : "";
-  return ["..", el("span", { class: "before" }, digits.slice(0, -MOST_DIGITS)), `${digits.slice(-MOST_DIGITS)}${bits}`];
+  const before = digits.slice(0, -MOST_DIGITS);
+  return [before ? el("span", { class: "before" }, `..${before}`) : "..", `${digits.slice(-MOST_DIGITS)}${bits}`];
 }
 
 /**
@@ -120,7 +121,8 @@ function tail(mask) {
 function wide(head, words, line, named) {
   const attributes = /** @type {Record<string, string>} */ ({ colspan: String(SLOTS + 1), class: named ? "say named" : "say" });
   if (line) attributes["data-line"] = String(line);
-  return el("tr", {}, el("th", { scope: "row" }, line ? toLine(line, unseen("line "), head) : head), el("td", attributes, words, ...marked(named)));
+  return el("tr", {}, el("th", { scope: "row" }, line ? toLine(line, unseen("line "), head)
+    : [el("span", { "aria-hidden": "true" }, head), unseen("in between")]), el("td", attributes, words, ...marked(named)));
 }
 
 /**

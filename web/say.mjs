@@ -9,7 +9,8 @@ import { count, ending, lines, listing, short, whom } from "./words.mjs";
 /** @typedef {import("./told.mjs").Margin} Margin */
 /** @typedef {import("./causes.mjs").Cause} Cause */
 /** @typedef {"yes" | "no" | "read" | "broken" | "refused" | "plain"} Look */
-/** @typedef {{name: string, value: string, look: Look}} Light */
+/** @typedef {{value: string, look: Look}} Shown */
+/** @typedef {{name: string} & Shown} Light */
 /**
  * @typedef {Object} Said
  * @property {Look} look
@@ -24,6 +25,7 @@ import { count, ending, lines, listing, short, whom } from "./words.mjs";
  * @property {string[]} ask lines that send it
  */
 
+const NOT_KNOWN = "not known";
 const AGAIN = "Run the inventory again, to its end.";
 const NEW_LOG = "Count again, in a new log: with less interference, tags that lie still and not on top of each other, and no " +
   "second reader nearby.";
@@ -35,15 +37,15 @@ const ONE_MORE = "Send this page (printed as PDF) to whoever maintains the reade
   "strong reply hid a weaker one.";
 const ONE_ROUND = "To see whether others are here: run the inventory again, to a last round that no tag answers.";
 const COMPARE = "Compare these tags with what should be here: open a catalogue (CSV) together with the log.";
-const TITLES = "To see their titles: open a catalogue (CSV) together with the log.";
+const TITLES = "To see the items' titles: open a catalogue (CSV) together with the log.";
 /** If the list is what was expected here, and if it is what the reader found: of tags that can't be here, and of others. */
 const IF_EXPECTED = "If the list is what was expected here: ", IF_READ = "If the list is what the reader found: ";
-const MISSING = ["look for the listed items that can't be here. If one is in plain sight, its tag is broken or covered: move it, and " +
-  "count again.", "tags were taken away since, or the list is that of another session"];
+const IS_BROKEN = "is here, its tag is broken or covered: move it, and count again. If not, it is missing.";
+const WERE_TAKEN = "tags were taken away since, or the list is that of another session";
 const LOST = "Before you look for tags that can't be here: the reader silenced some of them, so it knew them, and their replies may have " +
   "been lost. Switch its field off and on, and count again.";
-const STRANGERS = ["the tags that aren't listed belong elsewhere, or the list lacks them.",
-  "the reader's software omitted tags that were here"];
+const STRANGERS = "the tags here that aren't listed belong elsewhere, or the list lacks them.";
+const WERE_OMITTED = "the reader's software omitted tags that were here";
 const STAYS = "If the answer stays the same, send the log and this page (printed as PDF) to whoever maintains the reader.";
 /** For whoever maintains it, of tags that can't be here, and of those that aren't listed. */
 const NOT_HEARD = "If a tag that can't be here answers when no other tag is near: the line that rules it out tells of a slot in which " +
@@ -92,6 +94,7 @@ export function say(told, isAlone = true) {
   const { sentence: found, causes, test, ask = [], shelf = NEW_LOG } = contradiction(told.conflict);
   const other = told.object.captured?.kind ?? KIND.IMPOSSIBLE;
   return { ...none, look: "broken", sign: "≠", headline: `The log contradicts itself: ${found}`, shelf: [shelf, STAYS],
+    lights: lightsOf(told, isAlone, { value: NOT_KNOWN, look: "plain" }, { value: NOT_KNOWN, look: "plain" }),
     lead: "Usually it is one of these:", causes, ask,
     test: [test, other === KIND.IMPOSSIBLE ? "" : NO_CONFLICT].filter((it) => it).join(" ") };
 }
@@ -105,14 +108,25 @@ function possible(told, isAlone) {
   const { object: { found, kind, open }, counts } = told, ended = open.count === 0, hasList = counts.listed > 0;
   const whole = kind === KIND.COMPLETE && hasList, only = ended && !hasList;
   const differs = found.absent || found.unlisted, why = whyOpen(told);
-  const list = !hasList ? "none given" : whole ? "matches" : differs ? "differs" : "not known yet";
+  const list = whole ? "matches" : differs ? "differs" : "not known yet";
   const look = !ended ? "no" : told.object.captured?.settled === false ? "plain" : "yes";
-  const finished = /** @type {Light} */ ({ name: "Search finished", value: look === "plain" ? "not known yet" : look, look });
-  const listLight = /** @type {Light} */ ({ name: "List", value: list, look: whole ? "yes" : list === "differs" ? "no" : "plain" });
   const causes = [...why, ...hasList && found.absent ? [NOT_HEARD] : [], ...hasList && found.unlisted ? [NOT_CLAIMED] : []];
   return { look: whole ? "yes" : only ? "read" : "no", sign: whole ? "✓" : only ? "i" : "!", headline: headline(told, isAlone),
-    lights: [finished, ...hasList || isAlone ? [listLight] : []],
+    lights: lightsOf(told, isAlone, { value: look === "plain" ? "not known yet" : look, look },
+      { value: list, look: whole ? "yes" : differs ? "no" : "plain" }),
     shelf: steps(told, isAlone), why: mainly(told, why), lead: "", causes, test: "", ask: [] };
+}
+
+/**
+ * @param {Told} told
+ * @param {boolean} isAlone
+ * @param {Shown} finished
+ * @param {Shown} list if there is one
+ * @returns {Light[]}
+ */
+function lightsOf({ counts }, isAlone, finished, list) {
+  const shown = counts.listed ? [list] : isAlone ? [{ value: "none given", look: /** @type {const} */ ("plain") }] : [];
+  return [{ name: "Search finished", ...finished }, ...shown.map((it) => ({ name: "List", ...it }))];
 }
 
 /**
@@ -127,11 +141,15 @@ function steps({ object: { kind, found, open, captured }, counts, quiet, notes }
   if (kind === KIND.DOUBTFUL) steps.push(CYCLE, LOOK);
   else if (open.count) steps.push(quiet === open.count ? CYCLE : AGAIN);
   if (found.absent && notes.lost.length) steps.push(LOST);
-  const differs = [...found.absent ? [MISSING] : [], ...found.unlisted && counts.listed ? [STRANGERS] : []];
-  const [expected, read] = [" And ", "; and "].map((and, at) => differs.map((it) => it[at]).join(and));
-  const titles = isAlone && differs.length ? [TITLES] : [];
-  return [...steps, ...differs.length ? [`${IF_EXPECTED}${expected}`, `${IF_READ}${read}. Count again.`] : [], ...titles, STAYS];
+  const isMore = found.unlisted > 0 && counts.listed > 0, expected = [...found.absent ? [lookFor(found.absent)] : [], ...isMore ? [STRANGERS] : []];
+  const read = [...found.absent ? [WERE_TAKEN] : [], ...isMore ? [WERE_OMITTED] : []].join("; and ");
+  if (read) steps.push(...expected.map((it, at) => `${at ? "Then " : IF_EXPECTED}${it}`), `${IF_READ}${read}. Count again.`);
+  return [...steps, ...read && isAlone ? [TITLES] : [], STAYS];
 }
+
+/** @param {number} number of listed tags that can't be here */
+const lookFor = (number) => number === 1 ? `look on this shelf for the item below. If it ${IS_BROKEN}`
+  : `look on this shelf for the ${count(number, "item")} below. If one ${IS_BROKEN}`;
 
 /**
  * @param {Told} told

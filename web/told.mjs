@@ -68,11 +68,10 @@ import { strip } from "./strip.mjs";
  * @property {Mask[]} open the first open masks
  * @property {Silenced[]} silenced the tags that are open since they were silenced before they were heard
  * @property {number} quiet how many open masks have no other tags
- * @property {number} hidden how many open masks only a reply may have hidden
- * @property {{open: string[], isBySlots: boolean, silenced: string[], hidden: string[], all: string[],
- *   hasHeardAll: boolean}} requests what is left to ask, as lines: at once, by the open masks or by the slots that left them; after
- *   a field cycle; and where a reply may have hidden others; and where any may have, what asks all in one slot but those that were
- *   heard, and whether these are all that are certain
+ * @property {{open: string[], number: number, by: string, silenced: string[], hidden: string[], all: string[], hasHeardAll: boolean}} requests what
+ *   is left to ask, as lines: at once, the first of a number, one for each open mask, or slot or round that left some; after a field
+ *   cycle; and where a reply may have hidden others; and where any may have, what asks all in one slot but those that were heard, and
+ *   whether these are all that are certain
  * @property {Cause[]} causes slots in which the other open UIDs would answer, by their rounds
  * @property {boolean} neverAsked whether some open mask has no such slot
  * @property {import("./notes.mjs").Notes} notes
@@ -86,6 +85,8 @@ import { strip } from "./strip.mjs";
 
 /** How many lines of findings are marked, and how many tags are silenced by requests that are told. */
 const MOST_NAMED = 24, MOST_REQUESTS = 1000;
+/** For what each request is left, if it is nothing wider. */
+const BY_MASK = "open mask";
 const NO_MASK = { len: 0, value: 0n };
 
 /**
@@ -106,8 +107,8 @@ export function tell(object, text = new TextEncoder().encode(object.text)) {
   log.counts.lines = object.lines;
   /** @type {Told} */
   const told = { object, faulty: refused && line <= log.lineCount ? log.line(line) : "",
-    cycles: log.version > 1, conflict: null, open: object.open.masks.map(maskOf), silenced: [], quiet: 0, hidden: 0,
-    requests: { open: [], isBySlots: false, silenced: [], hidden: [], all: [], hasHeardAll: false }, causes: [], neverAsked: false,
+    cycles: log.version > 1, conflict: null, open: object.open.masks.map(maskOf), silenced: [], quiet: 0,
+    requests: { open: [], number: 0, by: BY_MASK, silenced: [], hidden: [], all: [], hasHeardAll: false }, causes: [], neverAsked: false,
     notes: { lost: [], cut: [], last: null },
     counts: log.counts, rows: [], strip: [], marked: [], ringed: [], named: [] };
   if (!refused) explain(log, told);
@@ -128,15 +129,17 @@ function explain(log, told) {
   const asked = (/** @type {(mask: Mask) => boolean} */ isIt) => object.open.masks.flatMap((mask, at) => !isIt(open[at]) ? []
     : open[at].len && collided.has(maskKey(open[at])) ? [sixteen(open[at], link)] : mask.ask);
   const isOwn = (/** @type {Mask} */ mask) => !quiet.has(mask) && !hidden.has(mask);
-  const slots = open.length === object.open.count ? slotsAround(causes, open.filter(isOwn)) : [];
-  Object.assign(told, { silenced: tags, quiet: masks.length, hidden: hidden.size, causes, neverAsked, requests: {
-    ...told.requests, open: slots.length ? slots.map((mask) => sixteen(mask, link)) : asked(isOwn),
-    isBySlots: slots.length > 0, silenced: asked((mask) => quiet.has(mask)),
+  const { asked: wider, by } = open.length === object.open.count ? around(causes, open.filter(isOwn)) : { asked: [], by: BY_MASK };
+  Object.assign(told, { silenced: tags, quiet: masks.length, causes, neverAsked, requests: {
+    ...told.requests, open: wider.length ? wider.map((mask) => sixteen(mask, link)) : asked(isOwn), by,
+    number: wider.length || object.open.count - masks.length - hidden.size, silenced: asked((mask) => quiet.has(mask)),
     hidden: askedAgain(log, causes) } });
   const { captured, status } = object, isHiding = status < 2 && (captured?.holds === false || captured?.settled === false);
   if (isHiding) Object.assign(told.requests, allButHeard(log, link, object.certain.count));
   told.named = named(told);
   told.notes = notesOf(log, object);
+  const cut = new Set(causes.flatMap(({ reading, round }) => reading === "unreached" ? round : []));
+  told.notes.cut = told.notes.cut.filter(({ line }) => !cut.has(line));
   if (told.conflict) told.notes.last = null;
   told.ringed = causes.flatMap((cause) => cause.slots.map((number) => `${cause.round}:${number}`));
   told.rows = drawn(log, told.named, rows, !isLarge(told.conflict));
@@ -147,14 +150,20 @@ function explain(log, told) {
 }
 
 /**
- * The slots that left masks open, if they are fewer and have all of them: around tags that are certain, one slot leaves many.
+ * What to ask in place of masks that are open, if it is less and has all of them, and what each is: a round that was cut short, or a
+ * slot, which leaves many around tags that are certain.
  * @param {Cause[]} causes
  * @param {Mask[]} open
  */
-function slotsAround(causes, open) {
-  const slots = causes.filter((cause) => cause.reading !== "captured").flatMap((cause) => cause.masks);
-  const isIn = (/** @type {Mask} */ { len, value }) => slots.some((slot) => slot.len <= len && !BigInt.asUintN(slot.len, slot.value ^ value));
-  return slots.length < open.length && open.every(isIn) ? slots : [];
+function around(causes, open) {
+  const isCut = (/** @type {Cause} */ { reading, masks }) => reading === "unreached" && masks.length > 1;
+  const rounds = causes.filter(isCut), cut = new Set(rounds.map((cause) => cause.round));
+  const slots = causes.filter(({ reading, round }) => reading !== "captured" && !cut.has(round)).flatMap((cause) => cause.masks);
+  const asked = [...rounds.map((cause) => cause.asked), ...slots];
+  const isIn = (/** @type {Mask} */ { len, value }) => asked.some((mask) => mask.len <= len && !BigInt.asUintN(mask.len, mask.value ^ value));
+  if (asked.length >= open.length || !open.every(isIn)) return { asked: [], by: BY_MASK };
+  const by = !rounds.length ? "slot that left UIDs open" : !slots.length ? "round that was cut short" : "slot or round that left UIDs open";
+  return { asked, by };
 }
 
 /**
