@@ -44,8 +44,8 @@ export function silencedUnheard(log, open) {
 
 /**
  * The slots that weren't reached or weren't read, or in which others than the one that was read may have answered: those within
- * an open mask, and for a mask without such slots the narrowest around it; with the rows of these slots, whether a mask has
- * neither, and the masks that only a reply may have hidden.
+ * an open mask, and for a mask without such slots the narrowest around it; with the rows to draw, of those that weren't read if there
+ * are any, whether a mask has neither, and the masks that only a reply may have hidden.
  * @param {Log} log
  * @param {Mask[]} masks
  */
@@ -69,7 +69,8 @@ export function causesOf(log, masks) {
     if (around) causing.push(around); else neverAsked = true;
     if (around?.reading === "captured") hidden.add(mask);
   }
-  return { causes: byRound(causing), rows: [...new Set(causing.map((slot) => slot.row))], neverAsked, hidden };
+  const clear = causing.filter((slot) => slot.reading !== "captured"), shown = clear.length ? clear : causing;
+  return { causes: byRound(causing), rows: [...new Set(shown.map((slot) => slot.row))], neverAsked, hidden };
 }
 
 /**
@@ -116,7 +117,8 @@ function mayAsk(log, row, low) {
 }
 
 /**
- * The causes of each round, the last round first, as it is the one that the reader didn't end.
+ * The causes of each round, the last round first, as it is the one that the reader didn't end; behind these the replies that may have
+ * hidden others.
  * @param {Unread[]} causing
  * @returns {Cause[]}
  */
@@ -133,5 +135,7 @@ function byRound(causing) {
     causes.set(`${round} ${reading}`, cause);
   }
   for (const cause of causes.values()) cause.slots.sort((one, other) => one - other);
-  return [...causes.values()].sort((one, other) => other.round - one.round || ORDER.indexOf(one.reading) - ORDER.indexOf(other.reading));
+  const isRead = (/** @type {Cause} */ { reading }) => Number(reading === "captured");
+  return [...causes.values()].sort((one, other) => isRead(one) - isRead(other) || other.round - one.round ||
+    ORDER.indexOf(one.reading) - ORDER.indexOf(other.reading));
 }

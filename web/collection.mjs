@@ -262,8 +262,11 @@ function drawnLog(object, names) {
  */
 function saidOf({ list, certain, open, more_open, object }) {
   if (list.status === CANNOT_BE_READ) return `can't be read: ${list.error ?? ""}`;
-  if (list.kind === KIND.REFUSED) return `isn't a log (line ${list.line}), so nothing is known of its field`;
   const told = object && tell(object);
+  if (list.kind === KIND.REFUSED) {
+    const isCut = object && !object.ended && list.line === object.lines;
+    return `${isCut ? "is cut off" : "isn't a log"} (line ${list.line}), so nothing is known of its field${isCut ? ": copy it again first" : ""}`;
+  }
   if (list.kind === KIND.IMPOSSIBLE) {
     const why = told?.conflict ? `: ${contradiction(told.conflict).sentence.replace(/\.$/, "")}` : ` (line ${list.line})`;
     return `nothing is known of its field, since its log contradicts itself${why}`;

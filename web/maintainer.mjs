@@ -7,7 +7,7 @@ import { count, visible } from "./words.mjs";
 
 const MOST_SHOWN = 160, MOST_ON_PAPER = 96;
 const INSERT = "If a slot has a collision, ask its mask in sixteen slots too. In the log, the new lines go ";
-const ASK_UNDER = "where a reply may have hidden others, to silence the tags that were read there and to ask again.";
+const ASK_UNDER = ", to ask again where a reply may have hidden others, when the tags that were read there are silent.";
 const SILENCED = "tags that were silenced before they were heard: only then do they answer";
 const NEW_VERSION = "Tags that were silenced before they were heard answer only after the field was switched off and on, and a log of " +
   "version 1 has no line for that. Begin a new log, of version 3, and ask for the whole field again.";
@@ -35,12 +35,13 @@ export function maintainer(told, said) {
  * @param {Told} told
  */
 function left(told) {
-  const { open, number, by, silenced, hidden } = told.requests, parts = [], all = told.open[0]?.len === 0;
+  const { open, by, silenced, hidden } = told.requests, parts = [], all = told.open[0]?.len === 0;
   const end = told.counts.listed ? "before the U lines." : "at the end.";
-  const more = number > open.length ? ` Here are the first ${count(open.length, "request")}: ask these, and judge the log again.` : "";
-  const how = all ? "What is left to ask, in sixteen slots, or in one." : `${requests(number)} left, ${number > 1 ? "one for each" : "for the"} ${by}.${more}`;
+  const isAll = told.open.length === told.object.open.count, each = `${open.length > 1 ? "one for each" : "for the"} ${by}`;
+  const how = all ? "What is left to ask, in sixteen slots, or in one." : isAll ? `${requests(open.length)} left, ${each}.`
+    : `What is left to ask first, ${each}: send it, and judge the log again.`;
   if (open.length) parts.push(el("p", {}, `${how} ${INSERT}${end}`), ...copied(open));
-  if (hidden.length) parts.push(el("p", {}, `${requests(hidden.length)} left ${ASK_UNDER}`), ...copied(hidden));
+  if (hidden.length) parts.push(el("p", {}, `${requests(hidden.length)} left${ASK_UNDER}`), ...copied(hidden));
   if (silenced.length && !told.cycles) parts.push(el("p", {}, NEW_VERSION));
   else if (silenced.length) {
     const then = open.length || hidden.length ? "Then switch" : "Switch", number = count(silenced.length, "request");

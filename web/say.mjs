@@ -42,8 +42,7 @@ const TITLES = "To see the items' titles: open a catalogue (CSV) together with t
 const IF_EXPECTED = "If the list is what was expected here: ", IF_READ = "If the list is what the reader found: ";
 const IS_BROKEN = "is here, its tag is broken or covered: move it, and count again. If not, it is missing.";
 const WERE_TAKEN = "tags were taken away since, or the list is that of another session";
-const LOST = "Before you look for tags that can't be here: the reader silenced some of them, so it knew them, and their replies may have " +
-  "been lost. Switch its field off and on, and count again.";
+const LOST = "may have been lost. Switch its field off and on, and count again.";
 const STRANGERS = "the tags here that aren't listed belong elsewhere, or the list lacks them.";
 const WERE_OMITTED = "the reader's software omitted tags that were here";
 const STAYS = "If the answer stays the same, send the log and this page (printed as PDF) to whoever maintains the reader.";
@@ -60,8 +59,10 @@ export const TO_KNOW = "silence each tag that was heard, and ask all in one slot
 const NO_LIST_GIVEN = " The log has no list to compare with.";
 const NO_CONFLICT = "If strong replies may have hidden weaker ones (each R read as H), the log doesn't contradict itself.";
 
-/** How many rounds are named as causes. */
-const MOST_CAUSES = 24;
+const NOT_SETTLED = "no later request settled all of these UIDs.";
+
+/** How many rounds are named as causes, and how many of those in which a reply may have hidden others. */
+const MOST_CAUSES = 24, MOST_READ = 2;
 
 /**
  * What no program can check. If one of these fails, an answer may be wrong.
@@ -140,7 +141,10 @@ function steps({ object: { kind, found, open, captured }, counts, quiet, notes }
   const steps = [];
   if (kind === KIND.DOUBTFUL) steps.push(CYCLE, LOOK);
   else if (open.count) steps.push(quiet === open.count ? CYCLE : AGAIN);
-  if (found.absent && notes.lost.length) steps.push(LOST);
+  if (found.absent && notes.lost.length) {
+    const knew = notes.lost.length === 1 ? "a tag that can't be here, so it knew it, and its reply" : "tags that can't be here, so it knew them, and their replies";
+    steps.push(`Before you look: the reader silenced ${knew} ${LOST}`);
+  }
   const isMore = found.unlisted > 0 && counts.listed > 0, expected = [...found.absent ? [lookFor(found.absent)] : [], ...isMore ? [STRANGERS] : []];
   const read = [...found.absent ? [WERE_TAKEN] : [], ...isMore ? [WERE_OMITTED] : []].join("; and ");
   if (read) steps.push(...expected.map((it, at) => `${at ? "Then " : IF_EXPECTED}${it}`), `${IF_READ}${read}. Count again.`);
@@ -223,8 +227,13 @@ export function settled(open) {
  */
 function whyOpen({ causes, silenced, neverAsked, counts }) {
   const [first] = silenced, numbers = silenced.map((it) => it.line);
-  const why = causes.slice(0, MOST_CAUSES).map(because);
-  if (causes.length > MOST_CAUSES) why.push("And slots of more rounds, before these.");
+  const read = causes.filter((cause) => cause.reading === "captured"), isMany = read.length > MOST_READ;
+  const told = isMany ? causes.slice(0, causes.length - read.length) : causes, why = told.slice(0, MOST_CAUSES).map(because);
+  if (told.length > MOST_CAUSES) why.push("And slots of more rounds, before these.");
+  if (isMany) {
+    const slots = count(read.reduce((sum, cause) => sum + cause.slots.length, 0), "slot");
+    why.push(`In ${slots} of ${count(read.length, "round")} one tag was read, perhaps over others, and ${NOT_SETTLED}`);
+  }
   if (neverAsked) why.push(counts.rounds ? "Some UIDs were asked by no request, or only after they were silenced." : "No request asked for any tag.");
   if (silenced.length === 1) why.push(`Line ${first.line} silenced ${short(first.uid)} before it was heard.`);
   if (silenced.length > 1) {
@@ -242,7 +251,7 @@ function whyOpen({ causes, silenced, neverAsked, counts }) {
 function mainly({ causes }, why) {
   if (!why.length) return "";
   const width = (/** @type {Cause} */ { slots, asked }) => slots.length * 2 ** -asked.len;
-  const [widest] = [...causes].sort((one, other) => width(other) - width(one));
+  const [widest] = causes.filter((it) => it.reading !== "captured").sort((one, other) => width(other) - width(one));
   const main = causes.find((it) => it.reading === "unreached") ?? widest;
   return `${why.length > 1 ? "One of the causes" : "The cause"}: ${main ? because(main) : why[0]}`;
 }
@@ -284,7 +293,7 @@ function because(cause) {
   const many = cause.slots.length > 1, slots = `slot${many ? "s" : ""} ${runs(cause.slots)}`;
   if (cause.reading === "unreached") return cause.slots[0] === 0 ? `Of the ${round} no slot was logged.` : `The ${round} ended before ${slots}.`;
   const held = cause.reading === "captured" ? readIn(cause.uids) : HELD[cause.reading];
-  return `In ${many ? "each of " : ""}${slots} of the ${round} ${held}, and no later request settled all of these UIDs.`;
+  return `In ${many ? "each of " : ""}${slots} of the ${round} ${held}, and ${NOT_SETTLED}`;
 }
 
 /**

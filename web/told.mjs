@@ -135,13 +135,19 @@ function explain(log, told) {
     number: wider.length || object.open.count - masks.length - hidden.size, silenced: asked((mask) => quiet.has(mask)),
     hidden: askedAgain(log, causes) } });
   const { captured, status } = object, isHiding = status < 2 && (captured?.holds === false || captured?.settled === false);
-  if (isHiding) Object.assign(told.requests, allButHeard(log, link, object.certain.count));
+  if (isHiding || told.requests.hidden.length) {
+    const { heard, ready, all } = allButHeard(log, link), { hidden: again } = told.requests;
+    if (isHiding) Object.assign(told.requests, { all, hasHeardAll: heard === object.certain.count });
+    if (all.length > ready && all.length < again.length) told.requests.hidden = all;
+  }
   told.named = named(told);
   told.notes = notesOf(log, object);
   const cut = new Set(causes.flatMap(({ reading, round }) => reading === "unreached" ? round : []));
   told.notes.cut = told.notes.cut.filter(({ line }) => !cut.has(line));
   if (told.conflict) told.notes.last = null;
-  told.ringed = causes.flatMap((cause) => cause.slots.map((number) => `${cause.round}:${number}`));
+  // what may have been hidden is marked where nothing else is left
+  const marking = causes.filter(({ reading }) => reading !== "captured" || causes[0].reading === reading);
+  told.ringed = marking.flatMap((cause) => cause.slots.map((number) => `${cause.round}:${number}`));
   told.rows = drawn(log, told.named, rows, !isLarge(told.conflict));
   if (!told.rows.some((row) => row.kind === "gap")) return;
   const marked = new Set([...rows, ...told.named.map((line) => log.rowAt(line))]);
@@ -180,12 +186,12 @@ function askedAgain(log, causes) {
 }
 
 /**
- * The lines that silence the tags that were heard and aren't silenced, unless these are too many, and ask all in one slot.
+ * How many tags were heard, how many of these aren't silenced, and the lines that silence them, unless they are too many, and ask all in
+ * one slot.
  * @param {Log} log
  * @param {number} link
- * @param {number} certain how many tags are certain
  */
-function allButHeard(log, link, certain) {
+function allButHeard(log, link) {
   const heard = /** @type {Set<bigint>} */ (new Set()), ready = /** @type {Set<bigint>} */ (new Set());
   for (let at = 0; at < log.rowCount; at++) {
     if (log.isQuiet(at)) ready.delete(uidIn(log.frame(log.lineOf(at))));
@@ -198,7 +204,7 @@ function allButHeard(log, link, certain) {
     }
   }
   const quiets = ready.size > MOST_REQUESTS ? [] : [...ready];
-  return { all: [...quiets.map((uid) => `T ${stayQuietOf(uid, link)}`), `T ${requestOf(1, NO_MASK, link)}`], hasHeardAll: heard.size === certain };
+  return { heard: heard.size, ready: ready.size, all: [...quiets.map((uid) => `T ${stayQuietOf(uid, link)}`), `T ${requestOf(1, NO_MASK, link)}`] };
 }
 
 /**
