@@ -432,6 +432,17 @@ def test_a_slot_is_asked_again_as_a_whole(page):
     assert "2 requests are left, one for each open mask." in page.said()
 
 
+def test_replies_that_may_have_hidden_others_come_last(page):
+    """Where a collision is left too, they are one sentence and one request, and aren't ringed."""
+    again = [line for mask in ((8, 0xA1), (12, 0xA1))
+             for line in (biglog.ask(mask, 1), OVER_A)]
+    page.drop(log=text_of(["vicinity-log 3", EACH, "S", OVER_A, "C", *"S" * 13, *again]))
+    page.until(".why", "In slot 2 of the round of line 2, which asked all UIDs, two or more tags")
+    assert "In 3 slots of 3 rounds one tag was read, perhaps over others" in page.said()
+    assert ["two or more" in it["title"] for it in page.run(RINGED)] == [True]
+    assert page.texts(".copy") == [biglog.ask((4, 2), 16), f"{QUIET_A}\n{ALL}"]
+
+
 def test_a_contradiction_that_hidden_replies_explain(page):
     page.drop(log=log_of("I1 RA QA I1 RB QB I1 S UA UB"))
     page.until("#told", "(each R read as H), the log doesn't contradict itself.")

@@ -313,7 +313,7 @@ def sessions(vicinity):
 @pytest.mark.parametrize("name", ["whole", "half", "lost", "unlisted", "woke", "empty", "conflict"])
 def test_page_of_a_longer_session(opened, sessions, name):
     page = opened(name, sessions[name])
-    assert ("the reader silenced some of them" in page.said()) == (name == "lost")
+    assert ("Before you look: the reader silenced" in page.said()) == (name == "lost")
     bars = page.run("return document.querySelectorAll('.strip i').length")
     # that shows all rounds where not all are drawn
     assert bool(bars) == (name not in ("empty", "conflict"))

@@ -133,11 +133,12 @@ class Said(Command):
         for lines, wanted in (
                 (TWICE + LIST_A,
                  f"{SAID} 2 slots; that is enough for UIDs ending in an even digit."),
-                (ALL + b"S\n", f"{SAID} 1 slot; that is enough for all UIDs."),
+                (ALL + b"S\n", f"{SAID} 1 slot, whatever its UID."),
                 (ONCE_B + LIST_A, f"{SAID} 1 slot; that is enough for E0040100000000B2."),
                 (OFTEN + LIST_A + LIST_B,
-                 "absent: E0040100000000A1, asked in 4 slots, silent in each"),
-                (ALL + b"S\n" + LIST_A, "absent: E0040100000000A1, asked in 1 slot, silent there")):
+                 "absent: E0040100000000A1 would have been missed in 4 slots"),
+                (ALL + b"S\n" + LIST_A,
+                 "absent: E0040100000000A1 would have been missed in 1 slot")):
             said = within("show", self.write("one.log", log(lines)))[0].decode()
             self.assertIn(wanted, " ".join(said.split()))
             self.assertEqual(SAID in said, said.startswith("complete"))

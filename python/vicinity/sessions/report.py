@@ -31,9 +31,7 @@ def found(told: Told, most: Optional[int] = None) -> Iterator[tuple[FindingKind,
         for it in told.of(kind)[:most] if kind is not FindingKind.UNSETTLED else ():
             uid, said = uid_text(it.uid), ""
             if kind is FindingKind.ABSENT:
-                number = next(slots)
-                where = "there" if number == 1 else "in each"
-                said = f"{uid}, asked in {count(number, 'slot')}, silent {where}"
+                said = f"{uid} would have been missed in {count(next(slots), 'slot')}"
             elif kind is FindingKind.UNLISTED:
                 said = uid
             elif kind is FindingKind.OPEN_MASK:

@@ -100,8 +100,9 @@ def conditions(told: Told) -> Iterator[str]:
 
 def missed(weakest: Weakest, where: str = "") -> str:
     """How sure it is that no other tag is there."""
-    return (f"A tag would have had to be missed in {count(weakest.margin, 'slot')}{where}; "
-            f"that is enough for {ending(weakest.mask)}.")
+    mask = weakest.mask
+    which = f"; that is enough for {ending(mask)}" if mask.length else ", whatever its UID"
+    return f"A tag would have had to be missed in {count(weakest.margin, 'slot')}{where}{which}."
 
 
 def _contradiction(told: Told) -> str:
