@@ -19,36 +19,40 @@ MOST_BYTES = 700_000
 UNFINISHED = (TOP / "examples/unfinished-count.log").read_bytes()
 LONG = text_of(["vicinity-log 1", *biglog.search(biglog.new_tags(random.Random(1), 400))])
 BITS = text_of(["vicinity-log 1", *[biglog.ask((5, 2), 16), *["S"] * 16] * 20])
+BROKEN = "This count can't be used. The log contradicts itself: "
 # Logs by the short names of their lines, with how the headline begins.
 LOGS = (
-    ("I16 S RA RB S13 UA UB", "All 2 listed tags are here, and no others."),
-    ("I1 RA UA", "The one listed tag is here, and no other."),
+    ("I16 S RA RB S13 UA UB", "All 2 listed tags are here; others may be, if stronger replies"),
+    ("I16 S RA RB S13 QA QB I1 S UA UB", "All 2 listed tags are here, and no others."),
+    ("I1 RA UA", "The one listed tag is here; others may be, if stronger replies hid them."),
+    ("I1 RA QA I1 S UA", "The one listed tag is here, and no other."),
     ("I1 S", "The field is empty, and nothing is listed."),
     ("I1 RA", "1 tag is here; others may be, if stronger replies hid them. The log has no list to "
      "compare with."),
     ("I1 RA QA I1 S", "1 tag is here, and no other. The log has no list to compare with."),
     ("I16 S RA RB S12 C UA UB", "All 2 listed tags are here; others may be too."),
     ("QB I1 RA UA", "The one listed tag is here; 1 tag may be here or not: it was silenced before"),
-    ("I1 S UA", "Search finished. 1 listed tag can't be here."),
-    ("I16 S RA RB S13 UA", "1 tag here isn't listed."),
-    ("I1 C UA", "Not finished: 0 % of all possible UIDs settled. 1 listed tag not proved."),
-    ("I16 S12", "Not finished: 75 % of all possible UIDs settled. The log has no list"),
-    ("", "Not finished: 0 % of all possible UIDs settled."),
-    ("I1 QA I1 S UA", "1 listed tag isn't proved: it was silenced before it was heard."),
+    ("I1 S UA", "0 of 1 listed tag is here; 1 didn't answer."),
+    ("I16 S RA RB S13 UA", "1 of 1 listed tag is here; 1 tag here isn't listed."),
+    ("I1 C UA", "Not finished: 0 of 1 listed tag is here; 1 isn't proved."),
+    ("I16 S12", "Not finished: no tag is proved to be here, but some may be. The log has no list"),
+    ("I16 S RA S10", "Not finished: 1 tag is here; others may be too. The log has no list"),
+    ("I1 QA I1 S UA", "0 of 1 listed tag is here; 1 listed tag isn't proved: it was silenced"),
     ("I1 QA I1 S", "1 tag may be here or not: it was silenced before it was heard."),
-    ("I1 RA I1 S", "The log contradicts itself: tag ..00A1 answered in line 3, but not in line 5,"),
-    ("I1 RA I1 RB", "The log contradicts itself: tags ..00A1 (line 3) and ..00B2 (line 5) were "
+    ("I1 RA I1 S", BROKEN + "tag ..00A1 answered in line 3, but not in line 5,"),
+    ("I1 RA I1 RB", BROKEN + "tags ..00A1 (line 3) and ..00B2 (line 5) were "
      "each read alone, but both should have answered in one of these two slots."),
-    ("I1 RA QA I1 RA", "The log contradicts itself: tag ..00A1 was silenced in line 4, but"),
-    ("I1 C QA I1 S", "The log contradicts itself: in line 3 two or more tags answered, but line 6 "
+    ("I1 RA QA I1 RA", BROKEN + "tag ..00A1 was silenced in line 4, but"),
+    ("I1 C QA I1 S", BROKEN + "in line 3 two or more tags answered, but line 6 "
      "leaves at most one."),
-    ("QZ M55 C", "The log contradicts itself: two or more tags answered in line 4, but the mask "
+    ("QZ M55 C", BROKEN + "two or more tags answered in line 4, but the mask "
      "that was asked there has at most one UID that wasn't silenced."),
-    ("V2 M64 D", "The log contradicts itself: something answered in line 3, but no tag of the "),
-    ("MB RA", "The log contradicts itself: line 3 is a reply of ..00A1, a tag that wasn't asked"),
+    ("V2 M64 D", BROKEN + "something answered in line 3, but no tag of the "),
+    ("MB RA", BROKEN + "line 3 is a reply of ..00A1, a tag that wasn't asked"),
     ("UA UA", "This log can't be used. Line 3: an earlier U line has the same UID."))
 # How the two lights are for some of them.
-LIGHTS = (("I16 S RA RB S13 UA UB", "yes", "matches"), ("I1 RA", "not known yet", "none given"),
+LIGHTS = (("I1 RA QA I1 S UA", "yes", "matches"), ("I1 RA UA", "not known yet", "matches"),
+          ("I1 RA", "not known yet", "none given"),
           ("I1 RA QA I1 S", "yes", "none given"),
           ("I16 S RA RB S12 C UA UB", "no", "not known yet"),
           ("I1 S UA", "yes", "differs"), ("I1 C UA", "no", "not known yet"),
@@ -79,18 +83,24 @@ SAID = (
     ("I1 S I1 RA", "if always, it came later", "a Stay Quiet isn't in the log; if never"),
     ("I1 RA I1 S", "A Stay Quiet or another request was sent", "One of these may have happened"),
     ("V2 I1 D I1 S", "a slot that may have been noise gets the line N", "write D"),
-    ("I1 QA I1 S UA", "Line 3 silenced ..00A1 before it was heard.", "no slot was logged"),
-    ("QA QB I1 S UA UB", "Lines 2 and 3 silenced 2 tags before they were heard.", "not proved"),
+    ("I1 QA I1 S UA", "Line 3 silenced ..00A1 before it was heard: a reply before", "no slot was logged"),
+    ("QA QB I1 S UA UB", "Lines 2 and 3 silenced 2 tags before they were heard: a reply", "not proved"),
     ("I16 S14", "ended before slots E and F.", "E to F"),
+    ("I16 S12", "Of all possible UIDs 75 % are settled.", "Search finished. "),
+    ("", "Of all possible UIDs 0 % are settled", "one for each"),
     ("I1 QA I1 S UA", "Begin a new log, of version 3", "What is left to ask"),
     ("V2 I1 QA I1 S UA", "write F, and send 1 request for tags that were silenced", "a new log"),
     ("I1 RA", "run the inventory again, to a last round that no tag answers.", "Nothing to do"),
     ("I1 RA QA I1 S", "open a catalogue (CSV) together with the log", "to a last round"),
     ("I16 C C S14", "2 requests are left, one for each open mask.", "What is left to ask"),
-    ("I1 RA I1 RB", "ask in sixteen slots, so that fewer tags answer at once. If strong replies "
-     "may have hidden weaker ones (each R read as H), the log doesn't contradict itself.\n\n"
+    ("I1 RA I1 RB", "ask in sixteen slots, in a new log, so that fewer tags answer at once.\n\n"
      "T 060100CD09", "each open mask"),
-    ("I1 C", "in sixteen slots, or in one", "one request for each"),
+    ("I1 RA I1 RB", "in a log of version 3. Read so, the log doesn't contradict itself.", "Notes"),
+    ("I1 C I1 S", "Later replies of these tags were lost, so slots were logged", "A later reply"),
+    ("I1 C QA I1 S", "A later reply of one of these tags was lost", "Later replies"),
+    ("I1 UA", "in sixteen slots, or in one", "one for each"),
+    ("I1 C", "1 request is left, for the open mask.", "or in one"),
+    ("I16 C16", "16 requests are left, one for each open mask or slot.", "or in one"),
     ("I1 S QA UA", "its reply may have been lost in line 3", "stronger replies"),
     ("I1 S MB S UA", "one that stronger replies hid would go unnoticed", "no earlier round"),
     ("I16 S12 I1 S UA", "This round was cut short after 12 of 16 slots.", "None of this round's"),
@@ -104,17 +114,18 @@ SAID = (
     ("MB S", "one that no earlier round asked would go unnoticed", "stronger replies"),
     ("MB S I1 S", "check the antenna", "Notes"),
     ("I1 UA", "no slot was logged", "ended before"),
-    ("I16 " * 30, "And slots of more rounds, before these.", "round of line 2,"),
+    ("I16 " * 30, "In 30 rounds, mainly in those of lines 28, 29, 30 and 31, 480 slots weren't "
+     "reached.", "round of line 2,"),
     ("UA UA", "Count again, in a new log.", "UIDs listed"),
     ('""', "Choose another file, or count again.", "Write the header"))
 # Texts that are no logs, with what is said of them.
 FOREIGN = (("\uFEFFvicinity-log 1\n", "byte order mark"), ("v\0i\0c\0\n\0", "UTF-16"),
            ("uid,title\nE004,Emma\n", "This file isn't a log, but a table."),
-           ("uid,title\nE004,Emma\n", "A list of UIDs isn't enough: open the logs too."),
+           ("uid,title\nE004,Emma\n", "its first line begins with 'vicinity-log'"),
            ("Dear reader\n", "Choose another file, or count again."),
-           ("uid,title\nE004,Emma\n", "what the logs show, open it together with them"),
-           ("title;\"UID\"\nEmma;E004\n", "what the logs show, open it together with them"),
-           ("Tag UID,title\nE004,Emma\n", "name its column of UIDs 'uid', and open it together"),
+           ("uid,title\nE004,Emma\n", "open both at once in vicinity.html: choose or drop the table"),
+           ("title;\"UID\"\nEmma;E004\n", "open both at once in vicinity.html"),
+           ("Tag UID,title\nE004,Emma\n", "In its first row, name the column of tag numbers"),
            ("vicinity-log 1\rT 260100F60A\rS\r", "CR alone"),
            ("vicinity-log 1 \n", "vicinity-log 1‹space›"))
 # Logs that can't be used, with what is said of them.
@@ -136,33 +147,32 @@ THIRD = {
         "others"),
     "none was hidden": (
         (ALL, OVER_A, QUIET_A, ALL, "S", LIST_A), "The one listed tag is here, and no other.",
-        "If a strong reply hid a weaker one, the answer still holds, and a tag would still have "
-        "had to be missed in 1 slot."),
+        "The answer allows for strong replies that hid weaker ones."),
     "two were hidden": (
         (ALL, OVER_A, QUIET_A, ALL, "C", LIST_A), "The one listed tag is here; others may be too.",
         "In slot 0 of the round of line 5, which asked all UIDs, two or more tags answered"),
     "a slot that isn't known": (
         (EACH, "N", *"S" * 15),
-        "Not finished: 93 % of all possible UIDs settled. The log has no list",
+        "Not finished: no tag is proved to be here, but some may be. The log has no list",
         "In slot 0 of the round of line 2, which asked all UIDs, nothing is known of who answered"),
     "it is asked again": (
         (EACH, "N", READ_A, *"S" * 14, "T 26010400AB05", "S", LIST_A),
-        "The one listed tag is here, and no other.",
+        "The one listed tag is here; others may be, if stronger replies hid them.",
         "If a strong reply hid a weaker one, the answer may be wrong."),
     "the last round has such a slot": (
         (EACH, *"S" * 15, "N"), "Not finished", "Of a slot of the last round, which asked all"),
     "it was silenced": (
-        (ALL, OVER_A, QUIET_A, ALL, OVER_A), "The log contradicts itself: tag ..00A1 was silenced "
+        (ALL, OVER_A, QUIET_A, ALL, OVER_A), BROKEN + "tag ..00A1 was silenced "
         "in line 4, but answered in line 6.", "woke up"),
     "a silent slot": (
-        (ALL, "S", ALL, OVER_A), "The log contradicts itself: tag ..00A1 answered in line 5, but "
+        (ALL, "S", ALL, OVER_A), BROKEN + "tag ..00A1 answered in line 5, but "
         "not in line 3, where it was also asked.", "Its reply in line 3 was lost"),
     "one that was read alone": (
-        (ALL, OVER_A, ALL, READ_B), "The log contradicts itself: tag ..00A1 answered in line 3, "
+        (ALL, OVER_A, ALL, READ_B), BROKEN + "tag ..00A1 answered in line 3, "
         "but not in line 5, where ..00B2 was read alone, and it was asked there too.",
         "write H for R"),
     "another mask": (
-        (OF_B, OVER_A), "The log contradicts itself: line 3 is a reply of ..00A1, a tag that",
+        (OF_B, OVER_A), BROKEN + "line 3 is a reply of ..00A1, a tag that",
         "under the wrong request"),
     "one slot too many": ((ALL, "N", "N"), "This log can't be used. Line 4", "no slot"),
     "a reply cut short": (
@@ -177,7 +187,7 @@ HIDDEN = (
     ("V3 I16 S RA RB S13 QA QB F", None, "QA QB I1"), ("I1 RA QA I1 S", "still holds.", ""),
     ("I16 S RA RB S13 UA", "still holds, but more UIDs may be open.",
      "QA QB I1"),
-    ("I1 RA QA I1 S UB", "still holds.", ""), ("I1 S", None, ""), ("I1 C UA", None, "I16 I1"),
+    ("I1 RA QA I1 S UB", "still holds.", ""), ("I1 S", None, ""), ("I1 C UA", None, "I16"),
     ("UA UA", None, ""))
 # Logs whose pages are read by everybody: each look of the answer.
 READ = ("I16 S RA RB S13 UA UB", "I16 S C S14 UA", "I1 RA I1 S", "UA UA", "I1 RA")
@@ -434,23 +444,22 @@ def test_a_slot_is_asked_again_as_a_whole(page):
 
 def test_replies_that_may_have_hidden_others_come_last(page):
     """Where a collision is left too, they are one sentence and one request, and aren't ringed."""
-    again = [line for mask in ((8, 0xA1), (12, 0xA1))
-             for line in (biglog.ask(mask, 1), OVER_A)]
+    again = [line for bits in range(8, 32, 4) for line in (biglog.ask((bits, 0xA1), 1), OVER_A)]
     page.drop(log=text_of(["vicinity-log 3", EACH, "S", OVER_A, "C", *"S" * 13, *again]))
     page.until(".why", "In slot 2 of the round of line 2, which asked all UIDs, two or more tags")
-    assert "In 3 slots of 3 rounds one tag was read, perhaps over others" in page.said()
+    assert "In 7 slots of 7 rounds, mainly in those of lines 2, 19, 21 and 23," in page.said()
     assert ["two or more" in it["title"] for it in page.run(RINGED)] == [True]
     assert page.texts(".copy") == [biglog.ask((4, 2), 16), f"{QUIET_A}\n{ALL}"]
 
 
 def test_a_contradiction_that_hidden_replies_explain(page):
     page.drop(log=log_of("I1 RA QA I1 RB QB I1 S UA UB"))
-    page.until("#told", "(each R read as H), the log doesn't contradict itself.")
+    page.until("#told", "Read so, the log doesn't contradict itself.")
 
 
 @pytest.mark.parametrize(("names", "holds"), [
     ("I1 RA QA I1 S UA", True), ("I16 S RA RB S13 UA UB", False), ("I1 S", True), ("I1 RA", True),
-    ("I1 S UA", True), ("I1 RA UB", False), ("I1 C", False)])
+    ("I1 S UA", True), ("I1 RA UB", False), ("I1 C", True)])
 def test_what_is_not_needed_is_not_taken_for_granted(page, names, holds):
     """That no reply was hidden, where what is said also holds if one was."""
     page.drop(log=log_of(names))
@@ -630,7 +639,7 @@ def test_stay_quiets_behind_one_that_is_marked_belong_to_their_round(page):
     assert cells[:4] == ["all", "·no tag answered", "A1 (silenced afterwards)",
                          "B2 (silenced afterwards)"]
     head = page.run("return document.querySelector('.rounds tbody th').textContent")
-    assert head.startswith("line 2") and head.endswith(", 16 slots: 2 heard, 14 silent")
+    assert head.startswith("lines 2") and head.endswith(", 16 slots: 2 heard, 14 silent")
 
 
 def test_without_a_list_no_tag_is_ringed(page):
@@ -673,7 +682,7 @@ def test_a_file_that_cannot_be_read(page):
 
 
 def test_a_file_is_chosen_again(page, tmp_path):
-    for names, words in ("I1 RA UA", "The one listed tag is here"), ("I1 S UA", "can't be here"):
+    for names, words in ("I1 RA UA", "The one listed tag is here"), ("I1 S UA", "didn't answer"):
         (tmp_path / "log").write_bytes(log_of(names))
         page.driver.find_element("id", "files").send_keys(str(tmp_path / "log"))
         page.until("h1", words)
@@ -703,7 +712,7 @@ def test_an_edit_stays_with_its_log(page):
     page.press("#logs button", 1)
     page.until("#logs", "one (edited)")
     page.until("#logs", "no list to compare with")
-    assert "two ! Search finished. 1 listed tag can't be here." in page.texts("#logs")[0]
+    assert "two ! 0 of 1 listed tag is here; 1 didn't answer." in page.texts("#logs")[0]
     assert page.driver.find_element("id", "text").get_property("value") == log_of(
         "I1 S UA").decode()
 
@@ -759,7 +768,7 @@ def test_several_logs(page):
     """Each has its own answer, and no answer stands for all of them, until one is pressed."""
     page.drop(one=log_of("I1 RA UA"), two=log_of("I1 S UA"), three=log_of("UA UA"))
     page.until("#logs", "The one listed tag is here")
-    page.until("#logs", "1 listed tag can't be here")
+    page.until("#logs", "1 didn't answer")
     page.until("#logs", "can't be used")
     said = "3 logs, each with its own answer. Complete: 1 of 3."
     page.until("h1", said)
@@ -768,7 +777,7 @@ def test_several_logs(page):
     assert not page.driver.find_element("id", "text").is_displayed()
     page.is_readable()
     page.press("#logs button", 1)
-    page.until("h1", "1 listed tag can't be here")
+    page.until("h1", "1 didn't answer")
     assert len(page.texts("h1")) == 1 and said in page.texts("#each")[0]
     assert page.run("return document.activeElement.textContent").startswith("two ")
 
@@ -804,7 +813,7 @@ def saved(page, folder):
     page.driver.execute_cdp_cmd("Browser.setDownloadBehavior",
                                 {"behavior": "allow", "downloadPath": str(folder)})
     page.driver.find_element("id", "save").click()
-    page.wait(lambda: [it for it in folder.iterdir() if it.suffix == ".html"])
+    page.wait(lambda: [it for it in folder.glob("*.html") if it.stat().st_size])
     return next(folder.iterdir())
 
 
@@ -841,7 +850,7 @@ def test_a_slot_is_tried_otherwise(page, tmp_path):
     page.press('td[data-line="5"]')
     assert page.texts("#trial button") == ["S nobody", "C two or more"]
     page.press("#trial button")
-    page.until("h1", "A trial: 1 listed tag can't be here")
+    page.until("h1", "A trial: 1 of 2 listed tags is here; 1 didn't answer.")
     page.until(".banner", "log (trial: line 5 is S)")
     page.press('td[data-line="3"]')
     page.press("#trial button")

@@ -1,4 +1,5 @@
 /** Why UIDs are open: the slots in which they would answer that weren't read, and the tags that were silenced before. */
+import { SLOTS } from "./frames.mjs";
 import { UID_BITS } from "./words.mjs";
 
 /** @typedef {import("./frames.mjs").Mask} Mask */
@@ -7,10 +8,10 @@ import { UID_BITS } from "./words.mjs";
 /** @typedef {{reading: Reading, round: number, slots: number[], asked: Mask, masks: Mask[], uids: bigint[]}} Cause with the
  *    slots, their masks, and the tags that were read */
 /** @typedef {{line: number, uid: bigint}} Silenced a Stay Quiet to a tag that was never heard */
-/** @typedef {{row: number, round: number, asked: Mask, number: number, mask: Mask, reading: Reading, uid: bigint | null}} Unread a slot */
+/** @typedef {{round: number, asked: Mask, number: number, mask: Mask, reading: Reading, uid: bigint | null}} Unread a slot */
 
 /** Of one round first what wasn't reached, as that is where the reader stopped. */
-const ORDER = ["unreached", "unknown", "collision", "garbled", "captured"];
+export const ORDER = ["unreached", "unknown", "collision", "garbled", "captured"];
 /** After so many slots only those are looked for that explain one more mask. */
 const MOST_CAUSING = 1000;
 /** By so many low bits most rounds are known to ask nothing that is open. */
@@ -44,8 +45,8 @@ export function silencedUnheard(log, open) {
 
 /**
  * The slots that weren't reached or weren't read, or in which others than the one that was read may have answered: those within
- * an open mask, and for a mask without such slots the narrowest around it; with the rows to draw, of those that weren't read if there
- * are any, whether a mask has neither, and the masks that only a reply may have hidden.
+ * an open mask, and for a mask without such slots the narrowest around it; whether a mask has neither, and the masks that only a
+ * reply may have hidden.
  * @param {Log} log
  * @param {Mask[]} masks
  */
@@ -69,8 +70,7 @@ export function causesOf(log, masks) {
     if (around) causing.push(around); else neverAsked = true;
     if (around?.reading === "captured") hidden.add(mask);
   }
-  const clear = causing.filter((slot) => slot.reading !== "captured"), shown = clear.length ? clear : causing;
-  return { causes: byRound(causing), rows: [...new Set(shown.map((slot) => slot.row))], neverAsked, hidden };
+  return { causes: byRound(notAskedAgain(causing)), neverAsked, hidden };
 }
 
 /**
@@ -85,7 +85,7 @@ function* unreadSlots(log, low) {
     const round = mayAsk(log, at, low) && log.hasUnread(at) ? log.row(at) : null;
     if (round?.kind !== "round") continue;
     for (const { number, mask, reading, uid } of round.slots) {
-      if (ORDER.includes(reading)) yield { row: at, round: round.line, asked: round.asked, number, mask, reading, uid };
+      if (ORDER.includes(reading)) yield { round: round.line, asked: round.asked, number, mask, reading, uid };
     }
   }
 }
@@ -115,6 +115,24 @@ function mayAsk(log, row, low) {
   const asked = log.shape(row), bits = Math.min(asked.len, LOW_BITS);
   return low[bits][asked.low & (1 << bits) - 1] > 0;
 }
+
+/**
+ * Without slots that were asked again in sixteen, of which each is there itself.
+ * @param {Unread[]} causing
+ */
+function notAskedAgain(causing) {
+  /** @type {Map<number, Set<number>>} */
+  const rounds = new Map();
+  for (const { round, number } of causing) rounds.set(round, (rounds.get(round) ?? new Set()).add(number));
+  const again = new Set(causing.filter(({ round }) => rounds.get(round)?.size === SLOTS).map(({ asked: { len, value } }) => key(len, value)));
+  return causing.filter(({ mask: { len, value } }) => !again.has(key(len, value)));
+}
+
+/**
+ * How many UIDs the slots of a cause have, as a share of all.
+ * @param {Cause} cause
+ */
+export const widthOf = ({ masks }) => masks.reduce((sum, { len }) => sum + 2 ** -len, 0);
 
 /**
  * The causes of each round, the last round first, as it is the one that the reader didn't end; behind these the replies that may have

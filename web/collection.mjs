@@ -3,7 +3,7 @@ import { contradiction } from "./contradiction.mjs";
 import { el, folded, lowered } from "./elements.mjs";
 import { KIND } from "./kinds.mjs";
 import { Pane } from "./pane.mjs";
-import { granted, HOLDS, mayBeWrong, missed, notSure, stillHolds } from "./say.mjs";
+import { ALLOWED, granted, HOLDS, mayBeWrong, missed, notSure, stillHolds } from "./say.mjs";
 import { inOrder, MOST_NAMES, nameOf, shelved, Shelves } from "./shelves.mjs";
 import { maskOf, tell } from "./told.mjs";
 import { banner, signed, view } from "./view.mjs";
@@ -69,6 +69,7 @@ const countAgain = (logs) => `Run ${logs === 1 ? "its inventory" : "the inventor
 export function collectionView(object) {
   const of = (/** @type {State} */ state) => object.items.filter((item) => item.state === state), shelves = new Shelves(object.logs);
   const home = (/** @type {Item} */ { belongs = "" }) => printable(belongs), known = new Set(["", ...of("there").map(home)]);
+  const slots = { "missed in": (/** @type {Item} */ { overlooked }) => overlooked ? count(overlooked, "slot") : "" };
   const mayBe = { "may be in": (/** @type {Item} */ item) => shelves.names(item.may_be_in, "or") }, unknown = of("not provable");
   const away = unknown.filter((item) => shelves.isAway(item)), others = unknown.filter((item) => !shelves.isAway(item));
   const some = others.filter((item) => known.has(home(item))), none = others.filter((item) => !known.has(home(item)));
@@ -81,7 +82,7 @@ export function collectionView(object) {
   return [banner(isWhole(object) ? { look: "yes", sign: "✓", ...said } : { look: "no", sign: "!", ...said },
     `${printable(object.name)} · ${count(object.logs.length, "log")}`), ...isKnown ? rests : [],
     ...logs("Count again", countAgain(open.length), open, true, object, shelves),
-    ...part("At the shelves", todo, true, howTo(object), shelved(todo, (item) => shelves.at(item), {}, (item) => shelves.toDo(item))),
+    ...part("At the shelves", todo, true, howTo(object), shelved(todo, (item) => shelves.at(item), object.counts.missing ? slots : {}, (item) => shelves.toDo(item))),
     ...part("Not on their shelves", away, true, `${AWAY} ${isShelf ? "on a shelf" : "in a field"} that has to be counted again.`,
       shelved(away, home, mayBe)),
     ...part("Without a tag", of("no tag"), true, NO_TAG, shelved(of("no tag"), home, {}, () => "look for")),
@@ -107,10 +108,8 @@ function part(title, list, open, words, drawn) {
 }
 
 /** @param {CollectionObject} object */
-function howTo({ counts, items }) {
-  const slots = items.reduce((least, { state, overlooked = 0 }) => state === "missing" ? Math.min(least, overlooked) : least, Infinity);
-  const asked = slots ? `: it would have been missed in ${count(slots, "slot")} or more of each` : "";
-  const look = counts.missing ? `What to look for is in none of the fields${asked}. ${LOOK_FOR} ` : "";
+function howTo({ counts }) {
+  const look = counts.missing ? `What is missing answered in none of the fields. ${LOOK_FOR} ` : "";
   return look + (counts.unexpected ? NOT_EXPECTED : "");
 }
 
@@ -202,7 +201,8 @@ function conditionsOfAll(object, shelves) {
   if (!isAll && (isAgain || !counts.missing && !counts.unexpected)) return [];
   const known = all.every((log) => log.captured);
   const fields = shelves.names(hidden.map((log) => log.file));
-  const also = hidden.length ? `${mayBeWrong(` in the field of ${fields},`)}.` : stillHolds(isAll ? object.margin : undefined);
+  const also = hidden.length ? `${mayBeWrong(` in the field of ${fields},`)}.` : allowsHidden(object) ? ALLOWED
+    : stillHolds(isAll ? object.margin : undefined);
   const sure = isAll ? [HOLDS, ...missed(object, ` in the field of ${shelves.name(object.weakest?.file ?? "")}`)] : [];
   return [el("section", { class: "holds" }, ...sure.map((it) => el("p", {}, it)),
     ...known || hidden.length ? [el("p", {}, also)] : [])];
@@ -277,13 +277,19 @@ function saidOf({ list, certain, open, more_open, object }) {
   const masks = object?.open.masks ?? open, all = object?.open.count ?? open.length, more = all - MOST_MASKS;
   const others = more_open && !object ? "more masks" : more > 1 ? `${more.toLocaleString("en")}\u00A0more masks` : "";
   const first = masks.slice(0, others ? MOST_MASKS : MOST_MASKS + 1).map(maskOf);
-  const plain = told && !told.quiet && !told.requests.hidden.length ? `, by ${count(told.requests.number, "request")} or more` : "";
+  const plain = told && !told.quiet && !told.requests.hidden.length && told.open.length === told.object.open.count ? `, by ${count(told.requests.open.length, "request")} or more` : "";
   return `${proved}; left to ask${plain}: ${endings(first, others)}`;
 }
 
+/**
+ * Whether no log has a reply that is said to be alone.
+ * @param {CollectionObject} object
+ */
+const allowsHidden = ({ logs: all }) => all.every(({ object }) => object && !/^R /m.test(object.text));
+
 /** @param {CollectionObject} object */
 function grantedOfAll(object) {
-  const all = [...OF_LOGS, ...granted(isWhole(object) && object.logs.every((log) => log.captured?.holds))];
+  const all = [...OF_LOGS, ...granted(allowsHidden(object) || isWhole(object) && object.logs.every((log) => log.captured?.holds))];
   return [folded(`What this takes for granted (${all.length})`, !object.status, el("ul", {}, all.map((it) => el("li", {}, it))))];
 }
 
@@ -292,5 +298,5 @@ function recordOfAll(object) {
   const expected = object.items.filter((item) => item.state !== "unexpected").length;
   const said = [count(expected, "item"), count(object.logs.length, "log"), `vicinity ${object.version}`];
   const sums = (object.files ?? []).map(({ file, sha256 }) => el("p", {}, `${nameOf(file)}\u00A0· SHA-256 `, el("code", {}, sha256)));
-  return el("footer", { class: "record" }, el("p", {}, said.join("\u00A0· ")), ...sums, signed());
+  return el("footer", { class: "record" }, el("p", {}, said.join("\u00A0· ")), ...sums, ...signed(headlineOf(object), printable(object.name)));
 }

@@ -5,7 +5,8 @@ import { linkOf, uidIn } from "./frames.mjs";
 /** @typedef {import("./log.mjs").Slot} Slot */
 /** @typedef {import("./log.mjs").Reading} Reading */
 /** @typedef {import("./frames.mjs").Mask} Mask */
-/** @typedef {{asked: Mask, round: number, lines: number[], reading: Reading}} Part lines of one round that hold the same */
+/** @typedef {{asked: Mask, round: number, lines: number[], reading: Reading, uids: bigint[]}} Part lines of one round that hold the
+ *    same, with the tags that were read */
 /**
  * @typedef {Object} Conflict
  * @property {number} count how many lines it has
@@ -16,6 +17,8 @@ import { linkOf, uidIn } from "./frames.mjs";
  * @property {number} silent its first silent slot's line, 0 if it has none
  * @property {Part[]} parts its lines by rounds, the first of many
  * @property {number} rounds of how many rounds they are
+ * @property {boolean} hasQuiets whether tags were silenced in the log
+ * @property {boolean} isNone whether its other lines are silent slots that leave none of the tags of its collision
  * @property {number} link of the request of its first line
  * @property {number} silencer the line of the Stay Quiet that had silenced the tag of its reply, 0 if there is none
  * @property {number} quietest the last line in between that shows this tag silent, 0 if there is none
@@ -44,8 +47,9 @@ export function conflictOf(log, lines, silencer) {
   const last = heard.length ? log.slot(heard[heard.length - 1]) : null;
   const quietest = silencer && last?.uid ? lastSilence(log, last.uid, log.rowAt(silencer), log.rowAt(last.line)) : 0;
   const isAlone = silencer > 0 && last !== null && stayedSilent(log, log.rowAt(last.line), log.rowAt(quietest || silencer), last.uid);
-  return { count: lines.length, first: lines[0], last: lines[lines.length - 1], silencer, quietest, isAlone,
-    link: linkOf(log.frame(log.lineOf(log.rowAt(lines[0])))), unread: unread ? log.slot(unread) : null,
+  const slot = unread ? log.slot(unread) : null;
+  return { hasQuiets: log.counts.quiets > 0, isNone: slot !== null && !heard.length && leavesNone(log, slot, lines), count: lines.length, first: lines[0], last: lines[lines.length - 1], silencer, quietest, isAlone,
+    link: linkOf(log.frame(log.lineOf(log.rowAt(lines[0])))), unread: slot,
     heard: [...new Set([...heard.slice(0, 1), ...heard.slice(-1)])].flatMap((line) => log.slot(line) ?? []),
     silent: lines.find(isSilent) ?? 0, ...partsOf(log, lines) };
 }
@@ -65,6 +69,19 @@ function lastSilence(log, uid, from, to) {
     if (slot) return slot.line;
   }
   return 0;
+}
+
+/**
+ * Whether the masks of silent slots, of which none holds another, have all UIDs of a slot. It isn't looked at where tags were silenced,
+ * or the lines are many.
+ * @param {Log} log
+ * @param {Slot} unread
+ * @param {number[]} lines
+ */
+function leavesNone(log, { line, mask }, lines) {
+  if (lines.length > MOST_PARTS || log.counts.quiets) return false;
+  const masks = lines.flatMap((it) => it === line ? [] : log.slot(it)?.mask ?? []);
+  return masks.reduce((left, { len }) => left - 2 ** (mask.len - Math.max(len, mask.len)), 1) <= 0;
 }
 
 /**
@@ -99,11 +116,12 @@ function partsOf(log, lines) {
     const row = log.rowAt(line), there = byRow.get(row);
     if (there) there.push(line); else byRow.set(row, [line]);
   }
+  const of = (/** @type {number[]} */ its) => ({ lines: its, uids: its.filter((line) => log.isReply(line)).map((line) => uidIn(log.frame(line))) });
   const parts = [...byRow].slice(0, MOST_PARTS).flatMap(([at, its]) => {
     const row = log.row(at);
     if (row.kind !== "round") return [];
     const readings = new Set(its.map((line) => log.reading(line) ?? "unknown")), { asked, line: round } = row;
-    return [...readings].map((reading) => ({ asked, round, reading, lines: its.filter((line) => log.reading(line) === reading) }));
+    return [...readings].map((reading) => ({ asked, round, reading, ...of(its.filter((line) => log.reading(line) === reading)) }));
   });
   return { rounds: byRow.size, parts };
 }

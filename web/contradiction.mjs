@@ -1,5 +1,5 @@
 /** What a contradiction says, by the form of its lines: a sentence, what may have happened, and what tells these apart. */
-import { sixteen, stayQuietOf } from "./frames.mjs";
+import { sixteen, stayQuietOf, UID_LEN } from "./frames.mjs";
 import { count, hex, short } from "./words.mjs";
 
 /** @typedef {import("./conflict.mjs").Conflict} Conflict */
@@ -8,22 +8,31 @@ import { count, hex, short } from "./words.mjs";
 /** @typedef {{sentence: string, causes: string[], test: string, ask?: string[], shelf?: string}} Contradiction with lines that send
  *    what the test asks, and what to do at the shelf, if it is nothing usual */
 
-/** The bits of a UID. */
-const UID_LEN = 64;
 const NOISE = "Noise was logged as an answer: a slot that may have been noise gets the line N; in a log of version 1 or 2 it gets no " +
   "line, nor does the rest of its round.";
 const ONE_DAMAGED = "One damaged reply was logged as a collision: if the chip can't tell these apart, write D, in a log of version 2 or 3.";
-const HIDDEN = "A strong reply hid a weaker one: if the chip can't rule that out, write H for R, in a log of version 3.";
+export const HIDDEN = "A strong reply hid a weaker one: if the chip can't rule that out, write H for R, in a log of version 3.";
 const SECOND_READER = "A second reader kept tags powered and silent, or silenced some.";
 const WRONG_PLACE = "The line was logged under the wrong request: a late reply, or lines in the wrong order.";
 const FIELD_OFF = "The field was switched off and on in between: then the log needs a line F there, and the header 'vicinity-log 3'.";
+/** Where tags were silenced, and where none was: then it makes no difference that the field was off. */
 const LEFT_OUT = "A Stay Quiet or another request was sent that isn't in the log, or the field was off and the log has no line F.";
+const NOT_SENT = "A Stay Quiet or another request was sent that isn't in the log.";
 
 /**
  * @param {Conflict} conflict
  * @returns {Contradiction}
  */
 export function contradiction(conflict) {
+  const told = byForm(conflict);
+  return { ...told, causes: told.causes.map((it) => it === LEFT_OUT && !conflict.hasQuiets ? NOT_SENT : it) };
+}
+
+/**
+ * @param {Conflict} conflict
+ * @returns {Contradiction}
+ */
+function byForm(conflict) {
   const { heard, unread, silent, silencer, link } = conflict, two = conflict.count === 2;
   if (silencer && heard.length) return woke(heard[heard.length - 1], conflict);
   if (conflict.count === 1 && (unread ?? heard[0])) return alone(unread ?? heard[0]);
@@ -57,7 +66,7 @@ function woke(slot, { silencer, quietest, isAlone, link }) {
     causes: [`The tag lost power for a moment${quietest ? ` after line ${quietest}` : ""}, at the edge of the field or behind another tag, ` +
       `and woke up.${isAlone ? " The field stayed on: others that were silenced stayed silent." : ""}`,
       ...quietest ? [] : [`The tag didn't receive the Stay Quiet of line ${silencer}.`], ...isAlone ? [] : [FIELD_OFF], "A second reader woke it."],
-    test: `Silence ${hex(uid)} again, and ask only for it, a few times. If it answers at once, it didn't receive this one; if later, ` +
+    test: `In a new log, silence ${hex(uid)}, and ask only for it, a few times. If it answers at once, it didn't receive this Stay Quiet; if later, ` +
       "it loses power, or another reader wakes it.", ask: [`T ${stayQuietOf(uid, link)}`, sixteen({ len: UID_LEN, value: uid }, link)],
     shelf: `Move the item with tag ${hex(uid)} nearer to the antenna and away from ` +
       "others, and count again, in a new log. If you can't tell which it is, spread all of them out." };
@@ -85,16 +94,20 @@ function alone(slot) {
  * @param {Slot} unread
  * @returns {Contradiction}
  */
-function unmet({ count: number, first, last, heard }, unread) {
+function unmet({ count: number, first, last, heard, isNone }, unread) {
   const two = unread.reading === "collision", others = number === 2 ? `line ${first === unread.line ? last : first} leaves`
     : `${count(number - 1, "other line")} leave`;
-  const later = last > unread.line ? ["A later reply of one of these tags was lost, so a slot was logged as silent.",
-    `A tag left the field after line ${unread.line}.`] : [];
-  const earlier = first < unread.line ? [`A tag came into the field before line ${unread.line}.`,
-    "A silenced tag lost power for a moment and woke up.", "An earlier reply was lost, so a slot was logged as silent."] : [];
-  return { sentence: `in line ${unread.line} ${two ? "two or more tags" : "a tag"} answered, but ${others} ${two ? "at most one" : "none"}.`,
-    causes: [...later, ...earlier, ...heard.length ? [HIDDEN] : [], ...noise(unread), LEFT_OUT, SECOND_READER],
-    test: `Ask for the tags of line ${unread.line} again, in sixteen slots.` };
+  // one lost reply, or one tag that came or left, doesn't explain two that are missing
+  const isOne = !two || !isNone, [tag, replies] = isOne ? ["A tag", "reply of one of these tags was lost, so a slot was"]
+    : ["Tags", "replies of these tags were lost, so slots were"];
+  const later = last > unread.line ? [`${isOne ? "A later" : "Later"} ${replies} logged as silent.`, `${tag} left the field after line ${unread.line}.`] : [];
+  const earlier = first < unread.line ? [`${tag} came into the field before line ${unread.line}.`,
+    "A silenced tag lost power for a moment and woke up.", `${isOne ? "An earlier" : "Earlier"} ${replies} logged as silent.`] : [];
+  const read = noise(unread), tags = [...later, ...earlier];
+  return { sentence: `in line ${unread.line} ${two ? "two or more tags" : "a tag"} answered, but ${others} ${isOne && two ? "at most one" : "none"}.`,
+    causes: [...isOne ? tags : read, ...isOne ? read : tags, ...heard.length ? [HIDDEN] : [], LEFT_OUT, SECOND_READER],
+    test: `Switch the field off and on, and ask for the tags of line ${unread.line} in sixteen slots, in a new log. If ` +
+      `tags answer, replies were lost; if none does, line ${unread.line} was noise.` };
 }
 
 /**
@@ -110,7 +123,7 @@ function hidden(first, last) {
   return { sentence: isOver ? `tag ${over}, and it was asked there too.` : `tags ${one} (line ${first.line}) and ${other} (line ${last.line}) ` +
     "were each read alone, but both should have answered in one of these two slots.",
     causes: [HIDDEN, `A tag came into the field between lines ${first.line} and ${last.line}, or left it.`, LEFT_OUT, SECOND_READER],
-    test: "Move the two apart or lower the gain, and ask in sixteen slots, so that fewer tags answer at once." };
+    test: "Move the two apart or lower the gain, and ask in sixteen slots, in a new log, so that fewer tags answer at once." };
 }
 
 /**
@@ -124,6 +137,6 @@ function lost(heard, silent) {
   return { sentence: `tag ${name(heard)} answered in line ${heard.line}, but not in line ${silent}, where it was also asked.`,
     causes: [`Its reply in line ${silent} was lost: the tag is at the edge of the field, or something interfered.`,
       came ? `The tag came into the field after line ${silent}.` : `The tag left the field after line ${heard.line}.`, LEFT_OUT, SECOND_READER],
-    test: `Switch the field off and on, and ask only for ${hex(heard.uid ?? 0n)}, a few times. If it answers sometimes, replies are being lost; ` +
+    test: `Switch the field off and on, and ask only for ${hex(heard.uid ?? 0n)} in a new log, a few times. If it answers sometimes, replies are being lost; ` +
       `if always, ${always}; if never, it has left or has no power.` };
 }

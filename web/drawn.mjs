@@ -3,7 +3,7 @@
 /** @typedef {import("./log.mjs").Log} Log */
 /** @typedef {import("./log.mjs").Row} Row */
 /** @typedef {import("./log.mjs").Round} Round */
-/** @typedef {{kind: "gap", rounds: number, quiets: number, cycles: number}} Gap */
+/** @typedef {{kind: "gap", rounds: number, quiets: number, cycles: number, causes: number}} Gap with how many of its rounds are causes */
 
 /** How many rows are drawn, how many if all are rounds of one slot beside a list, and how many at each end at least. */
 const MOST_DRAWN = 60, MOST_ALIKE = 20, EDGE = 3;
@@ -28,13 +28,13 @@ export function drawn(log, named, causing, whole) {
   let next = 0;
   for (const at of rows) {
     if (at < next) continue;
-    if (at > next) result.push(gap(log, next, at));
+    if (at > next) result.push(gap(log, next, at, causing));
     const row = log.row(at);
     next = at + 1;
     result.push(row);
     if (row.kind === "round") next = withQuiets(log, row, next, marked);
   }
-  if (next < log.rowCount) result.push(gap(log, next, log.rowCount));
+  if (next < log.rowCount) result.push(gap(log, next, log.rowCount, causing));
   return result;
 }
 
@@ -43,12 +43,13 @@ export function drawn(log, named, causing, whole) {
  * @param {Log} log
  * @param {number} from
  * @param {number} to
+ * @param {number[]} causing
  * @returns {Gap}
  */
-function gap(log, from, to) {
+function gap(log, from, to, causing) {
   const rows = Array.from({ length: to - from }, (_, at) => from + at), rounds = rows.filter((at) => log.isRound(at)).length;
   const quiets = rows.filter((at) => log.isQuiet(at)).length;
-  return { kind: "gap", rounds, quiets, cycles: rows.length - rounds - quiets };
+  return { kind: "gap", rounds, quiets, cycles: rows.length - rounds - quiets, causes: causing.filter((at) => at >= from && at < to).length };
 }
 
 /**
@@ -73,9 +74,10 @@ function withQuiets(log, round, next, marked) {
   let isApart = false;
   for (let at = next; at < log.rowCount; at++) {
     const quiet = log.row(at), slot = quiet.kind === "quiet" ? round.slots.find((it) => it.uid === quiet.uid) : undefined;
-    if (!slot) break;
-    slot.silenced = quiet.line;
-    isApart ||= marked.has(quiet.line);
+    if (quiet.kind !== "quiet") break;
+    if (slot) slot.silenced = quiet.line;
+    // those behind one that has a row of its own have rows too
+    isApart ||= !slot || marked.has(quiet.line);
     if (isApart) continue;
     round.end = quiet.line;
     next = at + 1;

@@ -27,7 +27,8 @@ export function el(tag, attributes = {}, ...content) {
  * @param {...Content} words
  */
 export function toLine(line, ...words) {
-  return el("button", { type: "button", class: "to-line", "data-line": String(line) }, ...words.length ? words : [`line ${line}`]);
+  const name = /** @type {Record<string, string>} */ (words.length === 1 && words[0] === String(line) ? { "aria-label": `line ${line}` } : {});
+  return el("button", { type: "button", class: "to-line", "data-line": String(line), ...name }, ...words.length ? words : [`line ${line}`]);
 }
 
 /** A line in a sentence, with its word if it is one alone. */

@@ -18,6 +18,8 @@ export const COMMAND_AT = 2, LENGTH_AT = 4;
 const ANY_LINK = 2;
 export const SLOTS = 16;
 const SLOT_BITS = 4;
+/** The bits of a UID. */
+export const UID_LEN = 64;
 /** The bits of the longest mask that sixteen slots have. */
 const MOST_ASKED = 60;
 /** Where the digits of a request's mask and of a UID begin. */

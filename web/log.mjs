@@ -33,7 +33,7 @@ export class Log {
   #starts;
   /** The lines that begin a row. @type {Uint32Array} */
   #rows;
-  counts = { lines: 0, rounds: 0, quiets: 0, cycles: 0, slots: 0, heard: 0, listed: 0 };
+  counts = { lines: 0, rounds: 0, quiets: 0, cycles: 0, slots: 0, heard: 0, alone: 0, listed: 0 };
 
   /** @param {Uint8Array} text */
   constructor(text) {
@@ -54,6 +54,7 @@ export class Log {
       if (reading) {
         counts.slots++;
         if (REPLIES.has(reading)) counts.heard++;
+        if (reading === "heard") counts.alone++;
       } else if (code === LISTING) counts.listed++;
       else if (code === ASKING || code === CYCLED) {
         rows.push(line);

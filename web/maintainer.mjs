@@ -1,11 +1,11 @@
 /** Draws what whoever maintains the reader needs: the causes, what tells them apart, and what is left to ask. */
 import { el, folded, linked, toLine } from "./elements.mjs";
-import { alsoHolds, TO_KNOW } from "./say.mjs";
+import { alsoHolds, settled, TO_KNOW } from "./say.mjs";
 import { count, visible } from "./words.mjs";
 
 /** @typedef {import("./told.mjs").Told} Told */
 
-const MOST_SHOWN = 160, MOST_ON_PAPER = 96;
+const MOST_SHOWN = 160, MOST_ON_PAPER = 400;
 const INSERT = "If a slot has a collision, ask its mask in sixteen slots too. In the log, the new lines go ";
 const ASK_UNDER = ", to ask again where a reply may have hidden others, when the tags that were read there are silent.";
 const SILENCED = "tags that were silenced before they were heard: only then do they answer";
@@ -35,13 +35,15 @@ export function maintainer(told, said) {
  * @param {Told} told
  */
 function left(told) {
-  const { open, by, silenced, hidden } = told.requests, parts = [], all = told.open[0]?.len === 0;
+  const { open, by, silenced, hidden } = told.requests, parts = [];
   const end = told.counts.listed ? "before the U lines." : "at the end.";
   const isAll = told.open.length === told.object.open.count, each = `${open.length > 1 ? "one for each" : "for the"} ${by}`;
-  const how = all ? "What is left to ask, in sixteen slots, or in one." : isAll ? `${requests(open.length)} left, ${each}.`
-    : `What is left to ask first, ${each}: send it, and judge the log again.`;
-  if (open.length) parts.push(el("p", {}, `${how} ${INSERT}${end}`), ...copied(open));
-  if (hidden.length) parts.push(el("p", {}, `${requests(hidden.length)} left${ASK_UNDER}`), ...copied(hidden));
+  const how = !by ? "What is left to ask, in sixteen slots, or in one." : isAll ? `${requests(open.length)} left, ${each}.`
+    : `What is left to ask first, ${each}: send ${open.length > 1 ? "these" : "it"}, and judge the log again.`;
+  const last = told.notes.last && !hidden.length ? ` At last, ${TO_KNOW}.` : "", { count: masks, share } = told.object.open;
+  if (masks > told.quiet) parts.push(el("p", {}, `Of all possible UIDs ${settled(share)} are settled.`));
+  if (open.length) parts.push(el("p", {}, `${how} ${INSERT}${end}${last}`), ...copied(open));
+  if (hidden.length) parts.push(el("p", {}, `${open.length ? "Then " : ""}${requests(hidden.length)} left${ASK_UNDER}`), ...copied(hidden));
   if (silenced.length && !told.cycles) parts.push(el("p", {}, NEW_VERSION));
   else if (silenced.length) {
     const then = open.length || hidden.length ? "Then switch" : "Switch", number = count(silenced.length, "request");

@@ -7,7 +7,7 @@ import { count } from "./words.mjs";
 /** @typedef {{lost: Lost[], cut: {line: number, slots: number, of: number}[], last: {line: number, lacks: string} | null}} Notes */
 
 /** How many notes of a kind are told. */
-const MOST_NOTES = 5;
+export const MOST_NOTES = 5;
 
 /**
  * @param {Log} log
@@ -42,9 +42,8 @@ export function notesOf(log, object) {
  * @param {Notes} notes
  * @returns {[number, string][]}
  */
-export function noted({ lost, cut, last }) {
+export function noted({ cut, last }) {
   const kinds = /** @type {[number, string][][]} */ ([
-    lost.map(({ line, uid, at }) => [line, `${uid} was silenced here and never heard: its reply may have been lost in line ${at}.`]),
     cut.map(({ line, slots, of }) => [line, slots ? `This round was cut short after ${slots} of ${count(of, "slot")}.`
       : "None of this round's slots is logged."]),
     last ? [[last.line, `${last.lacks} would go unnoticed.`]] : []]);

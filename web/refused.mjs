@@ -9,11 +9,14 @@ import { isSpreadsheet, SAVE_AS_CSV } from "./tables.mjs";
 const COUNT = "Count again, in a new log. If that is refused too, no count will help: send the log and this page (printed as PDF) " +
   "to whoever maintains the software that writes it.";
 const COPY = "The file may have been cut off, by a full disk or because it was copied while it was written: copy it again.";
-const NO_LIST = "A list of UIDs isn't enough: open the logs too.";
-const BOTH = "To compare this table with what the logs show, open it together with them.";
-const NAMED = "To compare this table with what the logs show, name its column of UIDs 'uid', and open it together with them.";
+const BOTH = ["To compare this table with what the logs show, open both at once in vicinity.html: choose or drop the table and the logs together.",
+  "A log is a file that the reader's software writes; its first line begins with 'vicinity-log'."];
+const NAME = "In its first row, name the column of tag numbers (16 characters, 0 to 9 and A to F) 'uid'";
+const NAMED = [`${NAME}.`, ...BOTH], SAVED = [`${NAME}, and save it as CSV.`, ...BOTH];
 /** A first line in which a column has this name. */
 const HAS_UID = /(?:^|[,;\t|"])uid(?:$|[,;\t|"])/i;
+/** How the name of a spreadsheet ends. */
+const SHEET = /\.(xlsx?|ods|numbers)$/i;
 const UNPACK = "If it is a ZIP file with logs in it, unpack it, and open the logs.";
 const ANOTHER = "Choose another file, or count again.";
 /** How a text begins that somebody meant as a log: with a header, or with a line of it. */
@@ -27,14 +30,15 @@ export function refused(told) {
   const last = line === told.counts.lines && line > 1;
   if (told.counts.lines === 0) return { headline: "The text is empty.", shelf: [ANOTHER], causes: [] };
   if (isSpreadsheet(told.faulty)) {
-    return { headline: `This file isn't a log, but a spreadsheet: ${SAVE_AS_CSV}.`, shelf: [NAMED, NO_LIST, UNPACK], causes: [] };
+    return { headline: `This file isn't a log, but a spreadsheet: ${SAVE_AS_CSV}.`, causes: [],
+      shelf: [...SAVED, ...SHEET.test(told.object.file) ? [] : [UNPACK]] };
   }
   const foreign = isForeign(told);
   if (foreign && isTable(told.faulty)) {
-    return { headline: "This file isn't a log, but a table.", shelf: [HAS_UID.test(told.faulty) ? BOTH : NAMED, NO_LIST], causes: [] };
+    return { headline: "This file isn't a log, but a table.", shelf: HAS_UID.test(told.faulty) ? BOTH : NAMED, causes: [] };
   }
   return { headline: `${line > 1 ? "This log can't be used" : "This text isn't a log"}. Line ${line}: ${wrong}.`,
-    shelf: foreign ? [ANOTHER, NO_LIST] : last ? [COPY, COUNT] : [COUNT],
+    shelf: foreign ? [ANOTHER] : last ? [COPY, COUNT] : [COUNT],
     causes: [...last && !ended ? ["The file may end in the middle of this line: it was cut off, or the software was still writing."] : [],
       ...line === 1 ? ofFirst(told.faulty) : [], ...fault === "Crc" ? [rightCrc(told.faulty)] : [], fix] };
 }

@@ -21,8 +21,8 @@ const MOST_DIGITS = 4;
 const SCROLLED = { tabindex: "0", role: "group", "aria-label": "The rounds, scrolled sideways" };
 /** What the signs mean. */
 const LEGEND = [["silent", "·", "nobody"], ["heard", "A1", "one tag"], ["captured", "A1", "one tag, perhaps over others"],
-  ["heard quiet", "A1", "silenced afterwards"], ["collision", "×", "two or more"], ["garbled", "?", "unreadable"],
-  ["unknown", "~", "nothing known"], ["unreached", "\u00A0", "not reached"], ["silent named", "·", "the answer rests on it"]];
+  ["heard quiet", "A1", "underlined: silenced afterwards"], ["collision", "×", "two or more"], ["garbled", "?", "unreadable"],
+  ["unknown", "~", "nothing known"], ["unreached", "\u00A0", "not reached"], ["silent named", "·", "red frame: the answer rests on it"]];
 
 /**
  * @param {Told} told
@@ -31,14 +31,15 @@ const LEGEND = [["silent", "·", "nobody"], ["heard", "A1", "one tag"], ["captur
 export function rounds(told, names) {
   if (!told.rows.length) return [];
   const has = told.rows.some((row) => row.kind === "round" && row.slots.length === SLOTS);
-  const numbers = has ? Array.from({ length: SLOTS }, (_, slot) => el("th", { scope: "col" }, slot.toString(16).toUpperCase()))
+  const numbers = has ? Array.from({ length: SLOTS }, (_, slot) => el("th", { scope: "col" }, slotName(slot)))
     : [el("th", { scope: "col", colspan: String(SLOTS) }, "the one slot")];
   const head = el("tr", {}, el("th", { scope: "col" }, "line", el("span", { class: "till" }, "s")), el("th", { scope: "col" }, "asked"), ...numbers);
   const ringed = new Set(told.ringed), named = new Set(told.named);
   const body = told.rows.map((row) => rowOf(row, ringed, named, names));
   const table = el("table", { class: "rounds" }, el("caption", {}, "The rounds of the session"), el("thead", {}, head), el("tbody", {}, body));
   const bars = told.strip.map(barOf);
-  const label = `The whole session of ${count(told.counts.rounds, "round")}${markedAt(told.marked)}`;
+  const label = `The whole session of ${count(told.counts.rounds, "round")}, with ${count(told.counts.heard, "reply", "replies")} in ` +
+    `${count(told.counts.slots, "slot")}${markedAt(told.marked)}`;
   const strip = bars.length ? [el("p", { class: "strip", role: "img", "aria-label": label }, bars)] : [];
   return [el("section", {}, el("h2", {}, "The rounds"), ...strip, legend(told),
     scrolled(table))];
@@ -92,23 +93,26 @@ function rowOf(row, ringed, named, names) {
   const isNamed = (/** @type {Slot} */ slot) => ringed.has(`${row.line}:${slot.number}`) || named.has(slot.line);
   const cells = row.slots.map((slot) => cell(row, slot, isNamed(slot), slot.uid === null ? "" : names.get(hex(slot.uid)) ?? ""));
   const till = row.end > row.line ? [el("span", { class: "till" }, `–${row.end}`)] : [];
-  const head = el("th", { scope: "row" }, toLine(row.line, unseen("line "), String(row.line), ...till), unseen(summary(row)));
+  const head = el("th", { scope: "row" }, toLine(row.line, unseen(row.end > row.line ? "lines " : "line "), String(row.line), ...till),
+    unseen(summary(row, row.slots.filter(isNamed))));
   return el("tr", {}, head, el("td", { class: "mask" }, row.asked.len ? tail(row.asked) : "all"), ...cells);
 }
 
 /** @param {Gap} gap */
-function missing({ rounds, quiets, cycles }) {
+function missing({ rounds, quiets, cycles, causes }) {
   const parts = /** @type {[number, string][]} */ ([[rounds, "round"], [quiets, "Stay Quiet"], [cycles, "field cycle"]]);
-  return listing(parts.filter(([number]) => number).map((part) => count(...part)));
+  const said = listing(parts.filter(([number]) => number).map((part) => count(...part)));
+  return causes ? `${said}; the answer rests on ${count(causes, "round")} of these` : said;
 }
 
 /**
- * The low bits of a mask as a number's last digits, of which a phone shows a few; where they are no whole digits, with their number.
+ * The low bits of a mask as a number's last digits, of which a phone shows a few; where they are no whole digits, with the bits before.
  * @param {import("./frames.mjs").Mask} mask
  */
 function tail(mask) {
-  const digits = hex(mask.value, Math.ceil(mask.len / 4)), bits = mask.len % 4 ? ` (${count(mask.len, "bit").replace(" ", "\u00A0")})` : "";
-  const before = digits.slice(0, -MOST_DIGITS);
+  const whole = Math.floor(mask.len / 4), digits = whole ? hex(BigInt.asUintN(4 * whole, mask.value), whole) : "", before = digits.slice(0, -MOST_DIGITS);
+  const others = mask.len % 4 ? (mask.value >> BigInt(4 * whole)).toString(2).padStart(mask.len % 4, "0") : "";
+  const bits = others ? `${whole ? ", " : ""}bit${others.length > 1 ? "s" : ""}\u00A0${others}` : "";
   return [before ? el("span", { class: "before" }, `..${before}`) : "..", `${digits.slice(-MOST_DIGITS)}${bits}`];
 }
 
@@ -128,14 +132,17 @@ function wide(head, words, line, named) {
 /**
  * What a round held, in one sentence, for who doesn't see its cells.
  * @param {Round} round
+ * @param {Slot[]} named
  */
-function summary(round) {
+function summary(round, named) {
   const number = (/** @type {string} */ reading) => round.slots.filter((slot) => slot.reading === reading).length;
   const parts = [[number("heard"), "heard"], [number("captured"), "heard, perhaps over others"],
     [number("collision"), number("collision") === 1 ? "with a collision" : "with collisions"],
     [number("garbled"), "unreadable"], [number("silent"), "silent"], [number("unknown"), "of which nothing is known"],
     [number("unreached"), "not reached"]];
-  return `, ${count(round.slots.length, "slot")}: ${parts.filter(([many]) => many).map(([many, what]) => `${many} ${what}`).join(", ")}`;
+  const isAll = named.length === round.slots.length, these = listing(named.map(({ number }) => slotName(number)));
+  const rests = named.length ? `; the answer rests on ${isAll ? "all of it" : `slot${named.length > 1 ? "s" : ""} ${these}`}` : "";
+  return `, ${count(round.slots.length, "slot")}: ${parts.filter(([many]) => many).map(([many, what]) => `${many} ${what}`).join(", ")}${rests}`;
 }
 
 /**
@@ -149,7 +156,7 @@ function cell(round, slot, named, name) {
   const open = BigInt(Math.min(Math.floor(round.asked.len / 4) * 4, 56));
   const one = round.slots.length === 1;
   const sign = uid === null ? look.sign : one ? hex(uid) : hex(BigInt.asUintN(8, uid >> open), 2);
-  const title = [slot.line ? `line ${slot.line}` : "", `slot ${slot.number.toString(16).toUpperCase()}`, ending(slot.mask),
+  const title = [slot.line ? `line ${slot.line}` : "", `slot ${slotName(slot.number)}`, ending(slot.mask),
     look.words + (uid === null ? "" : ` ${hex(uid)}`), printable(name), slot.silenced ? `silenced in line ${slot.silenced}` : ""]
     .filter((it) => it).join(", ");
   const attributes = /** @type {Record<string, string>} */ ({ title,
@@ -168,6 +175,9 @@ function marked(named) {
   return named ? [unseen(" (the answer rests on it)")] : [];
 }
 
+/** @param {number} slot */
+const slotName = (slot) => slot.toString(16).toUpperCase();
+
 /**
  * Words for who doesn't see the signs.
  * @param {string} words
@@ -181,7 +191,9 @@ const unseen = (words) => el("span", { class: "unseen" }, words);
 function legend(told) {
   const slots = told.rows.flatMap((row) => row.kind === "round" ? row.slots : []), drawn = new Set(slots.map((slot) => String(slot.reading)));
   const isShort = told.rows.some((row) => row.kind === "round" && row.slots.length > 1 && row.slots.some((slot) => slot.uid !== null));
-  const digits = isShort ? [el("li", {}, "A1: the two digits of the UID before those asked")] : [];
+  const digits = isShort ? [el("li", {}, "2C in the row ..1: a UID that ends in 2C1")] : [];
+  const isCut = told.rows.some((row) => row.kind === "round" && row.asked.len % 4);
+  const bits = isCut ? [el("li", {}, "bits 01: those before, in binary")] : [];
   if (slots.some((slot) => slot.silenced)) drawn.add("heard quiet");
   if (told.ringed.length || told.named.length) drawn.add("silent named");
   const classOf = (/** @type {string} */ look) => look === "heard quiet" && !drawn.has("heard") ? "captured quiet" : look;
@@ -189,5 +201,5 @@ function legend(told) {
   const isAll = told.named.every((line) => seen.has(line));
   const others = (/** @type {string} */ look) => look === "silent named" && !isAll ? ", and on slots not shown" : "";
   return el("ul", { class: "legend", "aria-label": "What the signs mean" }, LEGEND.filter(([look]) => drawn.has(look))
-    .map(([look, sign, words]) => el("li", {}, el("span", { class: `cell ${classOf(look)}` }, sign), ` ${words}${others(look)}`)), digits);
+    .map(([look, sign, words]) => el("li", {}, el("span", { class: `cell ${classOf(look)}` }, sign), ` ${words}${others(look)}`)), digits, bits);
 }

@@ -1,6 +1,8 @@
 /** What a person is told of a log, in sentences: the answer, what to do at the shelf, and what the reader's maintainer needs. */
-import { contradiction } from "./contradiction.mjs";
+import { ORDER, widthOf } from "./causes.mjs";
+import { contradiction, HIDDEN } from "./contradiction.mjs";
 import { KIND } from "./kinds.mjs";
+import { MOST_NOTES } from "./notes.mjs";
 import { refused } from "./refused.mjs";
 import { maskOf } from "./told.mjs";
 import { count, ending, lines, listing, short, whom } from "./words.mjs";
@@ -30,39 +32,46 @@ const AGAIN = "Run the inventory again, to its end.";
 const NEW_LOG = "Count again, in a new log: with less interference, tags that lie still and not on top of each other, and no " +
   "second reader nearby.";
 const CYCLE = "Switch the reader's field off and on, and count again.";
-const LOOK = "Or look whether the item is there: the answer speaks only of what the log shows.";
-const EMPTY = "If items should be here: check the antenna, switch the reader's field off and on, and count again.";
+const LOOK = "Or look whether what isn't proved is there: the answer speaks only of what the log shows.";
+const EMPTY = ["If nothing should be here: nothing to do.", "If items should be here: check the antenna, switch the reader's field off and " +
+  "on, and count again."];
 const NOTHING = "Nothing to do.";
-const ONE_MORE = "Send this page (printed as PDF) to whoever maintains the reader: only asking again, until none answers, shows whether a " +
-  "strong reply hid a weaker one.";
+const ONE_MORE = ["Spread out items that lie on each other, and count again.", "If the answer stays the same, send the log and this page " +
+  "(printed as PDF) to whoever maintains the reader: only asking again, until none answers, shows whether a strong reply hid a weaker one."];
 const ONE_ROUND = "To see whether others are here: run the inventory again, to a last round that no tag answers.";
 const COMPARE = "Compare these tags with what should be here: open a catalogue (CSV) together with the log.";
 const TITLES = "To see the items' titles: open a catalogue (CSV) together with the log.";
-/** If the list is what was expected here, and if it is what the reader found: of tags that can't be here, and of others. */
+/** If the list is what was expected here, and if it is what the reader found: of tags that didn't answer, and of others. */
 const IF_EXPECTED = "If the list is what was expected here: ", IF_READ = "If the list is what the reader found: ";
-const IS_BROKEN = "is here, its tag is broken or covered: move it, and count again. If not, it is missing.";
+const IS_BROKEN = "is here, its tag is broken or covered: move it, and count again. If you don't find it, it is missing.";
 const WERE_TAKEN = "tags were taken away since, or the list is that of another session";
 const LOST = "may have been lost. Switch its field off and on, and count again.";
 const STRANGERS = "the tags here that aren't listed belong elsewhere, or the list lacks them.";
 const WERE_OMITTED = "the reader's software omitted tags that were here";
 const STAYS = "If the answer stays the same, send the log and this page (printed as PDF) to whoever maintains the reader.";
-/** For whoever maintains it, of tags that can't be here, and of those that aren't listed. */
-const NOT_HEARD = "If a tag that can't be here answers when no other tag is near: the line that rules it out tells of a slot in which " +
-  "it should have been heard.";
+/** For whoever maintains it, of tags that didn't answer, and of those that aren't listed. */
+const NOT_HEARD = "If a tag that didn't answer is here after all, its reply was lost in the slot of the line that rules it out.";
 const NOT_CLAIMED = `${IF_READ}its software has to write a U line for each UID that it heard.`;
+
+const NO_LINES = "The log lists no UIDs: the reader's software has to write a U line for each UID that it heard.";
 
 /** What a complete answer speaks of. */
 export const HOLDS = "This is said of tags that had power, heard the reader, and were heard when they answered.";
 /** How it is said whether an answer about tags would also be that of a log whose replies may have hidden others. */
 const IF_HIDDEN = "If a strong reply hid a weaker one, the answer ";
 export const TO_KNOW = "silence each tag that was heard, and ask all in one slot, until none answers";
+const IF_THERE = "; others may be, if stronger replies hid them.", NONE_PROVED = "no tag is proved to be here, but some may be";
+const TAGS_HERE = "tags are here, but none was read";
+const ALONE_AGAIN = "To know, switch the field off and on, and ask for it alone, in a new log.";
 const NO_LIST_GIVEN = " The log has no list to compare with.";
-const NO_CONFLICT = "If strong replies may have hidden weaker ones (each R read as H), the log doesn't contradict itself.";
+const NO_CONFLICT = `${HIDDEN} Read so, the log doesn't contradict itself.`;
+export const ALLOWED = "The answer allows for strong replies that hid weaker ones.";
 
+const WHENCE = "a reply before it isn't in the log, or the reader had the UID from an earlier count.";
 const NOT_SETTLED = "no later request settled all of these UIDs.";
 
-/** How many rounds are named as causes, and how many of those in which a reply may have hidden others. */
-const MOST_CAUSES = 24, MOST_READ = 2;
+/** How many rounds that hold the same are told one by one, and how many of more are named. */
+const MOST_CAUSES = 6, MOST_NAMED_ROUNDS = 4;
 
 /**
  * What no program can check. If one of these fails, an answer may be wrong.
@@ -93,11 +102,11 @@ export function say(told, isAlone = true) {
   if (told.object.kind === KIND.REFUSED) return { ...none, look: "refused", sign: "?", ...refused(told) };
   if (!told.conflict) return possible(told, isAlone);
   const { sentence: found, causes, test, ask = [], shelf = NEW_LOG } = contradiction(told.conflict);
-  const other = told.object.captured?.kind ?? KIND.IMPOSSIBLE;
-  return { ...none, look: "broken", sign: "≠", headline: `The log contradicts itself: ${found}`, shelf: [shelf, STAYS],
+  const isExplained = (told.object.captured?.kind ?? KIND.IMPOSSIBLE) !== KIND.IMPOSSIBLE;
+  return { ...none, look: "broken", sign: "≠", headline: `This count can't be used. The log contradicts itself: ${found}`, shelf: [shelf, STAYS],
     lights: lightsOf(told, isAlone, { value: NOT_KNOWN, look: "plain" }, { value: NOT_KNOWN, look: "plain" }),
-    lead: "Usually it is one of these:", causes, ask,
-    test: [test, other === KIND.IMPOSSIBLE ? "" : NO_CONFLICT].filter((it) => it).join(" ") };
+    lead: `Usually it is one of these${told.conflict.silencer ? "" : "; other lines may contradict each other too"}:`, ask, test,
+    causes: isExplained ? [NO_CONFLICT, ...causes.filter((it) => it !== HIDDEN)] : causes };
 }
 
 /**
@@ -106,16 +115,19 @@ export function say(told, isAlone = true) {
  * @returns {Said}
  */
 function possible(told, isAlone) {
-  const { object: { found, kind, open }, counts } = told, ended = open.count === 0, hasList = counts.listed > 0;
-  const whole = kind === KIND.COMPLETE && hasList, only = ended && !hasList;
+  const { object, object: { found, kind, open, captured }, counts, notes: { lost }, requests, isMore } = told, ended = open.count === 0, hasList = counts.listed > 0;
+  const whole = kind === KIND.COMPLETE && hasList, isHiding = whole ? captured?.holds === false : captured?.settled === false;
+  const isSure = whole && !isHiding, only = ended && !hasList || whole;
   const differs = found.absent || found.unlisted, why = whyOpen(told);
-  const list = whole ? "matches" : differs ? "differs" : "not known yet";
-  const look = !ended ? "no" : told.object.captured?.settled === false ? "plain" : "yes";
-  const causes = [...why, ...hasList && found.absent ? [NOT_HEARD] : [], ...hasList && found.unlisted ? [NOT_CLAIMED] : []];
-  return { look: whole ? "yes" : only ? "read" : "no", sign: whole ? "✓" : only ? "i" : "!", headline: headline(told, isAlone),
+  const list = isSure ? "matches" : whole ? "matches what was heard" : differs ? "differs" : isMore ? "incomplete" : "not known yet";
+  const look = !ended ? "no" : isHiding ? "plain" : "yes", silenced = lost.slice(0, MOST_NOTES).map(({ line, uid, at }) =>
+    `Line ${line} silenced ${uid}, which was never heard: its reply may have been lost in line ${at}.`);
+  const causes = [...why, ...silenced, ...hasList && found.absent && !lost.length ? [NOT_HEARD] : [], ...hasList && found.unlisted ? [NOT_CLAIMED] : [],
+    ...!hasList && isAlone && object.certain.count ? [NO_LINES] : []];
+  return { look: isSure ? "yes" : only ? "read" : "no", sign: isSure ? "✓" : only ? "i" : "!", headline: headline(told, isAlone),
     lights: lightsOf(told, isAlone, { value: look === "plain" ? "not known yet" : look, look },
-      { value: list, look: whole ? "yes" : differs ? "no" : "plain" }),
-    shelf: steps(told, isAlone), why: mainly(told, why), lead: "", causes, test: "", ask: [] };
+      { value: list, look: isSure ? "yes" : !whole && (differs || isMore) ? "no" : "plain" }),
+    shelf: steps(told, isAlone), why: mainly(told, why), lead: "", causes, test: lost.length ? ALONE_AGAIN : "", ask: requests.lost };
 }
 
 /**
@@ -136,22 +148,27 @@ function lightsOf({ counts }, isAlone, finished, list) {
  * @param {boolean} isAlone
  */
 function steps({ object: { kind, found, open, captured }, counts, quiet, notes }, isAlone) {
-  if (kind === KIND.COMPLETE) return [!counts.listed ? EMPTY : captured?.holds === false ? ONE_MORE : NOTHING];
+  if (kind === KIND.COMPLETE) return !counts.listed ? EMPTY : captured?.holds === false ? ONE_MORE : [NOTHING];
   if (!open.count && !counts.listed) return [...captured?.settled === false ? [ONE_ROUND, STAYS] : [], ...isAlone ? [COMPARE] : []];
   const steps = [];
   if (kind === KIND.DOUBTFUL) steps.push(CYCLE, LOOK);
   else if (open.count) steps.push(quiet === open.count ? CYCLE : AGAIN);
-  if (found.absent && notes.lost.length) {
-    const knew = notes.lost.length === 1 ? "a tag that can't be here, so it knew it, and its reply" : "tags that can't be here, so it knew them, and their replies";
-    steps.push(`Before you look: the reader silenced ${knew} ${LOST}`);
-  }
+  if (found.absent && notes.lost.length) steps.push(silencedBefore(notes.lost.length));
   const isMore = found.unlisted > 0 && counts.listed > 0, expected = [...found.absent ? [lookFor(found.absent)] : [], ...isMore ? [STRANGERS] : []];
   const read = [...found.absent ? [WERE_TAKEN] : [], ...isMore ? [WERE_OMITTED] : []].join("; and ");
+  if ((read || found.doubtful) && isAlone) steps.push(TITLES);
+  // if the reader knew all of them, there is nothing to choose from
+  if (found.absent && !isMore && notes.lost.length === found.absent) return [...steps, `If the answer stays the same, ${expected[0]}`];
   if (read) steps.push(...expected.map((it, at) => `${at ? "Then " : IF_EXPECTED}${it}`), `${IF_READ}${read}. Count again.`);
-  return [...steps, ...read && isAlone ? [TITLES] : [], STAYS];
+  return [...steps, STAYS];
 }
 
-/** @param {number} number of listed tags that can't be here */
+/** @param {number} number of tags that the reader silenced and never heard */
+function silencedBefore(number) {
+  return `The reader silenced ${count(number, "tag")} that it hadn't heard, so ${number === 1 ? "a reply" : "replies"} ${LOST}`;
+}
+
+/** @param {number} number of listed tags that didn't answer */
 const lookFor = (number) => number === 1 ? `look on this shelf for the item below. If it ${IS_BROKEN}`
   : `look on this shelf for the ${count(number, "item")} below. If one ${IS_BROKEN}`;
 
@@ -159,21 +176,22 @@ const lookFor = (number) => number === 1 ? `look on this shelf for the item belo
  * @param {Told} told
  * @param {boolean} isAlone
  */
-function headline({ object: { kind, count: number = 0, found, certain, open, captured }, counts, silenced, quiet }, isAlone) {
-  const parts = [], only = open.count > 0 && quiet === open.count, without = counts.listed || !isAlone ? "" : NO_LIST_GIVEN;
-  if (kind === KIND.COMPLETE) return number || isAlone ? whole(number) : "The field is empty.";
-  if (!open.count && !counts.listed) return `${tagsHere(certain.count, captured?.settled === false)}${without}`;
-  if (counts.listed && !found.absent && !found.unlisted && !found.doubtful) {
-    return `${allListed(counts.listed)}; ${only ? unproved(silenced.length, 0) : "others may be too"}.`;
+function headline({ object: { kind, count: number = 0, found, certain, open, captured }, counts, silenced, quiet, isMore }, isAlone) {
+  const { listed } = counts, only = open.count > 0 && quiet === open.count, without = listed || !isAlone ? "" : NO_LIST_GIVEN;
+  const others = only ? unproved(silenced.length, found.doubtful) : isMore ? "others are too" : "others may be too";
+  const left = open.count && !only ? "Not finished: " : "";
+  if (kind === KIND.COMPLETE) return number || isAlone ? whole(number, captured?.holds === false) : "The field is empty.";
+  if (!open.count && !listed) return `${tagsHere(certain.count, captured?.settled === false)}${without}`;
+  if (!listed) {
+    const here = certain.count ? `${count(certain.count, "tag is", "tags are")} here; ${others}` : only ? others : isMore ? TAGS_HERE : NONE_PROVED;
+    return `${left}${here}.${without}`;
   }
-  if (found.absent) parts.push(`${count(found.absent, "listed tag")} can't be here`);
-  if (counts.listed && found.unlisted) parts.push(count(found.unlisted, "tag here isn't listed", "tags here aren't listed"));
-  if (certain.count && (open.count || !counts.listed)) parts.push(`${count(certain.count, "tag")} proved`);
-  if (only) parts.push(unproved(silenced.length, found.doubtful));
-  else if (found.doubtful) parts.push(`${count(found.doubtful, "listed tag")} not proved`);
-  const left = open.count ? `Not finished: ${settled(open.share)} of all possible UIDs settled. ` : "Search finished. ";
-  const said = only || captured?.settled === false ? "" : left;
-  return `${said}${sentence(parts)}${without}`.trim();
+  if (!found.absent && !found.unlisted && !found.doubtful) return `${allListed(listed)}; ${others}.`;
+  const here = listed - found.absent - found.doubtful;
+  const parts = [...found.absent ? [`${found.absent.toLocaleString("en")} didn't answer`] : [],
+    ...found.unlisted ? [count(found.unlisted, "tag here isn't listed", "tags here aren't listed")] : [],
+    ...only ? [others] : found.doubtful ? [`${found.doubtful.toLocaleString("en")} ${found.doubtful === 1 ? "isn't" : "aren't"} proved`] : []];
+  return `${left}${here.toLocaleString("en")} of ${count(listed, "listed tag")} ${here === 1 || listed === 1 ? "is" : "are"} here; ${listing(parts)}.`;
 }
 
 /**
@@ -182,7 +200,7 @@ function headline({ object: { kind, count: number = 0, found, certain, open, cap
  * @param {boolean} isHiding whether others may be there if their replies were hidden
  */
 function tagsHere(number, isHiding) {
-  const others = isHiding ? "; others may be, if stronger replies hid them." : number === 1 ? ", and no other." : ", and no others.";
+  const others = isHiding ? IF_THERE : number === 1 ? ", and no other." : ", and no others.";
   return `${count(number, "tag is", "tags are")} here${others}`;
 }
 
@@ -197,16 +215,13 @@ function unproved(number, listed) {
   return `${which}: ${number === 1 ? "it was silenced before it was" : "they were silenced before they were"} heard`;
 }
 
-/** @param {string[]} parts */
-function sentence(parts) {
-  const said = listing(parts);
-  return said && `${said[0].toUpperCase()}${said.slice(1)}.`;
-}
-
-/** @param {number} number */
-function whole(number) {
+/**
+ * @param {number} number
+ * @param {boolean} isHiding whether others may be there if their replies were hidden
+ */
+function whole(number, isHiding) {
   if (number === 0) return "The field is empty, and nothing is listed.";
-  return `${allListed(number)}, and no other${number === 1 ? "" : "s"}.`;
+  return `${allListed(number)}${isHiding ? IF_THERE : number === 1 ? ", and no other." : ", and no others."}`;
 }
 
 /** @param {number} number */
@@ -227,18 +242,15 @@ export function settled(open) {
  */
 function whyOpen({ causes, silenced, neverAsked, counts }) {
   const [first] = silenced, numbers = silenced.map((it) => it.line);
-  const read = causes.filter((cause) => cause.reading === "captured"), isMany = read.length > MOST_READ;
-  const told = isMany ? causes.slice(0, causes.length - read.length) : causes, why = told.slice(0, MOST_CAUSES).map(because);
-  if (told.length > MOST_CAUSES) why.push("And slots of more rounds, before these.");
-  if (isMany) {
-    const slots = count(read.reduce((sum, cause) => sum + cause.slots.length, 0), "slot");
-    why.push(`In ${slots} of ${count(read.length, "round")} one tag was read, perhaps over others, and ${NOT_SETTLED}`);
-  }
+  const why = ORDER.flatMap((reading) => {
+    const its = causes.filter((cause) => cause.reading === reading);
+    return its.length > MOST_CAUSES ? [together(its)] : its.map(because);
+  });
   if (neverAsked) why.push(counts.rounds ? "Some UIDs were asked by no request, or only after they were silenced." : "No request asked for any tag.");
-  if (silenced.length === 1) why.push(`Line ${first.line} silenced ${short(first.uid)} before it was heard.`);
+  if (silenced.length === 1) why.push(`Line ${first.line} silenced ${short(first.uid)} before it was heard: ${WHENCE}`);
   if (silenced.length > 1) {
     const said = lines(numbers);
-    why.push(`${said[0].toUpperCase()}${said.slice(1)} silenced ${count(silenced.length, "tag")} before they were heard.`);
+    why.push(`${said[0].toUpperCase()}${said.slice(1)} silenced ${count(silenced.length, "tag")} before they were heard: ${WHENCE}`);
   }
   return why;
 }
@@ -250,10 +262,22 @@ function whyOpen({ causes, silenced, neverAsked, counts }) {
  */
 function mainly({ causes }, why) {
   if (!why.length) return "";
-  const width = (/** @type {Cause} */ { slots, asked }) => slots.length * 2 ** -asked.len;
-  const [widest] = causes.filter((it) => it.reading !== "captured").sort((one, other) => width(other) - width(one));
-  const main = causes.find((it) => it.reading === "unreached") ?? widest;
-  return `${why.length > 1 ? "One of the causes" : "The cause"}: ${main ? because(main) : why[0]}`;
+  const [widest] = causes.filter((it) => it.reading !== "captured").sort((one, other) => widthOf(other) - widthOf(one));
+  const main = causes.find((it) => it.reading === "unreached") ?? widest, its = causes.filter((it) => it.reading === main?.reading);
+  const said = !main ? why[0] : its.length > MOST_CAUSES ? together(its) : because(main);
+  return `${why.length > 1 ? "One of the causes" : "The cause"}: ${said}`;
+}
+
+/**
+ * Why slots of many rounds left UIDs open.
+ * @param {Cause[]} causes
+ */
+function together(causes) {
+  const [{ reading }] = causes, slots = count(causes.reduce((sum, cause) => sum + cause.slots.length, 0), "slot");
+  const widest = [...causes].sort((one, other) => widthOf(other) - widthOf(one)).slice(0, MOST_NAMED_ROUNDS).map((cause) => cause.round);
+  const rounds = `${count(causes.length, "round")}, mainly in those of ${lines(widest.sort((one, other) => one - other))},`;
+  if (reading === "unreached") return `In ${rounds} ${slots} weren't reached.`;
+  return `In ${slots} of ${rounds} ${reading === "captured" ? readIn([]) : HELD[reading]}, and ${NOT_SETTLED}`;
 }
 
 /**
@@ -305,6 +329,7 @@ export function alsoHolds({ object: { kind, captured, margin, answer }, counts, 
   const certain = /** @type {string[]} */ ([KIND.COMPLETE, KIND.ABSENT, KIND.UNLISTED]);
   if (!captured || !counts.heard) return null;
   if (!certain.includes(kind)) return null;
+  if (!counts.alone) return { words: ALLOWED, ask: [] };
   if (!captured.holds) return { words: `${IF_HIDDEN}may be wrong.`, ask: requests.all };
   if (kind === KIND.COMPLETE || captured.settled) return { words: stillHolds(margin, captured.margin), ask: [] };
   // without a list the headline says it
@@ -317,7 +342,7 @@ export function alsoHolds({ object: { kind, captured, margin, answer }, counts, 
  * @param {Told} told
  */
 export const isApart = ({ object: { kind, captured }, counts, requests }) => captured !== undefined && captured.holds &&
-  (kind === KIND.COMPLETE || captured.settled || !counts.listed && requests.hasHeardAll);
+  (!counts.alone || kind === KIND.COMPLETE || captured.settled || !counts.listed && requests.hasHeardAll);
 
 /**
  * An answer that also holds then: beside the margin that it has, the one that it has then, if that is known.

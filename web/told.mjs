@@ -4,13 +4,13 @@
  * Nothing here judges. The answer, findings and open masks are those of the library; of the rows only those are picked out that
  * a finding names, or whose slots overlap what is open.
  */
-import { causesOf, silencedUnheard } from "./causes.mjs";
+import { causesOf, silencedUnheard, widthOf } from "./causes.mjs";
 import { conflictOf, isLarge, keyLines } from "./conflict.mjs";
 import { drawn } from "./drawn.mjs";
-import { linkIn, linkOf, maskKey, requestOf, sixteen, stayQuietOf, uidIn } from "./frames.mjs";
+import { linkIn, linkOf, maskKey, requestOf, sixteen, SLOTS, stayQuietOf, UID_LEN, uidIn } from "./frames.mjs";
 import { KIND } from "./kinds.mjs";
 import { Log } from "./log.mjs";
-import { notesOf } from "./notes.mjs";
+import { MOST_NOTES, notesOf } from "./notes.mjs";
 import { strip } from "./strip.mjs";
 
 /** @typedef {import("./frames.mjs").Mask} Mask */
@@ -68,10 +68,11 @@ import { strip } from "./strip.mjs";
  * @property {Mask[]} open the first open masks
  * @property {Silenced[]} silenced the tags that are open since they were silenced before they were heard
  * @property {number} quiet how many open masks have no other tags
- * @property {{open: string[], number: number, by: string, silenced: string[], hidden: string[], all: string[], hasHeardAll: boolean}} requests what
- *   is left to ask, as lines: at once, the first of a number, one for each open mask, or slot or round that left some; after a field
- *   cycle; and where a reply may have hidden others; and where any may have, what asks all in one slot but those that were heard, and
- *   whether these are all that are certain
+ * @property {boolean} isMore whether in some slot two or more tags answered of which not all are certain
+ * @property {{open: string[], by: string, silenced: string[], hidden: string[], lost: string[], all: string[],
+ *   hasHeardAll: boolean}} requests what is left to ask, as lines: at once, one for each of what is named, or in any of these ways if
+ *   nothing is; after a field cycle; where a reply may have hidden others; of tags whose reply may have been lost; and where any reply
+ *   may have hidden others, what asks all in one slot but those that were heard, and whether these are all that are certain
  * @property {Cause[]} causes slots in which the other open UIDs would answer, by their rounds
  * @property {boolean} neverAsked whether some open mask has no such slot
  * @property {import("./notes.mjs").Notes} notes
@@ -107,8 +108,8 @@ export function tell(object, text = new TextEncoder().encode(object.text)) {
   log.counts.lines = object.lines;
   /** @type {Told} */
   const told = { object, faulty: refused && line <= log.lineCount ? log.line(line) : "",
-    cycles: log.version > 1, conflict: null, open: object.open.masks.map(maskOf), silenced: [], quiet: 0,
-    requests: { open: [], number: 0, by: BY_MASK, silenced: [], hidden: [], all: [], hasHeardAll: false }, causes: [], neverAsked: false,
+    cycles: log.version > 1, conflict: null, open: object.open.masks.map(maskOf), silenced: [], quiet: 0, isMore: false,
+    requests: { open: [], by: BY_MASK, silenced: [], hidden: [], lost: [], all: [], hasHeardAll: false }, causes: [], neverAsked: false,
     notes: { lost: [], cut: [], last: null },
     counts: log.counts, rows: [], strip: [], marked: [], ringed: [], named: [] };
   if (!refused) explain(log, told);
@@ -124,16 +125,11 @@ function explain(log, told) {
   const { object, open } = told, lines = linesOf(object, "conflict");
   if (object.kind === KIND.IMPOSSIBLE) told.conflict = conflictOf(log, lines, linesOf(object, "silenced by")[0] ?? 0);
   const { masks, tags } = silencedUnheard(log, open), quiet = new Set(masks);
-  const { causes, rows, neverAsked, hidden } = causesOf(log, open.filter((mask) => !quiet.has(mask)));
-  const link = linkIn(object.text), collided = new Set(causes.flatMap((cause) => cause.reading === "collision" ? cause.masks.map(maskKey) : []));
-  const asked = (/** @type {(mask: Mask) => boolean} */ isIt) => object.open.masks.flatMap((mask, at) => !isIt(open[at]) ? []
-    : open[at].len && collided.has(maskKey(open[at])) ? [sixteen(open[at], link)] : mask.ask);
-  const isOwn = (/** @type {Mask} */ mask) => !quiet.has(mask) && !hidden.has(mask);
-  const { asked: wider, by } = open.length === object.open.count ? around(causes, open.filter(isOwn)) : { asked: [], by: BY_MASK };
-  Object.assign(told, { silenced: tags, quiet: masks.length, causes, neverAsked, requests: {
-    ...told.requests, open: wider.length ? wider.map((mask) => sixteen(mask, link)) : asked(isOwn), by,
-    number: wider.length || object.open.count - masks.length - hidden.size, silenced: asked((mask) => quiet.has(mask)),
-    hidden: askedAgain(log, causes) } });
+  const { causes, neverAsked, hidden } = causesOf(log, open.filter((mask) => !quiet.has(mask)));
+  const link = linkIn(object.text), own = object.open.masks.filter((_, at) => !quiet.has(open[at]) && !hidden.has(open[at]));
+  Object.assign(told, { silenced: tags, quiet: masks.length, causes, neverAsked, isMore: hasMore(causes, object), requests: {
+    ...told.requests, ...openRequests(causes, own, link, open.length === object.open.count),
+    silenced: object.open.masks.flatMap((mask, at) => quiet.has(open[at]) ? mask.ask : []), hidden: askedAgain(log, causes) } });
   const { captured, status } = object, isHiding = status < 2 && (captured?.holds === false || captured?.settled === false);
   if (isHiding || told.requests.hidden.length) {
     const { heard, ready, all } = allButHeard(log, link), { hidden: again } = told.requests;
@@ -142,12 +138,14 @@ function explain(log, told) {
   }
   told.named = named(told);
   told.notes = notesOf(log, object);
+  told.requests.lost = told.notes.lost.slice(0, MOST_NOTES).map(({ uid }) => sixteen({ len: UID_LEN, value: BigInt(`0x${uid}`) }, link));
   const cut = new Set(causes.flatMap(({ reading, round }) => reading === "unreached" ? round : []));
   told.notes.cut = told.notes.cut.filter(({ line }) => !cut.has(line));
   if (told.conflict) told.notes.last = null;
   // what may have been hidden is marked where nothing else is left
   const marking = causes.filter(({ reading }) => reading !== "captured" || causes[0].reading === reading);
   told.ringed = marking.flatMap((cause) => cause.slots.map((number) => `${cause.round}:${number}`));
+  const rows = [...new Set([...marking].sort((one, other) => widthOf(other) - widthOf(one)).map((cause) => log.rowAt(cause.round)))];
   told.rows = drawn(log, told.named, rows, !isLarge(told.conflict));
   if (!told.rows.some((row) => row.kind === "gap")) return;
   const marked = new Set([...rows, ...told.named.map((line) => log.rowAt(line))]);
@@ -156,18 +154,71 @@ function explain(log, told) {
 }
 
 /**
+ * Whether in some slot two or more tags answered of which at most one is certain.
+ * @param {Cause[]} causes
+ * @param {LogObject} object
+ */
+function hasMore(causes, { certain: { count, uids } }) {
+  if (count > uids.length) return false;
+  const certain = uids.map((uid) => BigInt(`0x${uid}`)), isIn = (/** @type {Mask} */ { len, value }) =>
+    certain.filter((uid) => !BigInt.asUintN(len, uid ^ value)).length < 2;
+  return causes.some(({ reading, masks }) => reading === "collision" && masks.some(isIn));
+}
+
+/**
+ * What asks the masks that are open, and what each request is for.
+ * @param {Cause[]} causes
+ * @param {LogObject["open"]["masks"]} masks
+ * @param {number} link
+ * @param {boolean} isAll whether no open mask lacks
+ * @returns {{open: string[], by: string}}
+ */
+function openRequests(causes, masks, link, isAll) {
+  const ask = askFor(causes, link), plain = masks.flatMap((mask) => ask(maskOf(mask), mask.ask));
+  if (masks.length === 1 && plain.length > 1 && plain.join() === masks[0].ask.join()) return { open: plain, by: "" };
+  const { asked, by } = isAll ? around(causes, masks.map(maskOf), plain.length) : { asked: [], by: BY_MASK };
+  if (asked.length) return { open: asked.map((mask) => sixteen(mask, link)), by };
+  return { open: plain, by: plain.length > masks.length ? `${BY_MASK} or slot` : by };
+}
+
+/**
+ * How a mask is asked: by the slots of a round that asked it in sixteen and settled none of these, since it would end so again; in
+ * sixteen slots where tags collided; and as it is otherwise.
+ * @param {Cause[]} causes
+ * @param {number} link
+ */
+function askFor(causes, link) {
+  /** @type {Map<number, {asked: Mask, masks: Mask[], slots: number, isHit: boolean}>} */
+  const rounds = new Map(), collided = new Set();
+  for (const { round, asked, reading, masks, slots } of causes) {
+    const it = rounds.get(round) ?? { asked, masks: [], slots: 0, isHit: false }, isHit = reading === "collision";
+    rounds.set(round, { asked, masks: [...it.masks, ...reading === "captured" ? [] : masks], slots: it.slots + slots.length, isHit: it.isHit || isHit });
+    for (const { len, value } of isHit ? masks : []) {
+      // two tags are in each mask around it
+      for (let less = 0; less <= len; less++) collided.add(maskKey({ len: less, value: BigInt.asUintN(less, value) }));
+    }
+  }
+  const whole = new Map([...rounds.values()].filter(({ slots, isHit }) => isHit && slots === SLOTS).map(({ asked, masks }) => [maskKey(asked), masks]));
+  /** @type {(mask: Mask, plain: string[]) => string[]} */
+  const ask = (mask, plain) => whole.get(maskKey(mask))?.flatMap((slot) => ask(slot, [`T ${requestOf(1, slot, link)}`])) ??
+    (collided.has(maskKey(mask)) ? [sixteen(mask, link)] : plain);
+  return ask;
+}
+
+/**
  * What to ask in place of masks that are open, if it is less and has all of them, and what each is: a round that was cut short, or a
  * slot, which leaves many around tags that are certain.
  * @param {Cause[]} causes
  * @param {Mask[]} open
+ * @param {number} most
  */
-function around(causes, open) {
+function around(causes, open, most) {
   const isCut = (/** @type {Cause} */ { reading, masks }) => reading === "unreached" && masks.length > 1;
   const rounds = causes.filter(isCut), cut = new Set(rounds.map((cause) => cause.round));
   const slots = causes.filter(({ reading, round }) => reading !== "captured" && !cut.has(round)).flatMap((cause) => cause.masks);
   const asked = [...rounds.map((cause) => cause.asked), ...slots];
   const isIn = (/** @type {Mask} */ { len, value }) => asked.some((mask) => mask.len <= len && !BigInt.asUintN(mask.len, mask.value ^ value));
-  if (asked.length >= open.length || !open.every(isIn)) return { asked: [], by: BY_MASK };
+  if (asked.length >= most || !open.every(isIn)) return { asked: [], by: BY_MASK };
   const by = !rounds.length ? "slot that left UIDs open" : !slots.length ? "round that was cut short" : "slot or round that left UIDs open";
   return { asked, by };
 }

@@ -7,7 +7,7 @@ import { noted } from "./notes.mjs";
 import { LOOKS, rounds } from "./rounds.mjs";
 import { alsoHolds, granted, HOLDS, isApart, missed, say, silentIn } from "./say.mjs";
 import { isSpreadsheet } from "./tables.mjs";
-import { count, lines, printable, TRIAL, whom } from "./words.mjs";
+import { count, hex, lines, listing, printable, TRIAL, whom } from "./words.mjs";
 
 /** @typedef {import("./told.mjs").Told} Told */
 /** @typedef {Map<string, string>} Names what a catalogue says of UIDs */
@@ -23,13 +23,14 @@ const FEW = 24, MOST_ROUNDS = 60;
  * @returns {Node[]}
  */
 export function view(told, names = new Map(), isAlone = true) {
-  const said = say(told, isAlone), what = [printable(told.object.file), " · ", el("code", {}, told.object.answer)];
+  const said = say(told, isAlone), file = printable(told.object.file), { answer, kind } = told.object;
+  // without a list, its first tag isn't more than the others
+  const what = kind === KIND.UNLISTED && !told.counts.listed ? [file] : [file, " · ", el("code", {}, answer)];
   // what is only tried is never green
   const trial = TRIAL.test(told.object.file) ? { look: /** @type {const} */ ("read"), sign: "?", headline: `A trial: ${said.headline}` } : {};
-  const rests = conditions(told), isWhole = told.object.kind === KIND.COMPLETE;
-  return [banner({ ...said, ...trial }, what), ...isWhole ? [...rests, ...shelf(said)] : [...shelf(said), ...rests],
+  return [banner({ ...said, ...trial }, what), ...shelf(said), ...conditions(told),
     ...findings(told, names), ...tags(told, names), ...conflict(told), ...rounds(told, names),
-    ...maintainer(told, said), ...notes(told), ...takenForGranted(told), record(told, isAlone)];
+    ...maintainer(told, said), ...notes(told), ...takenForGranted(told), record(told, isAlone, said.headline)];
 }
 
 /** @param {Told} told */
@@ -75,7 +76,7 @@ function shelf(said) {
 function findings({ object: { findings, found, open }, counts }, names) {
   const listed = counts.listed > 0;
   const kinds = /** @type {["absent" | "unlisted" | "doubtful", string, string, string][]} */ ([
-    [KIND.ABSENT, "listed tag that can't be here", "listed tags that can't be here", "ruled out by "],
+    [KIND.ABSENT, "listed tag that didn't answer", "listed tags that didn't answer", "ruled out by "],
     [KIND.UNLISTED, listed ? "tag here that isn't listed" : "tag that is here", listed ? "tags here that aren't listed" : "tags that are here",
       "shown by "],
     [KIND.DOUBTFUL, "listed tag that isn't proved", "listed tags that aren't proved", ""]]);
@@ -110,8 +111,8 @@ function rest(number) {
  */
 function conflict({ conflict: it }) {
   if (!it || !isLarge(it)) return [];
-  const items = it.parts.map(({ asked, round, lines: numbers, reading }) => el("li", {}, toLine(numbers[0], lines(numbers)),
-    `: line ${round} asked ${whom(asked)}, and ${LOOKS[reading].words}`));
+  const items = it.parts.map(({ asked, round, lines: numbers, reading, uids }) => el("li", {}, toLine(numbers[0], lines(numbers)),
+    `: line ${round} asked ${whom(asked)}, and ${LOOKS[reading].words}${uids.length ? `, ${listing(uids.map((uid) => hex(uid)))}` : ""}`));
   const part = folded(`The ${count(it.count, "line")} that can't all be true, of ${count(it.rounds, "round")}`, false, el("ul", {}, items),
     ...rest(it.rounds - new Set(it.parts.map((part) => part.round)).size));
   if (it.rounds > MOST_ROUNDS) part.classList.add("aside");
@@ -144,24 +145,28 @@ function tags({ object: { certain, found } }, names) {
 /** @param {Told} told */
 function notes(told) {
   const all = noted(told.notes).map(([line, words]) => el("li", {}, toLine(line), linked(`: ${words}`)));
-  return all.length ? [folded(`Notes (${all.length})`, told.object.status > 0, el("ul", {}, all))] : [];
+  const isOpen = told.object.status > 0 || told.object.captured?.holds === false;
+  return all.length ? [folded(`Notes (${all.length})`, isOpen, el("ul", {}, all))] : [];
 }
 
 /**
- * What an answer about tags takes for granted; open where there is nothing else to do.
+ * What an answer about tags takes for granted; open where there is nothing else to do. Of a contradiction it is what didn't hold.
  * @param {Told} told
  */
 function takenForGranted(told) {
-  if (told.object.status > 1) return [];
-  const all = granted(isApart(told), told.object.captured?.holds);
-  return [folded(`What this takes for granted (${all.length})`, !told.object.status, el("ul", {}, all.map((it) => el("li", {}, it))))];
+  const { kind, status, captured } = told.object;
+  if (kind === KIND.REFUSED) return [];
+  const all = told.conflict ? granted(!told.counts.alone) : granted(isApart(told), captured?.holds);
+  const title = told.conflict ? "One of these didn't hold" : "What this takes for granted";
+  return [folded(`${title} (${all.length})`, !status, el("ul", {}, all.map((it) => el("li", {}, it))))];
 }
 
 /**
  * @param {Told} told
  * @param {boolean} isAlone
+ * @param {string} headline
  */
-function record({ object: { kind, version, sha256 }, counts, faulty }, isAlone) {
+function record({ object: { file, kind, version, sha256, answer }, counts, faulty }, isAlone, headline) {
   const said = isSpreadsheet(faulty) ? [] : [count(counts.lines, "line")], isRefused = kind === KIND.REFUSED;
   const parts = /** @type {[number, string, string?][]} */ ([[counts.rounds, "round"], [counts.slots, "slot"], [counts.heard, "reply", "replies"],
     [counts.quiets, "Stay Quiet"], [counts.cycles, "field cycle"], [counts.listed, "UID listed", "UIDs listed"]]);
@@ -169,10 +174,15 @@ function record({ object: { kind, version, sha256 }, counts, faulty }, isAlone) 
   if (!isRefused) said.push(...parts.filter(([number]) => number).map((part) => count(...part)));
   const sum = sha256 ? [` · SHA-256 of the ${isRefused ? "file" : "log"} `, el("code", {}, sha256)] : [];
   return el("footer", { class: "record" }, ...said.length ? [el("p", {}, said.join("\u00A0· "))] : [], el("p", {}, `vicinity ${version}`, ...sum),
-    ...isRefused || !isAlone ? [] : [signed()]);
+    ...isRefused || !isAlone ? [] : signed(headline, `${printable(file)} · ${answer}`));
 }
 
-/** Who counted, and when: a line on paper. */
-export function signed() {
-  return el("p", { class: "signed" }, "Counted on ____________________ by ____________________");
+/**
+ * What was judged, and who counted, where and when: on paper, whose last sheet has it.
+ * @param {string} headline
+ * @param {string} what
+ */
+export function signed(headline, what) {
+  return [el("p", { class: "signed" }, `${headline} (${what})`),
+    el("p", { class: "signed" }, "Counted on ____________________ at ____________________ by ____________________")];
 }
