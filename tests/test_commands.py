@@ -12,11 +12,12 @@ from pathlib import Path
 
 import pytest
 
+from helpers.air import Listed as Claimed
 from helpers.families import case_of
 from helpers.fuzz import LISTED, changed, session
 from helpers.lines import log_of
 from helpers.program import TOP, Program
-from helpers.random_logs import Listed as Claimed, text_of
+from helpers.random_logs import text_of
 
 PAIRS = ("commands", "arm")
 # How many changed logs each is asked about; the emulator is slow. Half as many lists of logs, a

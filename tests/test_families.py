@@ -10,9 +10,10 @@ import random
 
 import pytest
 
+from helpers.air import Listed
 from helpers.families import NAMES, WRONG, Families, case_of
 from helpers.library import STATUSES
-from helpers.random_logs import Listed, text_of
+from helpers.random_logs import text_of
 
 NUMBER, SEED = 5000, 15693
 # In how many parts the cases are asked.

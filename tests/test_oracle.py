@@ -11,9 +11,10 @@ import pytest
 from vicinity._native import AnswerStruct
 
 from helpers import oracle, reports
+from helpers.air import Reply
 from helpers.library import STATUSES, U64, answer_to
 from helpers.oracle import Case
-from helpers.random_logs import Reply, random_log, text_of, weaker
+from helpers.random_logs import random_log, text_of, weaker
 
 NUMBER, SEED = 20000, 15693
 # In how many parts the logs are judged; the last of four has logs of version 3.
@@ -61,7 +62,7 @@ def test_random_logs(answer, report, logs, part):
         version = 3 if part % 4 == 3 else rng.randint(1, 2)
         case = Case(version, *random_log(rng, version))
         lines = case.lines
-        seen[case.answer.text.split()[0]] += 1
+        seen[case.answer.split()[0]] += 1
         wrong = (case.wrong_answer(*answer(version, lines))
                  or case.wrong_report(report(version, lines)))
         assert not wrong, f"seed {seed}:\n{text_of(version, lines).decode()}"
@@ -80,12 +81,13 @@ def found(is_found):
 def test_a_wrong_judge_is_found(rule):
     kind = oracle.WRONG[rule]
     assert found(lambda case: case.uids
-                 and case.wrong_answer(*kind(case.uids).answer(case.version, case.lines)))
+                 and case.wrong_answer(*kind(case.uids).answer(case.lines)))
 
 
 @pytest.mark.parametrize("rule", reports.WRONG)
 def test_a_wrong_report_is_found(rule):
-    assert found(lambda case: case.wrong_report(reports.WRONG[rule].of(case.report).given()))
+    kind = reports.WRONG[rule]
+    assert found(lambda case: case.wrong_report(kind(case.lines, case.known).given()))
 
 
 @pytest.fixture
