@@ -325,8 +325,8 @@ def test_row_of_many_logs(library_of, expected, logs, lines):
             _, needed, room = library_of.into(element, 64, name, log)
             known += room[:needed]
     listed = [int(uid, 16) for uid in expected.decode().split()[3::2]]
-    found = [line.partition(" in ")[0] for line in lines.split(" / ")
-             if not line.startswith(("by ", "open ", "more ", "~"))]
+    found = [line.partition(" in ")[0] for line in lines
+             if not line.startswith(("by ", "open ", "more "))]
     told = library_of.into_each(FindingStruct, findings_of(found), "reconcile", uids(listed),
                                 uids(certain), (MaskStruct * len(asked))(*asked))
     assert bytes(told) == bytes(answer_to(found[0]))

@@ -142,7 +142,8 @@ def test_it_works_on_arm(arm_release, tmp_path):
     def run(*words):
         return subprocess.run(["qemu-aarch64-static", "-L", ARM, f"{ARM}/usr/bin/python3", *words],
                               capture_output=True, text=True, cwd=TOP / "python/tests",
-                              env={"PYTHONPATH": str(there), "PYTHONDONTWRITEBYTECODE": "1"})
+                              env={"PYTHONPATH": f"{there}:{TOP}/tests",
+                                   "PYTHONDONTWRITEBYTECODE": "1"})
 
     said = run("-c", "import os, vicinity; print(os.uname().machine, vicinity.check(b''))")
     assert said.stdout == "aarch64 refused at line 1: Header\n"
