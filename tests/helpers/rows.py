@@ -20,7 +20,7 @@ import re
 import pytest
 from vicinity._native import AnswerStruct, FindingStruct
 
-from helpers.library import U8, U64, answer_to, findings_of, uids
+from helpers.library import U8, answer_to, findings_of, uids
 from helpers.lines import NAMES, log_of, rows, spelled, text_of
 from helpers.program import TOP
 
@@ -194,21 +194,27 @@ class OfLibrary:
         told = self.library.told(AnswerStruct, "check", log)
         assert bytes(told) == self.answered(line, log, status)
 
+    def in_both_ways(self, name, elements, log, answer):
+        """Has a call write these elements; also with the list of the log removed and passed
+        separately, where the answer is that of `check` too."""
+        text, listed, rest = log.partition(b"U ")
+        beside = uids([int(line, 16) for line in (listed + rest).split() if line != b"U"])
+        for call, *words in (name, log), (f"{name}_listed", text, beside):
+            told = self.library.into_each(elements._type_, elements, call, *words)
+            assert bytes(told) == answer
+        assert bytes(self.library.told(AnswerStruct, "check_listed", text, beside)) == answer
+
     def explain(self, given, answers, status):
         log = log_of(given)
         line, *shown = answer_of(answers[0]).decode().splitlines()
-        found = [int(tag[2:], 16) for tag in shown[1:]]
-        told = self.library.into_each(U64, found, "explain", log)
-        assert bytes(told) == self.answered(line, log, status)
+        found = uids([int(tag[2:], 16) for tag in shown[1:]])
+        self.in_both_ways("explain", found, log, self.answered(line, log, status))
 
     def report(self, given, answers, status):
-        """Also with a separate list."""
         log, lines = log_of(given), answers[0].split(" / ")
-        text, listed, rest = log.partition(b"U ")
-        beside = uids([int(line, 16) for line in (listed + rest).split() if line != b"U"])
-        for name, words in (("report", [log]), ("report_listed", [text, beside])):
-            told = self.library.into_each(FindingStruct, findings_of(lines), name, *words)
-            assert bytes(told) == self.answered(lines[0], log, status)
+        found = findings_of(lines)
+        self.in_both_ways("report", (FindingStruct * len(found))(*found), log,
+                          self.answered(lines[0], log, status))
 
     def fill(self, given, answers, _):
         assert self.library.into_each(U8, log_of(answers[0]), "simulate", log_of(given)) == 0
