@@ -11,10 +11,9 @@ import pytest
 from vicinity._native import AnswerStruct
 
 from helpers import oracle, reports
-from helpers.air import Reply
 from helpers.library import STATUSES, U64, answer_to
 from helpers.oracle import Case
-from helpers.random_logs import random_log, text_of, weaker
+from helpers.random_logs import random_log, text_of
 
 NUMBER, SEED = 20000, 15693
 # In how many parts the logs are judged; the last of four has logs of version 3.
@@ -25,8 +24,6 @@ PLANTED = 8000
 LEAST_SHARE = 20
 KINDS = ("complete", "absent", "unlisted", "unsettled", "doubtful", "impossible")
 ROOM = 64
-# How many logs are weakened line by line, and how many weaker ones have to be complete.
-STRONGER, LEAST_WEAKER = 300, 500
 
 
 @pytest.fixture
@@ -88,35 +85,3 @@ def test_a_wrong_judge_is_found(rule):
 def test_a_wrong_report_is_found(rule):
     kind = reports.WRONG[rule]
     assert found(lambda case: case.wrong_report(kind(case.lines, case.known).given()))
-
-
-@pytest.fixture
-def verdict(answer):
-    """The first word of the answer to a log of version 3."""
-    return lambda lines: answer(3, lines)[0].split()[0]
-
-
-def test_a_later_version_says_the_same(answer, logs):
-    rng = random.Random(logs[1])
-    for _ in range(STRONGER):
-        version = rng.randint(1, 2)
-        _, lines = random_log(rng, version)
-        assert answer(version, lines) == answer(version + 1, lines) == answer(3, lines)
-
-
-@pytest.mark.slow
-def test_a_weaker_line_tells_no_more(verdict, logs):
-    """Where a log with a weaker line, or with each reply captured, is complete, so is the stronger
-    one, if it is possible. Where it is impossible, the stronger one is."""
-    rng, seen = random.Random(f"{logs[1]} weaker"), collections.Counter()
-    for _ in range(STRONGER):
-        _, lines = random_log(rng, rng.randint(2, 3))
-        told = verdict(lines)
-        logged = [lines[:at] + [line] + lines[at + 1:] for at in range(len(lines))
-                  for line in weaker(lines[at])]
-        logged.append([line._replace(captured=True) if isinstance(line, Reply) else line
-                       for line in lines])
-        for weak in map(verdict, logged):
-            seen[weak, told] += 1
-            assert weak not in ("complete", "impossible") or told in (weak, "impossible"), lines
-    assert seen["complete", "complete"] > LEAST_WEAKER and seen["impossible", "impossible"]

@@ -12,7 +12,6 @@ from tempfile import TemporaryDirectory
 import pytest
 
 from helpers.library import CALLS
-from helpers.lines import log_of
 from helpers.program import TOP, Program, needs
 from helpers.rows import OfProgram, all_rows
 from helpers.trees import copy
@@ -32,8 +31,6 @@ BUILT = ("out/release crates/vicinity/out/vicinity crates/vicinity/out/rlib/*.su
 #: What the packages and their tests need of a machine.
 NEEDED = ("coreutils", "dash", "diffutils", "dpkg", "findutils", "gcc", "grep", "libc-bin",
           "libc6-dev", "pkg-config", "python3", "sed")
-#: The commands of the rows that give a log.
-OF_LOGS = "check explain simulate report fill replay".split()
 DEPENDS = ("apt-cache", "depends", "--recurse", "--installed", "--no-recommends", "--no-suggests",
            "--no-conflicts", "--no-breaks", "--no-replaces", "--no-enhances")
 
@@ -213,16 +210,8 @@ def packaged():
     return OfProgram(Program(say(TOP / "release/packaged").strip()))
 
 
-def is_released(row):
-    """Whether the last release knows the row's command, and the version of its log: `margin` and
-    version 3 came after 1.1.0."""
-    _, command, given, *_ = row.values
-    is_new = command == "margin" or command in OF_LOGS and b"vicinity-log 3" in log_of(given)
-    return not is_new or not list((TOP / "dist").glob("vicinity_1.1.*"))
-
-
 @pytest.mark.parametrize(("asked", "command", "given", "answers", "status"),
-                         filter(is_released, all_rows(["packaged"])))
+                         all_rows(["packaged"]))
 def test_row_of_the_packaged_program(packaged, asked, command, given, answers, status):
     packaged.row(command, given, answers, status)
 

@@ -15,7 +15,7 @@ from vicinity.commands import answers, frames
 MODULES = {"explain": answers, "margin": answers, "simulate": answers, "frame": frames,
            "spell": frames}
 #: Of the rows, those that ask for other commands too.
-ALSO = ("fill", "replay", "request", "reply")
+ALSO = ("fill", "request", "reply")
 ROWS = [row for row in all_rows(["python"]) if row.values[1] in (*MODULES, *ALSO)]
 
 

@@ -3,8 +3,6 @@
     check STATUS | LOG | LINES      the same for `explain`, `simulate`, `margin` and `report`, which
                                     begins as `check` does
     fill | LOG | LOG | LINE         what `simulate` makes of a log, and what `check` says of that
-    replay | LOG |                  the tags of a log's explanation, asked the same, answer what the
-                                    log says
     frame STATUS | WORD | LINES     both lines of `frame`; `spell` makes the frame of each that
                                     isn't refused
     spell STATUS | WORDS | LINE
@@ -50,35 +48,6 @@ def answer_of(given):
     return spelled(given) if given.startswith('"') else text_of(given.split(" / "))
 
 
-def asked_of(log):
-    """The header, the requests and the field cycles of a log."""
-    return [line for line in log if line[0] in "vTF"]
-
-
-def fits(logged, given):
-    """Whether a line that was logged fits what tags answered in that slot: the replies of one UID
-    do, whatever their DSFID, a captured reply also where others collide, a garbled slot where tags
-    answered, and anything where nothing is known."""
-    if logged == "D":
-        return given == "C" or given.startswith("R")
-    is_same = given[0] == "R" and logged[6:22] == given[6:22]
-    return logged == given or {"R": is_same, "H": is_same or given == "C",
-                               "N": given != " "}.get(logged[0], False)
-
-
-def all_fit(logged, given):
-    """Whether what was logged fits what was given, as far as the log goes: in a round that wasn't
-    asked to its end the slots that were left out are passed over."""
-    given = iter(given)
-    for line in logged:
-        if line[0] in "vTF":
-            if line not in given:
-                return False
-        elif line[0] != "U" and not fits(line, next(given, " ")):
-            return False
-    return True
-
-
 class OfProgram:
     """Asks a program."""
 
@@ -122,14 +91,6 @@ class OfProgram:
         filled = log_of(answers[0])
         assert self.said("simulate", given=log_of(given)) == (filled, 0)
         assert self.begins(filled) == answer_of(answers[1])
-
-    def replay(self, given, *_):
-        log = log_of(given).decode().splitlines()
-        said, status = self.said("explain", given=text_of(log))
-        _, population, *tags = said.decode().splitlines()
-        assert (population, status) == (f"population {len(tags)}", 1)
-        given = self.said("simulate", given=text_of(asked_of(log) + tags))[0].decode().splitlines()
-        assert all_fit(log, given)
 
     def frame(self, given, answers, status):
         word = spelled(given).decode() if given.startswith('"') else given
