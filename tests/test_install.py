@@ -153,16 +153,6 @@ def test_man_finds_the_pages(root, pages):
         tool("man", "-M", root / "usr/share/man", "-P", "cat", section, name)
 
 
-def test_the_newest_entry_of_the_changes():
-    """Has the changes since the release in dist/, or is that of the release."""
-    changes = (TOP / "CHANGELOG.md").read_text()
-    newest = changes.index("## ") == changes.find("## Unreleased\n")
-    dated = re.findall(r"^## (\d[\d.]*), ", changes, re.M)[0]
-    is_between = (TOP / "VERSION").read_text().endswith("~dev\n")
-    assert newest if is_between else dated == VERSION
-    assert f"vicinity_{dated}-1_amd64.deb" in (TOP / "dist/SHA256SUMS").read_text()
-
-
 # Completions, which offer the commands of the man page.
 
 BASH = """source "$0"; compopt() { :; }; COMP_WORDS=(vicinity "$@"); COMP_CWORD=$#; _vicinity

@@ -1,29 +1,22 @@
-"""The library for C by both of the kit's compilers: its header, what both answer, lists as the
-program reads them, texts and buffers that end where memory ends, and each allocation refused in
-turn. The commands in C, over one of them, are asked what the program is (test_commands.py); the
-calls one by one are in test_calls.py, programs in other languages in test_bindings.py."""
-import collections
-import random
+"""The library for C by both of the kit's compilers: its header, what both answer, texts and buffers
+that end where memory ends, and each allocation refused in turn. The commands in C, over one of
+them, are asked what the program is (test_commands.py); the calls one by one are in test_calls.py,
+programs in other languages in test_bindings.py."""
 import subprocess
 
 import pytest
 from vicinity._native import AnswerStruct, FindingStruct, MaskStruct
 
-from helpers import fuzz
 from helpers.library import STRICT, U8, U64, uids
 from helpers.program import TOP
 from helpers.rows import LIBRARIES
 from helpers.texts import texts
 
 LOGS = sorted(TOP.glob("examples/*.log"))
-# How many changed lists are read.
-CHANGED = 250
 # What each call that lists something lists, and more of them than it finds.
 LISTING = (("explain", U64), ("report", FindingStruct), ("certain", U64),
            ("open_masks", MaskStruct), ("simulate", U8), ("listed", U64))
 MANY = 1 << 12
-LISTS = {"ab": b"vicinity-log 1\nU E0040100000000A1\nU E0040100000000B2\n",
-         "log": b"vicinity-log 1\nT 260100F60A\nR 0000A1000000000104E06745\n"}
 
 
 @pytest.fixture(scope="session", params=LIBRARIES)
@@ -64,25 +57,3 @@ def test_each_allocation_is_refused(each, tmp_path):
     wrapped = "-Wl,--wrap=malloc,--wrap=realloc,--wrap=free"
     refused = each.compiled("tests/c/calls_refused.c", tmp_path / "refused", wrapped)
     assert refused.run(*LOGS).status == 0
-
-
-def test_changed_lists(program, each, tmp_path):
-    """A list is read as the program reads what is expected: without logs, all of it is absent."""
-    rng, seen = random.Random(7), collections.Counter()
-    seeds = [b"vicinity-log 2\n" + b"\n".join(fuzz.LISTED) + b"\n",
-             b"vicinity-log 1\r\n# a\r\n" + b"\r\n".join(fuzz.LISTED), *LISTS.values()]
-    for _ in range(CHANGED):
-        lines = rng.choice(seeds).split(b"\n")
-        for _ in range(rng.randrange(4)):
-            fuzz.change(rng, lines)
-        text = b"\n".join(lines)
-        (tmp_path / "list").write_bytes(text)
-        wanted = program.run("reconcile", "list", cwd=tmp_path).out.decode().splitlines()
-        with each.package() as vicinity:
-            try:
-                given = [f"absent {uid:016X}" for uid in vicinity.listed(text)] or ["complete 0"]
-            except vicinity.ListFault as fault:
-                given = [str(fault).replace(":", " of list:")]
-        assert given == wanted, text
-        seen[given[0].split()[0]] += 1
-    assert len(seen) == 3, seen

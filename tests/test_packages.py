@@ -86,14 +86,17 @@ def test_symbols(packages):
 
 
 def test_the_changes_of_the_packages():
-    """Are those of CHANGELOG.md, with their dates, and above them what VERSION says is to come."""
+    """Are those of CHANGELOG.md, with their dates, and above them what VERSION says is to come. The
+    newest one with a date is that of dist/."""
     entries = re.findall(r"^vicinity \((.*)-1\) (\w+);(?:.*\n)*? -- .*>  (.*)$",
                          (TOP / "debian/changelog").read_text(), re.M)
     days = [datetime.strptime(date, "%a, %d %b %Y 00:00:00 +0000").date() for *_, date in entries]
     said = [(version, str(day)) for (version, _, _), day in zip(entries, days)]
-    dated = re.findall(r"^## ([\d.]+), (.*)$", (TOP / "CHANGELOG.md").read_text(), re.M)
-    assert said[-len(dated):] == dated
+    headings = re.findall(r"^## (.*)$", (TOP / "CHANGELOG.md").read_text(), re.M)
     is_between = VERSION.endswith("~dev")
+    dated = [tuple(heading.split(", ")) for heading in headings[is_between:]]
+    assert headings[:is_between] == ["Unreleased"] * is_between and said[-len(dated):] == dated
+    assert f"vicinity_{dated[0][0]}-1_amd64.deb" in (TOP / "dist/SHA256SUMS").read_text()
     assert len(said) == len(dated) + is_between and said[0][0] == VERSION
     assert (entries[0][1] == "UNRELEASED") == is_between
     assert days == sorted(set(days), reverse=True)

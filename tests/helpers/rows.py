@@ -13,6 +13,7 @@ A log is the short names of its lines, as tests/data/rows/lines has them, or a t
 marks, with Python's escapes: parts are joined by `+`, and `* N` repeats one. Lines are parted by `
 / `. The expected answers are worked out, never taken from the program.
 """
+import functools
 import re
 
 import pytest
@@ -75,17 +76,10 @@ class OfProgram:
     def over_log(self, command, given, answers, status):
         assert self.said(command, given=log_of(given)) == (answer_of(answers[0]), status)
 
-    def explain(self, *row):
-        self.over_log("explain", *row)
-
-    def simulate(self, *row):
-        self.over_log("simulate", *row)
-
-    def report(self, *row):
-        self.over_log("report", *row)
-
-    def margin(self, *row):
-        self.over_log("margin", *row)
+    explain = functools.partialmethod(over_log, "explain")
+    simulate = functools.partialmethod(over_log, "simulate")
+    report = functools.partialmethod(over_log, "report")
+    margin = functools.partialmethod(over_log, "margin")
 
     def fill(self, given, answers, _):
         filled = log_of(answers[0])
