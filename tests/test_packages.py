@@ -5,7 +5,7 @@ import os
 import re
 import shutil
 import subprocess
-from datetime import datetime
+from email.utils import parsedate_to_datetime
 from pathlib import Path
 from tempfile import TemporaryDirectory
 
@@ -90,8 +90,8 @@ def test_the_changes_of_the_packages():
     newest one with a date is that of dist/."""
     entries = re.findall(r"^vicinity \((.*)-1\) (\w+);(?:.*\n)*? -- .*>  (.*)$",
                          (TOP / "debian/changelog").read_text(), re.M)
-    days = [datetime.strptime(date, "%a, %d %b %Y 00:00:00 +0000").date() for *_, date in entries]
-    said = [(version, str(day)) for (version, _, _), day in zip(entries, days)]
+    dates = [parsedate_to_datetime(date) for *_, date in entries]
+    said = [(version, str(date.date())) for (version, _, _), date in zip(entries, dates)]
     headings = re.findall(r"^## (.*)$", (TOP / "CHANGELOG.md").read_text(), re.M)
     is_between = VERSION.endswith("~dev")
     dated = [tuple(heading.split(", ")) for heading in headings[is_between:]]
@@ -99,7 +99,7 @@ def test_the_changes_of_the_packages():
     assert f"vicinity_{dated[0][0]}-1_amd64.deb" in (TOP / "dist/SHA256SUMS").read_text()
     assert len(said) == len(dated) + is_between and said[0][0] == VERSION
     assert (entries[0][1] == "UNRELEASED") == is_between
-    assert days == sorted(set(days), reverse=True)
+    assert dates == sorted(set(dates), reverse=True)
 
 
 def test_made_elsewhere_they_are_the_same(packages):
