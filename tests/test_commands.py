@@ -16,7 +16,7 @@ from helpers.air import Listed as Claimed
 from helpers.families import case_of
 from helpers.fuzz import LISTED, changed, session
 from helpers.lines import log_of
-from helpers.program import TOP, Program
+from helpers.program import TOP, linked, shim
 from helpers.random_logs import text_of
 
 PAIRS = ("commands", "arm")
@@ -214,16 +214,10 @@ def refusing(request, release, tmp_path_factory):
     if request.param == "arm":
         other = request.getfixturevalue("arm")
     else:
-        other = Program(folder / "vicinity")
-        subprocess.run(["cc", "-std=c99", "-O2", f"-I{release}", *TOP.glob("commands/*.c"),
-                        release / "libvicinity.a", "-o",
-                        folder / "vicinity"], check=True)
-    subprocess.run([compiler, "-shared", "-fPIC", "-O2", "-Wall", "-Wextra", "-Werror",
-                    TOP / "tests/c/refuse.c", "-o",
-                    folder / "refuse.so"], check=True)
-    return lambda words, **told: other.run(*words,
-                                           env={**os.environ,
-                                                "LD_PRELOAD": str(folder / "refuse.so"), **told})
+        other = linked(release, folder / "vicinity", "-std=c99", "-O2", *TOP.glob("commands/*.c"))
+    refuse = shim("refuse", folder, compiler)
+    return lambda words, **asked: other.run(
+        *words, env={**os.environ, "LD_PRELOAD": refuse, **asked})
 
 
 @pytest.mark.parametrize("words", REFUSED, ids=lambda words: " ".join(map(os.path.basename, words)))

@@ -8,14 +8,13 @@ sets that are made it is seen that no log is judged more than once."""
 import random
 import re
 import resource
-import subprocess
 
 import pytest
 
 from biglog import BITS, SHAPES, ask, low, new_tags, version_of
 from helpers import random_logs
 from helpers.lines import biglog, log_lines, rows, text_of
-from helpers.program import TOP, Said, program_of
+from helpers.program import TOP, Said, program_of, shim
 
 EXAMPLE = (TOP / "examples/unfinished-count.log").read_bytes()
 WANT = Said(b"", b"vicinity: out of memory\n", 4)
@@ -60,10 +59,7 @@ PLANTED = ["planted answer", "planted idleness"]
 @pytest.fixture(scope="session")
 def refuse(tmp_path_factory):
     """The lines of C, built."""
-    made = tmp_path_factory.mktemp("growths") / "refuse.so"
-    subprocess.run(["cc", "-Wall", "-Wextra", "-Werror", "-shared", "-fPIC",
-                    TOP / "tests/c/refuse.c", "-o", made], check=True)
-    return str(made)
+    return shim("refuse", tmp_path_factory.mktemp("growths"))
 
 
 @pytest.fixture(scope="session")

@@ -2,13 +2,11 @@
 that end where memory ends, and each allocation refused in turn. The commands in C, over one of
 them, are asked what the program is (test_commands.py); the calls one by one are in test_calls.py,
 programs in other languages in test_bindings.py."""
-import subprocess
-
 import pytest
 from vicinity._native import AnswerStruct, FindingStruct, MaskStruct
 
-from helpers.library import STRICT, U8, U64, uids
-from helpers.program import TOP
+from helpers.library import U8, U64, uids
+from helpers.program import STRICT, TOP, linked, told
 from helpers.rows import LIBRARIES
 from helpers.texts import texts
 
@@ -28,8 +26,8 @@ def each(request):
 @pytest.mark.parametrize("standard", ["c89", "c99", "c11", "c++98", "c++17"])
 def test_the_header_is_c_and_cpp_of_each_standard(standard):
     language = "c++" if standard.startswith("c++") else "c"
-    subprocess.run(["cc", "-x", language, f"-std={standard}", *STRICT, "-fsyntax-only", "-include",
-                    TOP / "include/vicinity.h", "/dev/null"], check=True)
+    told("cc", "-x", language, f"-std={standard}", *STRICT, "-fsyntax-only", "-include",
+         "include/vicinity.h", "/dev/null")
 
 
 @pytest.mark.slow
@@ -50,10 +48,11 @@ def test_both_compilers_make_the_same_of_every_text(library, library_rattle):
 
 
 def test_nothing_is_read_or_written_past_its_end(each, tmp_path):
-    assert each.compiled("tests/c/guard.c", tmp_path / "guard").run(*LOGS).status == 0
+    guard = linked(each.path.parent, tmp_path / "guard", "tests/c/guard.c")
+    assert guard.run(*LOGS).status == 0
 
 
 def test_each_allocation_is_refused(each, tmp_path):
     wrapped = "-Wl,--wrap=malloc,--wrap=realloc,--wrap=free"
-    refused = each.compiled("tests/c/calls_refused.c", tmp_path / "refused", wrapped)
+    refused = linked(each.path.parent, tmp_path / "refused", "tests/c/calls_refused.c", wrapped)
     assert refused.run(*LOGS).status == 0

@@ -12,7 +12,7 @@ from tempfile import TemporaryDirectory
 import pytest
 
 from helpers.library import CALLS
-from helpers.program import TOP, Program, needs
+from helpers.program import TOP, Program, compiled, needs, told
 from helpers.rows import OfProgram, all_rows
 from helpers.trees import copy
 
@@ -35,11 +35,6 @@ DEPENDS = ("apt-cache", "depends", "--recurse", "--installed", "--no-recommends"
            "--no-conflicts", "--no-breaks", "--no-replaces", "--no-enhances")
 
 
-def say(*words, **how):
-    """What a command writes."""
-    return subprocess.run(words, check=True, stdout=subprocess.PIPE, text=True, **how).stdout
-
-
 @pytest.fixture(scope="session")
 def packages(request, tmp_path_factory):
     """The folder of the packages for a kind of machine, with what they have in `unpacked`. It is
@@ -56,7 +51,7 @@ def packages(request, tmp_path_factory):
             if not made.exists():
                 subprocess.run([TOP / "release/dist", made, target], check=True)
                 for deb in made.glob("*.deb"):
-                    say("dpkg-deb", "-x", deb, made / "unpacked")
+                    told("dpkg-deb", "-x", deb, made / "unpacked")
         return made
     return of
 
@@ -64,13 +59,13 @@ def packages(request, tmp_path_factory):
 @pytest.mark.parametrize("target", TARGETS)
 def test_names_and_fields(packages, target):
     """They have the version, which between two releases is none that was released."""
-    named = {say("dpkg-deb", "-f", deb, "Package").strip(): deb
+    named = {told("dpkg-deb", "-f", deb, "Package").strip(): deb
              for deb in packages(target).glob("*.deb")}
     assert sorted(named) == sorted(KINDS)
     for name, deb in named.items():
         machine = "all" if name.startswith("python3") else target
         assert deb.name == f"{name}_{VERSION}-1_{machine}.deb"
-        assert say("dpkg-deb", "-f", deb, "Multi-Arch").strip() == KINDS[name]
+        assert told("dpkg-deb", "-f", deb, "Multi-Arch").strip() == KINDS[name]
         # as release/packaged unpacks it
         assert b"data.tar.gz  " in deb.read_bytes()
 
@@ -78,7 +73,7 @@ def test_names_and_fields(packages, target):
 def test_symbols(packages):
     """Each call stands beside the first version that has it, or one before a release to come."""
     deb, = packages("amd64").glob("libvicinity1_*.deb")
-    symbols = say("dpkg-deb", "-I", deb, "symbols")
+    symbols = told("dpkg-deb", "-I", deb, "symbols")
     listed = dict(re.findall(r"^ (vicinity_\w+)@VICINITY_\S+ (.*)$", symbols, re.M))
     assert sorted(listed) == sorted(CALLS)
     assert [listed[f"vicinity_{call}"] for call in ("check", "certain", "listed")] == [
@@ -112,8 +107,8 @@ def test_made_elsewhere_they_are_the_same(packages):
         copy(clone)
         subprocess.run(f"tar -c {BUILT} | tar -xC {clone}", shell=True, cwd=TOP, check=True)
         for name in "python", "examples", "docs":
-            say("chmod", "-R", "go-rwx", clone / name)
-        say("touch", "-d", "2000-01-01", clone / "CHANGELOG.md", *clone.glob("debian/*.*"))
+            told("chmod", "-R", "go-rwx", clone / name)
+        told("touch", "-d", "2000-01-01", clone / "CHANGELOG.md", *clone.glob("debian/*.*"))
         subprocess.run(["dpkg-buildpackage", "-b", "-us", "-uc"], cwd=clone, umask=0o077,
                        env={**os.environ, "TZ": "Asia/Tokyo", "LC_ALL": "C.UTF-8"}, check=True)
         assert not [deb for deb in made
@@ -122,9 +117,8 @@ def test_made_elsewhere_they_are_the_same(packages):
 
 @pytest.mark.parametrize("target", TARGETS)
 def test_lintian_has_nothing_to_say(packages, target):
-    needs("lintian")
-    said = say("lintian", "--allow-root", "--display-info", "--hide-overrides",
-               *packages(target).glob("*.deb"))
+    said = told("lintian", "--allow-root", "--display-info", "--hide-overrides",
+                *packages(target).glob("*.deb"))
     assert not said
 
 
@@ -144,8 +138,8 @@ def test_the_packages_for_arm(arm, packages, tmp_path):
     usr, emulator = packages("arm64") / "unpacked/usr", arm.words[:-1]
     assert Program(*emulator, usr / "bin/vicinity").run("check", LOG) == COMPLETE
     library = usr / "lib/aarch64-linux-gnu"
-    subprocess.run(["aarch64-linux-gnu-gcc", f"-I{usr}/include", TOP / "examples/c/check.c",
-                    f"-L{library}", "-lvicinity", "-o", tmp_path / "shared"], check=True)
+    compiled(tmp_path / "shared", f"-I{usr}/include", "examples/c/check.c", f"-L{library}",
+             "-lvicinity", compiler="aarch64-linux-gnu-gcc")
     assert Program(*emulator, "-E", f"LD_LIBRARY_PATH={library}",
                    tmp_path / "shared").run(LOG) == COMPLETE
 
@@ -159,17 +153,17 @@ def cell(tmp_path):
     for name in "bin", "lib", "lib64", "sbin":
         (tmp_path / "usr" / name).mkdir(parents=True)
         (tmp_path / name).symlink_to(f"usr/{name}")
-    names = set(re.findall(r"^\w.*", say(*DEPENDS, *NEEDED), re.M))
+    names = set(re.findall(r"^\w.*", told(*DEPENDS, *NEEDED), re.M))
     lists = [str(file) for file in Path("/var/lib/dpkg/info").iterdir()
              if file.suffix == ".list" or file.name == "format"]
     subprocess.run("tar -C / --no-recursion --ignore-failed-read -T - -c |"
                    " tar --keep-directory-symlink -x", shell=True, cwd=tmp_path, check=True,
-                   input=say("dpkg-query", "-L", *names) + "\n".join(lists), text=True,
+                   input=told("dpkg-query", "-L", *names) + "\n".join(lists), text=True,
                    stderr=subprocess.DEVNULL)
     for name in "dev", "tmp", "var/lib/dpkg/updates", "var/log":
         (tmp_path / name).mkdir(parents=True, exist_ok=True)
     (tmp_path / "dev/null").touch()
-    (tmp_path / "var/lib/dpkg/status").write_text(say("dpkg-query", "-s", *names))
+    (tmp_path / "var/lib/dpkg/status").write_text(told("dpkg-query", "-s", *names))
     yield tmp_path
     shutil.rmtree(tmp_path)
 
@@ -177,7 +171,8 @@ def cell(tmp_path):
 def test_installed_upgraded_tested_and_purged(cell, packages):
     """From the packages of the last release; the tests are those of debian/tests."""
     def run(*words):
-        say("chroot", cell, *words, env={"PATH": "/usr/sbin:/usr/bin", "AUTOPKGTEST_TMP": "/tmp"})
+        environment = {"PATH": "/usr/sbin:/usr/bin", "AUTOPKGTEST_TMP": "/tmp"}
+        Program("chroot", cell).told(*map(str, words), env=environment)
 
     def install(debs):
         for deb in debs:
@@ -203,14 +198,14 @@ def test_installed_upgraded_tested_and_purged(cell, packages):
 # The packages of the last release.
 
 def test_the_sums_of_dist():
-    say("sha256sum", "--quiet", "-c", "SHA256SUMS", cwd=TOP / "dist")
+    told("sha256sum", "--quiet", "-c", "SHA256SUMS", cwd=TOP / "dist")
 
 
 @pytest.fixture(scope="session")
 def packaged():
     """The program of the last release. Where it answers otherwise than the rows say, it is time for
     release/dist --release."""
-    return OfProgram(Program(say(TOP / "release/packaged").strip()))
+    return OfProgram(Program(told(TOP / "release/packaged").strip()))
 
 
 @pytest.mark.parametrize(("asked", "command", "given", "answers", "status"),

@@ -3,18 +3,16 @@ import contextlib
 import ctypes
 import os
 import re
-import subprocess
 
 import vicinity
 from vicinity import Kind, _native
 from vicinity._native import AnswerStruct, FindingStruct, MaskStruct
 
-from helpers.program import TOP, Program
+from helpers.program import TOP
 
 # The calls that the header declares.
 CALLS = re.findall(r"^[a-z][a-z0-9_ *]*[ *](vicinity_[a-z_]+)\(",
                    (TOP / "include/vicinity.h").read_text(), re.M)
-STRICT = ("-Wall", "-Wextra", "-Wpedantic", "-Wshadow", "-Werror")
 U8, U32, U64, SIZE = ctypes.c_uint8, ctypes.c_uint32, ctypes.c_uint64, ctypes.c_size_t
 STATUSES = {"complete": 0, "impossible": 2, "refused": 3}
 UNSETTLED, OPEN, MORE, CONFLICT, SILENCED = 4, 8, 9, 10, 11
@@ -91,13 +89,6 @@ class Library:
             del os.environ["LIBVICINITY"]
             if before is not None:
                 os.environ["LIBVICINITY"] = before
-
-    def compiled(self, source, made, *words, compiler="cc"):
-        """A program in C or C++ over the archive."""
-        folder = self.path.parent
-        subprocess.run([compiler, *STRICT, *words, f"-I{folder}", f"-I{TOP}/bindings/cpp",
-                        TOP / source, folder / "libvicinity.a", "-o", made], check=True)
-        return Program(made)
 
     def call(self, name, *given):
         """What a call returns. A text, and each array, is given with its length."""
