@@ -140,8 +140,8 @@ def wasm_module(pytestconfig):
 def wasm(wasm_module):
     """The calls of the library as WebAssembly, which node makes."""
     library = WasmLibrary(wasm_module)
-    yield library
-    library.module.close()
+    with library.module.node:
+        yield library
 
 
 @pytest.fixture(scope="session")
@@ -173,8 +173,8 @@ def windows(wine, windows_release, tmp_path_factory):
          "release/heap.c", OUT / "module/windows.o", "-o", made)
     commands = Commands(Program(*wine.words, made),
                         Program(*wine.words, windows_release / "vicinity.exe"), folder)
-    yield commands
-    commands.close()
+    with commands.process:
+        yield commands
 
 
 @pytest.fixture(scope="session")

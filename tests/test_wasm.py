@@ -131,8 +131,8 @@ def growing(wasm_module, tmp_path_factory):
     heap = TOP / "tests/wasm/refusing_heap.c"
     subprocess.run([*MAKE, "wasm", f"wasm={made}", f"heap={heap}"], check=True)
     calls = Growing(made)
-    yield calls
-    calls.module.close()
+    with calls.module.node:
+        yield calls
 
 
 @pytest.mark.parametrize("names", GROWING)
