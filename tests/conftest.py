@@ -19,7 +19,7 @@ os.environ["PYTHONDONTWRITEBYTECODE"] = "1"
 from helpers.library import Library  # noqa: E402
 from helpers.program import (  # noqa: E402
     MAKE, TOP, Program, build, linked, needs, program_of, told)
-from helpers.rows import OfLibrary, OfProgram  # noqa: E402
+from helpers.rows import LIBRARIES, OfLibrary, OfProgram  # noqa: E402
 from helpers.texts import texts as all_texts  # noqa: E402
 from helpers.wasm import WasmLibrary  # noqa: E402
 from helpers.wine import Commands, wine_in  # noqa: E402
@@ -96,6 +96,12 @@ def library_rattle(pytestconfig):
     """The same, made by the kit's other compiler."""
     build(pytestconfig, *MAKE, "release", "BACKEND=rattle")
     return Library(OUT / "release-rattle/libvicinity.so")
+
+
+@pytest.fixture(scope="session", params=LIBRARIES)
+def native(request):
+    """The library by each compiler."""
+    return request.getfixturevalue(request.param)
 
 
 @pytest.fixture(scope="session")

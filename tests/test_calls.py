@@ -13,7 +13,7 @@ from helpers.frames import hex_of, inventory, reply, stay_quiet, with_crc
 from helpers.library import SIZE, U32, U64, answer_to, findings_of, masks, uids
 from helpers.lines import log_of, reconciled_rows
 from helpers.program import TOP
-from helpers.rows import LIBRARIES, MODULES
+from helpers.rows import MODULES
 
 LINK, SLOTS, MASK, SLOT, REPLY, TOO_LONG, LETTER = range(201, 208)
 KINDS = "complete absent unlisted unsettled doubtful impossible refused".split()
@@ -56,12 +56,6 @@ class Calls:
 @pytest.fixture(scope="session", params=MODULES)
 def library_of(request):
     """The library by each compiler, and as WebAssembly."""
-    return request.getfixturevalue(request.param)
-
-
-@pytest.fixture(scope="session", params=LIBRARIES)
-def native(request):
-    """The library by each compiler."""
     return request.getfixturevalue(request.param)
 
 

@@ -7,7 +7,8 @@ import subprocess
 import pytest
 
 from helpers.lines import log_lines, text_of
-from helpers.program import TOP, shim
+from helpers.memory import shim
+from helpers.program import TOP
 
 READ_FAULT, WRITE_FAULT = b"vicinity: read failed\n", b"vicinity: write failed\n"
 # Commands over a log, which stands on standard input, and over words.

@@ -12,7 +12,6 @@ from helpers.program import TOP, Program, compiled, linked, needs, told
 from helpers.trees import copy, tree
 
 VERSION = (TOP / "VERSION").read_text().strip().removesuffix("~dev")
-MAJOR = VERSION.partition(".")[0]
 LOG = TOP / "examples/whole-shelf.log"
 COMPLETE = (b"complete 4\n", b"", 0)
 EXAMPLES = sorted(TOP.glob("examples/c/*.c"))
@@ -58,19 +57,6 @@ def test_installed_again_it_is_the_same(root):
     before = tree(root)
     assert install("--destdir", root) == 0
     assert tree(root) == before
-
-
-def test_soname_and_exported_calls(root):
-    said = told("readelf", "-dW", "--dyn-syms", root / f"usr/lib/libvicinity.so.{MAJOR}")
-    assert re.findall(r"SONAME.*\[(.*)\]", said) == [f"libvicinity.so.{MAJOR}"]
-    exported = re.findall(r" (vicinity_[a-z_]+)@@VICINITY_[\w.]+(?: .*)?$", said, re.M)
-    assert sorted(exported) == sorted(CALLS)
-
-
-def test_the_library_says_which_processors_it_needs(root):
-    """The loader refuses it on others."""
-    said = told("readelf", "-nW", root / f"usr/lib/libvicinity.so.{MAJOR}")
-    assert re.findall(r"x86 ISA needed: (.*)", said) == ["x86-64-v2"]
 
 
 @pytest.fixture

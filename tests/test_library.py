@@ -7,7 +7,6 @@ from vicinity._native import AnswerStruct, FindingStruct, MaskStruct
 
 from helpers.library import U8, U64, uids
 from helpers.program import STRICT, TOP, linked, told
-from helpers.rows import LIBRARIES
 from helpers.texts import texts
 
 LOGS = sorted(TOP.glob("examples/*.log"))
@@ -15,12 +14,6 @@ LOGS = sorted(TOP.glob("examples/*.log"))
 LISTING = (("explain", U64), ("report", FindingStruct), ("certain", U64),
            ("open_masks", MaskStruct), ("simulate", U8), ("listed", U64))
 MANY = 1 << 12
-
-
-@pytest.fixture(scope="session", params=LIBRARIES)
-def each(request):
-    """The library by each compiler."""
-    return request.getfixturevalue(request.param)
 
 
 @pytest.mark.parametrize("standard", ["c89", "c99", "c11", "c++98", "c++17"])
@@ -47,12 +40,12 @@ def test_both_compilers_make_the_same_of_every_text(library, library_rattle):
         assert list(said(library, text)) == list(said(library_rattle, text)), text
 
 
-def test_nothing_is_read_or_written_past_its_end(each, tmp_path):
-    guard = linked(each.path.parent, tmp_path / "guard", "tests/c/guard.c")
+def test_nothing_is_read_or_written_past_its_end(native, tmp_path):
+    guard = linked(native.path.parent, tmp_path / "guard", "tests/c/guard.c")
     assert guard.run(*LOGS).status == 0
 
 
-def test_each_allocation_is_refused(each, tmp_path):
+def test_each_allocation_is_refused(native, tmp_path):
     wrapped = "-Wl,--wrap=malloc,--wrap=realloc,--wrap=free"
-    refused = linked(each.path.parent, tmp_path / "refused", "tests/c/calls_refused.c", wrapped)
+    refused = linked(native.path.parent, tmp_path / "refused", "tests/c/calls_refused.c", wrapped)
     assert refused.run(*LOGS).status == 0

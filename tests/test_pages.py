@@ -64,7 +64,6 @@ OLD_WORDS = re.compile(r"\b([Ww]hole|could have given|tells? against|[Nn]obody|[
 # definitions.
 THEIR_WORDS = {"docs/GLOSSARY.md": r"response", "docs/READERS.md": r"response",
                "docs/COLLECTIONS.md": r"[Pp]laces?", "docs/COMMANDS.md": r"[Pp]laces?",
-               "docs/COLLECTIONS.md": r"[Pp]laces?", "docs/COMMANDS.md": r"[Pp]laces?",
                "docs/HEADLINE.md": r".*", "docs/DEFINITIONS.md": r".*"}
 
 

@@ -28,8 +28,6 @@ open 4 0E in {c}
 open 4 0F in {c}
 doubtful E00401506D9320CE in {c}
 """
-WHERE = {"Walden": ("missing", "", ""), "The Time Machine": ("there", "a", ""),
-         "Ulysses": ("not provable", "", "c")}
 
 
 class Calls(unittest.TestCase):
@@ -120,21 +118,11 @@ class Calls(unittest.TestCase):
 
 class Reconcile(Command):
     def test_three_shelves(self):
+        """Line by line; docs/COLLECTIONS.md has the file that is written."""
         catalogue = os.path.join(COLLECTION, "catalogue.csv")
         for more in ([], ["--jobs", "2"], ["--column", "uid"]):
             said = self.ask("--expected", catalogue, *SHELVES, *more)
             self.assertEqual(said, (LINES.format(c=SHELVES[2]).encode(), b"", 1))
-        said, errors, status = self.ask("--expected", catalogue, "--csv", *SHELVES)
-        self.assertEqual((errors, status), (b"", 1))
-        with open(catalogue) as file:
-            rows = list(csv.reader(file))
-        got = list(csv.reader(io.StringIO(said.decode())))
-        self.assertEqual(got[0], [*rows[0], "state", "certain in", "may be in"])
-        self.assertEqual(len(got), len(rows))
-        for row, wanted in zip(got[1:], rows[1:]):
-            state, *logs = WHERE.get(wanted[1], ("there", wanted[2].lower(), ""))
-            logs = [SHELVES["abc".index(letter)] if letter else "" for letter in logs]
-            self.assertEqual(row, [*wanted, state, *logs])
 
     def test_json(self):
         catalogue = os.path.join(COLLECTION, "catalogue.csv")

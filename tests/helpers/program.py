@@ -63,13 +63,6 @@ def linked(folder, made, *words, compiler="cc"):
     return compiled(made, f"-I{folder}", *words, folder / "libvicinity.a", compiler=compiler)
 
 
-def shim(name, folder, compiler="cc"):
-    """A file of tests/c, to be loaded before the C library by LD_PRELOAD."""
-    made = folder / f"{name}.so"
-    compiled(made, "-shared", "-fPIC", f"tests/c/{name}.c", compiler=compiler)
-    return str(made)
-
-
 def build(config, *command):
     """Runs what builds something, one at a time; what it says is shown at once."""
     (TOP / "out").mkdir(exist_ok=True)
