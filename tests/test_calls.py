@@ -263,22 +263,6 @@ def reconciled(library, expected, certain, open_masks, lines, fault=0):
         assert bytes(told) == bytes(answer_to(lines[0], fault))
 
 
-@pytest.mark.parametrize(("expected", "certain", "open_masks", "lines"), [
-    ([], [], [], ["complete 0"]), ([UID_B, UID_A], [UID_A, UID_B], [], ["complete 2"]),
-    ([UID_A, UID_B, UID_Z], [UID_Y], [],
-     [f"absent {Z}", f"absent {A}", f"absent {B}", "unlisted E080000000000000"]),
-    ([UID_A], [], [ALONE], [f"doubtful {A}"]), ([], [], [ALONE], ["unsettled 56 040100000000A1"]),
-    ([], [], [(0, 0)], ["unsettled 0 -"]),
-    # two halves of two logs are one mask, and what is certain is no part of it
-    ([], [], [(2, 1), (1, 0), (2, 3)], ["unsettled 0 -"]),
-    ([UID_A], [UID_A], [(0, 0)], ["unsettled 1 00"]),
-    ([UID_A, UID_B], [UID_A], [(2, 3), (3, 1)], [f"absent {B}", "unsettled 2 03"]),
-    ([UID_A, UID_B], [UID_A, UID_Z], [(4, 2), (8, 0xB2)],
-     [f"unlisted {Z}", "unsettled 5 02", f"doubtful {B}"])])
-def test_each_answer_to_many_logs(library_of, expected, certain, open_masks, lines):
-    reconciled(library_of, expected, certain, open_masks, lines)
-
-
 @pytest.mark.parametrize(("expected", "certain", "open_masks", "entry", "name"), [
     ([UID_A, 0], [], [], 2, "NotVicinity"), ([UID_A, 0xDF << 56, UID_A], [], [], 2, "NotVicinity"),
     ([UID_A, UID_B, UID_B, UID_A], [], [], 3, "DuplicateListed"),
@@ -309,9 +293,7 @@ def test_row_of_many_logs(library_of, expected, logs, lines):
     listed = [int(uid, 16) for uid in expected.decode().split()[3::2]]
     found = [line.partition(" in ")[0] for line in lines
              if not line.startswith(("by ", "open ", "more "))]
-    told = library_of.into_each(FindingStruct, findings_of(found), "reconcile", uids(listed),
-                                uids(certain), (MaskStruct * len(asked))(*asked))
-    assert bytes(told) == bytes(answer_to(found[0]))
+    reconciled(library_of, listed, certain, [(mask.len, mask.value) for mask in asked], found)
 
 
 # Nothing at a pointer, or an address that isn't aligned: what has no length isn't looked at.
