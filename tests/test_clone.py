@@ -339,12 +339,11 @@ def test_what_is_proved_is_built(small, tmp_path):
 
 @pytest.mark.slow
 def test_what_docs_let_a_reader_break(clone):
-    """'Break it yourself', from nothing."""
+    """'Break it yourself', from nothing: the change is refused, and is one of the crate's mutants,
+    which can't be made once more."""
     needs("rt")
     page = (TOP / "docs/PROOFS.md").read_text()
     commands = re.search(r"^cd crates.*?(?=^git checkout|^```$)", page, re.M | re.S)[0]
     refusal = re.search(r"^rt check .*# \.\. (.*)$", commands, re.M)[1]
-    said = subprocess.run(["bash", "-ec", commands], cwd=clone.top, stdout=subprocess.PIPE,
-                          stderr=subprocess.STDOUT, timeout=3000,
-                          text=True, check=False)
-    assert refusal in said.stdout
+    out, err, _ = Program("bash", "-ec", commands).run(cwd=clone.top, timeout=3000)
+    assert refusal in (out + err).decode() and b"BAD EDIT" in out + err

@@ -11,8 +11,7 @@ name.
     commands have $ echo $?               shows the status of the command before; where it is not
     shown, it has to be the answer's
 
-A fence that changes a file of a crate by `sed -i` has to make it one of the crate's mutants, which
-the gate has the prover refuse.
+What changes a file of a crate by `sed -i` is tried in tests/test_clone.py.
 
 A fence in C is compiled with the library and run over an example: as it stands if it has a main,
 else in a function that is given `text` and `text_len`, after the page's fences before it.
@@ -322,20 +321,6 @@ int main(int argc, char **argv) {
                                 % self.release)
         self.note(place, ("", 0), (said, status))
 
-    def mutant(self, place, lines):
-        """What a fence makes of a file by `sed -i` is what one of the crate's mutants is."""
-        command = next(line for line in lines if line.startswith("sed -i "))
-        crate = next(line for line in lines if line.startswith("cd "))[len("cd "):]
-        name = command.split()[-1]
-        changed, _ = self.run("cd %s && %s" % (crate, command.replace("sed -i ", "sed ", 1)))
-        text = (TOP / crate / name).read_text()
-        mutants = []
-        for edit in (TOP / crate / "must-fail").iterdir():
-            pair = re.fullmatch(r"file: (.*)\nold: (.*)\nnew: (.*)\n", edit.read_text())
-            if pair and pair[1] == name and pair[2] in text:
-                mutants.append(text.replace(pair[2], pair[3]))
-        self.note(place, True, changed in mutants)
-
 
 @pytest.fixture
 def shell(program, release, tmp_path):
@@ -355,8 +340,6 @@ def test_sessions(shell, page):
             shell.c_fence(f"{page}:{first}: C", lines, c_lines)
         elif any(line.startswith("$ ") for line in lines):
             shell.session(page, first, lines, unused)
-        elif any(line.startswith("sed -i ") for line in lines):
-            shell.mutant(f"{page}:{first}: a mutant", lines)
         elif any(line.startswith("vicinity-log ") for line in lines):
             shell.note(f"{page}:{first}: a log", "a command that runs it", "none")
     for place in unused.values():
