@@ -7,7 +7,7 @@ import re
 
 import pytest
 from vicinity import _native
-from vicinity._native import AnswerStruct, FindingStruct, MaskStruct, WeakestStruct
+from vicinity._native import AnswerStruct, MaskStruct, WeakestStruct
 
 from helpers.frames import hex_of, inventory, reply, stay_quiet, with_crc
 from helpers.library import SIZE, U32, U64, answer_to, findings_of, masks, uids
@@ -187,8 +187,8 @@ def test_surveys(library_of, short, status, certain, open_masks):
     `check`."""
     log = log_of(short)
     checked = library_of.told(AnswerStruct, "check", log)
-    for name, wanted in ("certain", uids(certain)), ("open_masks", masks(open_masks)):
-        told = library_of.into_each(wanted._type_, wanted, name, log)
+    for name, wanted in ("certain", certain), ("open_masks", masks(open_masks)):
+        told = library_of.into_each(wanted, name, log)
         assert (told.status, bytes(told)) == (status, bytes(checked))
 
 
@@ -258,8 +258,8 @@ def reconciled(library, expected, certain, open_masks, lines, fault=0):
     if not fault:
         ways += [(expected[::-1], [*certain, *certain[::-1]], open_masks[::-1] * 2)]
     for listed, heard, asked in ways:
-        told = library.into_each(FindingStruct, [] if fault else findings_of(lines), "reconcile",
-                                 uids(listed), uids(heard), masks(asked))
+        told = library.into_each([] if fault else findings_of(lines), "reconcile", uids(listed),
+                                 uids(heard), masks(asked))
         assert bytes(told) == bytes(answer_to(lines[0], fault))
 
 
@@ -287,8 +287,8 @@ def test_row_of_many_logs(library_of, expected, logs, lines):
     program's alone."""
     certain, asked = [], []
     for log in logs:
-        for name, element, known in ("certain", U64, certain), ("open_masks", MaskStruct, asked):
-            _, needed, room = library_of.into(element, 64, name, log)
+        for name, known in ("certain", certain), ("open_masks", asked):
+            _, needed, room = library_of.into(64, name, log)
             known += room[:needed]
     listed = [int(uid, 16) for uid in expected.decode().split()[3::2]]
     found = [line.partition(" in ")[0] for line in lines

@@ -11,7 +11,7 @@ import pytest
 from vicinity._native import AnswerStruct
 
 from helpers import oracle, reports
-from helpers.library import STATUSES, U64, answer_to
+from helpers.library import STATUSES, answer_to
 from helpers.oracle import Case
 from helpers.random_logs import random_log, text_of
 
@@ -32,7 +32,7 @@ def answer(library):
     def ask(version, lines):
         text = text_of(version, lines)
         told = library.told(AnswerStruct, "check", text)
-        again, needed, room = library.into(U64, ROOM, "explain", text)
+        again, needed, room = library.into(ROOM, "explain", text)
         line = told.text.decode().rstrip("\n")
         assert bytes(told) == bytes(again) == bytes(answer_to(line))
         return line, room[:needed]

@@ -6,9 +6,9 @@ import json
 import subprocess
 
 import pytest
-from vicinity._native import AnswerStruct, FindingStruct, MaskStruct, WeakestStruct
+from vicinity._native import AnswerStruct, WeakestStruct
 
-from helpers.library import CALLS, U8, U32, U64, masks, uids
+from helpers.library import CALLS, LISTING, U32, masks, uids
 from helpers.lines import biglog, log_of
 from helpers.program import MAKE, TOP
 from helpers.wasm import WasmLibrary
@@ -24,10 +24,7 @@ console.log(JSON.stringify([WebAssembly.Module.imports(it), exported]));
 # A session of this many tags has a million lines.
 LARGE = 115_600
 UID_A, UID_B = 0xE0040100000000A1, 0xE0040100000000B2
-# What the calls that list something list; how many bytes its buffer has.
-LISTING = {"explain": U64, "certain": U64, "listed": U64, "explain_listed": U64,
-           "open_masks": MaskStruct, "report": FindingStruct, "report_listed": FindingStruct,
-           "reconcile": FindingStruct, "simulate": U8}
+# How many bytes the buffer has of a call that lists something.
 ROOM = 2048
 # Those that write a margin, which is all 0 where there is none.
 MEASURING, NO_MARGIN = ("margin", "margin_listed"), bytes(WeakestStruct())
@@ -106,8 +103,7 @@ class Growing(WasmLibrary):
         if name not in LISTING:
             told, *written = self.told(AnswerStruct, name, *given), 0, b""
         else:
-            told, *written = self.into(LISTING[name], ROOM // ctypes.sizeof(LISTING[name]), name,
-                                       *given)
+            told, *written = self.into(ROOM // ctypes.sizeof(LISTING[name]), name, *given)
         told = told if name == "simulate" else bytes(told)
         return told, *map(bytes, written[1:]), written[0], self.module.test_grown()
 

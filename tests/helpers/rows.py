@@ -17,9 +17,9 @@ import functools
 import re
 
 import pytest
-from vicinity._native import AnswerStruct, FindingStruct
+from vicinity._native import AnswerStruct
 
-from helpers.library import U8, answer_to, findings_of, uids
+from helpers.library import answer_to, findings_of, uids
 from helpers.lines import NAMES, log_of, rows, spelled, text_of
 from helpers.program import TOP
 
@@ -155,25 +155,23 @@ class OfLibrary:
         text, listed, rest = log.partition(b"U ")
         beside = uids([int(line, 16) for line in (listed + rest).split() if line != b"U"])
         for call, *words in (name, log), (f"{name}_listed", text, beside):
-            told = self.library.into_each(elements._type_, elements, call, *words)
+            told = self.library.into_each(elements, call, *words)
             assert bytes(told) == answer
         assert bytes(self.library.told(AnswerStruct, "check_listed", text, beside)) == answer
 
     def explain(self, given, answers, status):
         log = log_of(given)
         line, *shown = answer_of(answers[0]).decode().splitlines()
-        found = uids([int(tag[2:], 16) for tag in shown[1:]])
+        found = [int(tag[2:], 16) for tag in shown[1:]]
         self.in_both_ways("explain", found, log, self.answered(line, log, status))
 
     def report(self, given, answers, status):
         log, lines = log_of(given), answers[0].split(" / ")
-        found = findings_of(lines)
-        self.in_both_ways("report", (FindingStruct * len(found))(*found), log,
-                          self.answered(lines[0], log, status))
+        self.in_both_ways("report", findings_of(lines), log, self.answered(lines[0], log, status))
 
     def fill(self, given, answers, _):
-        assert self.library.into_each(U8, log_of(answers[0]), "simulate", log_of(given)) == 0
+        assert self.library.into_each(log_of(answers[0]), "simulate", log_of(given)) == 0
 
     def simulate(self, given, answers, status):
         wanted = answer_of(answers[0])
-        assert self.library.into_each(U8, wanted, "simulate", log_of(given)) == status
+        assert self.library.into_each(wanted, "simulate", log_of(given)) == status
