@@ -90,15 +90,6 @@ def fences(text):
             need = NEEDS.match(line)[1]
 
 
-def is_there(tool):
-    """Whether a machine has a tool, or a package of Debian's Python."""
-    if tool.startswith("python3-"):
-        asked = ["/usr/bin/python3", "-c", f"import {tool[8:]}"]
-        return (os.path.exists(asked[0])
-                and subprocess.run(asked, capture_output=True, check=False).returncode == 0)
-    return shutil.which(tool) is not None
-
-
 def inventory(sixteen, length, value):
     """An Inventory request by its slots and its mask, by the table of docs/FRAMES.md."""
     head = bytes([0x06 if sixteen else 0x26, 0x01, length])
@@ -334,7 +325,7 @@ def test_sessions(shell, page):
     """Also fences in C and logs: what a fence shows may be of use to those behind it."""
     unused, c_lines, lacking = {}, [], []
     for first, language, need, lines in fences(text_of(page)):
-        if need and not is_there(need):
+        if need and not shutil.which(need):
             lacking.append(f"{page}:{first}: there is no {need}")
         elif language == "c":
             shell.c_fence(f"{page}:{first}: C", lines, c_lines)

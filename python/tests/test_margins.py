@@ -14,7 +14,6 @@ TWICE = ALL + HEARD_A + SILENCE_A + ALL + b"S\n"
 ONCE_B = ALL + HEARD_A + SILENCE_A + SILENCE_B + ALL + b"S\n"
 #: B is heard, and all are asked three times more.
 OFTEN = ALL + HEARD_B + SILENCE_B + (ALL + b"S\n") * 3
-ONLY_B = Mask(56, B & (1 << 56) - 1)
 SAID = "A tag would have had to be missed in"
 
 

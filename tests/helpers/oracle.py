@@ -98,10 +98,10 @@ def takes(kind, other):
         [other if line == kind else line for line in lines]))
 
 
-def takes_replies(captured, other):
+def takes_replies(is_captured, other):
     """Takes replies that are captured, or aren't, for another line."""
     return wrong(slots=lambda self, lines: slots_of(
-        [other(line.uid) if isinstance(line, Reply) and line.captured == captured else line
+        [other(line.uid) if isinstance(line, Reply) and line.captured == is_captured else line
          for line in lines]))
 
 
@@ -182,9 +182,8 @@ class Case:
         """Why an answer, and the population that is shown, are wrong, if so."""
         if given != self.answer:
             return f"{given}, and not {self.answer}"
-        wrong_population = self.uids and Judge(self.uids).shows(given, self.lines,
-                                                                self.known.populations, shown)
-        return wrong_population and f"{given}, shown by {shown}: {wrong_population}"
+        why = self.uids and Judge(self.uids).shows(given, self.lines, self.known.populations, shown)
+        return why and f"{given}, shown by {[f'{uid:016X}' for uid in shown]}: {why}"
 
     def wrong_report(self, given):
         """Why a report is wrong, if so."""
