@@ -3,6 +3,7 @@ import contextlib
 import ctypes
 import os
 import re
+from unittest import mock
 
 import vicinity
 from vicinity import Kind, _native
@@ -83,16 +84,12 @@ class Library:
     @contextlib.contextmanager
     def package(self):
         """The Python package over this library, and over the one before when it ends."""
-        before = os.environ.get("LIBVICINITY")
-        os.environ["LIBVICINITY"] = str(self.path)
-        _native.library.cache_clear()
-        try:
-            yield vicinity
-        finally:
+        with mock.patch.dict(os.environ, LIBVICINITY=str(self.path)):
             _native.library.cache_clear()
-            del os.environ["LIBVICINITY"]
-            if before is not None:
-                os.environ["LIBVICINITY"] = before
+            try:
+                yield vicinity
+            finally:
+                _native.library.cache_clear()
 
     def call(self, name, *given):
         """What a call returns. A text, and each array, is given with its length."""

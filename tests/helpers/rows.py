@@ -14,14 +14,13 @@ marks, with Python's escapes: parts are joined by `+`, and `* N` repeats one. Li
 / `. The expected answers are worked out, never taken from the program.
 """
 import functools
-import re
 
 import pytest
+from vicinity import Fault
 from vicinity._native import AnswerStruct
 
 from helpers.library import answer_to, findings_of, uids
 from helpers.lines import NAMES, log_of, rows, spelled, text_of
-from helpers.program import TOP
 
 # Who is asked, by the names of their fixtures.
 PROGRAMS = ("program", "commands", "arm")
@@ -117,12 +116,13 @@ class OfProgram:
 class OfLibrary:
     """Asks the calls for C. There are none for the commands that have no method here."""
 
+    # the numbers of faults, by whether they are of a frame, and their names in small letters
+    faults = {(fault.name.startswith("FRAME_"),
+               fault.name.removeprefix("FRAME_").replace("_", "").lower()): fault.value
+              for fault in Fault}
+
     def __init__(self, library):
         self.library = library
-        header = (TOP / "include/vicinity.h").read_text()
-        found = re.findall(r"VICINITY_FAULT_(FRAME_)?(\w+) = (\d+)", header)
-        self.faults = {(bool(frame), name.replace("_", "").lower()): int(number) for frame, name,
-                       number in found}
 
     def begins(self, log):
         """The line of the answer to a log."""
