@@ -217,15 +217,13 @@ def test_row_of_the_packaged_program(packaged, asked, command, given, answers, s
 def test_the_packages_of_the_release_are_made_again():
     """As long as the sources and the tools are those of the release."""
     needs("rt", "gcc", "ld", "dpkg-deb", "objdump")
-    done = subprocess.run([TOP / "release/dist", "--check"], capture_output=True, text=True,
-                          check=False)
+    said = Program(TOP / "release/dist").run("--check")
     # 2: of other sources, or by other tools
-    assert done.returncode in (0, 2), done.stdout + done.stderr
+    assert said.status in (0, 2), said
 
 
 def test_a_version_that_is_released_is_that_of_dist():
     """Packages of changed sources have another version: the next one, with ~dev."""
-    now = subprocess.run([TOP / "release/sources"], capture_output=True, text=True, check=True)
-    released = (TOP / "dist/SOURCES").read_text()
+    now, released = told(TOP / "release/sources"), (TOP / "dist/SOURCES").read_text()
     # the last line says by which tools
-    assert "~dev" in VERSION or now.stdout.splitlines()[:2] == released.splitlines()[:2]
+    assert "~dev" in VERSION or now.splitlines()[:2] == released.splitlines()[:2]

@@ -33,7 +33,7 @@ import sys
 import pytest
 
 from helpers.frames import hex_of, with_crc
-from helpers.program import TOP, needs
+from helpers.program import TOP, Program, needs
 
 FOLDERS = ("crates", "examples", "include", "out", "python", "tools")
 PAGES = ["README.md", "CHANGELOG.md", *sorted(str(page.relative_to(TOP)) for pattern in (
@@ -159,20 +159,14 @@ class Shell:
         tools.mkdir()
         (tools / "vicinity").symlink_to(program.words[0])
         (tools / "python3").symlink_to(sys.executable)
-        self.env = dict(os.environ, PATH=f"{tools}{os.pathsep}{os.environ['PATH']}",
-                        PYTHONPATH=str(TOP / "python"),
-                        LIBVICINITY=str(release / "libvicinity.so"))
+        self.shell = Program("sh", "-c", PATH=f"{tools}{os.pathsep}{os.environ['PATH']}",
+                             PYTHONPATH=str(TOP / "python"),
+                             LIBVICINITY=str(release / "libvicinity.so"))
         self.statuses = statuses()
 
     def run(self, command):
-        try:
-            ran = subprocess.run(command, shell=True, cwd=self.folder, env=self.env,
-                                 stdin=subprocess.DEVNULL,
-                                 stdout=subprocess.PIPE, stderr=subprocess.STDOUT, timeout=SECONDS,
-                                 check=False)
-        except subprocess.TimeoutExpired:
-            return f"no end in {SECONDS} seconds", None
-        return ran.stdout.decode("utf-8", "backslashreplace"), ran.returncode
+        said = self.shell.run(command, cwd=self.folder, stderr=subprocess.STDOUT, timeout=SECONDS)
+        return said.out.decode("utf-8", "backslashreplace"), said.status
 
     def status_of(self, shown):
         """The status of an answer; none where the lines are no answer."""
@@ -403,7 +397,6 @@ def test_limits(shell):
 def test_man_pages(name, tool):
     """Shown without a warning. Which other pages there are, only an installed one can know."""
     needs(tool.split()[0])
-    said = subprocess.run([*tool.split(), TOP / name], stdout=subprocess.PIPE,
-                          stderr=subprocess.STDOUT, text=True, check=False)
-    assert not [line for line in said.stdout.split("\n") if line
-                and "referenced manual not found" not in line]
+    said = Program(*tool.split()).run(name, stderr=subprocess.STDOUT)
+    assert not [line for line in said.out.splitlines()
+                if b"referenced manual not found" not in line]

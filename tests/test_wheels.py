@@ -4,7 +4,6 @@ wheel is looked into and installed, and not run."""
 import glob
 import os
 import re
-import subprocess
 import tarfile
 import time
 import zipfile
@@ -104,9 +103,8 @@ def test_pip_installs_it_for_windows(wheel, kind, tmp_path):
     """As this machine's pip does it for another one, and for no other."""
     words = ["/usr/bin/python3", "-m", "pip", "install", "--no-index", "--only-binary", ":all:"]
     for platform, status in (TAGS["windows"], 0), ("win32", 1):
-        done = subprocess.run([*words, "--target", tmp_path / platform, "--platform", platform,
-                               wheel], capture_output=True, check=False)
-        assert done.returncode == status, done.stderr
+        said = Program(*words).run("--target", tmp_path / platform, "--platform", platform, wheel)
+        assert said.status == status, said.err
     _, library, place = kind
     assert (tmp_path / TAGS["windows"] / place).read_bytes() == library.read_bytes()
 
@@ -123,17 +121,13 @@ def test_it_works_on_arm(arm_release, tmp_path):
     installed = there / backend.LIBRARY
     assert installed.read_bytes() == (arm_release / "libvicinity.so").read_bytes()
 
-    def run(*words):
-        return subprocess.run(["qemu-aarch64-static", "-L", ARM, f"{ARM}/usr/bin/python3", *words],
-                              capture_output=True, text=True, cwd=TOP / "python/tests",
-                              env={"PYTHONPATH": f"{there}:{TOP}/tests",
-                                   "PYTHONDONTWRITEBYTECODE": "1"})
-
-    said = run("-c", "import os, vicinity; print(os.uname().machine, vicinity.check(b''))")
-    assert said.stdout == "aarch64 refused at line 1: Header\n"
-    said = run("-m", "unittest", "test_vicinity.Frames", "test_vicinity.Calls")
-    assert said.stderr.endswith("\nOK\n"), said.stderr
-    is_answered(lambda *words: run("-m", "vicinity", *words))
+    python = Program("qemu-aarch64-static", "-L", ARM, f"{ARM}/usr/bin/python3", LIBVICINITY="",
+                     PYTHONPATH=f"{there}:python/tests:tests")
+    said = python.told("-c", "import os, vicinity; print(os.uname().machine, vicinity.check(b''))")
+    assert said == "aarch64 refused at line 1: Header\n"
+    said = python.run("-m", "unittest", "test_vicinity.Frames", "test_vicinity.Calls")
+    assert said.err.endswith(b"\nOK\n"), said.err
+    is_answered(python, "-m", "vicinity")
 
 
 @pytest.mark.parametrize(("built", "name", "target", "why"), [
@@ -148,39 +142,34 @@ def test_what_is_no_library_for_that_machine_is_refused(request, tmp_path, built
     assert (said.status, why in said.err.decode(), [*tmp_path.iterdir()]) == (1, True, [])
 
 
-def is_answered(run):
+def is_answered(program, *words):
     """What the commands of an installed wheel answer to the example logs."""
-    said = run("--tabs", *sorted(TOP.glob("examples/*.log")))
-    answers = [line.split("\t")[1:] for line in said.stdout.splitlines()]
-    assert (answers, said.stderr, said.returncode) == (
-        [["2", "impossible at line 6"], ["1", "unsettled 7 61"], ["0", "complete 4"]], "", 2)
-    said = run("reconcile", "--csv", "--expected", TOP / "examples/collection/catalogue.csv",
-               *sorted(TOP.glob("examples/collection/shelf-*.log")))
-    assert (said.stdout.count(",there,"), said.stderr, said.returncode) == (10, "", 1)
+    out, err, status = program.run(*words, "--tabs", *sorted(TOP.glob("examples/*.log")))
+    answers = [line.split("\t")[1:] for line in out.decode().splitlines()]
+    assert (answers, err, status) == (
+        [["2", "impossible at line 6"], ["1", "unsettled 7 61"], ["0", "complete 4"]], b"", 2)
+    out, err, status = program.run(
+        *words, "reconcile", "--csv", "--expected", "examples/collection/catalogue.csv",
+        *sorted(TOP.glob("examples/collection/shelf-*.log")))
+    assert (out.count(b",there,"), err, status) == (10, b"", 1)
 
 
 @pytest.mark.slow
 @pytest.mark.parametrize("kind", ["amd64"], indirect=True)
 @pytest.mark.parametrize("python", pythons())
 def test_it_works(wheel, python, tmp_path):
-    clean = {name: value for name, value in os.environ.items()
-             if name not in ("LIBVICINITY", "PYTHONPATH", "LD_LIBRARY_PATH")}
-
-    def run(*words):
-        return subprocess.run([str(word) for word in words], capture_output=True, text=True,
-                              cwd=tmp_path, env=clean)
-
-    assert run(python, "-m", "venv", "there").returncode == 0
+    alone = {"LIBVICINITY": "", "PYTHONPATH": "", "cwd": tmp_path}
+    told(python, "-m", "venv", "there", **alone)
     there = tmp_path / "there/bin"
-    installed = run(there / "pip", "install", "--no-index", wheel)
-    assert installed.returncode == 0, installed.stderr
-    is_answered(lambda *words: run(there / "vicinity-logs", *words))
+    told(there / "pip", "install", "--no-index", wheel, **alone)
+    logs = Program(there / "vicinity-logs", LIBVICINITY="", PYTHONPATH="")
+    is_answered(logs)
     for command in ("check", "report", "reconcile", "survey", "compare", "show", "page", "frame"):
-        assert run(there / "vicinity-logs", command, "--help").stdout.startswith(
-            f"usage: vicinity-logs {command}")
-    assert run(there / "vicinity-logs", "page", TOP / "examples/whole-shelf.log").returncode == 0
-    said = run(there / "python", "-c", "import vicinity as it; print(it.__file__, it.check(b''))")
-    assert said.stdout.endswith("refused at line 1: Header\n") and str(tmp_path) in said.stdout
+        assert logs.told(command, "--help").startswith(f"usage: vicinity-logs {command}")
+    assert logs.told("page", "examples/whole-shelf.log")
+    said = told(there / "python", "-c", "import vicinity as it; print(it.__file__, it.check(b''))",
+                **alone)
+    assert said.endswith("refused at line 1: Header\n") and str(tmp_path) in said
 
 
 def glibc_of(file):
