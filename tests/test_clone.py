@@ -10,7 +10,7 @@ import subprocess
 
 import pytest
 
-from helpers.program import TOP, Program, needs
+from helpers.program import TOP, Program, needs, told
 from helpers.trees import copy
 
 # What a new machine has, and what building takes beside it.
@@ -113,8 +113,7 @@ def is_packaged(said, of):
 
 def test_a_fresh_clone_answers(clone):
     """And says by what, each time."""
-    code = subprocess.run([TOP / "release/sources", "code"], capture_output=True, check=True).stdout
-    (clone.top / "dist/SOURCES").write_bytes(code)
+    (clone.top / "dist/SOURCES").write_text(told(TOP / "release/sources", "code"))
     for _ in range(2):
         is_packaged(clone.ask(), "of the same code")
 
@@ -154,11 +153,9 @@ def test_a_processor_for_which_there_is_no_package(clone, odd):
 
 
 def test_the_packaged_program_for_arm(clone, odd):
-    needs("readelf")
     env = {**os.environ, "PATH": f"{odd('aarch64')}{os.pathsep}{os.environ['PATH']}"}
     made = Program(clone.top / "release/packaged").run(cwd=clone.top, env=env).out.decode().strip()
-    assert b"AArch64" in subprocess.run(["readelf", "-h", made], capture_output=True,
-                                        check=True).stdout
+    assert "AArch64" in told("readelf", "-h", made)
 
 
 @pytest.mark.parametrize(("word", "status"), [("--help", 0), ("it", 2)])
@@ -210,7 +207,7 @@ def test_what_is_kept_in_another_clone(built, tmp_path):
     """Nothing of it is proved again there."""
     other = Clone(tmp_path / "other")
     made = "crates/vicinity/out"
-    subprocess.run(["cp", "-a", built.top / made, other.top / made], check=True)
+    told("cp", "-a", built.top / made, other.top / made)
     assert other.proved_now() == []
 
 
