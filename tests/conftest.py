@@ -7,7 +7,6 @@ install.
 """
 import os
 import random
-import subprocess
 import sys
 
 import pytest
@@ -18,14 +17,14 @@ sys.dont_write_bytecode = True
 os.environ["PYTHONDONTWRITEBYTECODE"] = "1"
 
 from helpers.library import Library  # noqa: E402
-from helpers.program import MAKE, TOP, Program, build, needs, program_of  # noqa: E402
-from helpers.rows import OfLibrary, OfProgram  # noqa: E402
+from helpers.program import (  # noqa: E402
+    MAKE, TOP, Program, build, linked, needs, program_of, told)
+from helpers.rows import LIBRARIES, OfLibrary, OfProgram  # noqa: E402
 from helpers.texts import texts as all_texts  # noqa: E402
 from helpers.wasm import WasmLibrary  # noqa: E402
 from helpers.wine import Commands, wine_in  # noqa: E402
 
 OUT = TOP / "out"
-WARNINGS = ("-std=c99", "-O2", "-Wall", "-Wextra", "-Wpedantic", "-Werror")
 # For each text there are so many lines of answers at least.
 ANSWERS = 7
 ARM = ("qemu-aarch64-static", "-L", "/usr/aarch64-linux-gnu")
@@ -99,6 +98,12 @@ def library_rattle(pytestconfig):
     return Library(OUT / "release-rattle/libvicinity.so")
 
 
+@pytest.fixture(scope="session", params=LIBRARIES)
+def native(request):
+    """The library by each compiler."""
+    return request.getfixturevalue(request.param)
+
+
 @pytest.fixture(scope="session")
 def vicinity(release):
     """The Python package over the library as it is released."""
@@ -110,12 +115,9 @@ def vicinity(release):
 @pytest.fixture(scope="session")
 def commands(release, tmp_path_factory):
     """The commands in C, with a look at each access to memory, and at what is left of it."""
-    made = tmp_path_factory.mktemp("commands") / "vicinity"
     watched = ("-fsanitize=address,undefined", "-fno-sanitize-recover=all")
-    subprocess.run(["cc", *WARNINGS, f"-I{release}", *sorted(TOP.glob("commands/*.c")),
-                    release / "libvicinity.a", *watched,
-                    "-o", made], check=True)
-    return Program(made)
+    return linked(release, tmp_path_factory.mktemp("commands") / "vicinity", "-std=c99", "-O2",
+                  *TOP.glob("commands/*.c"), *watched)
 
 
 @pytest.fixture(scope="session")
@@ -144,8 +146,8 @@ def wasm_module(pytestconfig):
 def wasm(wasm_module):
     """The calls of the library as WebAssembly, which node makes."""
     library = WasmLibrary(wasm_module)
-    yield library
-    library.module.close()
+    with library.module.node:
+        yield library
 
 
 @pytest.fixture(scope="session")
@@ -170,16 +172,15 @@ def windows(wine, windows_release, tmp_path_factory):
     """The commands in C for Windows, all runs in one process."""
     folder = tmp_path_factory.mktemp("windows")
     compiler = "x86_64-w64-mingw32-gcc", "-O2", "-D__USE_MINGW_ANSI_STDIO=1", f"-I{TOP}/include"
-    subprocess.run([*compiler, "-c", "-Dmain=vicinity_main", "-Dopen=open_utf8",
-                    *TOP.glob("commands/*.c")], cwd=folder, check=True)
+    told(*compiler, "-c", "-Dmain=vicinity_main", "-Dopen=open_utf8", *TOP.glob("commands/*.c"),
+         cwd=folder)
     made = folder / "many.exe"
-    subprocess.run([*compiler, TOP / "tests/c/many.c", TOP / "targets/windows/start.c",
-                    *folder.glob("*.o"), TOP / "release/heap.c", OUT / "module/windows.o",
-                    "-o", made], check=True)
+    told(*compiler, "tests/c/many.c", "targets/windows/start.c", *folder.glob("*.o"),
+         "release/heap.c", OUT / "module/windows.o", "-o", made)
     commands = Commands(Program(*wine.words, made),
                         Program(*wine.words, windows_release / "vicinity.exe"), folder)
-    yield commands
-    commands.close()
+    with commands.process:
+        yield commands
 
 
 @pytest.fixture(scope="session")
@@ -191,12 +192,11 @@ def texts():
 @pytest.fixture(scope="session")
 def answered(release, texts, tmp_path_factory):
     """What the library for C answers to these texts, with every number."""
-    made = tmp_path_factory.mktemp("answers") / "answers"
-    subprocess.run(["cc", *WARNINGS, f"-I{release}", TOP / "tests/c/answers.c",
-                    release / "libvicinity.a", "-o", made], check=True)
-    said = subprocess.run([made], input=texts, capture_output=True, check=True).stdout
-    assert said.count(b"\n") >= ANSWERS * len(all_texts())
-    return said
+    answers = linked(release, tmp_path_factory.mktemp("answers") / "answers", "-O2",
+                     "tests/c/answers.c")
+    out, _, status = answers.run(given=texts)
+    assert status == 0 and out.count(b"\n") >= ANSWERS * len(all_texts())
+    return out
 
 
 @pytest.fixture(scope="session")

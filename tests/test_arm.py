@@ -3,13 +3,11 @@ worked, changed and large texts, texts and buffers that end where memory ends, a
 refused in turn. The library for x86-64 is what it is compared with. The commands are asked in
 test_rows.py and test_commands.py, the Python package in test_wheels.py."""
 import re
-import subprocess
 
 import pytest
 
-from helpers.library import STRICT
 from helpers.lines import biglog
-from helpers.program import TOP, Program
+from helpers.program import TOP, Program, linked
 
 LOGS = sorted(TOP.glob("examples/*.log"))
 # A search for so many tags has over 100,000 lines.
@@ -22,13 +20,10 @@ def both(release, arm_release, tmp_path_factory):
     folder = tmp_path_factory.mktemp("arm")
 
     def build(source, *words):
-        made = folder / source.replace("/", "-")
-        for compiler, library, name, more in (("aarch64-linux-gnu-gcc", arm_release, f"{made}-arm",
-                                               ["-static"]),
-                                              ("cc", release, f"{made}-here", [])):
-            subprocess.run([compiler, *more, "-O2", *STRICT, f"-I{TOP}/include", TOP / source,
-                            *words, library / "libvicinity.a", "-o", name], check=True)
-        return Program("qemu-aarch64-static", f"{made}-arm"), Program(f"{made}-here")
+        there = linked(arm_release, folder / "there", "-static", "-O2", source, *words,
+                       compiler="aarch64-linux-gnu-gcc")
+        here = linked(release, folder / "here", "-O2", source, *words)
+        return Program("qemu-aarch64-static", *there.words), here
     return build
 
 

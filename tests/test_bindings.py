@@ -12,20 +12,20 @@ import sys
 import pytest
 
 from helpers.frames import hex_of
-from helpers.library import STRICT
-from helpers.program import TOP, Program
+from helpers.program import STRICT, TOP, Program, compiled, linked, told
 from helpers.rows import LIBRARIES
 
 # Debian's compilers first: what they take, newer ones take too
 TOOLS = {"PATH": "/usr/bin:" + os.environ["PATH"], "GOFLAGS": "-buildvcs=false"}
 PYTHON = {"PYTHONPATH": str(TOP / "python")}
+CPP = ("-std=c++11", "-Ibindings/cpp")
 # On a busy machine Dask's processes may be slow to find each other.
 PATIENT = {f"DASK_DISTRIBUTED__COMM__TIMEOUTS__{it}": "600s" for it in ("CONNECT", "TCP")}
 
 
-def made(*words, cwd=TOP, **environment):
+def made(*words, **environment):
     """What a tool writes."""
-    return Program(*words, **TOOLS, **environment).told(cwd=cwd)
+    return told(*words, **TOOLS, **environment)
 
 
 def go_environment(folder):
@@ -63,9 +63,9 @@ def example(request, tmp_path_factory):
             return Program(sys.executable, source / f"{name}.py", LIBVICINITY=str(one.path),
                            **PYTHON)
         if language == "c":
-            return one.compiled(source / f"{name}.c", program)
+            return linked(one.path.parent, program, source / f"{name}.c")
         if language == "cpp":
-            return one.compiled(source / f"{name}.cpp", program, "-std=c++11", compiler="g++")
+            return linked(one.path.parent, program, *CPP, source / f"{name}.cpp", compiler="g++")
         if language == "go":
             made("go", "build", "-o", program, cwd=source, **go_environment(one.path.parent))
             return Program(program)
@@ -237,15 +237,14 @@ def test_rust_library(rust_target):
 
 @pytest.mark.parametrize("standard", ("c++11", "c++14", "c++17", "c++20"))
 def test_cpp_header(standard, folder):
-    made("g++", f"-std={standard}", *STRICT, f"-I{folder}", f"-I{TOP}/bindings/cpp",
-         "-fsyntax-only", "-include", "vicinity.hpp", "-x", "c++", "/dev/null")
+    made("g++", *CPP, f"-std={standard}", *STRICT, f"-I{folder}", "-fsyntax-only", "-include",
+         "vicinity.hpp", "-x", "c++", "/dev/null")
 
 
 def test_cpp_library(folder, tmp_path):
-    made("g++", "-std=c++11", *STRICT, f"-I{folder}", f"-I{TOP}/bindings/cpp",
-         "-fsanitize=address,undefined", "-fno-sanitize-recover=all",
-         TOP / "bindings/cpp/test.cpp", folder / "libvicinity.a", "-o", tmp_path / "test")
-    assert made(tmp_path / "test").endswith(" passed\n")
+    tests = linked(folder, tmp_path / "test", *CPP, "-fsanitize=address,undefined",
+                   "-fno-sanitize-recover=all", "bindings/cpp/test.cpp", compiler="g++")
+    assert tests.told().endswith(" passed\n")
 
 
 # ---- what the READMEs show, tried in a folder of its own
@@ -257,9 +256,8 @@ def fence(language, page):
 
 def test_readme_of_cpp(folder, tmp_path):
     (tmp_path / "check.cpp").write_text(fence("cpp", TOP / "bindings/cpp/README.md"))
-    made("c++", f"-I{folder}", f"-I{TOP}/bindings/cpp", tmp_path / "check.cpp",
-         folder / "libvicinity.a", "-o", tmp_path / "check")
-    assert made(tmp_path / "check") == "complete 0\n"
+    check = linked(folder, tmp_path / "check", *CPP, tmp_path / "check.cpp", compiler="c++")
+    assert check.told() == "complete 0\n"
 
 
 def test_readme_of_go(folder, tmp_path):
@@ -412,21 +410,19 @@ def listening(session):
 # ---- the library itself
 
 @pytest.fixture(params=("shared", "static"))
-def linked(request, folder, tmp_path):
+def check(request, folder, tmp_path):
     """A program that is linked with the shared library or with the archive."""
     how = {"shared": [f"-L{folder}", "-lvicinity", f"-Wl,-rpath,{folder}"],
            "static": [folder / "libvicinity.a"]}
-    made("cc", f"-I{folder}", TOP / "examples/c/check.c", *how[request.param], "-o",
-         tmp_path / "check")
-    return tmp_path / "check"
+    return compiled(tmp_path / "check", f"-I{folder}", "examples/c/check.c", *how[request.param])
 
 
 @pytest.mark.skipif(platform.machine() != "x86_64", reason="the level of x86-64 processors")
 @pytest.mark.parametrize(("processor", "status", "said"), (
     ("qemu64", 127, "CPU ISA level is lower than required"), ("Nehalem", 0, "complete 4")))
-def test_processor(linked, processor, status, said):
+def test_processor(check, processor, status, said):
     """One below x86-64-v2 gets a sentence of the loader, not a signal."""
-    emulated = Program("qemu-x86_64-static", "-cpu", processor, linked)
+    emulated = Program("qemu-x86_64-static", "-cpu", processor, *check.words)
     out, err, ended = emulated.run("examples/whole-shelf.log")
     assert (ended, said in (out + err).decode()) == (status, True)
 
@@ -439,8 +435,7 @@ def test_library_that_is_too_old(folder, tmp_path):
     (tmp_path / "listed.c").write_text(
         '#include "vicinity.h"\n#include <stdio.h>\nint main(void) { struct vicinity_answer told; '
         'size_t n; vicinity_listed(NULL, 0, &told, NULL, 0, &n); puts(told.text); return 0; }\n')
-    made("cc", f"-I{folder}", tmp_path / "listed.c", f"-L{folder}", "-lvicinity", "-o",
-         tmp_path / "listed")
+    compiled(tmp_path / "listed", f"-I{folder}", tmp_path / "listed.c", f"-L{folder}", "-lvicinity")
     made("cc", "-shared", "-o", tmp_path / "libvicinity.so.1", "-Wl,-soname,libvicinity.so.1",
          "-Wl,--whole-archive", folder / "libvicinity.a", "-Wl,--no-whole-archive",
          f"-Wl,--version-script={tmp_path / 'old.map'}")

@@ -1,19 +1,19 @@
 """Asks the library's calls on frames, lines, lists, findings and many logs: of both compilers, and
 as WebAssembly. What is expected is worked out by hand, by the tables of docs/FRAMES.md and AIR.md;
-of random frames it is what the program says."""
+random frames are made by helpers/frames.py."""
 import ctypes
 import random
 import re
 
 import pytest
 from vicinity import _native
-from vicinity._native import AnswerStruct, FindingStruct, MaskStruct, WeakestStruct
+from vicinity._native import AnswerStruct, MaskStruct, WeakestStruct
 
-from helpers.frames import with_crc
+from helpers.frames import hex_of, inventory, reply, stay_quiet, with_crc
 from helpers.library import SIZE, U32, U64, answer_to, findings_of, masks, uids
 from helpers.lines import log_of, reconciled_rows
 from helpers.program import TOP
-from helpers.rows import LIBRARIES, MODULES
+from helpers.rows import MODULES
 
 LINK, SLOTS, MASK, SLOT, REPLY, TOO_LONG, LETTER = range(201, 208)
 KINDS = "complete absent unlisted unsettled doubtful impossible refused".split()
@@ -31,7 +31,7 @@ BESIDES_A = [(1, 0), (2, 3), (3, 5), (4, 9), (5, 0x11), (6, 1), (7, 0x61), (8, 0
 BESIDES_BOTH = sorted({*BESIDES_A[1:], (2, 0), (3, 6), (4, 0xA), (5, 2), (6, 0x12), (7, 0x72),
                        (8, 0x32)})
 WITHOUT_TEXT = "refused at line 1: Header"
-# How many random numbers are written and random frames read.
+# How many random frames of each kind are written and read.
 NUMBER = 200
 
 
@@ -56,12 +56,6 @@ class Calls:
 @pytest.fixture(scope="session", params=MODULES)
 def library_of(request):
     """The library by each compiler, and as WebAssembly."""
-    return request.getfixturevalue(request.param)
-
-
-@pytest.fixture(scope="session", params=LIBRARIES)
-def native(request):
-    """The library by each compiler."""
     return request.getfixturevalue(request.param)
 
 
@@ -94,81 +88,69 @@ def test_versions(native):
     assert native.call("version") == number
 
 
-@pytest.mark.parametrize(("numbers", "frame"), [
-    ((2, 1, 7, 0x61), "260107614C5D"), ((2, 16, 0, 0), "060100CD09"),
-    ((2, 1, 64, 0), "26014000000000000000006DD2"),
-    ((2, 16, 60, 0), "06013C0000000000000000069E")])
-def test_an_inventory_request_is_written(calls, numbers, frame):
-    assert calls.write_inventory(*numbers) == framed(frame)
+@pytest.mark.parametrize(("call", "given", "told"), [
+    *(("write_inventory", numbers, framed(frame)) for numbers, frame in (
+        ((2, 1, 7, 0x61), "260107614C5D"), ((2, 16, 0, 0), "060100CD09"),
+        ((2, 1, 64, 0), "26014000000000000000006DD2"),
+        ((2, 16, 60, 0), "06013C0000000000000000069E"))),
+    *(("write_inventory", numbers, no_frame(fault)) for numbers, fault in (
+        ((4, 1, 0, 0), LINK), ((2, 2, 0, 0), SLOTS), ((2, 0, 0, 0), SLOTS), ((2, 1, 65, 0), MASK),
+        ((2, 16, 61, 0), MASK), ((2, 1, 4, 0x10), MASK), ((4, 2, 65, 0), LINK),
+        ((2, 1, 257, 0), MASK))),
+    ("write_stay_quiet", (2, UID_A), framed("2202A1000000000104E0662A")),
+    ("write_stay_quiet", (4, UID_A), no_frame(LINK)),
+    ("write_response", (0, 0, UID_A), framed("0000A1000000000104E06745")),
+    *(("write_response", numbers, no_frame(REPLY)) for numbers in (
+        (1, 0, UID_A), (256, 0, UID_A), (0, 256, UID_A), (0, 0, 0xE1 << 56), (0, 0, 0xDF << 56))),
+    ("add_crc", (bytes.fromhex("260100"),), framed("260100F60A")),
+    ("add_crc", (bytes(14),), framed(hex_of(bytes(14)))),
+    ("add_crc", (bytes(15),), no_frame(TOO_LONG)),
+    *(("slot_mask", numbers, mask) for numbers, mask in (
+        ((16, 4, 1, 15), (0, 8, 0xF1)), ((1, 64, 5, 0), (0, 64, 5)),
+        ((16, 4, 1, 16), (SLOT, 0, 0)), ((1, 4, 1, 1), (SLOT, 0, 0)),
+        ((3, 4, 1, 0), (SLOTS, 0, 0)), ((16, 61, 1, 0), (MASK, 0, 0)))),
+    *(("write_line", (ord(letter), data, UID_A * (letter == "U")), line) for letter, data, line in (
+        ("T", bytes.fromhex("260100F60A"), lined("T 260100F60A\n")),
+        *((letter, bytes(63), lined(f"{letter} {'00' * 63}\n")) for letter in "RH"),
+        *((letter, bytes(64), (TOO_LONG, 0, b"")) for letter in "RH"),
+        ("U", b"", lined("U E0040100000000A1\n")),
+        *((letter, bytes(64), lined(letter + "\n")) for letter in "SCDNF"),
+        *((letter, b"", (LETTER, 0, b"")) for letter in "tX#\0")))])
+def test_what_a_call_writes(calls, call, given, told):
+    assert getattr(calls, call)(*given) == told
 
 
-@pytest.mark.parametrize(("numbers", "fault"), [
-    ((4, 1, 0, 0), LINK), ((2, 2, 0, 0), SLOTS), ((2, 0, 0, 0), SLOTS), ((2, 1, 65, 0), MASK),
-    ((2, 16, 61, 0), MASK),
-    ((2, 1, 4, 0x10), MASK), ((4, 2, 65, 0), LINK), ((2, 1, 257, 0), MASK)])
-def test_an_inventory_request_is_refused(calls, numbers, fault):
-    assert calls.write_inventory(*numbers) == no_frame(fault)
+@pytest.mark.parametrize(("call", "name", "frame"), [
+    ("request", "Short", b"\x26\x01\xF6"), ("request", "Crc", bytes.fromhex("260100F60B")),
+    *(("request", name, with_crc(body)) for name, body in (
+        ("Extension", [0x2E, 1, 0]), ("Reserved", [0xA6, 1, 0]), ("OptionFlag", [0x66, 1, 0]),
+        ("OtherCommand", [0x26, 0x2B]), ("InventoryFlag", [0x22, 1, 0]), ("Afi", [0x36, 1, 0, 0]),
+        ("Length", [0x26, 1, 8]), ("MaskTooLong", [0x26, 1, 65]),
+        ("MaskPadding", [0x26, 1, 4, 0x1F]), ("SelectFlag", [0x32, 2, *LITTLE_A]),
+        ("NotAddressed", [0x02, 2, *LITTLE_A]))),
+    ("response", "Crc", bytes(12)),
+    *(("response", name, with_crc(body)) for name, body in (
+        ("Length", [0, 0]), ("ErrorFlag", [1, 0, *LITTLE_A]),
+        ("NotVicinity", [0, 0, *LITTLE_A[:7], 0xE1])))])
+def test_each_fault_of_a_frame(calls, call, name, frame):
+    fault, *fields = getattr(calls, f"read_{call}")(frame)
+    assert (fault, set(fields)) == (101 + FAULTS.index(name), {0})
 
 
-def test_a_stay_quiet_is_written(calls):
-    assert calls.write_stay_quiet(2, UID_A) == framed("2202A1000000000104E0662A")
-    assert calls.write_stay_quiet(4, UID_A) == no_frame(LINK)
-
-
-def test_a_reply_is_written(calls):
-    assert calls.write_response(0, 0, UID_A) == framed("0000A1000000000104E06745")
-
-
-@pytest.mark.parametrize("numbers", [
-    (1, 0, UID_A), (256, 0, UID_A), (0, 256, UID_A), (0, 0, 0xE1 << 56), (0, 0, 0xDF << 56)])
-def test_a_reply_is_refused(calls, numbers):
-    assert calls.write_response(*numbers) == no_frame(REPLY)
-
-
-def test_a_crc_is_added(calls):
-    assert calls.add_crc(bytes.fromhex("260100")) == framed("260100F60A")
-    assert calls.add_crc(bytes(14)) == framed(with_crc(bytes(14)).hex())
-    assert calls.add_crc(bytes(15)) == no_frame(TOO_LONG)
-
-
-@pytest.mark.parametrize(("numbers", "told"), [
-    ((16, 4, 1, 15), (0, 8, 0xF1)), ((1, 64, 5, 0), (0, 64, 5)), ((16, 4, 1, 16), (SLOT, 0, 0)),
-    ((1, 4, 1, 1), (SLOT, 0, 0)),
-    ((3, 4, 1, 0), (SLOTS, 0, 0)), ((16, 61, 1, 0), (MASK, 0, 0))])
-def test_the_mask_of_a_slot(calls, numbers, told):
-    assert calls.slot_mask(*numbers) == told
-
-
-@pytest.mark.parametrize(("letter", "data", "told"), [
-    ("T", bytes.fromhex("260100F60A"), lined("T 260100F60A\n")),
-    ("R", bytes(63), lined("R " + "00" * 63 + "\n")),
-    ("R", bytes(64), (TOO_LONG, 0, b"")), ("H", bytes(63), lined("H " + "00" * 63 + "\n")),
-    ("H", bytes(64), (TOO_LONG, 0, b"")), ("U", b"", lined("U E0040100000000A1\n")),
-    *((letter, bytes(64), lined(letter + "\n")) for letter in "SCDNF"),
-    *((letter, b"", (LETTER, 0, b"")) for letter in "tX#\0")])
-def test_a_line_is_written(calls, letter, data, told):
-    assert calls.write_line(ord(letter), data, UID_A if letter == "U" else 0) == told
-
-
-@pytest.mark.parametrize(("name", "frame"), [
-    ("Short", b"\x26\x01\xF6"), ("Crc", bytes.fromhex("260100F60B")),
-    ("Extension", with_crc([0x2E, 1, 0])),
-    ("Reserved", with_crc([0xA6, 1, 0])), ("OptionFlag", with_crc([0x66, 1, 0])),
-    ("OtherCommand", with_crc([0x26, 0x2B])),
-    ("InventoryFlag", with_crc([0x22, 1, 0])), ("Afi", with_crc([0x36, 1, 0, 0])),
-    ("Length", with_crc([0x26, 1, 8])),
-    ("MaskTooLong", with_crc([0x26, 1, 65])), ("MaskPadding", with_crc([0x26, 1, 4, 0x1F])),
-    ("SelectFlag", with_crc([0x32, 2, *LITTLE_A])),
-    ("NotAddressed", with_crc([0x02, 2, *LITTLE_A]))])
-def test_each_fault_of_a_request(calls, name, frame):
-    assert calls.read_request(frame) == (101 + FAULTS.index(name), 0, 0, 0, 0, 0)
-
-
-@pytest.mark.parametrize(("name", "frame"), [
-    ("Length", with_crc([0, 0])), ("Crc", bytes(12)), ("ErrorFlag", with_crc([1, 0, *LITTLE_A])),
-    ("NotVicinity", with_crc([0, 0, *LITTLE_A[:7], 0xE1]))])
-def test_each_fault_of_a_reply(calls, name, frame):
-    assert calls.read_response(frame) == (101 + FAULTS.index(name), 0, 0, 0)
+def test_random_frames_are_written_and_read(calls):
+    chance = random.Random(15693)
+    for _ in range(NUMBER):
+        frame, _, numbers = inventory(chance)
+        assert calls.write_inventory(*numbers) == framed(frame)
+        assert calls.read_request(bytes.fromhex(frame)) == (0, *numbers, 0)
+        frame, _, (link, uid) = stay_quiet(chance)
+        assert calls.write_stay_quiet(link, uid) == framed(frame)
+        assert calls.read_request(bytes.fromhex(frame)) == (0, link, 0, 0, 0, uid)
+        frame, _, numbers = reply(chance)
+        assert calls.write_response(*numbers) == framed(frame)
+        assert calls.read_response(bytes.fromhex(frame)) == (0, *numbers)
+        assert calls.add_crc(bytes.fromhex(frame)[:-2]) == framed(frame)
+        assert calls.write_line(ord("R"), bytes.fromhex(frame), 0) == lined(f"R {frame}\n")
 
 
 @pytest.mark.parametrize(("what", "first", "words"), [
@@ -205,8 +187,8 @@ def test_surveys(library_of, short, status, certain, open_masks):
     `check`."""
     log = log_of(short)
     checked = library_of.told(AnswerStruct, "check", log)
-    for name, wanted in ("certain", uids(certain)), ("open_masks", masks(open_masks)):
-        told = library_of.into_each(wanted._type_, wanted, name, log)
+    for name, wanted in ("certain", certain), ("open_masks", masks(open_masks)):
+        told = library_of.into_each(wanted, name, log)
         assert (told.status, bytes(told)) == (status, bytes(checked))
 
 
@@ -276,25 +258,9 @@ def reconciled(library, expected, certain, open_masks, lines, fault=0):
     if not fault:
         ways += [(expected[::-1], [*certain, *certain[::-1]], open_masks[::-1] * 2)]
     for listed, heard, asked in ways:
-        told = library.into_each(FindingStruct, [] if fault else findings_of(lines), "reconcile",
-                                 uids(listed), uids(heard), masks(asked))
+        told = library.into_each([] if fault else findings_of(lines), "reconcile", uids(listed),
+                                 uids(heard), masks(asked))
         assert bytes(told) == bytes(answer_to(lines[0], fault))
-
-
-@pytest.mark.parametrize(("expected", "certain", "open_masks", "lines"), [
-    ([], [], [], ["complete 0"]), ([UID_B, UID_A], [UID_A, UID_B], [], ["complete 2"]),
-    ([UID_A, UID_B, UID_Z], [UID_Y], [],
-     [f"absent {Z}", f"absent {A}", f"absent {B}", "unlisted E080000000000000"]),
-    ([UID_A], [], [ALONE], [f"doubtful {A}"]), ([], [], [ALONE], ["unsettled 56 040100000000A1"]),
-    ([], [], [(0, 0)], ["unsettled 0 -"]),
-    # two halves of two logs are one mask, and what is certain is no part of it
-    ([], [], [(2, 1), (1, 0), (2, 3)], ["unsettled 0 -"]),
-    ([UID_A], [UID_A], [(0, 0)], ["unsettled 1 00"]),
-    ([UID_A, UID_B], [UID_A], [(2, 3), (3, 1)], [f"absent {B}", "unsettled 2 03"]),
-    ([UID_A, UID_B], [UID_A, UID_Z], [(4, 2), (8, 0xB2)],
-     [f"unlisted {Z}", "unsettled 5 02", f"doubtful {B}"])])
-def test_each_answer_to_many_logs(library_of, expected, certain, open_masks, lines):
-    reconciled(library_of, expected, certain, open_masks, lines)
 
 
 @pytest.mark.parametrize(("expected", "certain", "open_masks", "entry", "name"), [
@@ -321,15 +287,13 @@ def test_row_of_many_logs(library_of, expected, logs, lines):
     program's alone."""
     certain, asked = [], []
     for log in logs:
-        for name, element, known in ("certain", U64, certain), ("open_masks", MaskStruct, asked):
-            _, needed, room = library_of.into(element, 64, name, log)
+        for name, known in ("certain", certain), ("open_masks", asked):
+            _, needed, room = library_of.into(64, name, log)
             known += room[:needed]
     listed = [int(uid, 16) for uid in expected.decode().split()[3::2]]
-    found = [line.partition(" in ")[0] for line in lines.split(" / ")
-             if not line.startswith(("by ", "open ", "more ", "~"))]
-    told = library_of.into_each(FindingStruct, findings_of(found), "reconcile", uids(listed),
-                                uids(certain), (MaskStruct * len(asked))(*asked))
-    assert bytes(told) == bytes(answer_to(found[0]))
+    found = [line.partition(" in ")[0] for line in lines
+             if not line.startswith(("by ", "open ", "more "))]
+    reconciled(library_of, listed, certain, [(mask.len, mask.value) for mask in asked], found)
 
 
 # Nothing at a pointer, or an address that isn't aligned: what has no length isn't looked at.
@@ -373,117 +337,3 @@ def test_nothing_at_a_pointer(native, nothing):
             calls.vicinity_read_response(*empty, frame),
             calls.vicinity_write_line(ord("S"), *empty, U64(0), frame)] == [
                 0, 101 + FAULTS.index("Short"), 101 + FAULTS.index("Length"), 0]
-
-
-@pytest.fixture
-def said(program):
-    """The words of each line that the program writes."""
-    def ask(*words):
-        return [line.split() for line in program.run(*words).out.decode().splitlines()]
-    return ask
-
-
-def written(said, *words):
-    """What `spell` writes for some words; nothing if it refuses them."""
-    (word, *_), = said("spell", *words)
-    return None if word == "refused" else framed(word)
-
-
-def test_random_inventory_requests_are_written(calls, said):
-    chance = random.Random(15693)
-    for _ in range(NUMBER):
-        link, slots = chance.randrange(5), chance.choice((1, 1, 16, 16, 2))
-        bits = chance.randrange(67)
-        value = chance.getrandbits(min(bits, 64)) if chance.randrange(8) else chance.getrandbits(64)
-        size = (bits + 7) // 8
-        digits = f"{value:0{2 * size}X}" if size else "-" if value == 0 else "00"
-        got = calls.write_inventory(link, slots, bits, value)
-        words = f"request inventory link {link} slots {slots} mask {bits} {digits}"
-        wanted = written(said, *words.split())
-        assert got == wanted if wanted else got[0] != 0, (link, slots, bits, value)
-
-
-def test_random_replies_and_stay_quiets_are_written(calls, said):
-    chance = random.Random(15694)
-    for _ in range(NUMBER):
-        flags, dsfid = chance.randrange(256), chance.randrange(256)
-        uid = 0xE0 << 56 | chance.getrandbits(56)
-        wanted = written(said,
-                         *f"response flags {flags:02X} dsfid {dsfid:02X} uid {uid:016X}".split())
-        assert calls.write_response(flags, dsfid, uid) == (wanted or no_frame(REPLY))
-        link, uid = chance.randrange(5), chance.getrandbits(64)
-        wanted = written(said, *f"request stay-quiet link {link} uid {uid:016X}".split())
-        assert calls.write_stay_quiet(link, uid) == (wanted or no_frame(LINK))
-
-
-def random_body(chance):
-    body = [chance.choice((0x26, 0x06, 0x22, 0x00, chance.randrange(256))),
-            chance.choice((1, 2, chance.randrange(256)))]
-    body += chance.randbytes(chance.choice((0, 1, 2, 5, 8, 8, 8, 9)))
-    if chance.randrange(2):
-        body[-1] = 0xE0
-    if body[1] == 1 and len(body) > 2:
-        body[2] = chance.choice((8 * (len(body) - 3), 61, chance.randrange(80)))
-    return body
-
-
-def request_of(words):
-    """The numbers of the words that `frame` writes for a request."""
-    if words[0] == "refused":
-        return 101 + FAULTS.index(words[1]), 0, 0, 0, 0, 0
-    if words[0] == "inventory":
-        value = int(words[7].replace("-", "0"), 16)
-        return 0, int(words[2]), int(words[4]), int(words[6]), value, 0
-    return 0, int(words[2]), 0, 0, 0, int(words[4], 16)
-
-
-def reply_of(words):
-    """The same for a reply."""
-    if words[0] == "refused":
-        return 101 + FAULTS.index(words[1]), 0, 0, 0
-    return 0, int(words[1], 16), int(words[3], 16), int(words[5], 16)
-
-
-def test_random_frames_are_read(calls, said):
-    chance = random.Random(15695)
-    for _ in range(NUMBER):
-        body = random_body(chance)
-        frame = with_crc(body)
-        if not chance.randrange(6):
-            frame = frame[:-1]
-        asked, replied = said("frame", frame.hex())
-        assert calls.read_request(frame) == request_of(asked[1:]), frame.hex()
-        assert calls.read_response(frame) == reply_of(replied[1:]), frame.hex()
-        assert calls.add_crc(bytes(body)) == framed(with_crc(body).hex())
-
-
-def test_random_lines_and_masks_of_slots(calls):
-    chance = random.Random(15696)
-    for _ in range(NUMBER):
-        data, letter = chance.randbytes(chance.randrange(64)), chance.choice("TR")
-        uid = chance.getrandbits(64)
-        assert calls.write_line(ord(letter), data, 0) == lined(f"{letter} {data.hex().upper()}\n")
-        assert calls.write_line(ord("U"), data, uid) == lined(f"U {uid:016X}\n")
-        bits, slot = chance.randrange(61), chance.randrange(16)
-        value = chance.getrandbits(bits)
-        assert calls.slot_mask(16, bits, value, slot) == (0, bits + 4, value | slot << bits)
-
-
-@pytest.mark.parametrize("log", sorted(TOP.glob("examples/*.log")), ids=lambda log: log.name)
-def test_a_list_beside_the_log(library_of, program, log):
-    """With its list removed and passed separately, also in another order, a log gets the answer of
-    the complete log."""
-    lines = log.read_bytes().splitlines(keepends=True)
-    text = b"".join(given for given in lines if not given.startswith(b"U"))
-    listed = [int(given[2:], 16) for given in lines if given.startswith(b"U")]
-    for some in (listed, listed[::-1], listed[1:], [*listed, UID_B], listed * 2, [0, *listed], []):
-        whole = text + b"".join(b"U %016X\n" % uid for uid in some)
-        told = library_of.told(AnswerStruct, "check_listed", text, uids(some))
-        assert (told.text, b"", told.status) == program.run("check", given=whole)
-        again, needed, room = library_of.into(U64, 64, "explain_listed", text, uids(some))
-        out, _, status = program.run("explain", given=whole)
-        shown = b"".join(b"U %016X\n" % uid for uid in room[:needed])
-        if needed or b"population" in out:
-            shown = b"population %d\n" % needed + shown
-        assert (told.text + shown, told.status, bytes(told)) == (out, status, bytes(again))
-        assert set(room[needed:]) <= {0x0707070707070707}

@@ -10,7 +10,7 @@ import subprocess
 
 import pytest
 
-from helpers.program import TOP, Program, needs
+from helpers.program import TOP, Program, needs, told
 from helpers.trees import copy
 
 # What a new machine has, and what building takes beside it.
@@ -113,8 +113,7 @@ def is_packaged(said, of):
 
 def test_a_fresh_clone_answers(clone):
     """And says by what, each time."""
-    code = subprocess.run([TOP / "release/sources", "code"], capture_output=True, check=True).stdout
-    (clone.top / "dist/SOURCES").write_bytes(code)
+    (clone.top / "dist/SOURCES").write_text(told(TOP / "release/sources", "code"))
     for _ in range(2):
         is_packaged(clone.ask(), "of the same code")
 
@@ -154,11 +153,9 @@ def test_a_processor_for_which_there_is_no_package(clone, odd):
 
 
 def test_the_packaged_program_for_arm(clone, odd):
-    needs("readelf")
     env = {**os.environ, "PATH": f"{odd('aarch64')}{os.pathsep}{os.environ['PATH']}"}
     made = Program(clone.top / "release/packaged").run(cwd=clone.top, env=env).out.decode().strip()
-    assert b"AArch64" in subprocess.run(["readelf", "-h", made], capture_output=True,
-                                        check=True).stdout
+    assert "AArch64" in told("readelf", "-h", made)
 
 
 @pytest.mark.parametrize(("word", "status"), [("--help", 0), ("it", 2)])
@@ -210,7 +207,7 @@ def test_what_is_kept_in_another_clone(built, tmp_path):
     """Nothing of it is proved again there."""
     other = Clone(tmp_path / "other")
     made = "crates/vicinity/out"
-    subprocess.run(["cp", "-a", built.top / made, other.top / made], check=True)
+    told("cp", "-a", built.top / made, other.top / made)
     assert other.proved_now() == []
 
 
@@ -339,12 +336,11 @@ def test_what_is_proved_is_built(small, tmp_path):
 
 @pytest.mark.slow
 def test_what_docs_let_a_reader_break(clone):
-    """'Break it yourself', from nothing."""
+    """'Break it yourself', from nothing: the change is refused, and is one of the crate's mutants,
+    which can't be made once more."""
     needs("rt")
     page = (TOP / "docs/PROOFS.md").read_text()
     commands = re.search(r"^cd crates.*?(?=^git checkout|^```$)", page, re.M | re.S)[0]
     refusal = re.search(r"^rt check .*# \.\. (.*)$", commands, re.M)[1]
-    said = subprocess.run(["bash", "-ec", commands], cwd=clone.top, stdout=subprocess.PIPE,
-                          stderr=subprocess.STDOUT, timeout=3000,
-                          text=True, check=False)
-    assert refusal in said.stdout
+    out, err, _ = Program("bash", "-ec", commands).run(cwd=clone.top, timeout=3000)
+    assert refusal in (out + err).decode() and b"BAD EDIT" in out + err

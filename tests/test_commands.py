@@ -12,11 +12,13 @@ from pathlib import Path
 
 import pytest
 
+from helpers.air import Listed as Claimed
 from helpers.families import case_of
 from helpers.fuzz import LISTED, changed, session
 from helpers.lines import log_of
-from helpers.program import TOP, Program
-from helpers.random_logs import Listed as Claimed, text_of
+from helpers.memory import WANT, refused, shim
+from helpers.program import TOP, linked
+from helpers.random_logs import text_of
 
 PAIRS = ("commands", "arm")
 # How many changed logs each is asked about; the emulator is slow. Half as many lists of logs, a
@@ -206,23 +208,14 @@ REFUSED = [*([command, log] for command in COMMANDS for log in LOGS), ["reconcil
 
 @pytest.fixture(scope="session", params=PAIRS)
 def refusing(request, release, tmp_path_factory):
-    """The commands as they are released, with an allocation refused by its number: by
-    tests/c/refuse.c, built for their machine."""
+    """The commands as they are released, and tests/c/refuse.c, built for their machine."""
     folder = tmp_path_factory.mktemp("refuse")
     compiler = {"commands": "cc", "arm": "aarch64-linux-gnu-gcc"}[request.param]
     if request.param == "arm":
         other = request.getfixturevalue("arm")
     else:
-        other = Program(folder / "vicinity")
-        subprocess.run(["cc", "-std=c99", "-O2", f"-I{release}", *TOP.glob("commands/*.c"),
-                        release / "libvicinity.a", "-o",
-                        folder / "vicinity"], check=True)
-    subprocess.run([compiler, "-shared", "-fPIC", "-O2", "-Wall", "-Wextra", "-Werror",
-                    TOP / "tests/c/refuse.c", "-o",
-                    folder / "refuse.so"], check=True)
-    return lambda words, **told: other.run(*words,
-                                           env={**os.environ,
-                                                "LD_PRELOAD": str(folder / "refuse.so"), **told})
+        other = linked(release, folder / "vicinity", "-std=c99", "-O2", *TOP.glob("commands/*.c"))
+    return other, shim("refuse", folder, compiler)
 
 
 @pytest.mark.parametrize("words", REFUSED, ids=lambda words: " ".join(map(os.path.basename, words)))
@@ -231,8 +224,4 @@ def test_each_allocation_is_refused(refusing, tmp_path, words):
     if words == ["reconcile"]:
         logs = "UA UZ UB", "I1 C MA RA", "QA I1 RB", "M55 C QZ QY I1 S"
         words = [*words, *written(tmp_path, "log", map(log_of, logs))]
-    growths = int(refusing(words, COUNTED="1").err.split()[-2])
-    assert growths > 0
-    for number in range(1, growths + 1):
-        said = refusing(words, REFUSED=str(number))
-        assert said == (b"", b"vicinity: out of memory\n", 4), f"growth {number} of {growths}"
+    assert set(refused(*refusing, *words)) == {WANT}

@@ -7,6 +7,7 @@ import subprocess
 import pytest
 
 from helpers.lines import log_lines, text_of
+from helpers.memory import shim
 from helpers.program import TOP
 
 READ_FAULT, WRITE_FAULT = b"vicinity: read failed\n", b"vicinity: write failed\n"
@@ -35,13 +36,11 @@ ENDLESS = (("tr '\\0' '#' </dev/zero", "line 1: LineTooLong"), ("yes ''", "line 
 @pytest.fixture(scope="session")
 def run(program, tmp_path_factory):
     """Runs the program: a byte a call where READ, WRITE or STUCK is given."""
-    shim = tmp_path_factory.mktemp("devices") / "devices.so"
-    subprocess.run(["cc", "-Wall", "-Wextra", "-Werror", "-shared", "-fPIC",
-                    TOP / "tests/c/devices.c", "-o", shim], check=True)
+    devices = shim("devices", tmp_path_factory.mktemp("devices"))
 
     def run_by_bytes(words, given=b"", cwd=None, **environment):
         if environment:
-            environment["LD_PRELOAD"] = str(shim)
+            environment["LD_PRELOAD"] = devices
         return program.run(*words.split(), given=given, env=environment, cwd=cwd or TOP)
     return run_by_bytes
 

@@ -1,6 +1,6 @@
 """Reconciles random logs with random lists by brute force (helpers/families.py), and asks the
-program and the library for the same. The library answers by the surveys of the logs, in the
-opposite order. It names no log, line or open mask.
+program, the Python package and the library for the same. The library answers by the surveys of the
+logs, in the opposite order. It names no log, line or open mask.
 
 The cases are the same each time, or others with `--logs NUMBER` and `--seed`, as those of
 test_oracle.py. Wrong reconcilers are put in the program's place, each wrong in one rule, and have
@@ -10,9 +10,11 @@ import random
 
 import pytest
 
+from cases import here
+from helpers.air import Listed
 from helpers.families import NAMES, WRONG, Families, case_of
 from helpers.library import STATUSES
-from helpers.random_logs import Listed, text_of
+from helpers.random_logs import text_of
 
 NUMBER, SEED = 5000, 15693
 # In how many parts the cases are asked.
@@ -44,8 +46,10 @@ def by_surveys(vicinity, expected, texts):
 
 
 @pytest.fixture
-def answer(program, tmp_path):
-    """The lines of the program, which ends with the status of the first."""
+def answer(program, vicinity, tmp_path, monkeypatch):
+    """The lines of the program, which ends with the status of the first, and of the package."""
+    monkeypatch.chdir(tmp_path)
+
     def ask(expected, texts):
         texts = [text_of(1, map(Listed, expected)), *texts]
         names = ["EXPECTED", *NAMES][:len(texts)]
@@ -54,6 +58,9 @@ def answer(program, tmp_path):
         out, err, status = program.run("reconcile", *names, cwd=tmp_path)
         told = out.decode().splitlines()
         assert (err, status) == (b"", STATUSES.get(told[0].split()[0], 1))
+        # of no log at all Python says nothing
+        if texts[1:]:
+            assert here("lines", *names, options=["--strict"]) == (out.decode(), "", status)
         return told
     return ask
 
@@ -72,7 +79,6 @@ def test_random_logs(vicinity, answer, logs, part):
         texts = [text_of(version, lines) for version, lines in given]
         wanted = Families(uids, expected, given).answer()
         assert same(answer(expected, texts), wanted), seed
-        # of no log at all Python says nothing
         assert not given or by_surveys(vicinity, expected, texts) == plain(wanted), seed
         seen.update(line.split()[0] for line in wanted)
     if number >= NUMBER // PARTS:

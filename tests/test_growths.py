@@ -6,19 +6,17 @@ refused in a run of its own: those of the program's commands on some logs, and t
 crates/growths, which makes each call that takes memory and that no command makes. By the number of
 sets that are made it is seen that no log is judged more than once."""
 import random
-import re
 import resource
-import subprocess
 
 import pytest
 
 from biglog import BITS, SHAPES, ask, low, new_tags, version_of
 from helpers import random_logs
 from helpers.lines import biglog, log_lines, rows, text_of
-from helpers.program import TOP, Said, program_of
+from helpers.memory import WANT, counted, refused, shim
+from helpers.program import TOP, program_of
 
 EXAMPLE = (TOP / "examples/unfinished-count.log").read_bytes()
-WANT = Said(b"", b"vicinity: out of memory\n", 4)
 # The logs, by the short names of their lines, on which each allocation of a command is refused: of
 # each verdict, of each kind of conflict, and two to fill in.
 JUDGED = ("I16 S RA RB S13 UA UB", "I1 C MA RA QA I1 RB UA UB",
@@ -60,10 +58,7 @@ PLANTED = ["planted answer", "planted idleness"]
 @pytest.fixture(scope="session")
 def refuse(tmp_path_factory):
     """The lines of C, built."""
-    made = tmp_path_factory.mktemp("growths") / "refuse.so"
-    subprocess.run(["cc", "-Wall", "-Wextra", "-Werror", "-shared", "-fPIC",
-                    TOP / "tests/c/refuse.c", "-o", made], check=True)
-    return str(made)
+    return shim("refuse", tmp_path_factory.mktemp("growths"))
 
 
 @pytest.fixture(scope="session")
@@ -72,37 +67,15 @@ def growths(pytestconfig):
     return program_of(pytestconfig, "growths")
 
 
-def counted(program, refuse, *words, given=b""):
-    """How many sets for judging are made in a run, and how many allocations there are; and what is
-    written."""
-    said = program.run(*words, given=given, env={"LD_PRELOAD": refuse, "COUNTED": "1"})
-    telling, grown = re.search(rb"(\d+) telling of (\d+) grown\n$", said.err).groups()
-    return int(telling), int(grown), said.out.decode()
-
-
-def refused(program, refuse, *words, given=b""):
-    """What is written in each run in which an allocation is refused."""
-    _, grown, _ = counted(program, refuse, *words, given=given)
-    for number in range(1, grown + 1):
-        yield program.run(*words, given=given, env={"LD_PRELOAD": refuse, "REFUSED": str(number)})
-
-
 def wrong_calls(answer, names):
-    """Why a run of the calls in which one allocation was refused isn't right, if so, and the call
-    that answered it."""
+    """Whether a run of the calls in which one allocation was refused isn't right; the calls that
+    gave something else than the right answer or want of memory, or wrote; and the one that was
+    refused."""
     words = dict(line.rpartition(" ")[::2] for line in answer.out.decode().splitlines())
     memory = [call for call, word in words.items() if word == "memory"]
-    call = memory[0] if memory else None
-    if answer.err or answer.status:
-        return f"status {answer.status}, {answer.err}", call
-    if list(words) != names:
-        return f"answers of {list(words)}", call
-    for name, word in words.items():
-        if word not in ("right", "memory"):
-            return f"{name} gave something else than want of memory, or wrote", call
-    if len(memory) != 1:
-        return f"{len(memory)} calls answered want of memory", call
-    return None, call
+    other = [call for call, word in words.items() if word not in ("right", "memory")]
+    is_right = (answer.err, answer.status, list(words), len(memory)) == (b"", 0, names, 1)
+    return not is_right or bool(other), other, memory[0] if memory else None
 
 
 def test_each_allocation_of_the_calls_is_refused(growths, refuse):
@@ -110,8 +83,8 @@ def test_each_allocation_of_the_calls_is_refused(growths, refuse):
     called again. All others are right, and each is refused memory once at least."""
     seen = set()
     for number, answer in enumerate(refused(growths, refuse), 1):
-        wrong, call = wrong_calls(answer, CALLS)
-        assert not wrong, f"refusal {number}"
+        is_wrong, _, call = wrong_calls(answer, CALLS)
+        assert not is_wrong, f"refusal {number}: {answer}"
         seen.add(call)
     assert seen == set(CALLS)
 
@@ -119,8 +92,8 @@ def test_each_allocation_of_the_calls_is_refused(growths, refuse):
 def test_calls_that_are_wrong_are_found(growths, refuse):
     """One answers, one takes no memory."""
     found = [wrong_calls(answer, PLANTED) for answer in refused(growths, refuse, given=b"planted")]
-    assert any(wrong and PLANTED[0] in wrong for wrong, _ in found)
-    assert not any(call == PLANTED[1] for _, call in found)
+    assert any(is_wrong and PLANTED[0] in other for is_wrong, other, _ in found)
+    assert not any(call == PLANTED[1] for *_, call in found)
 
 
 def is_refused(program, refuse, *words, given=b""):

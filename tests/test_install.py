@@ -7,12 +7,11 @@ import sys
 
 import pytest
 
-from helpers.library import CALLS, STRICT
-from helpers.program import TOP, Program, needs
+from helpers.library import CALLS
+from helpers.program import TOP, Program, compiled, linked, needs, told
 from helpers.trees import copy, tree
 
 VERSION = (TOP / "VERSION").read_text().strip().removesuffix("~dev")
-MAJOR = VERSION.partition(".")[0]
 LOG = TOP / "examples/whole-shelf.log"
 COMPLETE = (b"complete 4\n", b"", 0)
 EXAMPLES = sorted(TOP.glob("examples/c/*.c"))
@@ -21,12 +20,6 @@ COMMANDS = sorted(set(re.findall(r"^\.Cm ([a-z]+)$", (TOP / "docs/vicinity.1").r
 
 def install(*words):
     return Program(TOP / "install").run("--prefix", "/usr", *words).status
-
-
-def tool(*words, **environment):
-    """What a tool writes, which finds nothing wrong."""
-    needs(words[0])
-    return Program(*words, **environment).told()
 
 
 @pytest.fixture(scope="session")
@@ -66,23 +59,10 @@ def test_installed_again_it_is_the_same(root):
     assert tree(root) == before
 
 
-def test_soname_and_exported_calls(root):
-    said = tool("readelf", "-dW", "--dyn-syms", root / f"usr/lib/libvicinity.so.{MAJOR}")
-    assert re.findall(r"SONAME.*\[(.*)\]", said) == [f"libvicinity.so.{MAJOR}"]
-    exported = re.findall(r" (vicinity_[a-z_]+)@@VICINITY_[\w.]+(?: .*)?$", said, re.M)
-    assert sorted(exported) == sorted(CALLS)
-
-
-def test_the_library_says_which_processors_it_needs(root):
-    """The loader refuses it on others."""
-    said = tool("readelf", "-nW", root / f"usr/lib/libvicinity.so.{MAJOR}")
-    assert re.findall(r"x86 ISA needed: (.*)", said) == ["x86-64-v2"]
-
-
 @pytest.fixture
 def pkg_config(root):
     """What pkg-config says of the installed library."""
-    return lambda *words: tool(
+    return lambda *words: told(
         "pkg-config", *words, "vicinity", PKG_CONFIG_LIBDIR=f"{root}/usr/lib/pkgconfig",
         PKG_CONFIG_SYSROOT_DIR=str(root), PKG_CONFIG_ALLOW_SYSTEM_CFLAGS="1",
         PKG_CONFIG_ALLOW_SYSTEM_LIBS="1").split()
@@ -94,11 +74,10 @@ def test_pkg_config_knows_the_version(pkg_config):
 
 @pytest.mark.parametrize("source", EXAMPLES, ids=lambda source: source.stem)
 def test_an_example_with_the_shared_object_and_with_the_archive(root, pkg_config, tmp_path, source):
-    tool("cc", *STRICT, source, "-o", tmp_path / "shared", *pkg_config("--cflags", "--libs"))
-    tool("cc", *STRICT, source, "-o", tmp_path / "static", *pkg_config("--cflags"),
-         root / "usr/lib/libvicinity.a")
+    compiled(tmp_path / "shared", source, *pkg_config("--cflags", "--libs"))
+    static = linked(root / "usr/lib", tmp_path / "static", source, *pkg_config("--cflags"))
     if source.stem == "check":
-        assert Program(tmp_path / "static").run(LOG) == COMPLETE
+        assert static.run(LOG) == COMPLETE
         assert Program(tmp_path / "shared", LD_LIBRARY_PATH=f"{root}/usr/lib").run(LOG) == COMPLETE
 
 
@@ -109,8 +88,8 @@ def test_a_program_finds_the_library_after_ldconfig(root, pkg_config, tmp_path):
         pytest.skip("only root may chroot")
     cell = tmp_path / "cell"
     shutil.copytree(root, cell, symlinks=True)
-    tool("cc", "examples/c/check.c", "-o", cell / "check", *pkg_config("--cflags", "--libs"))
-    for file in re.findall(r"(?<!\S)/[^ ]+", tool("ldd", "/bin/true")):
+    compiled(cell / "check", "examples/c/check.c", *pkg_config("--cflags", "--libs"))
+    for file in re.findall(r"(?<!\S)/[^ ]+", told("ldd", "/bin/true")):
         (cell / file[1:]).parent.mkdir(parents=True, exist_ok=True)
         shutil.copy(file, cell / file[1:])
     (cell / "opt").mkdir()
@@ -120,7 +99,7 @@ def test_a_program_finds_the_library_after_ldconfig(root, pkg_config, tmp_path):
     shutil.copy(LOG, cell / "log")
     chroot = Program("chroot", cell, "/check")
     assert chroot.run("/log").status == 127
-    tool("ldconfig", "-r", cell)
+    told("ldconfig", "-r", cell)
     assert chroot.run("/log") == COMPLETE
 
 
@@ -150,17 +129,7 @@ def test_the_version_stands_on_each_man_page(pages):
 def test_man_finds_the_pages(root, pages):
     for page in pages:
         name, _, section = page.name.rpartition(".")
-        tool("man", "-M", root / "usr/share/man", "-P", "cat", section, name)
-
-
-def test_the_newest_entry_of_the_changes():
-    """Has the changes since the release in dist/, or is that of the release."""
-    changes = (TOP / "CHANGELOG.md").read_text()
-    newest = changes.index("## ") == changes.find("## Unreleased\n")
-    dated = re.findall(r"^## (\d[\d.]*), ", changes, re.M)[0]
-    is_between = (TOP / "VERSION").read_text().endswith("~dev\n")
-    assert newest if is_between else dated == VERSION
-    assert f"vicinity_{dated}-1_amd64.deb" in (TOP / "dist/SHA256SUMS").read_text()
+        told("man", "-M", root / "usr/share/man", "-P", "cat", section, name)
 
 
 # Completions, which offer the commands of the man page.
@@ -174,23 +143,23 @@ source $script }; complete_it "$0" "$@" """
 
 def test_completion_for_bash(root):
     script = root / "usr/share/bash-completion/completions/vicinity"
-    assert sorted(tool("bash", "-c", BASH, script, "").split()) == COMMANDS
+    assert sorted(told("bash", "-c", BASH, script, "").split()) == COMMANDS
     begun = str(LOG).removesuffix(".log")
-    assert tool("bash", "-c", BASH, script, "check", begun).split() == [str(LOG)]
+    assert told("bash", "-c", BASH, script, "check", begun).split() == [str(LOG)]
 
 
 def test_completion_for_zsh(root):
     script = root / "usr/share/zsh/site-functions/_vicinity"
-    tool("zsh", "-n", script)
+    told("zsh", "-n", script)
     for words, offered in (([""], COMMANDS), (["check", ""], ["file"]), (["frame", ""], [])):
-        assert sorted(tool("zsh", "-fc", ZSH, script, *words).split()) == offered
+        assert sorted(told("zsh", "-fc", ZSH, script, *words).split()) == offered
 
 
 def test_completion_for_fish(root):
     script = root / "usr/share/fish/vendor_completions.d/vicinity.fish"
     begun = str(LOG).removesuffix(".log")
     for words, offered in (("", COMMANDS), (f"check {begun}", [str(LOG)]), ("frame ", [])):
-        said = tool("fish", "--no-config", "-c", 'source $argv[1]; complete -C "vicinity $argv[2]"',
+        said = told("fish", "--no-config", "-c", 'source $argv[1]; complete -C "vicinity $argv[2]"',
                     script, words)
         assert sorted(said.split()) == offered
 
@@ -226,10 +195,10 @@ def test_nothing_is_left(release, tmp_path):
 def test_a_prefix_of_ones_own(release, tmp_path):
     own = tmp_path / "own"
     assert release and install("--prefix", own) == 0
-    flags = tool("pkg-config", "--cflags", "--libs", "vicinity",
+    flags = told("pkg-config", "--cflags", "--libs", "vicinity",
                  PKG_CONFIG_PATH=f"{own}/lib/pkgconfig").split()
-    tool("cc", "examples/c/check.c", "-o", tmp_path / "check", f"-Wl,-rpath,{own}/lib", *flags)
-    assert Program(tmp_path / "check").run(LOG) == COMPLETE
+    check = compiled(tmp_path / "check", "examples/c/check.c", f"-Wl,-rpath,{own}/lib", *flags)
+    assert check.run(LOG) == COMPLETE
     assert install("--remove", "--prefix", own) == 0
     assert not own.exists()
 
@@ -242,7 +211,7 @@ def test_pip_installs_the_package(root, tmp_path):
     clone = tmp_path / "clone"
     copy(clone, "python", "web")
     before = tree(clone)
-    tool(sys.executable, "-m", "pip", "install", "-q", "--no-index", "--target",
+    told(sys.executable, "-m", "pip", "install", "-q", "--no-index", "--target",
          tmp_path / "site", clone / "python", PIP_ROOT_USER_ACTION="ignore")
     assert tree(clone) == before
     assert (tmp_path / "site/vicinity/py.typed").exists()

@@ -7,9 +7,8 @@ import random
 
 import pytest
 
-from helpers.random_logs import (COLLISION, FIELD_CYCLE, SILENT, Ask, StayQuiet, contradicted,
-                                 text_of)
-from helpers.reports import slots_of
+from helpers.air import COLLISION, FIELD_CYCLE, SILENT, Ask, StayQuiet, slots_of
+from helpers.random_logs import contradicted, text_of
 
 NUMBER, PARTS = 1000, 8
 

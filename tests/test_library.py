@@ -1,42 +1,24 @@
-"""The library for C by both of the kit's compilers: its header, what both answer, lists as the
-program reads them, texts and buffers that end where memory ends, and each allocation refused in
-turn. The commands in C, over one of them, are asked what the program is (test_commands.py); the
-calls one by one are in test_calls.py, programs in other languages in test_bindings.py."""
-import collections
-import random
-import subprocess
-
+"""The library for C by both of the kit's compilers: its header, what both answer, texts and buffers
+that end where memory ends, and each allocation refused in turn. The commands in C, over one of
+them, are asked what the program is (test_commands.py); the calls one by one are in test_calls.py,
+programs in other languages in test_bindings.py."""
 import pytest
-from vicinity._native import AnswerStruct, FindingStruct, MaskStruct
+from vicinity._native import AnswerStruct
 
-from helpers import fuzz
-from helpers.library import STRICT, U8, U64, uids
-from helpers.program import TOP
-from helpers.rows import LIBRARIES
+from helpers.library import uids
+from helpers.program import STRICT, TOP, linked, told
 from helpers.texts import texts
 
 LOGS = sorted(TOP.glob("examples/*.log"))
-# How many changed lists are read.
-CHANGED = 250
-# What each call that lists something lists, and more of them than it finds.
-LISTING = (("explain", U64), ("report", FindingStruct), ("certain", U64),
-           ("open_masks", MaskStruct), ("simulate", U8), ("listed", U64))
+# More elements than a call finds.
 MANY = 1 << 12
-LISTS = {"ab": b"vicinity-log 1\nU E0040100000000A1\nU E0040100000000B2\n",
-         "log": b"vicinity-log 1\nT 260100F60A\nR 0000A1000000000104E06745\n"}
-
-
-@pytest.fixture(scope="session", params=LIBRARIES)
-def each(request):
-    """The library by each compiler."""
-    return request.getfixturevalue(request.param)
 
 
 @pytest.mark.parametrize("standard", ["c89", "c99", "c11", "c++98", "c++17"])
 def test_the_header_is_c_and_cpp_of_each_standard(standard):
     language = "c++" if standard.startswith("c++") else "c"
-    subprocess.run(["cc", "-x", language, f"-std={standard}", *STRICT, "-fsyntax-only", "-include",
-                    TOP / "include/vicinity.h", "/dev/null"], check=True)
+    told("cc", "-x", language, f"-std={standard}", *STRICT, "-fsyntax-only", "-include",
+         "include/vicinity.h", "/dev/null")
 
 
 @pytest.mark.slow
@@ -45,8 +27,8 @@ def test_both_compilers_make_the_same_of_every_text(library, library_rattle):
     listed = uids([0xE0040100000000B2, 0xE0040100000000A1])
 
     def said(one, text):
-        for name, element in LISTING:
-            told, needed, room = one.into(element, MANY, name, text)
+        for name in "explain", "report", "certain", "open_masks", "simulate", "listed":
+            told, needed, room = one.into(MANY, name, text)
             yield name, told if name == "simulate" else bytes(told), needed, bytes(room)
         for name, given in ("check", []), ("check_listed", [listed]):
             yield bytes(one.told(AnswerStruct, name, text, *given))
@@ -56,33 +38,12 @@ def test_both_compilers_make_the_same_of_every_text(library, library_rattle):
         assert list(said(library, text)) == list(said(library_rattle, text)), text
 
 
-def test_nothing_is_read_or_written_past_its_end(each, tmp_path):
-    assert each.compiled("tests/c/guard.c", tmp_path / "guard").run(*LOGS).status == 0
+def test_nothing_is_read_or_written_past_its_end(native, tmp_path):
+    guard = linked(native.path.parent, tmp_path / "guard", "tests/c/guard.c")
+    assert guard.run(*LOGS).status == 0
 
 
-def test_each_allocation_is_refused(each, tmp_path):
+def test_each_allocation_is_refused(native, tmp_path):
     wrapped = "-Wl,--wrap=malloc,--wrap=realloc,--wrap=free"
-    refused = each.compiled("tests/c/calls_refused.c", tmp_path / "refused", wrapped)
+    refused = linked(native.path.parent, tmp_path / "refused", "tests/c/calls_refused.c", wrapped)
     assert refused.run(*LOGS).status == 0
-
-
-def test_changed_lists(program, each, tmp_path):
-    """A list is read as the program reads what is expected: without logs, all of it is absent."""
-    rng, seen = random.Random(7), collections.Counter()
-    seeds = [b"vicinity-log 2\n" + b"\n".join(fuzz.LISTED) + b"\n",
-             b"vicinity-log 1\r\n# a\r\n" + b"\r\n".join(fuzz.LISTED), *LISTS.values()]
-    for _ in range(CHANGED):
-        lines = rng.choice(seeds).split(b"\n")
-        for _ in range(rng.randrange(4)):
-            fuzz.change(rng, lines)
-        text = b"\n".join(lines)
-        (tmp_path / "list").write_bytes(text)
-        wanted = program.run("reconcile", "list", cwd=tmp_path).out.decode().splitlines()
-        with each.package() as vicinity:
-            try:
-                given = [f"absent {uid:016X}" for uid in vicinity.listed(text)] or ["complete 0"]
-            except vicinity.ListFault as fault:
-                given = [str(fault).replace(":", " of list:")]
-        assert given == wanted, text
-        seen[given[0].split()[0]] += 1
-    assert len(seen) == 3, seen

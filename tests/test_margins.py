@@ -9,9 +9,10 @@ import random
 
 import pytest
 
+from helpers.air import UNKNOWN, is_slot
 from helpers.margins import WRONG, Margins
 from helpers.oracle import Judge
-from helpers.random_logs import UNKNOWN, eight_uids, is_slot, random_log, rounds, text_of
+from helpers.random_logs import eight_uids, random_log, rounds, text_of
 
 NUMBER, SEED = 3000, 15693
 # In how many parts the logs are judged; the first one alone is quick.
@@ -29,7 +30,7 @@ def test_random_logs(program, vicinity, logs, part):
         version = rng.randint(1, 3)
         uids, lines = random_log(rng, version)
         text, answer = text_of(version, lines), vicinity.check(text_of(version, lines))
-        margins, uids = Margins(text), [*uids, *eight_uids(rng)]
+        margins, uids = Margins(lines), [*uids, *eight_uids(rng)]
         said = program.run("margin", given=text).out.decode().splitlines()
         assert said == margins.said(answer.text), text.decode()
         assert vicinity.overlooked(text, uids) == list(map(margins.of, uids)), text.decode()
@@ -58,19 +59,19 @@ def small_logs(seed):
         uids = eight_uids(rng)
         lines = list(rounds(rng, 3, uids, ()))
         if (0 < sum(map(is_slot, lines)) <= MOST_SLOTS
-                and not Judge(uids).judge(lines).text.startswith("impossible")):
+                and not Judge(uids).judge(lines).impossible):
             yield uids, lines
 
 
 def test_a_margin_is_exact(vicinity, logs):
     for uids, lines in itertools.islice(small_logs(logs[1]), SMALL):
         text, least = text_of(3, lines), by_trying(uids, lines)
-        assert vicinity.overlooked(text, uids) == least == list(map(Margins(text).of, uids)), text
+        assert vicinity.overlooked(text, uids) == least == list(map(Margins(lines).of, uids)), text
 
 
 @pytest.mark.parametrize("rule", WRONG)
 def test_a_wrong_count_is_found(rule):
     rng = random.Random(SEED)
     versions = (rng.randint(1, 3) for _ in range(PLANTED))
-    texts = (text_of(version, random_log(rng, version)[1]) for version in versions)
-    assert any(WRONG[rule](text).weakest() != Margins(text).weakest() for text in texts)
+    logs = (random_log(rng, version)[1] for version in versions)
+    assert any(WRONG[rule](lines).weakest() != Margins(lines).weakest() for lines in logs)

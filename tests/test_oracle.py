@@ -11,9 +11,9 @@ import pytest
 from vicinity._native import AnswerStruct
 
 from helpers import oracle, reports
-from helpers.library import STATUSES, U64, answer_to
+from helpers.library import STATUSES, answer_to
 from helpers.oracle import Case
-from helpers.random_logs import Reply, random_log, text_of, weaker
+from helpers.random_logs import random_log, text_of
 
 NUMBER, SEED = 20000, 15693
 # In how many parts the logs are judged; the last of four has logs of version 3.
@@ -24,8 +24,6 @@ PLANTED = 8000
 LEAST_SHARE = 20
 KINDS = ("complete", "absent", "unlisted", "unsettled", "doubtful", "impossible")
 ROOM = 64
-# How many logs are weakened line by line, and how many weaker ones have to be complete.
-STRONGER, LEAST_WEAKER = 300, 500
 
 
 @pytest.fixture
@@ -34,7 +32,7 @@ def answer(library):
     def ask(version, lines):
         text = text_of(version, lines)
         told = library.told(AnswerStruct, "check", text)
-        again, needed, room = library.into(U64, ROOM, "explain", text)
+        again, needed, room = library.into(ROOM, "explain", text)
         line = told.text.decode().rstrip("\n")
         assert bytes(told) == bytes(again) == bytes(answer_to(line))
         return line, room[:needed]
@@ -61,7 +59,7 @@ def test_random_logs(answer, report, logs, part):
         version = 3 if part % 4 == 3 else rng.randint(1, 2)
         case = Case(version, *random_log(rng, version))
         lines = case.lines
-        seen[case.answer.text.split()[0]] += 1
+        seen[case.answer.split()[0]] += 1
         wrong = (case.wrong_answer(*answer(version, lines))
                  or case.wrong_report(report(version, lines)))
         assert not wrong, f"seed {seed}:\n{text_of(version, lines).decode()}"
@@ -80,41 +78,10 @@ def found(is_found):
 def test_a_wrong_judge_is_found(rule):
     kind = oracle.WRONG[rule]
     assert found(lambda case: case.uids
-                 and case.wrong_answer(*kind(case.uids).answer(case.version, case.lines)))
+                 and case.wrong_answer(*kind(case.uids).answer(case.lines)))
 
 
 @pytest.mark.parametrize("rule", reports.WRONG)
 def test_a_wrong_report_is_found(rule):
-    assert found(lambda case: case.wrong_report(reports.WRONG[rule].of(case.report).given()))
-
-
-@pytest.fixture
-def verdict(answer):
-    """The first word of the answer to a log of version 3."""
-    return lambda lines: answer(3, lines)[0].split()[0]
-
-
-def test_a_later_version_says_the_same(answer, logs):
-    rng = random.Random(logs[1])
-    for _ in range(STRONGER):
-        version = rng.randint(1, 2)
-        _, lines = random_log(rng, version)
-        assert answer(version, lines) == answer(version + 1, lines) == answer(3, lines)
-
-
-@pytest.mark.slow
-def test_a_weaker_line_tells_no_more(verdict, logs):
-    """Where a log with a weaker line, or with each reply captured, is complete, so is the stronger
-    one, if it is possible. Where it is impossible, the stronger one is."""
-    rng, seen = random.Random(f"{logs[1]} weaker"), collections.Counter()
-    for _ in range(STRONGER):
-        _, lines = random_log(rng, rng.randint(2, 3))
-        told = verdict(lines)
-        logged = [lines[:at] + [line] + lines[at + 1:] for at in range(len(lines))
-                  for line in weaker(lines[at])]
-        logged.append([line._replace(captured=True) if isinstance(line, Reply) else line
-                       for line in lines])
-        for weak in map(verdict, logged):
-            seen[weak, told] += 1
-            assert weak not in ("complete", "impossible") or told in (weak, "impossible"), lines
-    assert seen["complete", "complete"] > LEAST_WEAKER and seen["impossible", "impossible"]
+    kind = reports.WRONG[rule]
+    assert found(lambda case: case.wrong_report(kind(case.lines, case.known).given()))

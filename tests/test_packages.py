@@ -5,15 +5,14 @@ import os
 import re
 import shutil
 import subprocess
-from datetime import datetime
+from email.utils import parsedate_to_datetime
 from pathlib import Path
 from tempfile import TemporaryDirectory
 
 import pytest
 
 from helpers.library import CALLS
-from helpers.lines import log_of
-from helpers.program import TOP, Program, needs
+from helpers.program import TOP, Program, compiled, needs, told
 from helpers.rows import OfProgram, all_rows
 from helpers.trees import copy
 
@@ -32,15 +31,8 @@ BUILT = ("out/release crates/vicinity/out/vicinity crates/vicinity/out/rlib/*.su
 #: What the packages and their tests need of a machine.
 NEEDED = ("coreutils", "dash", "diffutils", "dpkg", "findutils", "gcc", "grep", "libc-bin",
           "libc6-dev", "pkg-config", "python3", "sed")
-#: The commands of the rows that give a log.
-OF_LOGS = "check explain simulate report fill replay".split()
 DEPENDS = ("apt-cache", "depends", "--recurse", "--installed", "--no-recommends", "--no-suggests",
            "--no-conflicts", "--no-breaks", "--no-replaces", "--no-enhances")
-
-
-def say(*words, **how):
-    """What a command writes."""
-    return subprocess.run(words, check=True, stdout=subprocess.PIPE, text=True, **how).stdout
 
 
 @pytest.fixture(scope="session")
@@ -59,7 +51,7 @@ def packages(request, tmp_path_factory):
             if not made.exists():
                 subprocess.run([TOP / "release/dist", made, target], check=True)
                 for deb in made.glob("*.deb"):
-                    say("dpkg-deb", "-x", deb, made / "unpacked")
+                    told("dpkg-deb", "-x", deb, made / "unpacked")
         return made
     return of
 
@@ -67,13 +59,13 @@ def packages(request, tmp_path_factory):
 @pytest.mark.parametrize("target", TARGETS)
 def test_names_and_fields(packages, target):
     """They have the version, which between two releases is none that was released."""
-    named = {say("dpkg-deb", "-f", deb, "Package").strip(): deb
+    named = {told("dpkg-deb", "-f", deb, "Package").strip(): deb
              for deb in packages(target).glob("*.deb")}
     assert sorted(named) == sorted(KINDS)
     for name, deb in named.items():
         machine = "all" if name.startswith("python3") else target
         assert deb.name == f"{name}_{VERSION}-1_{machine}.deb"
-        assert say("dpkg-deb", "-f", deb, "Multi-Arch").strip() == KINDS[name]
+        assert told("dpkg-deb", "-f", deb, "Multi-Arch").strip() == KINDS[name]
         # as release/packaged unpacks it
         assert b"data.tar.gz  " in deb.read_bytes()
 
@@ -81,7 +73,7 @@ def test_names_and_fields(packages, target):
 def test_symbols(packages):
     """Each call stands beside the first version that has it, or one before a release to come."""
     deb, = packages("amd64").glob("libvicinity1_*.deb")
-    symbols = say("dpkg-deb", "-I", deb, "symbols")
+    symbols = told("dpkg-deb", "-I", deb, "symbols")
     listed = dict(re.findall(r"^ (vicinity_\w+)@VICINITY_\S+ (.*)$", symbols, re.M))
     assert sorted(listed) == sorted(CALLS)
     assert [listed[f"vicinity_{call}"] for call in ("check", "certain", "listed")] == [
@@ -89,17 +81,20 @@ def test_symbols(packages):
 
 
 def test_the_changes_of_the_packages():
-    """Are those of CHANGELOG.md, with their dates, and above them what VERSION says is to come."""
+    """Are those of CHANGELOG.md, with their dates, and above them what VERSION says is to come. The
+    newest one with a date is that of dist/."""
     entries = re.findall(r"^vicinity \((.*)-1\) (\w+);(?:.*\n)*? -- .*>  (.*)$",
                          (TOP / "debian/changelog").read_text(), re.M)
-    days = [datetime.strptime(date, "%a, %d %b %Y 00:00:00 +0000").date() for *_, date in entries]
-    said = [(version, str(day)) for (version, _, _), day in zip(entries, days)]
-    dated = re.findall(r"^## ([\d.]+), (.*)$", (TOP / "CHANGELOG.md").read_text(), re.M)
-    assert said[-len(dated):] == dated
+    dates = [parsedate_to_datetime(date) for *_, date in entries]
+    said = [(version, str(date.date())) for (version, _, _), date in zip(entries, dates)]
+    headings = re.findall(r"^## (.*)$", (TOP / "CHANGELOG.md").read_text(), re.M)
     is_between = VERSION.endswith("~dev")
+    dated = [tuple(heading.split(", ")) for heading in headings[is_between:]]
+    assert headings[:is_between] == ["Unreleased"] * is_between and said[-len(dated):] == dated
+    assert f"vicinity_{dated[0][0]}-1_amd64.deb" in (TOP / "dist/SHA256SUMS").read_text()
     assert len(said) == len(dated) + is_between and said[0][0] == VERSION
     assert (entries[0][1] == "UNRELEASED") == is_between
-    assert days == sorted(set(days), reverse=True)
+    assert dates == sorted(set(dates), reverse=True)
 
 
 def test_made_elsewhere_they_are_the_same(packages):
@@ -112,8 +107,8 @@ def test_made_elsewhere_they_are_the_same(packages):
         copy(clone)
         subprocess.run(f"tar -c {BUILT} | tar -xC {clone}", shell=True, cwd=TOP, check=True)
         for name in "python", "examples", "docs":
-            say("chmod", "-R", "go-rwx", clone / name)
-        say("touch", "-d", "2000-01-01", clone / "CHANGELOG.md", *clone.glob("debian/*.*"))
+            told("chmod", "-R", "go-rwx", clone / name)
+        told("touch", "-d", "2000-01-01", clone / "CHANGELOG.md", *clone.glob("debian/*.*"))
         subprocess.run(["dpkg-buildpackage", "-b", "-us", "-uc"], cwd=clone, umask=0o077,
                        env={**os.environ, "TZ": "Asia/Tokyo", "LC_ALL": "C.UTF-8"}, check=True)
         assert not [deb for deb in made
@@ -122,9 +117,8 @@ def test_made_elsewhere_they_are_the_same(packages):
 
 @pytest.mark.parametrize("target", TARGETS)
 def test_lintian_has_nothing_to_say(packages, target):
-    needs("lintian")
-    said = say("lintian", "--allow-root", "--display-info", "--hide-overrides",
-               *packages(target).glob("*.deb"))
+    said = told("lintian", "--allow-root", "--display-info", "--hide-overrides",
+                *packages(target).glob("*.deb"))
     assert not said
 
 
@@ -144,8 +138,8 @@ def test_the_packages_for_arm(arm, packages, tmp_path):
     usr, emulator = packages("arm64") / "unpacked/usr", arm.words[:-1]
     assert Program(*emulator, usr / "bin/vicinity").run("check", LOG) == COMPLETE
     library = usr / "lib/aarch64-linux-gnu"
-    subprocess.run(["aarch64-linux-gnu-gcc", f"-I{usr}/include", TOP / "examples/c/check.c",
-                    f"-L{library}", "-lvicinity", "-o", tmp_path / "shared"], check=True)
+    compiled(tmp_path / "shared", f"-I{usr}/include", "examples/c/check.c", f"-L{library}",
+             "-lvicinity", compiler="aarch64-linux-gnu-gcc")
     assert Program(*emulator, "-E", f"LD_LIBRARY_PATH={library}",
                    tmp_path / "shared").run(LOG) == COMPLETE
 
@@ -159,17 +153,17 @@ def cell(tmp_path):
     for name in "bin", "lib", "lib64", "sbin":
         (tmp_path / "usr" / name).mkdir(parents=True)
         (tmp_path / name).symlink_to(f"usr/{name}")
-    names = set(re.findall(r"^\w.*", say(*DEPENDS, *NEEDED), re.M))
+    names = set(re.findall(r"^\w.*", told(*DEPENDS, *NEEDED), re.M))
     lists = [str(file) for file in Path("/var/lib/dpkg/info").iterdir()
              if file.suffix == ".list" or file.name == "format"]
     subprocess.run("tar -C / --no-recursion --ignore-failed-read -T - -c |"
                    " tar --keep-directory-symlink -x", shell=True, cwd=tmp_path, check=True,
-                   input=say("dpkg-query", "-L", *names) + "\n".join(lists), text=True,
+                   input=told("dpkg-query", "-L", *names) + "\n".join(lists), text=True,
                    stderr=subprocess.DEVNULL)
     for name in "dev", "tmp", "var/lib/dpkg/updates", "var/log":
         (tmp_path / name).mkdir(parents=True, exist_ok=True)
     (tmp_path / "dev/null").touch()
-    (tmp_path / "var/lib/dpkg/status").write_text(say("dpkg-query", "-s", *names))
+    (tmp_path / "var/lib/dpkg/status").write_text(told("dpkg-query", "-s", *names))
     yield tmp_path
     shutil.rmtree(tmp_path)
 
@@ -177,7 +171,8 @@ def cell(tmp_path):
 def test_installed_upgraded_tested_and_purged(cell, packages):
     """From the packages of the last release; the tests are those of debian/tests."""
     def run(*words):
-        say("chroot", cell, *words, env={"PATH": "/usr/sbin:/usr/bin", "AUTOPKGTEST_TMP": "/tmp"})
+        environment = {"PATH": "/usr/sbin:/usr/bin", "AUTOPKGTEST_TMP": "/tmp"}
+        Program("chroot", cell).told(*map(str, words), env=environment)
 
     def install(debs):
         for deb in debs:
@@ -203,26 +198,18 @@ def test_installed_upgraded_tested_and_purged(cell, packages):
 # The packages of the last release.
 
 def test_the_sums_of_dist():
-    say("sha256sum", "--quiet", "-c", "SHA256SUMS", cwd=TOP / "dist")
+    told("sha256sum", "--quiet", "-c", "SHA256SUMS", cwd=TOP / "dist")
 
 
 @pytest.fixture(scope="session")
 def packaged():
     """The program of the last release. Where it answers otherwise than the rows say, it is time for
     release/dist --release."""
-    return OfProgram(Program(say(TOP / "release/packaged").strip()))
-
-
-def is_released(row):
-    """Whether the last release knows the row's command, and the version of its log: `margin` and
-    version 3 came after 1.1.0."""
-    _, command, given, *_ = row.values
-    is_new = command == "margin" or command in OF_LOGS and b"vicinity-log 3" in log_of(given)
-    return not is_new or not list((TOP / "dist").glob("vicinity_1.1.*"))
+    return OfProgram(Program(told(TOP / "release/packaged").strip()))
 
 
 @pytest.mark.parametrize(("asked", "command", "given", "answers", "status"),
-                         filter(is_released, all_rows(["packaged"])))
+                         all_rows(["packaged"]))
 def test_row_of_the_packaged_program(packaged, asked, command, given, answers, status):
     packaged.row(command, given, answers, status)
 
@@ -230,15 +217,13 @@ def test_row_of_the_packaged_program(packaged, asked, command, given, answers, s
 def test_the_packages_of_the_release_are_made_again():
     """As long as the sources and the tools are those of the release."""
     needs("rt", "gcc", "ld", "dpkg-deb", "objdump")
-    done = subprocess.run([TOP / "release/dist", "--check"], capture_output=True, text=True,
-                          check=False)
+    said = Program(TOP / "release/dist").run("--check")
     # 2: of other sources, or by other tools
-    assert done.returncode in (0, 2), done.stdout + done.stderr
+    assert said.status in (0, 2), said
 
 
 def test_a_version_that_is_released_is_that_of_dist():
     """Packages of changed sources have another version: the next one, with ~dev."""
-    now = subprocess.run([TOP / "release/sources"], capture_output=True, text=True, check=True)
-    released = (TOP / "dist/SOURCES").read_text()
+    now, released = told(TOP / "release/sources"), (TOP / "dist/SOURCES").read_text()
     # the last line says by which tools
-    assert "~dev" in VERSION or now.stdout.splitlines()[:2] == released.splitlines()[:2]
+    assert "~dev" in VERSION or now.splitlines()[:2] == released.splitlines()[:2]

@@ -11,8 +11,7 @@ name.
     commands have $ echo $?               shows the status of the command before; where it is not
     shown, it has to be the answer's
 
-A fence that changes a file of a crate by `sed -i` has to make it one of the crate's mutants, which
-the gate has the prover refuse.
+What changes a file of a crate by `sed -i` is tried in tests/test_clone.py.
 
 A fence in C is compiled with the library and run over an example: as it stands if it has a main,
 else in a function that is given `text` and `text_len`, after the page's fences before it.
@@ -34,7 +33,7 @@ import sys
 import pytest
 
 from helpers.frames import hex_of, with_crc
-from helpers.program import TOP, needs
+from helpers.program import TOP, Program, needs
 
 FOLDERS = ("crates", "examples", "include", "out", "python", "tools")
 PAGES = ["README.md", "CHANGELOG.md", *sorted(str(page.relative_to(TOP)) for pattern in (
@@ -64,7 +63,6 @@ OLD_WORDS = re.compile(r"\b([Ww]hole|could have given|tells? against|[Nn]obody|[
 # definitions.
 THEIR_WORDS = {"docs/GLOSSARY.md": r"response", "docs/READERS.md": r"response",
                "docs/COLLECTIONS.md": r"[Pp]laces?", "docs/COMMANDS.md": r"[Pp]laces?",
-               "docs/COLLECTIONS.md": r"[Pp]laces?", "docs/COMMANDS.md": r"[Pp]laces?",
                "docs/HEADLINE.md": r".*", "docs/DEFINITIONS.md": r".*"}
 
 
@@ -90,15 +88,6 @@ def fences(text):
             held.append(line.replace("\\-", "-").replace("\\e", "\\"))
         elif NEEDS.match(line):
             need = NEEDS.match(line)[1]
-
-
-def is_there(tool):
-    """Whether a machine has a tool, or a package of Debian's Python."""
-    if tool.startswith("python3-"):
-        asked = ["/usr/bin/python3", "-c", f"import {tool[8:]}"]
-        return (os.path.exists(asked[0])
-                and subprocess.run(asked, capture_output=True, check=False).returncode == 0)
-    return shutil.which(tool) is not None
 
 
 def inventory(sixteen, length, value):
@@ -170,20 +159,14 @@ class Shell:
         tools.mkdir()
         (tools / "vicinity").symlink_to(program.words[0])
         (tools / "python3").symlink_to(sys.executable)
-        self.env = dict(os.environ, PATH=f"{tools}{os.pathsep}{os.environ['PATH']}",
-                        PYTHONPATH=str(TOP / "python"),
-                        LIBVICINITY=str(release / "libvicinity.so"))
+        self.shell = Program("sh", "-c", PATH=f"{tools}{os.pathsep}{os.environ['PATH']}",
+                             PYTHONPATH=str(TOP / "python"),
+                             LIBVICINITY=str(release / "libvicinity.so"))
         self.statuses = statuses()
 
     def run(self, command):
-        try:
-            ran = subprocess.run(command, shell=True, cwd=self.folder, env=self.env,
-                                 stdin=subprocess.DEVNULL,
-                                 stdout=subprocess.PIPE, stderr=subprocess.STDOUT, timeout=SECONDS,
-                                 check=False)
-        except subprocess.TimeoutExpired:
-            return f"no end in {SECONDS} seconds", None
-        return ran.stdout.decode("utf-8", "backslashreplace"), ran.returncode
+        said = self.shell.run(command, cwd=self.folder, stderr=subprocess.STDOUT, timeout=SECONDS)
+        return said.out.decode("utf-8", "backslashreplace"), said.status
 
     def status_of(self, shown):
         """The status of an answer; none where the lines are no answer."""
@@ -323,20 +306,6 @@ int main(int argc, char **argv) {
                                 % self.release)
         self.note(place, ("", 0), (said, status))
 
-    def mutant(self, place, lines):
-        """What a fence makes of a file by `sed -i` is what one of the crate's mutants is."""
-        command = next(line for line in lines if line.startswith("sed -i "))
-        crate = next(line for line in lines if line.startswith("cd "))[len("cd "):]
-        name = command.split()[-1]
-        changed, _ = self.run("cd %s && %s" % (crate, command.replace("sed -i ", "sed ", 1)))
-        text = (TOP / crate / name).read_text()
-        mutants = []
-        for edit in (TOP / crate / "must-fail").iterdir():
-            pair = re.fullmatch(r"file: (.*)\nold: (.*)\nnew: (.*)\n", edit.read_text())
-            if pair and pair[1] == name and pair[2] in text:
-                mutants.append(text.replace(pair[2], pair[3]))
-        self.note(place, True, changed in mutants)
-
 
 @pytest.fixture
 def shell(program, release, tmp_path):
@@ -350,14 +319,12 @@ def test_sessions(shell, page):
     """Also fences in C and logs: what a fence shows may be of use to those behind it."""
     unused, c_lines, lacking = {}, [], []
     for first, language, need, lines in fences(text_of(page)):
-        if need and not is_there(need):
+        if need and not shutil.which(need):
             lacking.append(f"{page}:{first}: there is no {need}")
         elif language == "c":
             shell.c_fence(f"{page}:{first}: C", lines, c_lines)
         elif any(line.startswith("$ ") for line in lines):
             shell.session(page, first, lines, unused)
-        elif any(line.startswith("sed -i ") for line in lines):
-            shell.mutant(f"{page}:{first}: a mutant", lines)
         elif any(line.startswith("vicinity-log ") for line in lines):
             shell.note(f"{page}:{first}: a log", "a command that runs it", "none")
     for place in unused.values():
@@ -430,7 +397,6 @@ def test_limits(shell):
 def test_man_pages(name, tool):
     """Shown without a warning. Which other pages there are, only an installed one can know."""
     needs(tool.split()[0])
-    said = subprocess.run([*tool.split(), TOP / name], stdout=subprocess.PIPE,
-                          stderr=subprocess.STDOUT, text=True, check=False)
-    assert not [line for line in said.stdout.split("\n") if line
-                and "referenced manual not found" not in line]
+    said = Program(*tool.split()).run(name, stderr=subprocess.STDOUT)
+    assert not [line for line in said.out.splitlines()
+                if b"referenced manual not found" not in line]

@@ -1,31 +1,14 @@
 """Reconciles logs with lists of what is expected, by the program and the commands in C: the rows of
 tests/data/rows/reconciliations, and files that fail."""
-import re
 import subprocess
 
 import pytest
 
-from helpers.lines import NAMES, log_of, reconciled_rows
+from helpers.lines import log_of, reconciled_rows
 from helpers.rows import PROGRAMS
 
-AROUND = re.compile(r"~(\w+) (\d+) (\w)")
 # The names of the logs, in their order.
 LOGS = "abc"
-
-
-def around(tag, most, log):
-    """The open masks of 1 to `most` bits around a tag: its low bits, the last of them turned."""
-    uid = int(NAMES[f"U{tag}"].split()[1], 16)
-    for length in range(1, most + 1):
-        value = uid % (1 << length) ^ 1 << length - 1
-        yield f"open {length} {value:0{(length + 7) // 8 * 2}X} in {log}"
-
-
-def lines_of(expected):
-    """The lines of an answer."""
-    for line in expected.split(" / "):
-        match = AROUND.fullmatch(line)
-        yield from around(match[1], int(match[2]), match[3]) if match else [line]
 
 
 @pytest.fixture
@@ -51,7 +34,7 @@ def one(request):
 def test_row(reconcile, tmp_path, expected, logs, lines, status):
     for name, text in zip(("EXPECTED", *LOGS), (expected, *logs)):
         (tmp_path / name).write_bytes(text)
-    wanted = "".join(f"{line}\n" for line in lines_of(lines)).encode()
+    wanted = "".join(f"{line}\n" for line in lines).encode()
     assert reconcile("EXPECTED", *LOGS[:len(logs)]) == (wanted, b"", status)
 
 

@@ -4,7 +4,7 @@ compilers, the commands in C, those for ARM and for Windows, and the module for 
 import pytest
 
 from helpers.lines import log_of
-from helpers.rows import MODULES, PROGRAMS, all_fit, all_rows
+from helpers.rows import MODULES, PROGRAMS, all_rows
 
 EVERYBODY = (*PROGRAMS, "windows", *MODULES)
 COMPLETE = "I16 S RA RB S13 UA UB"
@@ -45,12 +45,3 @@ def test_a_changed_bit_is_found_by_the_crc(asked, line, start, end):
             digit = b"%X" % (int(log[at:at + 1], 16) ^ bit)
             said = asked.begins(log[:at] + digit + log[at + 1:])
             assert said == b"refused at line %d: Crc\n" % line, f"bit {bit} at {at}"
-
-
-@pytest.mark.parametrize(("logged", "given", "fit"), [
-    ("T 1/S/T 2/C/D/U 1", "T 1/S/S/T 2/C/C/S/U 1", True), ("T 1/S/S", "T 1/S/T 2/S", False),
-    ("T 1/D", "T 1/S", False), ("T 1/N", "T 1/S", True), ("T 1/N", "T 1", False),
-    ("T 1/H 0000A1", "T 1/C", True), ("T 1/H 0000A1", "T 1/R 0001A1", True),
-    ("T 1/H 0000A1", "T 1/R 0000B2", False), ("T 1/H 0000A1", "T 1/S", False)])
-def test_what_replay_goes_by(logged, given, fit):
-    assert all_fit(logged.split("/"), given.split("/")) == fit

@@ -3,14 +3,13 @@ the library for C does. tests/test_rows.py asks it for the rows of tests/data/ro
 tests/test_calls.py makes its calls one by one."""
 import ctypes
 import json
-import subprocess
 
 import pytest
-from vicinity._native import AnswerStruct, FindingStruct, MaskStruct, WeakestStruct
+from vicinity._native import AnswerStruct, WeakestStruct
 
-from helpers.library import CALLS, U8, U32, U64, masks, uids
+from helpers.library import CALLS, LISTING, U32, masks, uids
 from helpers.lines import biglog, log_of
-from helpers.program import MAKE, TOP
+from helpers.program import MAKE, TOP, Program, told
 from helpers.wasm import WasmLibrary
 
 MOST_BYTES = 300_000
@@ -24,10 +23,7 @@ console.log(JSON.stringify([WebAssembly.Module.imports(it), exported]));
 # A session of this many tags has a million lines.
 LARGE = 115_600
 UID_A, UID_B = 0xE0040100000000A1, 0xE0040100000000B2
-# What the calls that list something list; how many bytes its buffer has.
-LISTING = {"explain": U64, "certain": U64, "listed": U64, "explain_listed": U64,
-           "open_masks": MaskStruct, "report": FindingStruct, "report_listed": FindingStruct,
-           "reconcile": FindingStruct, "simulate": U8}
+# How many bytes the buffer has of a call that lists something.
 ROOM = 2048
 # Those that write a margin, which is all 0 where there is none.
 MEASURING, NO_MARGIN = ("margin", "margin_listed"), bytes(WeakestStruct())
@@ -38,8 +34,7 @@ GROWING = ("I16 S C S14 N1 S10 RA RB1 S4 UA UB1", "I1 S I1 RA", "I1 RA", "I1 S U
 
 
 def test_the_module_needs_nothing_and_exports_the_calls(wasm_module):
-    said = subprocess.run(["node", "-e", NAMES_OF, wasm_module], capture_output=True, check=True)
-    imported, exported = json.loads(said.stdout)
+    imported, exported = json.loads(told("node", "-e", NAMES_OF, wasm_module))
     assert imported == []
     assert sorted(exported) == sorted([*CALLS, *EXPORTS])
     assert wasm_module.stat().st_size < MOST_BYTES
@@ -48,7 +43,7 @@ def test_the_module_needs_nothing_and_exports_the_calls(wasm_module):
 @pytest.mark.slow
 def test_the_same_bytes_come_out_again(wasm_module, tmp_path):
     again = tmp_path / "again.wasm"
-    subprocess.run([*MAKE, "wasm", f"wasm={again}", f"objects={tmp_path}"], check=True)
+    told(*MAKE, "wasm", f"wasm={again}", f"objects={tmp_path}")
     assert again.read_bytes() == wasm_module.read_bytes()
 
 
@@ -63,15 +58,15 @@ def test_what_belongs_to_one_system_is_refused(wasm_module, tmp_path, old, new, 
     text = (TOP / "out/module/vicinity_c.ll").read_text()
     assert old in text
     (tmp_path / "in.ll").write_text(text.replace(old, new, 1))
-    words = [TOP / "targets/retarget", "wasm64", tmp_path / "in.ll", tmp_path / "out.ll"]
-    done = subprocess.run(words, capture_output=True, text=True, check=False)
-    assert done.returncode == 1 and done.stderr.startswith("retarget: ") and why in done.stderr
+    words = "wasm64", tmp_path / "in.ll", tmp_path / "out.ll"
+    _, err, status = Program(TOP / "targets/retarget", *words).run()
+    assert status == 1 and err.startswith(b"retarget: ") and why in err.decode()
     assert not (tmp_path / "out.ll").exists()
 
 
 def test_every_number_by_node(wasm_module, texts, answered):
-    words = ["node", TOP / "tests/wasm/answers.mjs", wasm_module]
-    assert subprocess.run(words, input=texts, capture_output=True, check=True).stdout == answered
+    node = Program("node", TOP / "tests/wasm/answers.mjs", wasm_module)
+    assert node.run(given=texts) == (answered, b"", 0)
 
 
 def test_every_number_in_a_browser(browser, wasm_module, texts, answered, tmp_path):
@@ -106,8 +101,7 @@ class Growing(WasmLibrary):
         if name not in LISTING:
             told, *written = self.told(AnswerStruct, name, *given), 0, b""
         else:
-            told, *written = self.into(LISTING[name], ROOM // ctypes.sizeof(LISTING[name]), name,
-                                       *given)
+            told, *written = self.into(ROOM // ctypes.sizeof(LISTING[name]), name, *given)
         told = told if name == "simulate" else bytes(told)
         return told, *map(bytes, written[1:]), written[0], self.module.test_grown()
 
@@ -129,10 +123,10 @@ class Growing(WasmLibrary):
 def growing(wasm_module, tmp_path_factory):
     made = tmp_path_factory.mktemp("growing") / "vicinity.wasm"
     heap = TOP / "tests/wasm/refusing_heap.c"
-    subprocess.run([*MAKE, "wasm", f"wasm={made}", f"heap={heap}"], check=True)
+    told(*MAKE, "wasm", f"wasm={made}", f"heap={heap}")
     calls = Growing(made)
-    yield calls
-    calls.module.close()
+    with calls.module.node:
+        yield calls
 
 
 @pytest.mark.parametrize("names", GROWING)

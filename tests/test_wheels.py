@@ -4,7 +4,6 @@ wheel is looked into and installed, and not run."""
 import glob
 import os
 import re
-import subprocess
 import tarfile
 import time
 import zipfile
@@ -12,7 +11,7 @@ import zipfile
 import backend
 import pytest
 
-from helpers.program import TOP, Program, needs
+from helpers.program import TOP, Program, needs, told
 
 TAGS = {"amd64": "manylinux2014_x86_64", "arm64": "manylinux2014_aarch64", "windows": "win_amd64"}
 LICENSES = ("LICENSE-APACHE", "LICENSE-MIT")
@@ -31,21 +30,22 @@ def pythons():
 
 
 def made(library, target, folder):
-    folder.mkdir()
-    subprocess.run([TOP / "release/wheel", library, target, folder], check=True)
+    told(TOP / "release/wheel", library, target, folder)
     return next(folder.glob("*.whl"))
 
 
-@pytest.fixture(scope="session")
-def wheel(release, tmp_path_factory):
-    """The wheel for this kind of machine."""
-    return made(release / "libvicinity.so", "amd64", tmp_path_factory.mktemp("wheel") / "one")
+@pytest.fixture(scope="session", params=["amd64", "windows"])
+def kind(request):
+    """A kind of machine, the library for it, and where that stands in its wheel."""
+    if request.param == "amd64":
+        return "amd64", request.getfixturevalue("release") / "libvicinity.so", backend.LIBRARY
+    return "windows", request.getfixturevalue("windows_release") / "vicinity.dll", backend.DLL
 
 
 @pytest.fixture(scope="session")
-def wheel_for_windows(windows_release, tmp_path_factory):
-    folder = tmp_path_factory.mktemp("wheel") / "one"
-    return made(windows_release / "vicinity.dll", "windows", folder)
+def wheel(kind, tmp_path_factory):
+    target, library, _ = kind
+    return made(library, target, tmp_path_factory.mktemp("wheel"))
 
 
 @pytest.fixture
@@ -58,19 +58,11 @@ def another_day(monkeypatch):
     os.umask(umask)
 
 
-def is_made_again(wheel, library, tag, folder):
-    again = backend.build_wheel_with(str(folder), library, tag)
-    assert again == wheel.name and again.endswith(f"-py3-none-{tag}.whl")
-    assert (folder / again).read_bytes() == wheel.read_bytes()
-
-
-def test_the_same_bytes_twice(wheel, release, tmp_path, another_day):
-    is_made_again(wheel, release / "libvicinity.so", TAGS["amd64"], tmp_path)
-
-
-def test_the_same_bytes_twice_for_windows(wheel_for_windows, windows_release, tmp_path,
-                                          another_day):
-    is_made_again(wheel_for_windows, windows_release / "vicinity.dll", TAGS["windows"], tmp_path)
+def test_the_same_bytes_twice(wheel, kind, tmp_path, another_day):
+    target, library, _ = kind
+    again = backend.build_wheel_with(str(tmp_path), library, TAGS[target])
+    assert again == wheel.name and again.endswith(f"-py3-none-{TAGS[target]}.whl")
+    assert (tmp_path / again).read_bytes() == wheel.read_bytes()
 
 
 @pytest.fixture
@@ -88,8 +80,9 @@ def test_the_same_bytes_of_a_source_distribution(sdist, tmp_path, another_day):
             backend.PAGE} <= names
 
 
-def files_in(wheel, tag):
-    """The files of a wheel, which has the modules, the page and the licences."""
+def test_what_is_in_it(wheel, kind):
+    """The modules, the page, the licences and the library, and no other one."""
+    target, library, place = kind
     with zipfile.ZipFile(wheel) as archive:
         files = {it.filename: archive.read(it) for it in archive.infolist()}
     about = next(name for name in files if name.endswith("/RECORD")).rpartition("/")[0]
@@ -97,34 +90,23 @@ def files_in(wheel, tag):
         assert files[f"{about}/{name}"] == (TOP / name).read_bytes()
     listed = {line.partition(",")[0] for line in files[f"{about}/RECORD"].decode().splitlines()}
     assert listed == set(files)
-    assert f"\nTag: py3-none-{tag}\n" in files[f"{about}/WHEEL"].decode()
+    assert f"\nTag: py3-none-{TAGS[target]}\n" in files[f"{about}/WHEEL"].decode()
     sources = TOP / "python"
     assert {str(path.relative_to(sources)) for path in sources.glob("vicinity/**/*.py")} <= listed
     assert files[backend.PAGE].startswith(b"<!doctype html>")
-    return files
+    assert files[place] == library.read_bytes()
+    assert not {backend.LIBRARY, backend.DLL} - {place} & listed
 
 
-def test_what_is_in_it(wheel, release):
-    files = files_in(wheel, TAGS["amd64"])
-    assert files[backend.LIBRARY] == (release / "libvicinity.so").read_bytes()
-    assert backend.DLL not in files
-
-
-def test_what_is_in_it_for_windows(wheel_for_windows, windows_release):
-    files = files_in(wheel_for_windows, TAGS["windows"])
-    assert files[backend.DLL] == (windows_release / "vicinity.dll").read_bytes()
-    assert backend.LIBRARY not in files
-
-
-def test_pip_installs_it_for_windows(wheel_for_windows, windows_release, tmp_path):
+@pytest.mark.parametrize("kind", ["windows"], indirect=True)
+def test_pip_installs_it_for_windows(wheel, kind, tmp_path):
     """As this machine's pip does it for another one, and for no other."""
     words = ["/usr/bin/python3", "-m", "pip", "install", "--no-index", "--only-binary", ":all:"]
     for platform, status in (TAGS["windows"], 0), ("win32", 1):
-        done = subprocess.run([*words, "--target", tmp_path / platform, "--platform", platform,
-                               wheel_for_windows], capture_output=True, check=False)
-        assert done.returncode == status, done.stderr
-    installed = tmp_path / TAGS["windows"] / backend.DLL
-    assert installed.read_bytes() == (windows_release / "vicinity.dll").read_bytes()
+        said = Program(*words).run("--target", tmp_path / platform, "--platform", platform, wheel)
+        assert said.status == status, said.err
+    _, library, place = kind
+    assert (tmp_path / TAGS["windows"] / place).read_bytes() == library.read_bytes()
 
 
 @pytest.mark.slow
@@ -132,23 +114,20 @@ def test_it_works_on_arm(arm_release, tmp_path):
     """The wheel for 64-bit ARM, installed by the pip of this machine, and run by a Python for ARM
     under an emulator."""
     needs("qemu-aarch64-static", f"{ARM}/usr/bin/python3")
-    found = made(arm_release / "libvicinity.so", "arm64", tmp_path / "arm")
+    found = made(arm_release / "libvicinity.so", "arm64", tmp_path)
     there = tmp_path / "there"
-    subprocess.run(["/usr/bin/python3", "-m", "pip", "install", "--no-index", "--target", there,
-                    "--platform", TAGS["arm64"], "--only-binary", ":all:", found], check=True)
+    told("/usr/bin/python3", "-m", "pip", "install", "--no-index", "--target", there,
+         "--platform", TAGS["arm64"], "--only-binary", ":all:", found)
     installed = there / backend.LIBRARY
     assert installed.read_bytes() == (arm_release / "libvicinity.so").read_bytes()
 
-    def run(*words):
-        return subprocess.run(["qemu-aarch64-static", "-L", ARM, f"{ARM}/usr/bin/python3", *words],
-                              capture_output=True, text=True, cwd=TOP / "python/tests",
-                              env={"PYTHONPATH": str(there), "PYTHONDONTWRITEBYTECODE": "1"})
-
-    said = run("-c", "import os, vicinity; print(os.uname().machine, vicinity.check(b''))")
-    assert said.stdout == "aarch64 refused at line 1: Header\n"
-    said = run("-m", "unittest", "test_vicinity.Frames", "test_vicinity.Calls")
-    assert said.stderr.endswith("\nOK\n"), said.stderr
-    is_answered(lambda *words: run("-m", "vicinity", *words))
+    python = Program("qemu-aarch64-static", "-L", ARM, f"{ARM}/usr/bin/python3", LIBVICINITY="",
+                     PYTHONPATH=f"{there}:python/tests:tests")
+    said = python.told("-c", "import os, vicinity; print(os.uname().machine, vicinity.check(b''))")
+    assert said == "aarch64 refused at line 1: Header\n"
+    said = python.run("-m", "unittest", "test_vicinity.Frames", "test_vicinity.Calls")
+    assert said.err.endswith(b"\nOK\n"), said.err
+    is_answered(python, "-m", "vicinity")
 
 
 @pytest.mark.parametrize(("built", "name", "target", "why"), [
@@ -163,38 +142,34 @@ def test_what_is_no_library_for_that_machine_is_refused(request, tmp_path, built
     assert (said.status, why in said.err.decode(), [*tmp_path.iterdir()]) == (1, True, [])
 
 
-def is_answered(run):
+def is_answered(program, *words):
     """What the commands of an installed wheel answer to the example logs."""
-    said = run("--tabs", *sorted(TOP.glob("examples/*.log")))
-    answers = [line.split("\t")[1:] for line in said.stdout.splitlines()]
-    assert (answers, said.stderr, said.returncode) == (
-        [["2", "impossible at line 6"], ["1", "unsettled 7 61"], ["0", "complete 4"]], "", 2)
-    said = run("reconcile", "--csv", "--expected", TOP / "examples/collection/catalogue.csv",
-               *sorted(TOP.glob("examples/collection/shelf-*.log")))
-    assert (said.stdout.count(",there,"), said.stderr, said.returncode) == (10, "", 1)
+    out, err, status = program.run(*words, "--tabs", *sorted(TOP.glob("examples/*.log")))
+    answers = [line.split("\t")[1:] for line in out.decode().splitlines()]
+    assert (answers, err, status) == (
+        [["2", "impossible at line 6"], ["1", "unsettled 7 61"], ["0", "complete 4"]], b"", 2)
+    out, err, status = program.run(
+        *words, "reconcile", "--csv", "--expected", "examples/collection/catalogue.csv",
+        *sorted(TOP.glob("examples/collection/shelf-*.log")))
+    assert (out.count(b",there,"), err, status) == (10, b"", 1)
 
 
 @pytest.mark.slow
+@pytest.mark.parametrize("kind", ["amd64"], indirect=True)
 @pytest.mark.parametrize("python", pythons())
 def test_it_works(wheel, python, tmp_path):
-    clean = {name: value for name, value in os.environ.items()
-             if name not in ("LIBVICINITY", "PYTHONPATH", "LD_LIBRARY_PATH")}
-
-    def run(*words):
-        return subprocess.run([str(word) for word in words], capture_output=True, text=True,
-                              cwd=tmp_path, env=clean)
-
-    assert run(python, "-m", "venv", "there").returncode == 0
+    alone = {"LIBVICINITY": "", "PYTHONPATH": "", "cwd": tmp_path}
+    told(python, "-m", "venv", "there", **alone)
     there = tmp_path / "there/bin"
-    installed = run(there / "pip", "install", "--no-index", wheel)
-    assert installed.returncode == 0, installed.stderr
-    is_answered(lambda *words: run(there / "vicinity-logs", *words))
+    told(there / "pip", "install", "--no-index", wheel, **alone)
+    logs = Program(there / "vicinity-logs", LIBVICINITY="", PYTHONPATH="")
+    is_answered(logs)
     for command in ("check", "report", "reconcile", "survey", "compare", "show", "page", "frame"):
-        assert run(there / "vicinity-logs", command, "--help").stdout.startswith(
-            f"usage: vicinity-logs {command}")
-    assert run(there / "vicinity-logs", "page", TOP / "examples/whole-shelf.log").returncode == 0
-    said = run(there / "python", "-c", "import vicinity as it; print(it.__file__, it.check(b''))")
-    assert said.stdout.endswith("refused at line 1: Header\n") and str(tmp_path) in said.stdout
+        assert logs.told(command, "--help").startswith(f"usage: vicinity-logs {command}")
+    assert logs.told("page", "examples/whole-shelf.log")
+    said = told(there / "python", "-c", "import vicinity as it; print(it.__file__, it.check(b''))",
+                **alone)
+    assert said.endswith("refused at line 1: Header\n") and str(tmp_path) in said
 
 
 def glibc_of(file):

@@ -2,13 +2,12 @@
 tests/test_reconcile.py ask them for the rows of tests/data/rows. Nothing here says how Windows
 itself behaves."""
 import re
-import subprocess
 
 import pytest
 
 from helpers.library import CALLS
 from helpers.lines import biglog, log_of
-from helpers.program import MAKE, TOP, Program
+from helpers.program import MAKE, TOP, Program, told
 
 CC = ("x86_64-w64-mingw32-gcc", "-O2", "-Wall", "-Wextra", "-Werror",
       "-D__USE_MINGW_ANSI_STDIO=1", f"-I{TOP}/include", TOP / "tests/c/binary.c")
@@ -36,14 +35,14 @@ def built(windows_release, wine, tmp_path_factory):
 
     def build(name, *words):
         made = folder / f"{name}.exe"
-        subprocess.run([*CC, TOP / f"tests/c/{name}.c", *words, "-o", made], check=True)
+        told(*CC, f"tests/c/{name}.c", *words, "-o", made)
         return Program(*wine.words, made)
     return build
 
 
 @pytest.mark.slow
 def test_the_same_bytes_come_out_again(windows_release, tmp_path):
-    subprocess.run([*MAKE, "windows", f"windows={tmp_path}", f"objects={tmp_path}"], check=True)
+    told(*MAKE, "windows", f"windows={tmp_path}", f"objects={tmp_path}")
     for name in "vicinity.dll", "vicinity.exe", "libvicinity.dll.a":
         assert (tmp_path / name).read_bytes() == (windows_release / name).read_bytes()
 
@@ -112,7 +111,6 @@ def test_a_session_of_a_million_lines(released, program, tmp_path):
 
 
 def test_the_dll_exports_each_call_and_needs_what_each_windows_has(windows_release):
-    words = ["x86_64-w64-mingw32-objdump", "-p", windows_release / "vicinity.dll"]
-    said = subprocess.run(words, capture_output=True, text=True, check=True).stdout
+    said = told("x86_64-w64-mingw32-objdump", "-p", windows_release / "vicinity.dll")
     assert sorted(EXPORTED.findall(said)) == sorted(CALLS)
     assert set(re.findall(r"DLL Name: (.*)", said)) == {"KERNEL32.dll", "msvcrt.dll"}

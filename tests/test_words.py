@@ -4,17 +4,13 @@ import os
 
 import pytest
 
-from biglog import ask, at_key, claim, reply, silence
-from helpers.lines import log_of, text_of
+from helpers.lines import log_of
 
 LOG, EMPTY = log_of("V3 I1 HA I1 RA UA"), log_of("V3")
 READ = (b"complete 1\n", b"", 0)
 MEASURED = (b"complete 1\nmargin 1\nweakest 1 00\n", b"", 0)
 USAGE = (b"", b"vicinity: usage\n", 4)
 UNREAD, UNWRITTEN = (b"", b"vicinity: read failed\n", 4), (b"", b"vicinity: write failed\n", 4)
-# Tags of a field that are Quiet together are passed over by 64, 4,096 and 262,144: one of each, and
-# two more.
-TAGS = 262_144 + 4096 + 64 + 2
 
 
 @pytest.fixture(scope="session")
@@ -84,16 +80,3 @@ def test_a_full_device(one):
 def test_closed_streams(one):
     assert one.run("check", given=LOG, stdout=None, preexec_fn=lambda: os.close(1)) == UNWRITTEN
     assert one.run("check", stdin=None, preexec_fn=lambda: os.close(0)) == UNREAD
-
-
-def test_many_quiet_tags(one):
-    """All but two, then all but the last in the order of keys, then all."""
-    tags = [at_key(key) for key in range(TAGS)]
-    amid, last = tags[100_000], tags[-1]
-    everybody = ask((0, 0))
-    filled = ["vicinity-log 1", *(silence(uid) for uid in tags if uid not in (amid, last)),
-              everybody, "C",
-              silence(amid), everybody, reply(last), silence(last), everybody, "S",
-              *map(claim, tags)]
-    asked = text_of(line for line in filled if line[0] not in "SCR")
-    assert one.run("simulate", given=asked) == (text_of(filled), b"", 0)

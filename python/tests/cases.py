@@ -9,6 +9,7 @@ import tempfile
 import unittest
 from unittest import mock
 
+from helpers.frames import hex_of
 from vicinity import Fault, Kind, _process
 from vicinity.__main__ import main, words
 from vicinity.commands import reconcile
@@ -19,14 +20,15 @@ SIXTEEN = b"T 060100CD09\n"
 A, B = 0xE0040100000000A1, 0xE0040100000000B2
 HEARD_A = b"R 0000A1000000000104E06745\n"
 HEARD_B = b"R 0000B2000000000104E0CF94\n"
+CAPTURED_A, CAPTURED_B = (line.replace(b"R", b"H") for line in (HEARD_A, HEARD_B))
 SILENCE_A = b"T 2202A1000000000104E0662A\n"
+SILENCE_B = b"T %s\n" % hex_of(bytes.fromhex("2202B2000000000104E0")).encode()
 LIST_A = b"U E0040100000000A1\n"
 LIST_B = b"U E0040100000000B2\n"
 COLLECTION = os.path.join(TOP, "examples/collection")
 SHELVES = [os.path.join(COLLECTION, f"shelf-{letter}.log") for letter in "abc"]
-FULL = "No space left on device"
 #: The forms in which `reconcile` writes.
-FORMS_OF_RECONCILE = ([], ["--csv"], ["--json"], ["--page"])
+FORMS_OF_RECONCILE: tuple[list[str], ...] = ([], ["--csv"], ["--json"], ["--page"])
 #: Names of files, and how they are shown.
 NAMES = {
     b"a: complete 4.log": "a: complete 4.log",
@@ -62,17 +64,16 @@ def log(lines):
     return b"vicinity-log 1\n" + lines
 
 
+def third(lines):
+    return b"vicinity-log 3\n" + lines
+
+
 NOTHING = log(ALL + b"S\n")
 
 
 def frame(content):
-    """The digits of a frame, with its CRC: ISO/IEC 13239, 16-bit FCS."""
-    register = 0xFFFF
-    for byte in content:
-        register ^= byte
-        for _ in range(8):
-            register = register >> 1 ^ (0x8408 if register & 1 else 0)
-    return (content + (register ^ 0xFFFF).to_bytes(2, "little")).hex().upper().encode()
+    """The digits of a frame, with its CRC."""
+    return hex_of(content).encode()
 
 
 def command(*words, given=b"", redirected="", limit="unlimited", **env):
@@ -103,17 +104,17 @@ def within(*given):
     return bytes(said), "".join(errors).encode(), status
 
 
-def on_a_terminal(*words, **env):
-    """What a terminal gets."""
+def on_a_terminal(*words, streams=("stdin", "stdout"), **env):
+    """What a terminal gets that is these streams, and what is written beside it."""
     ours, theirs = pty.openpty()
-    subprocess.run([sys.executable, "-m", "vicinity", *words], stdin=theirs, stdout=theirs,
-                   env={**os.environ, **env})
+    ran = subprocess.run([sys.executable, "-m", "vicinity", *words], env={**os.environ, **env},
+                         **{"stdout": subprocess.PIPE, **dict.fromkeys(streams, theirs)})
     os.close(theirs)
     told = b""
     with open(ours, "rb", buffering=0) as file, contextlib.suppress(OSError):
         while piece := file.read(4096):
             told += piece
-    return told
+    return told, ran.stdout
 
 
 def least():

@@ -2,17 +2,13 @@
 for it, and who says so. The answers are the worked ones of version 3."""
 import json
 import os
-import pty
-import subprocess
-import sys
 
 import vicinity
-from cases import (ALL, ANSWERS, COLLECTION, HEARD_A, HEARD_B, LIST_A, LIST_B, SHELVES,
-                   SILENCE_A, SIXTEEN, Command, frame, log, within)
+from cases import (ALL, ANSWERS, CAPTURED_A, CAPTURED_B, COLLECTION, HEARD_A, HEARD_B, LIST_A,
+                   LIST_B, SHELVES, SILENCE_A, SILENCE_B, SIXTEEN, Command, log, on_a_terminal,
+                   third, within)
 from helpers.records import drawn_in
 
-CAPTURED_A, CAPTURED_B = (line.replace(b"R", b"H") for line in (HEARD_A, HEARD_B))
-SILENCE_B = b"T %s\n" % frame(bytes.fromhex("2202B2000000000104E0"))
 HIDDEN = {"holds": False, "status": 1, "kind": "unsettled", "mask_len": 1, "mask_value": "00"}
 #: By their places in ANSWERS, what also holds:
 #: all but the one in which a reply alone rules out all others.
@@ -20,10 +16,6 @@ CAPTURED = [{"holds": True}, HIDDEN, *[{"holds": True}] * 5, None, None]
 #: Two tags, the first of which was read over the second: with R a contradiction, with H all tags.
 OVER = ALL + HEARD_A + SILENCE_A + ALL + HEARD_B + SILENCE_B + ALL + b"S\n" + LIST_A + LIST_B
 ALONE = ALL + HEARD_A + SILENCE_A + ALL + b"S\n" + LIST_A
-
-
-def third(lines):
-    return b"vicinity-log 3\n" + lines
 
 
 class Texts(Command):
@@ -106,10 +98,6 @@ class Said(Command):
         self.assertNotIn(also.encode(), within("show", self.names[7])[0])
 
 
-#: Written to a terminal behind all else, since a read may return a part of what was written.
-END = b"END\n"
-
-
 class Collections(Command):
     def test_each_log_of_a_collection(self):
         """A log says the same of its field, or names a mask;
@@ -139,16 +127,8 @@ class Collections(Command):
 
     def on_a_terminal(self, *words):
         """What is written on standard output, and on standard error if that is a terminal."""
-        ours, theirs = pty.openpty()
-        ran = subprocess.run([sys.executable, "-m", "vicinity", "reconcile", "--expected", *words],
-                             stdout=subprocess.PIPE, stderr=theirs, check=False)
-        os.write(theirs, END)
-        told = b""
-        while not told.endswith(END):
-            told += os.read(ours, 4096).replace(b"\r", b"")
-        os.close(ours)
-        os.close(theirs)
-        return ran.stdout.decode(), told.removesuffix(END).decode()
+        told, said = on_a_terminal("reconcile", "--expected", *words, streams=["stderr"])
+        return said.decode(), told.decode().replace("\r", "")
 
     def test_sentences_in_a_terminal(self):
         """They stand beside the lines, which are those of the program."""

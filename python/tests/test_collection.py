@@ -4,17 +4,13 @@ import csv
 import io
 import json
 import os
-import random
-import re
-import subprocess
-import sys
 import unittest
 from hashlib import sha256
 from unittest import mock
 
-from cases import (A, ALL, B, COLLECTION, FORMS_OF_RECONCILE, FULL, HEARD_A, HEARD_B, LIST_A,
-                   LIST_B, NAMES, NOTHING, SHELVES, SILENCE_A, SIXTEEN, TOP, Command, command,
-                   frame, here, least, log)
+from cases import (A, ALL, B, COLLECTION, FORMS_OF_RECONCILE, HEARD_A, HEARD_B, LIST_A, LIST_B,
+                   NAMES, NOTHING, SHELVES, SILENCE_A, SIXTEEN, Command, command, frame, here,
+                   least, log, on_a_terminal)
 from helpers.records import drawn_in
 import vicinity
 from vicinity import Fault, FindingKind, Kind, Mask
@@ -24,10 +20,6 @@ from vicinity.collections.catalogue import catalogue
 from vicinity.collections.collection import Collection
 from vicinity._process import NoAnswer
 
-PROGRAM = next(filter(os.path.exists, (
-    os.environ.get("VICINITY", ""), os.path.join(TOP, "crates/vicinity/out/vicinity"),
-    os.path.join(TOP, "out/release/vicinity"))), None)
-CASES = 300
 #: What was worked out by hand for the three shelves: the Time Machine stands on shelf A,
 #: Walden nowhere, and the reader of shelf C asked for no UID that ends in E or F.
 LINES = """absent E00401502B91C435
@@ -36,8 +28,6 @@ open 4 0E in {c}
 open 4 0F in {c}
 doubtful E00401506D9320CE in {c}
 """
-WHERE = {"Walden": ("missing", "", ""), "The Time Machine": ("there", "a", ""),
-         "Ulysses": ("not provable", "", "c")}
 
 
 class Calls(unittest.TestCase):
@@ -126,78 +116,13 @@ class Calls(unittest.TestCase):
             vicinity.reconcile([1 << 64], [good])
 
 
-def random_log(rng, pool):
-    """A log of a field with some of these UIDs: rounds that may be cut short, and claims;
-    one of ten is changed."""
-    lines = []
-    for _ in range(rng.randint(0, 4)):
-        uid, slots = rng.choice(pool), rng.choice((1, 16))
-        length = rng.choice((0, 0, 1, 3, 4, 6, 8, 12, 52, 56 if slots == 1 else 52))
-        request = vicinity.write_inventory(2, slots, Mask(length, uid % (1 << length)))
-        lines.append(vicinity.write_line("T", request))
-        lines += [vicinity.write_line("T", vicinity.write_stay_quiet(2, it))
-                  for it in rng.sample(pool, rng.randint(0, 2))]
-    claims = [vicinity.write_line("U", uid=it)
-              for it in rng.sample(pool, rng.randint(0, len(pool)))]
-    told = vicinity.simulate(log(b"".join(lines + claims))).text.splitlines(keepends=True)[1:]
-    kept, is_cut = [], False
-    for line in told:
-        is_cut = line[:1] in b"SRC" and (is_cut or rng.random() < 0.05)
-        if not is_cut and (line[:1] != b"U" or rng.random() < 0.7):
-            kept.append(b"C\n" if line == b"S\n" and rng.random() < 0.004 else line)
-    return log(b"".join(kept))
-
-
-class TheProgram(Command):
-    """What the program writes is what the package writes."""
-
-    def test_random_cases(self):
-        if not PROGRAM:
-            self.skipTest("the program isn't built")
-        words = ("absent", "unlisted", "unsettled", "more", "doubtful", "complete", "impossible")
-        met = dict.fromkeys(words, 0)
-        self.addCleanup(os.chdir, os.getcwd())
-        os.chdir(self.folder)
-        for number in range(CASES):
-            rng = random.Random(f"collection {number}")
-            pool = sorted({0xE0 << 56 | rng.getrandbits(5) << 51 | rng.choice((0, 1 << 20, 7 << 30))
-                           | rng.getrandbits(5) for _ in range(9)})
-            names = [f"{name}.log" for name in range(rng.randint(1, 4))]
-            texts = [random_log(rng, pool) for _ in names]
-            if number % 10 == 0:  # in the fields of which there is one tag at most
-                texts = [log(ALL + rng.choice((b"S\n", HEARD_A, HEARD_B))) for _ in names]
-            for name, text in zip(names, texts):
-                self.write(name, text)
-            expected = rng.sample(pool, rng.randint(0, len(pool)))
-            if rng.random() < 0.5:
-                expected = sorted({uid for text in texts for uid in vicinity.survey(text).certain})
-            self.write("expected",
-                       log(b"".join(vicinity.write_line("U", uid=uid) for uid in expected)))
-            ran = subprocess.run([PROGRAM, "reconcile", "expected", *names], capture_output=True)
-            said, _, status = here("lines", "expected", *names, options=["--strict"])
-            self.assertEqual((said, status), (ran.stdout.decode(), ran.returncode), number)
-            for word in met:
-                met[word] += bool(re.search(rf"^{word}\b", said, re.M))
-        self.assertEqual([word for word, times in met.items() if times < 5], [], met)
-
-
 class Reconcile(Command):
     def test_three_shelves(self):
+        """Line by line; docs/COLLECTIONS.md has the file that is written."""
         catalogue = os.path.join(COLLECTION, "catalogue.csv")
         for more in ([], ["--jobs", "2"], ["--column", "uid"]):
             said = self.ask("--expected", catalogue, *SHELVES, *more)
             self.assertEqual(said, (LINES.format(c=SHELVES[2]).encode(), b"", 1))
-        said, errors, status = self.ask("--expected", catalogue, "--csv", *SHELVES)
-        self.assertEqual((errors, status), (b"", 1))
-        with open(catalogue) as file:
-            rows = list(csv.reader(file))
-        got = list(csv.reader(io.StringIO(said.decode())))
-        self.assertEqual(got[0], [*rows[0], "state", "certain in", "may be in"])
-        self.assertEqual(len(got), len(rows))
-        for row, wanted in zip(got[1:], rows[1:]):
-            state, *logs = WHERE.get(wanted[1], ("there", wanted[2].lower(), ""))
-            logs = [SHELVES["abc".index(letter)] if letter else "" for letter in logs]
-            self.assertEqual(row, [*wanted, state, *logs])
 
     def test_json(self):
         catalogue = os.path.join(COLLECTION, "catalogue.csv")
@@ -430,13 +355,6 @@ class Surroundings(Command):
         super().setUp()
         self.listed = self.write("listed", log(LIST_A))
 
-    def test_standard_output_that_takes_nothing(self):
-        for redirected, why in ((">&-", "Bad file descriptor"), (">/dev/full", FULL)):
-            for form in FORMS_OF_RECONCILE:
-                ended = command("reconcile", "--expected", self.listed, *form, self.names[1],
-                                redirected=redirected)
-                self.assertEqual(ended, (b"", f"vicinity: write failed: {why}\n".encode(), 4), form)
-
     def test_standard_error_that_takes_nothing(self):
         catalogue = self.write("catalogue.csv", b"x\n")
         for redirected in ("2>&-", "2>/dev/full"):
@@ -485,16 +403,10 @@ class Surroundings(Command):
             self.assertEqual(here("lines", name, "x")[1].split(", row 2")[0], where)
 
     def test_progress(self):
-        code = ("import os, pty, subprocess, sys\nours, theirs = pty.openpty()\n"
-                "words = [sys.executable, '-m', 'vicinity', *sys.argv[1:]]\n"
-                "subprocess.run(words, stdout=subprocess.DEVNULL, stderr=theirs)\n"
-                "os.close(theirs)\n"
-                "try: sys.stdout.buffer.write(os.read(ours, 9999))\nexcept OSError: pass")
         for number, wanted in ((51, b"\r0 of 51 logs"), (50, b"")):
             for more in ([], ["--jobs", "2"]):
                 words = ["--csv", "--expected", self.listed, *more, *[self.names[1]] * number]
-                said = subprocess.run([sys.executable, "-c", code, "reconcile", *words],
-                                      capture_output=True).stdout
+                said, _ = on_a_terminal("reconcile", *words, streams=["stderr"])
                 self.assertEqual((said[:len(wanted)], said[-4:]),
                                  (wanted, b"\r\33[K" if wanted else b""))
         self.assertEqual(command("reconcile", "--expected", self.listed, *[self.names[1]] * 60),

@@ -6,8 +6,8 @@ import signal
 import subprocess
 import sys
 
-from cases import (ALL, ANSWERS, FULL, HEARD_A, LIST_A, NAMES, SILENCE_A, SIXTEEN, Command,
-                   command, least, log, on_a_terminal, within)
+from cases import (ALL, ANSWERS, FORMS_OF_RECONCILE, HEARD_A, LIST_A, NAMES, SILENCE_A, SIXTEEN,
+                   Command, command, least, log, on_a_terminal, within)
 import vicinity.__main__
 
 COMPLETE = log(ALL + b"S\n")
@@ -114,9 +114,9 @@ class Words(Command):
 
     def test_colours(self):
         for colours, env in ((True, {}), (True, {"NO_COLOR": ""}), (False, {"NO_COLOR": "1"})):
-            self.assertEqual(b"\33[" in on_a_terminal("show", self.names[1], **env), colours, env)
+            self.assertEqual(b"\33[" in on_a_terminal("show", self.names[1], **env)[0], colours)
         self.assertNotIn(b"\33", within("show", self.names[1])[0])
-        self.assertNotIn(b"\33", on_a_terminal("show", self.names[1], TERM="dumb"))
+        self.assertNotIn(b"\33", on_a_terminal("show", self.names[1], TERM="dumb")[0])
 
     def test_a_locale_without_unicode(self):
         for locale, is_ascii in (("C", True), ("POSIX", True), ("C.UTF-8", False)):
@@ -197,7 +197,11 @@ class Memory(Command):
 class Streams(Command):
     def test_standard_output_that_takes_nothing(self):
         words = [[*form, self.names[0]] for form in FORMS] + [["--help"], ["--version"]]
-        for redirected, why in ((">&-", "Bad file descriptor"), (">/dev/full", FULL)):
+        listed = self.write("listed", log(LIST_A))
+        words += [["reconcile", *form, "--expected", listed, self.names[1]]
+                  for form in FORMS_OF_RECONCILE]
+        for redirected, why in ((">&-", "Bad file descriptor"),
+                                (">/dev/full", "No space left on device")):
             for these in words:
                 ended = command(*these, redirected=redirected)
                 self.assertEqual(ended,

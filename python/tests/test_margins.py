@@ -1,25 +1,19 @@
 """How sure an answer is: in how many slots a tag would have had to be missed, or was silent.
 What is wanted is counted by hand."""
 import json
-import os
-import pty
-import subprocess
-import sys
 
 import vicinity
-from cases import (A, ALL, B, HEARD_A, HEARD_B, LIST_A, LIST_B, SILENCE_A, SIXTEEN, Command, frame,
-                   here, log, within)
+from cases import (A, ALL, B, HEARD_A, HEARD_B, LIST_A, LIST_B, SILENCE_A, SILENCE_B, SIXTEEN,
+                   Command, here, log, on_a_terminal, within)
 from helpers.records import drawn_in
 from vicinity import Mask, Weakest
 
-SILENCE_B = b"T %s\n" % frame(bytes.fromhex("2202B2000000000104E0"))
 #: A is heard and silenced; then all are asked, and none answers.
 TWICE = ALL + HEARD_A + SILENCE_A + ALL + b"S\n"
 #: B is silenced as well, so it was asked only once.
 ONCE_B = ALL + HEARD_A + SILENCE_A + SILENCE_B + ALL + b"S\n"
 #: B is heard, and all are asked three times more.
 OFTEN = ALL + HEARD_B + SILENCE_B + (ALL + b"S\n") * 3
-ONLY_B = Mask(56, B & (1 << 56) - 1)
 SAID = "A tag would have had to be missed in"
 
 
@@ -226,14 +220,7 @@ class Collections(Command):
                          (b"margin unknown, 1 asked for\n", b"", 1))
 
     def test_a_terminal_is_told(self):
-        ours, theirs = pty.openpty()
-        subprocess.run([sys.executable, "-m", "vicinity", "reconcile", "--expected", self.listed,
-                        *self.logs], stdout=subprocess.PIPE, stderr=theirs, check=True)
-        os.write(theirs, b"END\n")
-        told = b""
-        while not told.endswith(b"END\r\n"):
-            told += os.read(ours, 4096)
-        os.close(ours)
-        os.close(theirs)
+        told, _ = on_a_terminal("reconcile", "--expected", self.listed, *self.logs,
+                                streams=["stderr"])
         self.assertIn(f"{SAID} 2 slots in the field of {self.logs[0]}; "
                       "that is enough for UIDs ending in an even digit.", told.decode())

@@ -3,14 +3,10 @@ that hides, misses or mistakes replies."""
 import random
 
 import vicinity
-from cases import ALL, HEARD_A, HEARD_B, LIST_A, LIST_B, SILENCE_A, SIXTEEN, Command, log, within
+from cases import (ALL, CAPTURED_A, CAPTURED_B, HEARD_A, HEARD_B, LIST_A, LIST_B, SILENCE_A,
+                   SIXTEEN, Command, log, third, within)
 
 BOTH = LIST_A + LIST_B
-CAPTURED_A, CAPTURED_B = (line.replace(b"R", b"H") for line in (HEARD_A, HEARD_B))
-
-
-def third(lines):
-    return b"vicinity-log 3\n" + lines
 
 
 class Misread(Command):

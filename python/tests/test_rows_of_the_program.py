@@ -1,10 +1,11 @@
-"""`explain`, `margin`, `simulate`, `frame` and `spell` write what the program writes:
-they are asked for its rows in tests/data/rows, without a process for each."""
+"""`explain`, `margin`, `simulate`, `frame`, `spell` and `reconcile --strict` write what the program
+writes: they are asked for its rows in tests/data/rows, without a process for each."""
 from unittest import mock
 
 import pytest
 
-from cases import command
+from cases import command, here
+from helpers.lines import reconciled_rows
 from helpers.program import Said
 from helpers.rows import OfProgram, all_rows
 import vicinity
@@ -14,7 +15,7 @@ from vicinity.commands import answers, frames
 MODULES = {"explain": answers, "margin": answers, "simulate": answers, "frame": frames,
            "spell": frames}
 #: Of the rows, those that ask for other commands too.
-ALSO = ("fill", "replay", "request", "reply")
+ALSO = ("fill", "request", "reply")
 ROWS = [row for row in all_rows(["python"]) if row.values[1] in (*MODULES, *ALSO)]
 
 
@@ -38,6 +39,17 @@ class Package:
                          [pytest.param(*row.values[1:], id=row.id) for row in ROWS])
 def test_row(command, given, answers, status):
     OfProgram(Package()).row(command, given, answers, status)
+
+
+@pytest.mark.parametrize(("expected", "logs", "lines", "status"), [
+    pytest.param(*row, id=place) for place, *row in reconciled_rows() if row[1]])
+def test_row_of_many_logs(tmp_path, monkeypatch, expected, logs, lines, status):
+    monkeypatch.chdir(tmp_path)
+    names = ["EXPECTED", *"abc"[:len(logs)]]
+    for name, text in zip(names, [expected, *logs]):
+        (tmp_path / name).write_bytes(text)
+    wanted = "".join(f"{line}\n" for line in lines)
+    assert here("lines", *names, options=["--strict"]) == (wanted, "", status)
 
 
 def test_rows_of_each_command_are_there():

@@ -6,22 +6,18 @@ The first lines of each log leave the same eight UIDs that may be in its field. 
 256 populations that could have produced it. A UID is somewhere in a family if one of its
 populations, one for each of up to three logs, has it; all families are tried. What is possible and
 certain, and every finding, is read off them."""
-from helpers import reports
+from helpers.air import TOP_BYTE, UID_BITS, Listed, as_mask, greatest, hex_of
 from helpers.oracle import Judge
-from helpers.random_logs import (FIELD_CYCLE, TOP_BYTE, UID_BITS, Listed, StayQuiet, eight_uids,
-                                 ended, hex_of,
-                                 opening, rounds)
+from helpers.random_logs import eight_uids, ended, opening, rounds
+from helpers.reports import open_lines
 
 NAMES = "abc"
-MOST_OPEN = 16
 
 
 def log_over(rng, uids):
     """A version, and the lines of a log whose first lines leave these UIDs."""
     version = rng.randint(1, 3)
-    first = opening(rng, version, uids)
-    cycled = first[-1:] == [FIELD_CYCLE]
-    silenced = [line.uid for line in first if isinstance(line, StayQuiet) and not cycled]
+    first, silenced = opening(rng, version, uids)
     lines = list(rounds(rng, version, uids, silenced))
     return version, first + (ended(lines) if rng.random() < 0.6 else lines)
 
@@ -44,15 +40,16 @@ class Families:
     eight bits."""
 
     def __init__(self, uids, expected, logs):
-        self.uids, self.expected, self.logs = sorted(uids), expected, logs
-
-    def those(self, holds):
-        return {uid for place, uid in enumerate(self.uids) if holds(place)}
+        self.judge, self.expected, self.logs = Judge(uids), expected, logs
+        self.each = [self.judge.judge(lines) for _, lines in logs]
 
     def known(self, somewhere):
         """The UIDs that are in one of these sets, and those that are in each."""
-        return (self.those(lambda place: any(them >> place & 1 for them in somewhere)),
-                self.those(lambda place: all(them >> place & 1 for them in somewhere)))
+        return self.judge.known(somewhere)
+
+    def populations(self):
+        """Those that could have produced each log."""
+        return [set(known.populations) for known in self.each]
 
     def families(self, populations):
         """Which UIDs are somewhere, in each family of one population for each log."""
@@ -67,7 +64,7 @@ class Families:
 
     def certain(self):
         """The UIDs that the logs make certain, taken together; none if they are impossible."""
-        somewhere = self.families([set(Judge(self.uids).judge(lines)[1]) for _, lines in self.logs])
+        somewhere = self.families(self.populations())
         return self.known(somewhere)[1] if somewhere else set()
 
     def asked_in(self, possible, certain):
@@ -75,12 +72,10 @@ class Families:
         return possible - certain
 
     def answer(self):
-        judge, populations = Judge(self.uids), []
-        for name, (_, lines) in zip(NAMES, self.logs):
-            text, ones = judge.judge(lines)
-            if not ones:
-                return [f"{text} of {name}"]
-            populations.append(set(ones))
+        for name, known in zip(NAMES, self.each):
+            if known.impossible:
+                return [f"impossible at line {known.impossible} of {name}"]
+        populations = self.populations()
         each = [self.known(ones) for ones in populations]
         possible, certain = self.known(self.families(populations))
         return list(self.findings(possible, certain, each)) or [f"complete {len(self.expected)}"]
@@ -91,15 +86,12 @@ class Families:
         for uid in sorted(certain - set(self.expected)):
             yield f"unlisted {uid:016X}"
             yield f"by line ? of {self.first(uid, [known for _, known in each])}"
-        unsettled = Judge(self.uids).unsettled(possible - certain - set(self.expected))
+        unsettled = greatest(map(as_mask, possible - certain - set(self.expected)))
         if unsettled:
-            yield "unsettled %d %s" % (unsettled[0], hex_of(*unsettled))
+            yield "unsettled %d %s" % (unsettled[0][0], hex_of(*unsettled[0]))
             for name, (may, _) in zip(NAMES, each):
-                asked = self.asked_in(may, certain)
-                masks = reports.greatest([reports.as_mask(uid) for uid in asked])
-                yield from ("open %d %s in %s" % (length, hex_of(length, value), name)
-                            for length, value in masks[:MOST_OPEN])
-                yield from [f"more open in {name}"] * (len(masks) > MOST_OPEN)
+                masks = greatest(map(as_mask, self.asked_in(may, certain)))
+                yield from (f"{line} in {name}" for line in open_lines(masks))
         for uid in sorted(set(self.expected) & possible - certain):
             yield f"doubtful {uid:016X} in {self.first(uid, [may for may, _ in each])}"
 
@@ -132,15 +124,14 @@ def up_to_the_first_incomplete(self, populations):
 
 def certain_in_each(self, somewhere):
     possible, certain = Families.known(self, somewhere)
-    heard = [Families.known(self, set(Judge(self.uids).judge(lines)[1]))[1]
-             for _, lines in self.logs]
+    heard = [Families.known(self, ones)[1] for ones in self.populations()]
     return possible, {uid for uid in certain if all(uid in known for known in heard)}
 
 
 def claims_are_heard(self, somewhere):
     possible, certain = Families.known(self, somewhere)
     claimed = {line.uid for _, lines in self.logs
-               for line in lines if isinstance(line, Listed)} & set(self.uids)
+               for line in lines if isinstance(line, Listed)} & set(self.judge.uids)
     return possible | claimed, certain | claimed
 
 

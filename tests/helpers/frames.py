@@ -1,6 +1,10 @@
-"""Frames, made by Python's own CRC."""
+"""Frames, made by Python's own CRC; and random ones, each with the words that spell it and its
+numbers, as the calls for C take them."""
 import binascii
 from collections.abc import Sequence
+from random import Random
+
+Made = tuple[str, str, tuple[int, ...]]
 
 
 def reflected(number: int, bits: int) -> int:
@@ -17,3 +21,27 @@ def with_crc(body: Sequence[int]) -> bytes:
 def hex_of(body: Sequence[int]) -> str:
     """The hex digits of the frame of some bytes."""
     return with_crc(body).hex().upper()
+
+
+def inventory(chance: Random) -> Made:
+    link, slots = chance.randrange(4), chance.choice((1, 16))
+    bits = chance.randrange(61 if slots == 16 else 65)
+    value = chance.getrandbits(bits)
+    size = (bits + 7) // 8
+    digits = value.to_bytes(size, "big").hex().upper() or "-"
+    body = [(0x04 if slots == 16 else 0x24) + link, 1, bits, *value.to_bytes(size, "little")]
+    return (hex_of(body), f"request inventory link {link} slots {slots} mask {bits} {digits}",
+            (link, slots, bits, value))
+
+
+def stay_quiet(chance: Random) -> Made:
+    link, uid = chance.randrange(4), chance.getrandbits(64)
+    return (hex_of([0x20 + link, 2, *uid.to_bytes(8, "little")]),
+            f"request stay-quiet link {link} uid {uid:016X}", (link, uid))
+
+
+def reply(chance: Random) -> Made:
+    flags, dsfid = chance.randrange(0, 256, 2), chance.randrange(256)
+    uid = 0xE0 << 56 | chance.getrandbits(56)
+    return (hex_of([flags, dsfid, *uid.to_bytes(8, "little")]),
+            f"response flags {flags:02X} dsfid {dsfid:02X} uid {uid:016X}", (flags, dsfid, uid))

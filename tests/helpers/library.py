@@ -3,21 +3,24 @@ import contextlib
 import ctypes
 import os
 import re
-import subprocess
+from unittest import mock
 
 import vicinity
 from vicinity import Kind, _native
 from vicinity._native import AnswerStruct, FindingStruct, MaskStruct
 
-from helpers.program import TOP, Program
+from helpers.program import TOP
 
 # The calls that the header declares.
 CALLS = re.findall(r"^[a-z][a-z0-9_ *]*[ *](vicinity_[a-z_]+)\(",
                    (TOP / "include/vicinity.h").read_text(), re.M)
-STRICT = ("-Wall", "-Wextra", "-Wpedantic", "-Wshadow", "-Werror")
 U8, U32, U64, SIZE = ctypes.c_uint8, ctypes.c_uint32, ctypes.c_uint64, ctypes.c_size_t
 STATUSES = {"complete": 0, "impossible": 2, "refused": 3}
 UNSETTLED, OPEN, MORE, CONFLICT, SILENCED = 4, 8, 9, 10, 11
+# The calls that list something, with its elements.
+LISTING = {"explain": U64, "certain": U64, "listed": U64, "explain_listed": U64,
+           "open_masks": MaskStruct, "report": FindingStruct, "report_listed": FindingStruct,
+           "reconcile": FindingStruct, "simulate": U8}
 
 
 def answer_to(line, fault=0):
@@ -81,23 +84,12 @@ class Library:
     @contextlib.contextmanager
     def package(self):
         """The Python package over this library, and over the one before when it ends."""
-        before = os.environ.get("LIBVICINITY")
-        os.environ["LIBVICINITY"] = str(self.path)
-        _native.library.cache_clear()
-        try:
-            yield vicinity
-        finally:
+        with mock.patch.dict(os.environ, LIBVICINITY=str(self.path)):
             _native.library.cache_clear()
-            del os.environ["LIBVICINITY"]
-            if before is not None:
-                os.environ["LIBVICINITY"] = before
-
-    def compiled(self, source, made, *words, compiler="cc"):
-        """A program in C or C++ over the archive."""
-        folder = self.path.parent
-        subprocess.run([compiler, *STRICT, *words, f"-I{folder}", f"-I{TOP}/bindings/cpp",
-                        TOP / source, folder / "libvicinity.a", "-o", made], check=True)
-        return Program(made)
+            try:
+                yield vicinity
+            finally:
+                _native.library.cache_clear()
 
     def call(self, name, *given):
         """What a call returns. A text, and each array, is given with its length."""
@@ -113,22 +105,23 @@ class Library:
         assert result == getattr(told, "status" if kind is AnswerStruct else kind._fields_[0][0])
         return told
 
-    def into(self, element, room_len, name, *given):
+    def into(self, room_len, name, *given):
         """What a call returns with a buffer of that many elements, whose bytes were 7 before: the
         answer, or the status, how many elements are needed, and the buffer."""
         told = AnswerStruct.from_buffer_copy(b"\x09" * ctypes.sizeof(AnswerStruct))
-        room, needed = (element * room_len)(), SIZE(9)
+        room, needed = (LISTING[name] * room_len)(), SIZE(9)
         ctypes.memset(room, 7, ctypes.sizeof(room))
         answer = [] if name == "simulate" else [ctypes.byref(told)]
         status = self.call(name, *given, *answer, room, ctypes.byref(needed))
         assert not answer or status == told.status
         return told if answer else status, needed.value, room
 
-    def into_each(self, element, wanted, name, *given):
+    def into_each(self, wanted, name, *given):
         """The answer of a call that has to write these elements, in buffers with none, with one too
         few, with as many as are needed, and with more."""
+        elements = bytes((LISTING[name] * len(wanted))(*wanted))
         for room_len in sorted({0, max(len(wanted) - 1, 0), len(wanted), len(wanted) + 3}):
-            told, needed, room = self.into(element, room_len, name, *given)
-            held = bytes((element * len(wanted))(*wanted)) if len(wanted) <= room_len else b""
+            told, needed, room = self.into(room_len, name, *given)
+            held = elements if len(wanted) <= room_len else b""
             assert (needed, bytes(room)) == (len(wanted), held.ljust(ctypes.sizeof(room), b"\7"))
         return told

@@ -5,6 +5,7 @@ import subprocess
 from helpers.program import TOP
 
 SHORT = re.compile(r"([SCDNF#])(\d*)")
+AROUND = re.compile(r"~(\w+) (\d+) (\w)")
 PART = re.compile(r'"([^"]*)"(?: \* (\d+))?')
 
 
@@ -59,10 +60,20 @@ def biglog(shape, size):
     return subprocess.run(made, capture_output=True, check=True).stdout
 
 
+def around(tag, most, log):
+    """The open masks of 1 to `most` bits around a tag: its low bits, the last of them turned."""
+    uid = int(NAMES[f"U{tag}"].split()[1], 16)
+    for length in range(1, int(most) + 1):
+        value = uid % (1 << length) ^ 1 << length - 1
+        yield f"open {length} {value:0{(length + 7) // 8 * 2}X} in {log}"
+
+
 def reconciled_rows():
     """The rows of many logs, by their places: what is expected, the logs, the lines of the answer
     and its status."""
     for place, row in rows("reconciliations"):
-        status, expected, logs, lines = (part.strip() for part in row.split("|"))
+        status, expected, logs, answer = (part.strip() for part in row.split("|"))
         texts = [log_of("" if log.strip() == "empty" else log.strip()) for log in logs.split(";")]
+        lines = [line for told in answer.split(" / ") for match in [AROUND.fullmatch(told)]
+                 for line in (around(*match.groups()) if match else [told])]
         yield place.rpartition("/")[2], log_of(expected), texts if logs else [], lines, int(status)

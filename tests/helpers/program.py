@@ -10,6 +10,7 @@ import pytest
 
 TOP = Path(__file__).resolve().parent.parent.parent
 MAKE = "make", "-sj2", "-C", TOP
+STRICT = ("-Wall", "-Wextra", "-Wpedantic", "-Wshadow", "-Werror")
 
 
 class Said(NamedTuple):
@@ -43,6 +44,23 @@ class Program:
         said = self.run(*words, **how)
         assert said.status == 0, said.err.decode()
         return said.out.decode()
+
+
+def told(*words, cwd=TOP, **environment):
+    """What a tool writes, which finds nothing wrong. Without the tool the test is skipped."""
+    needs(str(words[0]))
+    return Program(*words, **environment).told(cwd=cwd)
+
+
+def compiled(made, *words, compiler="cc"):
+    """A program in C or C++."""
+    told(compiler, *STRICT, *words, "-o", made)
+    return Program(made)
+
+
+def linked(folder, made, *words, compiler="cc"):
+    """The same, with the archive of the library in a folder."""
+    return compiled(made, f"-I{folder}", *words, folder / "libvicinity.a", compiler=compiler)
 
 
 def build(config, *command):

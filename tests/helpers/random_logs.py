@@ -4,13 +4,12 @@ alone.
 Most have first lines that leave eight UIDs that may be in the field, by silent slots and Stay
 Quiets.
 """
-import collections
 import sys
 
+from helpers.air import (COLLISION, FIELD_CYCLE, GARBLED, SILENT, TOP_BYTE, UID_BITS, UNKNOWN, Ask,
+                         Listed, Reply, StayQuiet, as_mask, divided, is_slot, lies_in, slot_mask)
 from helpers.frames import hex_of as digits_of
 
-UID_BITS = 56
-TOP_BYTE = 0xE0 << UID_BITS
 LEFT = 8
 # UIDs that have so many low bits in common are left by some hundred silent slots; others by Stay
 # Quiets.
@@ -19,21 +18,7 @@ NEAR_BITS = 48
 OPEN_SHARE = 0.15
 # What share of the logs of version 3 has lines that tell less than they could.
 WEAKENED_SHARE = 0.3
-
-
-# What a line says, and how it is spelled (docs/LOG_FORMAT.md, docs/FRAMES.md).
-
-Ask = collections.namedtuple("Ask", "sixteen length value")
-StayQuiet = collections.namedtuple("StayQuiet", "uid")
-# A reply; where it isn't known to be the only one in its slot, it is captured.
-Reply = collections.namedtuple("Reply", "uid captured", defaults=(False,))
-Listed = collections.namedtuple("Listed", "uid")
-SILENT, COLLISION, GARBLED, UNKNOWN, FIELD_CYCLE = "S", "C", "D", "N", "F"
 PASSED_OVER = ("", "# a remark")
-
-
-def is_slot(line):
-    return line in (SILENT, COLLISION, GARBLED, UNKNOWN) or isinstance(line, Reply)
 
 
 def spelled(line):
@@ -55,27 +40,6 @@ def text_of(version, lines):
                                             *map(spelled, lines)]).encode()
 
 
-# Masks (docs/AIR.md).
-
-def lies_in(uid, length, value):
-    return uid % 2**length == value
-
-
-def slot_mask(ask, number):
-    """The mask of a slot of a request."""
-    if ask.sixteen:
-        return ask.length + 4, ask.value + number * 2**ask.length
-    return ask.length, ask.value
-
-
-def hex_of(length, value):
-    return "%0*X" % ((length + 7) // 8 * 2, value) if length else "-"
-
-
-def number_of(digits):
-    return 0 if digits == "-" else int(digits, 16)
-
-
 # Random logs.
 
 def eight_uids(rng):
@@ -86,29 +50,27 @@ def eight_uids(rng):
             for high in rng.sample(range(1 << min(UID_BITS - common, 40)), LEFT)]
 
 
-def ruled_out(uids, length=0, value=0):
+def ruled_out(uids):
     """The masks that hold all UIDs but these, and none of these."""
-    if not uids:
-        yield length, value
-    elif length < UID_BITS:
-        for bit in (0, 1):
-            longer = length + 1, value + bit * 2**length
-            yield from ruled_out([uid for uid in uids if lies_in(uid, *longer)], *longer)
+    left = set(map(as_mask, uids))
+    return [mask for mask in divided(left) if mask not in left]
 
 
 def opening(rng, version, uids):
-    """Lines that leave these UIDs and no other. Those that are silenced first aren't ruled out by
-    silence."""
+    """Lines that leave these UIDs and no other, and which of them are Quiet then. Those that are
+    silenced first aren't ruled out by silence."""
     near = len({uid % 2**NEAR_BITS for uid in uids}) == 1
     silenced = [uid for uid in uids if not near or rng.random() < rng.choice((0, 0, 0.3))]
     lines = [StayQuiet(uid) for uid in silenced]
-    masks = list(ruled_out([uid for uid in uids if uid not in silenced]))
+    masks = ruled_out([uid for uid in uids if uid not in silenced])
     if sum(2**(UID_BITS - length) for length, _ in masks) + LEFT - len(silenced) != 2**UID_BITS:
         sys.exit("oracle: the first lines leave others than the eight UIDs")
     for length, value in masks:
         sixteen = length <= 52 and rng.random() < 0.03
         lines += [Ask(sixteen, length, value)] + [SILENT] * (16 if sixteen else 1)
-    return lines + [FIELD_CYCLE] * (version > 1 and bool(silenced) and rng.random() < 0.8)
+    if version > 1 and silenced and rng.random() < 0.8:
+        return lines + [FIELD_CYCLE], []
+    return lines, silenced
 
 
 def request(rng, uids):
@@ -209,9 +171,7 @@ def random_log(rng, version):
     if rng.random() < OPEN_SHARE:
         lines = list(rounds(rng, version - is_weakened, uids, ()))
         return [], list(weakened(rng, lines)) if is_weakened else lines
-    first = opening(rng, version, uids)
-    cycled = first[-1:] == [FIELD_CYCLE]
-    silenced = [line.uid for line in first if isinstance(line, StayQuiet) and not cycled]
+    first, silenced = opening(rng, version, uids)
     lines = list(rounds(rng, version - is_weakened, uids, silenced))
     lines = ended(lines) if rng.random() < 0.4 else lines
     return uids, first + (list(weakened(rng, lines)) if is_weakened else lines) + one_more(rng)
@@ -221,7 +181,7 @@ def contradicted(rng):
     """A version, and the lines of a few sessions one after the other, each over other tags, though
     nothing says so, behind first lines or none."""
     version, uids = rng.randint(1, 3), eight_uids(rng)
-    lines = opening(rng, version, uids) if rng.randrange(2) else []
+    lines = opening(rng, version, uids)[0] if rng.randrange(2) else []
     for _ in range(rng.randint(2, 8)):
         lines += [line for line in rounds(rng, version, uids, ()) if not isinstance(line, Listed)]
     return version, lines

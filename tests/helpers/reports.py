@@ -1,4 +1,5 @@
-"""What `report` has to write of a log, written from docs/VERDICTS.md and COMMANDS.md alone.
+"""What `report` has to write of a log, written from docs/VERDICTS.md and COMMANDS.md alone. Its
+first line is the answer, as `check` writes it.
 
 What is possible and certain comes from populations that were tried (oracle.py). For a log without
 first lines, and to see whether some lines of a log can be true together, one population is tried:
@@ -7,35 +8,10 @@ this one fails, each does.
 """
 import collections
 
-from helpers.random_logs import (COLLISION, FIELD_CYCLE, GARBLED, SILENT, TOP_BYTE, UID_BITS,
-                                 UNKNOWN, Ask, Listed, Reply, StayQuiet,
-                                 hex_of, is_slot, lies_in, slot_mask)
+from helpers.air import (FIELD_CYCLE, LEAST, SILENT, UID_BITS, UNKNOWN, Listed, Reply, StayQuiet,
+                         answers, as_mask, as_uid, fits, greatest, hex_of, lies_in, slots_of)
 
 MOST_OPEN = 16
-# How many UIDs have to be left in a slot in which tags answered and none was read.
-LEAST = {GARBLED: 1, COLLISION: 2}
-Slot = collections.namedtuple("Slot", "number mask quiet line")
-
-
-def slots_of(lines):
-    """The slots of a log: the line's number, the mask, the UIDs that are Quiet, and what was
-    read."""
-    ask, place, quiet, slots = None, 0, frozenset(), []
-    for number, line in enumerate(lines, 2):
-        if isinstance(line, Ask):
-            ask, place = line, 0
-        elif isinstance(line, StayQuiet):
-            quiet |= {line.uid}
-        elif line == FIELD_CYCLE:
-            quiet = frozenset()
-        elif is_slot(line):
-            slots.append(Slot(number, slot_mask(ask, place), quiet, line))
-            place += 1
-    return slots
-
-
-def answers(slot, uid):
-    return lies_in(uid, *slot.mask) and uid not in slot.quiet
 
 
 def is_reply(line, uid):
@@ -52,29 +28,10 @@ def rules_out(slot, uid):
     return lacks_reply(slot, uid) and answers(slot, uid)
 
 
-def as_mask(uid):
-    return UID_BITS, uid % 2**UID_BITS
-
-
-def as_uid(mask):
-    return TOP_BYTE | mask[1]
-
-
-def greatest(masks):
-    """The greatest masks all of whose UIDs are in some masks that are apart, by length and then by
-    value."""
-    by_length = collections.defaultdict(set)
-    for length, value in masks:
-        by_length[length].add(value)
-    found = []
-    for length in range(UID_BITS, 0, -1):
-        half = 2**(length - 1)
-        for value in by_length[length]:
-            if value ^ half in by_length[length]:
-                by_length[length - 1].add(value % half)
-            else:
-                found.append((length, value))
-    return sorted(found + [(0, 0)] * (0 in by_length[0]))
+def open_lines(masks):
+    """The lines of the first open masks, and whether there are more."""
+    return ["open %d %s" % (mask[0], hex_of(*mask)) for mask in masks[:MOST_OPEN]] + (
+        ["more open"] * (len(masks) > MOST_OPEN))
 
 
 class Parts:
@@ -123,10 +80,8 @@ class Parts:
 
     def is_met(self, slot, left):
         """Whether a slot is true if these are left."""
-        there = self.answering[slot] & left
-        if isinstance(slot.line, Reply):
-            return there & self.of(slot.line.uid) != 0
-        return bin(there).count("1") >= LEAST.get(slot.line, 0)
+        its_own = self.of(slot.line.uid) if isinstance(slot.line, Reply) else 0
+        return fits(slot.line, self.answering[slot] & left, its_own)
 
     def left_by(self, slots):
         left = self.all
@@ -163,12 +118,13 @@ class Parts:
                 and mask[0] == UID_BITS]
 
 
-Known = collections.namedtuple("Known", "impossible possible certain")
+# The first impossible line; masks of what is possible, UIDs that are certain, and the populations
+# that could have produced the log, if they were tried.
+Known = collections.namedtuple("Known", "impossible possible certain populations", defaults=([],))
 
 
 def known_of(lines):
-    """What is known of a log without first lines: its first impossible line, masks of what is
-    possible, what is certain."""
+    """What is known of a log without first lines."""
     slots = slots_of(lines)
     parts = Parts(slots, [line.uid for line in lines if isinstance(line, Listed)])
     number = parts.first_impossible(slots)
@@ -185,14 +141,15 @@ class Report:
 
     def __init__(self, lines, known):
         self.lines, self.known, self.slots = lines, known, slots_of(lines)
-        self.listed = sorted(line.uid for line in lines if isinstance(line, Listed))
+        self.listed = self.in_order(line.uid for line in lines if isinstance(line, Listed))
         self.number, self.possible = known.impossible, known.possible
         self.certain = sorted(known.certain)
 
-    @classmethod
-    def of(cls, report):
-        """The report of this kind on the same log."""
-        return cls(report.lines, report.known)
+    def in_order(self, uids):
+        return sorted(uids)
+
+    def answer(self):
+        return next(self.choices())[0]
 
     def given(self):
         return [choice[0] for choice in self.choices()]
@@ -201,17 +158,16 @@ class Report:
         """Why some lines aren't the report, if so."""
         if self.number and self.two_lines() is None:
             return self.wrong_conflict(given)
-        wanted = self.choices()
+        wanted = list(self.choices())
         if len(given) == len(wanted) and all(line in choice for line, choice in zip(given, wanted)):
             return None
         return f"{given}, and not {wanted}"
 
     def choices(self):
         """For each line all that are right."""
-        if self.number:
-            return list(self.impossible())
-        found = list(self.findings())
-        return found or [[f"complete {len(self.listed)}"]]
+        found = self.impossible() if self.number else self.findings()
+        yield next(found, [f"complete {len(self.listed)}"])
+        yield from found
 
     def findings(self):
         for uid in self.absent():
@@ -221,10 +177,11 @@ class Report:
             yield [f"unlisted {uid:016X}"]
             yield self.by(self.lines_for(uid))
         left = self.left()
-        unsettled = greatest(mask for mask in left if mask not in set(map(as_mask, self.listed)))
+        unsettled = greatest(left - set(map(as_mask, self.listed)))
         if unsettled:
-            yield ["unsettled %d %s" % (unsettled[0][0], hex_of(*unsettled[0]))]
-            yield from self.open(greatest(left))
+            mask = self.unsettled(unsettled)
+            yield ["unsettled %d %s" % (mask[0], hex_of(*mask))]
+            yield from ([line] for line in self.open(greatest(left)))
         for uid in self.doubtful():
             yield [f"doubtful {uid:016X}"]
 
@@ -249,11 +206,11 @@ class Report:
         """What is possible and not certain."""
         return set(self.possible) - set(map(as_mask, self.certain))
 
+    def unsettled(self, masks):
+        return masks[0]
+
     def open(self, masks):
-        for mask in masks[:MOST_OPEN]:
-            yield ["open %d %s" % (mask[0], hex_of(*mask))]
-        if len(masks) > MOST_OPEN:
-            yield ["more open"]
+        return open_lines(masks)
 
     def lines_against(self, uid):
         return [slot.number for slot in self.slots if rules_out(slot, uid)]
@@ -335,127 +292,77 @@ class Report:
 
 # Wrong reports, each wrong in one rule.
 
-class FirstOfEachKind(Report):
-    def absent(self):
-        return super().absent()[:1]
-
-    def unlisted(self):
-        return super().unlisted()[:1]
-
-    def doubtful(self):
-        return super().doubtful()[:1]
+def wrong(**rules):
+    return type("WrongReport", (Report,), rules)
 
 
-class AbsentIsDoubtful(Report):
-    def doubtful(self):
-        return [uid for uid in self.listed if uid not in self.certain]
+def greatest_value(self, masks):
+    return [mask for mask in masks if mask[0] == masks[0][0]][-1]
 
 
-class QuietIsRuledOut(Report):
-    def lines_against(self, uid):
-        return [slot.number for slot in self.slots
-                if lacks_reply(slot, uid) and lies_in(uid, *slot.mask)]
+def quiet_is_ruled_out(self, uid):
+    return [slot.number for slot in self.slots
+            if lacks_reply(slot, uid) and lies_in(uid, *slot.mask)]
 
 
-class CapturedRulesOut(Report):
-    """Shows an absent UID by a captured reply of another."""
-    def lines_against(self, uid):
-        return [slot.number for slot in self.slots if answers(slot, uid)
-                and (slot.line == SILENT or isinstance(slot.line, Reply) and slot.line.uid != uid)]
+def captured_rules_out(self, uid):
+    return [slot.number for slot in self.slots if answers(slot, uid)
+            and (slot.line == SILENT or isinstance(slot.line, Reply) and slot.line.uid != uid)]
 
 
-class CapturedIsNotHeard(Report):
-    """Passes over captured replies where it looks for the first one of an unlisted UID."""
-    def lines_for(self, uid):
-        heard = [slot.number for slot in self.slots if slot.line == Reply(uid)]
-        return heard[:1] or super().lines_for(uid)
+def captured_is_not_heard(self, uid):
+    heard = [slot.number for slot in self.slots if slot.line == Reply(uid)]
+    return heard[:1] or Report.lines_for(self, uid)
 
 
-class UnknownInConflict(Report):
-    """Has the slots before of which nothing is known in a conflict."""
-    def conflict(self):
-        unknown = [slot.number for slot in self.slots
-                   if slot.line == UNKNOWN and slot.number < self.number]
-        return sorted(unknown + super().conflict())
+def unknown_in_conflict(self):
+    unknown = [slot.number for slot in self.slots
+               if slot.line == UNKNOWN and slot.number < self.number]
+    return sorted(unknown + Report.conflict(self))
 
 
-class LastLineAgainst(Report):
-    def lines_against(self, uid):
-        return super().lines_against(uid)[::-1]
-
-
-class AnyCollision(Report):
-    """Shows an unlisted UID by a collision in which more than two may have answered."""
-    def needs(self, slot):
-        return slot.line in LEAST
-
-
-class CertainIsOpen(Report):
-    def left(self):
-        return set(self.possible)
-
-
-class ListedIsNotOpen(Report):
-    def open(self, masks):
-        return super().open(greatest(self.left() - set(map(as_mask, self.listed))))
-
-
-class FifteenOpen(Report):
-    def open(self, masks):
-        return (choice for choice in super().open(masks[:MOST_OPEN - 1] + masks[MOST_OPEN:]))
-
-
-class NoMoreOpen(Report):
-    def open(self, masks):
-        return super().open(masks[:MOST_OPEN])
-
-
-class TwoReplies(Report):
-    """Takes two replies of a UID for a conflict, where the second one is of a Quiet tag."""
-    def conflict(self):
-        uid = self.last().line.uid if self.silencers() else None
-        heard = [slot.number for slot in self.slots if is_reply(slot.line, uid)
-                 and slot.number < self.number]
-        return heard[-1:] + [self.number] if heard else super().conflict()
-
-
-class OneLine(Report):
-    """Takes a reply of a Ready tag for a conflict by itself."""
-    def conflict(self):
-        return [self.number] if isinstance(self.last().line, Reply) else super().conflict()
-
-
-class AllLines(Report):
-    def long_conflict(self):
-        return [slot.number for slot in self.slots if slot.number <= self.number]
-
-
-class OneLineLess(Report):
-    def long_conflict(self):
-        return super().long_conflict()[1:]
-
-
-class FirstSilencer(Report):
-    def silencers(self):
-        return super().silencers()[:1]
+def two_replies(self):
+    """Where the second one is of a Quiet tag."""
+    uid = self.last().line.uid if self.silencers() else None
+    heard = [slot.number for slot in self.slots if is_reply(slot.line, uid)
+             and slot.number < self.number]
+    return heard[-1:] + [self.number] if heard else Report.conflict(self)
 
 
 WRONG = {
-    "the first finding of each kind alone": FirstOfEachKind,
-    "an absent UID is doubtful as well": AbsentIsDoubtful,
-    "absent by a slot in which it was Quiet": QuietIsRuledOut,
-    "absent by a captured reply": CapturedRulesOut,
-    "a captured reply shows no unlisted UID": CapturedIsNotHeard,
-    "unknown slots in a conflict": UnknownInConflict,
-    "absent by the last line": LastLineAgainst,
-    "unlisted by a collision of three": AnyCollision,
-    "a certain UID in an open mask": CertainIsOpen,
-    "open masks broken up by listed UIDs": ListedIsNotOpen,
-    "fifteen open masks": FifteenOpen,
-    "more open masks aren't told": NoMoreOpen,
-    "two replies of one UID are a conflict": TwoReplies,
-    "a reply of a Ready tag is a conflict by itself": OneLine,
-    "a conflict with lines that can be left out": AllLines,
-    "a conflict with a line too few": OneLineLess,
-    "silenced by the first Stay Quiet": FirstSilencer,
+    "the first finding of each kind alone": wrong(
+        absent=lambda self: Report.absent(self)[:1],
+        unlisted=lambda self: Report.unlisted(self)[:1],
+        doubtful=lambda self: Report.doubtful(self)[:1]),
+    "in listing order": wrong(in_order=lambda self, uids: list(uids)),
+    "doubtful before unsettled": wrong(findings=lambda self: iter(sorted(
+        Report.findings(self), key=lambda it: it[0].startswith(("unsettled", "open", "more"))))),
+    "the greatest value of a mask": wrong(unsettled=greatest_value),
+    "an absent UID is doubtful as well": wrong(
+        doubtful=lambda self: [uid for uid in self.listed if uid not in self.certain]),
+    "absent by a slot in which it was Quiet": wrong(lines_against=quiet_is_ruled_out),
+    "absent by a captured reply": wrong(lines_against=captured_rules_out),
+    "a captured reply shows no unlisted UID": wrong(lines_for=captured_is_not_heard),
+    "unknown slots in a conflict": wrong(conflict=unknown_in_conflict),
+    "absent by the last line": wrong(
+        lines_against=lambda self, uid: Report.lines_against(self, uid)[::-1]),
+    # in which more than two may have answered
+    "unlisted by any collision": wrong(needs=lambda self, slot: slot.line in LEAST),
+    "a certain UID in an open mask": wrong(left=lambda self: set(self.possible)),
+    "open masks broken up by listed UIDs": wrong(open=lambda self, masks: Report.open(
+        self, greatest(self.left() - set(map(as_mask, self.listed))))),
+    "fifteen open masks": wrong(open=lambda self, masks: Report.open(
+        self, masks[:MOST_OPEN - 1] + masks[MOST_OPEN:])),
+    "more open masks aren't told": wrong(
+        open=lambda self, masks: Report.open(self, masks[:MOST_OPEN])),
+    "two replies of one UID are a conflict": wrong(conflict=two_replies),
+    "a reply of a Ready tag is a conflict by itself": wrong(
+        conflict=lambda self: [self.number] if isinstance(self.last().line, Reply)
+        else Report.conflict(self)),
+    "a conflict with lines that can be left out": wrong(long_conflict=lambda self: [
+        slot.number for slot in self.slots if slot.number <= self.number]),
+    "a conflict with a line too few": wrong(
+        long_conflict=lambda self: Report.long_conflict(self)[1:]),
+    "silenced by the first Stay Quiet": wrong(
+        silencers=lambda self: Report.silencers(self)[:1]),
 }

@@ -3,8 +3,6 @@
     check STATUS | LOG | LINES      the same for `explain`, `simulate`, `margin` and `report`, which
                                     begins as `check` does
     fill | LOG | LOG | LINE         what `simulate` makes of a log, and what `check` says of that
-    replay | LOG |                  the tags of a log's explanation, asked the same, answer what the
-                                    log says
     frame STATUS | WORD | LINES     both lines of `frame`; `spell` makes the frame of each that
                                     isn't refused
     spell STATUS | WORDS | LINE
@@ -15,14 +13,14 @@ A log is the short names of its lines, as tests/data/rows/lines has them, or a t
 marks, with Python's escapes: parts are joined by `+`, and `* N` repeats one. Lines are parted by `
 / `. The expected answers are worked out, never taken from the program.
 """
-import re
+import functools
 
 import pytest
-from vicinity._native import AnswerStruct, FindingStruct
+from vicinity import Fault
+from vicinity._native import AnswerStruct
 
-from helpers.library import U8, U64, answer_to, findings_of, uids
+from helpers.library import answer_to, findings_of, uids
 from helpers.lines import NAMES, log_of, rows, spelled, text_of
-from helpers.program import TOP
 
 # Who is asked, by the names of their fixtures.
 PROGRAMS = ("program", "commands", "arm")
@@ -48,35 +46,6 @@ def all_rows(asked):
 def answer_of(given):
     """The lines of an answer, which may be a log."""
     return spelled(given) if given.startswith('"') else text_of(given.split(" / "))
-
-
-def asked_of(log):
-    """The header, the requests and the field cycles of a log."""
-    return [line for line in log if line[0] in "vTF"]
-
-
-def fits(logged, given):
-    """Whether a line that was logged fits what tags answered in that slot: the replies of one UID
-    do, whatever their DSFID, a captured reply also where others collide, a garbled slot where tags
-    answered, and anything where nothing is known."""
-    if logged == "D":
-        return given == "C" or given.startswith("R")
-    is_same = given[0] == "R" and logged[6:22] == given[6:22]
-    return logged == given or {"R": is_same, "H": is_same or given == "C",
-                               "N": given != " "}.get(logged[0], False)
-
-
-def all_fit(logged, given):
-    """Whether what was logged fits what was given, as far as the log goes: in a round that wasn't
-    asked to its end the slots that were left out are passed over."""
-    given = iter(given)
-    for line in logged:
-        if line[0] in "vTF":
-            if line not in given:
-                return False
-        elif line[0] != "U" and not fits(line, next(given, " ")):
-            return False
-    return True
 
 
 class OfProgram:
@@ -106,30 +75,15 @@ class OfProgram:
     def over_log(self, command, given, answers, status):
         assert self.said(command, given=log_of(given)) == (answer_of(answers[0]), status)
 
-    def explain(self, *row):
-        self.over_log("explain", *row)
-
-    def simulate(self, *row):
-        self.over_log("simulate", *row)
-
-    def report(self, *row):
-        self.over_log("report", *row)
-
-    def margin(self, *row):
-        self.over_log("margin", *row)
+    explain = functools.partialmethod(over_log, "explain")
+    simulate = functools.partialmethod(over_log, "simulate")
+    report = functools.partialmethod(over_log, "report")
+    margin = functools.partialmethod(over_log, "margin")
 
     def fill(self, given, answers, _):
         filled = log_of(answers[0])
         assert self.said("simulate", given=log_of(given)) == (filled, 0)
         assert self.begins(filled) == answer_of(answers[1])
-
-    def replay(self, given, *_):
-        log = log_of(given).decode().splitlines()
-        said, status = self.said("explain", given=text_of(log))
-        _, population, *tags = said.decode().splitlines()
-        assert (population, status) == (f"population {len(tags)}", 1)
-        given = self.said("simulate", given=text_of(asked_of(log) + tags))[0].decode().splitlines()
-        assert all_fit(log, given)
 
     def frame(self, given, answers, status):
         word = spelled(given).decode() if given.startswith('"') else given
@@ -162,12 +116,13 @@ class OfProgram:
 class OfLibrary:
     """Asks the calls for C. There are none for the commands that have no method here."""
 
+    # the numbers of faults, by whether they are of a frame, and their names in small letters
+    faults = {(fault.name.startswith("FRAME_"),
+               fault.name.removeprefix("FRAME_").replace("_", "").lower()): fault.value
+              for fault in Fault}
+
     def __init__(self, library):
         self.library = library
-        header = (TOP / "include/vicinity.h").read_text()
-        found = re.findall(r"VICINITY_FAULT_(FRAME_)?(\w+) = (\d+)", header)
-        self.faults = {(bool(frame), name.replace("_", "").lower()): int(number) for frame, name,
-                       number in found}
 
     def begins(self, log):
         """The line of the answer to a log."""
@@ -194,25 +149,29 @@ class OfLibrary:
         told = self.library.told(AnswerStruct, "check", log)
         assert bytes(told) == self.answered(line, log, status)
 
+    def in_both_ways(self, name, elements, log, answer):
+        """Has a call write these elements; also with the list of the log removed and passed
+        separately, where the answer is that of `check` too."""
+        text, listed, rest = log.partition(b"U ")
+        beside = uids([int(line, 16) for line in (listed + rest).split() if line != b"U"])
+        for call, *words in (name, log), (f"{name}_listed", text, beside):
+            told = self.library.into_each(elements, call, *words)
+            assert bytes(told) == answer
+        assert bytes(self.library.told(AnswerStruct, "check_listed", text, beside)) == answer
+
     def explain(self, given, answers, status):
         log = log_of(given)
         line, *shown = answer_of(answers[0]).decode().splitlines()
         found = [int(tag[2:], 16) for tag in shown[1:]]
-        told = self.library.into_each(U64, found, "explain", log)
-        assert bytes(told) == self.answered(line, log, status)
+        self.in_both_ways("explain", found, log, self.answered(line, log, status))
 
     def report(self, given, answers, status):
-        """Also with a separate list."""
         log, lines = log_of(given), answers[0].split(" / ")
-        text, listed, rest = log.partition(b"U ")
-        beside = uids([int(line, 16) for line in (listed + rest).split() if line != b"U"])
-        for name, words in (("report", [log]), ("report_listed", [text, beside])):
-            told = self.library.into_each(FindingStruct, findings_of(lines), name, *words)
-            assert bytes(told) == self.answered(lines[0], log, status)
+        self.in_both_ways("report", findings_of(lines), log, self.answered(lines[0], log, status))
 
     def fill(self, given, answers, _):
-        assert self.library.into_each(U8, log_of(answers[0]), "simulate", log_of(given)) == 0
+        assert self.library.into_each(log_of(answers[0]), "simulate", log_of(given)) == 0
 
     def simulate(self, given, answers, status):
         wanted = answer_of(answers[0])
-        assert self.library.into_each(U8, wanted, "simulate", log_of(given)) == status
+        assert self.library.into_each(wanted, "simulate", log_of(given)) == status

@@ -59,11 +59,6 @@ class Module:
             ctypes.memmove(ctypes.byref(buffer), data, len(data))
         return told["result"]
 
-    def close(self):
-        self.node.stdin.close()
-        self.node.stdout.close()
-        self.node.wait()
-
 
 class WasmLibrary(Library):
     """The library as a module, also for the Python package."""

@@ -51,8 +51,3 @@ class Commands:
         self.process.stdin.flush()
         status = int(self.process.stdout.readline())
         return Said(*((self.folder / name).read_bytes() for name in ("out", "err")), status)
-
-    def close(self):
-        self.process.stdin.close()
-        self.process.stdout.close()
-        self.process.wait()
