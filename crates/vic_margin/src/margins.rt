@@ -2,7 +2,6 @@
 
 ghost use Rattle.std.specs.Prelude.{◌≡◌, ◌<◌, ◌^◌, IfOk, map};
 ghost use Rattle.vic_log.specs.Order.{entries};
-ghost use Rattle.vic_verdict.specs.LogLines.{AreLogLines};
 ghost use Rattle.vic_walk.specs.Borders.{AreBorders};
 ghost use Rattle.vic_walk.specs.Cuts.{AreCut};
 ghost use Rattle.vic_margin.specs.UidMargins.{margin_of};
@@ -20,10 +19,9 @@ use vic_walk::{Notes, Parts};
 pub fn overlooked(alloc: Global, log: &Log, uids: &[Uid]) -> Result<Vec<u32>, AllocError>
     ensures { IfOk result (λ v. v.items ≡ map (margin_of (entries log.now.lines)) uids.now) }
 {
-    let lines = log.lines();
-    let parts = Parts::of(alloc, lines)?;
+    let parts = Parts::of(alloc, log.lines())?;
     let mut notes = Notes::none(alloc);
-    let margins = part_margins(alloc, lines, &parts, &mut notes)?;
+    let margins = part_margins(alloc, log, &parts, &mut notes)?;
     let mut found = Vec::with_capacity(alloc, uids.len())?;
     for uid in uids {
         found.push(margins[parts.at(key(*uid))])?;
@@ -34,15 +32,15 @@ pub fn overlooked(alloc: Global, log: &Log, uids: &[Uid]) -> Result<Vec<u32>, Al
 /// The margin of the UIDs of each part of a log, with notes of an earlier walk over it.
 pub(crate) fn part_margins(
     alloc: Global,
-    lines: &[PackedLine],
+    log: &Log,
     parts: &Parts,
     notes: &mut Notes,
 ) -> Result<Vec<u32>, AllocError>
-    requires lines { AreLogLines lines.now }
     requires borders { AreBorders parts.now }
-    requires cut { AreCut parts.now (entries lines.now) }
-    ensures { IfOk result (λ v. AreMargins parts.now (entries lines.now) v.items) }
+    requires cut { AreCut parts.now (entries log.now.lines) }
+    ensures { IfOk result (λ v. AreMargins parts.now (entries log.now.lines) v.items) }
 {
+    let lines = log.lines();
     let mut tally = Tally::start(alloc, parts.count())?;
     let mut rounds = RoundCursor::first();
     notes.rewind();
