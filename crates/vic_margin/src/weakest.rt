@@ -85,13 +85,13 @@ fn weakest_of(alloc: Global, log: &Log, parts: LogParts) -> Result<Weakest, Allo
     ensures { IfOk result (IsWeakest (entries log.now.lines)) }
 {
     let LogParts { parts, mut notes } = parts;
-    let margins = part_margins(alloc, log, &parts, &mut notes)?;
+    let margins = part_margins(alloc, log, parts, &mut notes)?;
     let listed = listed_uids(alloc, log.lines())?;
     let keys = keys_in_order(alloc, &listed)?;
-    let Some(least) = least_besides(&parts, &margins, &keys) else {
+    let Some(least) = least_besides(&margins, &keys) else {
         unreachable!()
     };
-    let others = other_keys(alloc, &parts, &margins, least)?;
+    let others = other_keys(alloc, &margins, least)?;
     let set = RangeSet::without(alloc, others)?;
     let Some(mask) = set.widest_besides(&keys)? else {
         unreachable!()

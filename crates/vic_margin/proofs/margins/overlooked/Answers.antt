@@ -11,8 +11,8 @@ pub loop-uid-preserved : goal.loop-uid-preserved
 loop-uid-preserved c =
     let es = entries c.args.log.now.lines in
     let l = c.loop-uid in
-    let margins : AreMargins c.in_ok-parts.parts es c.in_ok-margins.margins.items = c.in_ok-margins.ensures in
-    let own : IsPartOf c.in_ok-parts.parts (mirror c.uid-item.result) c.at.result = rw c.key.ensures.value at c.at.ensures in
-    let lt : c.at.result < length c.in_ok-margins.margins.items = let within = own.within in let room = margins.room in omega (arith, within, room) in
-    let read : c.index.result.now ≡ margin_of es c.uid-item.result = c.index.ensures ∙ (get_or_default c.in_ok-margins.margins.items c.at.result c.index.result.now 0 lt ∙ margins.margin c.uid-item.result c.at.result c.key.ensures.is_uid own) in
+    let margins : AreMargins c.in_ok-margins.margins.parts es c.in_ok-margins.margins.each.items = c.in_ok-margins.ensures in
+    let own : IsPartOf c.in_ok-margins.margins.parts (mirror c.uid-item.result) c.at.result = rw c.key.ensures.value at c.at.ensures in
+    let lt : c.at.result < length c.in_ok-margins.margins.each.items = let within = own.within in let room = margins.room in omega (arith, within, room) in
+    let read : c.index.result.now ≡ margin_of es c.uid-item.result = c.index.ensures ∙ (get_or_default c.in_ok-margins.margins.each.items c.at.result c.index.result.now 0 lt ∙ margins.margin c.uid-item.result c.at.result c.key.ensures.is_uid own) in
     c.in_ok-push.ensures.items ∙ (ap (λ xs. xs ++ c.index.result.now ∷ []) l.invariant ∙ map_taken (margin_of es) c.args.uids.now l.uid-index c.uid-item.result c.index.result.now c.loop-uid-test.true c.uid-item.is read)
