@@ -57,8 +57,8 @@ impl Row {
         (from == 0 || keys[from - 1] < key) && (to == keys.len() || key <= keys[to])
     }
 
-    /// How many keys are below this one, at least and at most: what the index says, or none and all if
-    /// its hint is wrong.
+    /// How many keys are below this one, at least and at most: what the index says, or none and all
+    /// if its hint is wrong.
     fn bounds(&self, key: u64) -> (usize, usize)
         ensures { HasKeyPlaceBetween key self.now.keys.items result.0 result.1 }
     {

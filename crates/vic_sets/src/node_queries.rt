@@ -7,7 +7,6 @@ ghost use Rattle.vic_tree.specs.Gathering.{Gathers};
 ghost use Rattle.vic_sets.specs.inner.Free.{IsFreeUnder};
 ghost use Rattle.vic_sets.specs.inner.Widest.{IsWidestOf, with_low_bit};
 
-use crate::cut::whole;
 use crate::gather::gather_all;
 use crate::node::Node;
 use arrayvec::ArrayVec;
@@ -44,10 +43,7 @@ fn lengthened(mask: &Mask, bit: u64) -> Mask
     requires bit { bit ≤ 1 }
     ensures { result ≡ with_low_bit bit mask.now }
 {
-    let Some(lengthened) = Mask::new(mask.len() + 1, 2 * mask.value() + bit) else {
-        unreachable!()
-    };
-    lengthened
+    Mask::of_bits(mask.len() + 1, 2 * mask.value() + bit)
 }
 
 /// The mask of least length, then of least value, all of whose numbers are open below a node; none
@@ -59,7 +55,7 @@ pub(crate) fn widest_below(node: &Node) -> Option<Mask>
     ensures none { IfNone result ((u : ℕ) → open_at node.now u ≡ false) }
 {
     match node {
-        Node::Clear => Some(whole()),
+        Node::Clear => Some(Mask::default()),
         Node::Shut => None,
         Node::Fork(halves) => match (widest_below(&halves.zero), widest_below(&halves.one)) {
             (None, None) => None,
