@@ -1,6 +1,5 @@
 -- Bits of words, and what they say of positions.
 use Rattle.vic_field.proofs.Words.{◌≡◌, ◌≢◌, ℕ, ◌+◌, ◌-◌, ◌*◌, ◌/◌, ◌%◌, ◌^◌, ◌<◌, ◌≤◌, Bool, true, false, List, length, get_or, set, replicate, refl, sym, ap, subst, ◌∙◌, ◌&&◌, ◌||◌, ◌⊎◌, arith, ⊎_elim, bit_or, w64, add-zero, nat_eq, nat_lt, eq-eqb, eqb-true, ne_eqb, get_or-set_same, get_or-set_other, shr-shr, nat_tests, both_ways, cases_lt, cases_eq, bit_at, trailing_ones, and_parts, or_cases, or_right, get_or_past, or_lt, shr_le, bit_at_above, bit_at_ones, bit_at-trailing_ones, bit_at_set_same, bit_at_set_other, same_from_bits_below, AreUpTo, IsFull, IsSound, NotesFull, blank, is_set, HasBitMore, HasBits, All-replicate, length-replicate}
-use Rattle.vic_field.specs.declared.quiet.QuietPlaces.{QuietPlaces}
 use Rattle.vic_field.specs.declared.quiet.Word.{Word}
 
 -- no bit is set in a stretch after those of all words
@@ -64,6 +63,10 @@ full_bits s bit b ws h small full = same_from_bits_below 64 _ (2 ^ 64 - 1) (or_l
 
 -- ---- full words, and what is noted of them
 
+-- what isn't noted isn't full
+pub unnoted : (s n : ℕ) (ws notes : List Word) → NotesFull s ws notes → n < length ws → is_set s notes n ≡ false → IsFull s ws n → ⊥
+unnoted s n ws notes f lt none full = both_ways _ none (f.noted n lt full)
+
 -- in a stretch after those of all words none is full, and none is noted
 none_noted : (t s : ℕ) (ws notes : List Word) → AreUpTo t ws → AreUpTo t notes → t < s → length ws ≤ length notes * 64 → NotesFull s ws notes
 none_noted t s ws notes up notes_up later room = record {
@@ -73,15 +76,14 @@ none_noted t s ws notes up notes_up later room = record {
 }
 
 -- words of earlier stretches alone are sound, and say nothing
-pub sound_later : (t : ℕ) (q : QuietPlaces) → t < q.stretch → AreUpTo t q.places.items → AreUpTo t q.full_words.items → AreUpTo t q.full_groups.items
-    → length q.places.items ≤ length q.full_words.items * 64 → length q.full_words.items ≤ length q.full_groups.items * 64 → IsSound q
-sound_later t q later places words groups room word_room = record {
-  begun = omega arith;
-  full_words = none_noted t q.stretch _ _ places words later room;
-  full_groups = none_noted t q.stretch _ _ words groups later word_room;
-  places_up_to = λ k d. omega (arith, places k d);
-  words_up_to = λ k d. omega (arith, words k d);
-  groups_up_to = λ k d. omega (arith, groups k d);
+pub sound_later : (t s : ℕ) (places words groups : List Word) → t < s → AreUpTo t places → AreUpTo t words → AreUpTo t groups
+    → length places ≤ length words * 64 → length words ≤ length groups * 64 → IsSound s places words groups
+sound_later t s places words groups later places_up words_up groups_up room word_room = record {
+  full_words = none_noted t s _ _ places_up words_up later room;
+  full_groups = none_noted t s _ _ words_up groups_up later word_room;
+  places_up_to = λ k d. omega (arith, places_up k d);
+  words_up_to = λ k d. omega (arith, words_up k d);
+  groups_up_to = λ k d. omega (arith, groups_up k d);
 }
 
 others : (s bit n : ℕ) (ws new : List Word) → HasBitMore s bit ws new → n ≢ bit / 64 → IsFull s new n → IsFull s ws n

@@ -1,6 +1,7 @@
 -- Tags in a row by their keys.
-use Rattle.vic_field.proofs.Words.{◌≡◌, ◌≢◌, ℕ, zero, suc, ◌+◌, ◌-◌, ◌<◌, ◌≤◌, Bool, true, false, List, [], ◌∷◌, ◌&&◌, ◌||◌, length, take, drop, get_or, map, not, refl, sym, ap, subst, ◌∙◌, arith, add-one, drop-cons, drop-drop, drop_of_length-le, length-drop, nat_eq, nat_le, nat_cmp, insert, ne_eqb, eq-eqb, le-leb, get_or-take, get_or-drop, IsStrictlySortedBy, keys_of, get_or_default, non_decreasing_from_sorted, IsKey, uid_of, has, AreKeys, is_quiet_place, with_quiet, and-true, nat_tests, get_or-insert_at, get_or-insert_below, get_or-insert_above, length-insert, All-cons, list_any_at, get_or-map-range_with_len, length-map-range_with_len, All-permutation, IsPermutation-insert, below_from_sorted, sorted_from_strictly_increasing, Row, ready_between, IsRow, entry_at, HasKeyPlaceBetween, IsKeyPlace, as_ready, HasNoneReady, IsNextReady, both_ways, list_any_none, range_with_len, map-map, fill_by_all}
+use Rattle.vic_field.proofs.Words.{◌≡◌, ◌≢◌, ℕ, zero, suc, ◌+◌, ◌-◌, ◌<◌, ◌≤◌, Bool, true, false, List, [], ◌∷◌, ◌&&◌, ◌||◌, length, take, drop, get_or, map, not, refl, sym, ap, subst, ◌∙◌, arith, add-one, drop-cons, drop-drop, drop_of_length-le, length-drop, nat_eq, nat_le, nat_cmp, insert, ne_eqb, eq-eqb, le-leb, get_or-take, get_or-drop, IsStrictlySortedBy, keys_of, get_or_default, non_decreasing_from_sorted, IsKey, uid_of, has, AreKeys, is_quiet_place, with_quiet, and-true, nat_tests, get_or-insert_at, get_or-insert_below, get_or-insert_above, length-insert, All-cons, list_any_at, get_or-map-range_with_len, length-map-range_with_len, All-permutation, IsPermutation-insert, below_from_sorted, sorted_from_strictly_increasing, Row, ready_between, tag_at, tags_with, HasKeyPlaceBetween, IsKeyPlace, as_ready, HasNoneReady, IsNextReady, both_ways, list_any_none, range_with_len, map-map, fill_by_all}
 use Rattle.vic_field.specs.Rows.{entries}
+use Rattle.vic_field.specs.declared.quiet.QuietPlaces.{QuietPlaces}
 
 -- ---- where keys stand
 
@@ -45,47 +46,46 @@ key_lacks ks q place o p other =
 
 -- ---- entries
 
-pub length_entries : (r : Row) → length (entries r) ≡ length r.keys.items
-length_entries r = length-map-range_with_len (entry_at r) 0 (length r.keys.items)
+pub length_tags : (ks : List ℕ) (q : QuietPlaces) → length (tags_with ks q) ≡ length ks
+length_tags ks q = length-map-range_with_len (tag_at ks q) 0 (length ks)
 
-pub entry : (r : Row) (k : ℕ) (d : ℕ × Bool) → k < length r.keys.items → get_or (entries r) k d ≡ entry_at r k
-entry r k d h = get_or-map-range_with_len (entry_at r) 0 (length r.keys.items) k k d h (omega arith)
+tag : (ks : List ℕ) (q : QuietPlaces) (k : ℕ) (d : ℕ × Bool) → k < length ks → get_or (tags_with ks q) k d ≡ tag_at ks q k
+tag ks q k d h = get_or-map-range_with_len (tag_at ks q) 0 (length ks) k k d h (omega arith)
 
-pub keys_of_entries : (r : Row) → keys_of (entries r) ≡ r.keys.items
-keys_of_entries r =
-    let ks = r.keys.items in
-    map-map (λ (e : ℕ × Bool). e.0) (entry_at r) (range_with_len 0 (length ks)) ∙ sym (fill_by_all (λ k. get_or ks k 0) ks (length ks) 0 refl (λ k lt. refl))
+pub keys_of_tags : (ks : List ℕ) (q : QuietPlaces) → keys_of (tags_with ks q) ≡ ks
+keys_of_tags ks q =
+    map-map (λ (e : ℕ × Bool). e.0) (tag_at ks q) (range_with_len 0 (length ks)) ∙ sym (fill_by_all (λ k. get_or ks k 0) ks (length ks) 0 refl (λ k lt. refl))
 
-pub keys_are : (r : Row) → IsRow r → AreKeys (keys_of (entries r))
-keys_are r i = subst AreKeys (sym (keys_of_entries r)) i.keys
+pub keys_are : (r : Row) → AreKeys (keys_of (entries r))
+keys_are r = subst AreKeys (sym (keys_of_tags r.keys.items r.quiet)) r.rising
 
--- entries that come from others one by one
-each : (f : ℕ × Bool → ℕ × Bool) (r new : Row) → length new.keys.items ≡ length r.keys.items → ((k : ℕ) → k < length r.keys.items → entry_at new k ≡ f (entry_at r k)) → entries new ≡ map f (entries r)
-each f r new size same =
-    fill_by_all (λ k. f (entry_at r k)) (entries new) (length r.keys.items) (0, false) (length_entries new ∙ size) (λ k lt. entry new k (0, false) (omega arith) ∙ same k lt)
-    ∙ sym (map-map f (entry_at r) (range_with_len 0 (length r.keys.items)))
+-- tags that come from others one by one
+each : (f : ℕ × Bool → ℕ × Bool) (ks : List ℕ) (q p : QuietPlaces) → ((k : ℕ) → k < length ks → tag_at ks p k ≡ f (tag_at ks q k)) → tags_with ks p ≡ map f (tags_with ks q)
+each f ks q p same =
+    fill_by_all (λ k. f (tag_at ks q k)) (tags_with ks p) (length ks) (0, false) (length_tags ks p) (λ k lt. tag ks p k (0, false) lt ∙ same k lt)
+    ∙ sym (map-map f (tag_at ks q) (range_with_len 0 (length ks)))
 
 one_quiet : (ks : List ℕ) (place k key : ℕ) (q : Bool) → IsStrictlySortedBy nat_cmp ks → place < length ks → k < length ks → get_or ks place 0 ≡ key → not (nat_eq k place || q) ≡ (not q && not (nat_eq key (get_or ks k 0)))
 one_quiet ks place k key q o h lt e = grind (arith, nat_tests, below_from_sorted ks k place 0 o, below_from_sorted ks place k 0 o)
 
 -- the tag at a position made Quiet
-pub silenced : (r new : Row) (key place : ℕ) → IsRow r → place < length r.keys.items → get_or r.keys.items place 0 ≡ key → new.keys.items ≡ r.keys.items
-    → ((k : ℕ) → is_quiet_place new.quiet k ≡ (nat_eq k place || is_quiet_place r.quiet k)) → entries new ≡ with_quiet key (entries r)
-silenced r new key place i h e keys added =
-    each (λ t. (t.0, t.1 && not (nat_eq key t.0))) r new (ap length keys) (λ k lt. rw (keys, added k, one_quiet r.keys.items place k key (is_quiet_place r.quiet k) i.keys.rising h lt e) refl)
+pub silenced : (r : Row) (p : QuietPlaces) (key place : ℕ) → place < length r.keys.items → get_or r.keys.items place 0 ≡ key
+    → ((k : ℕ) → is_quiet_place p k ≡ (nat_eq k place || is_quiet_place r.quiet k)) → tags_with r.keys.items p ≡ with_quiet key (entries r)
+silenced r p key place h e added =
+    each (λ t. (t.0, t.1 && not (nat_eq key t.0))) r.keys.items r.quiet p (λ k lt. rw (added k, one_quiet r.keys.items place k key (is_quiet_place r.quiet k) r.rising.rising h lt e) refl)
 
-pub with_quiet_none : (r : Row) (q : ℕ) → ((k : ℕ) → k < length r.keys.items → get_or r.keys.items k 0 ≢ q) → entries r ≡ with_quiet q (entries r)
-with_quiet_none r q none = each (λ t. (t.0, t.1 && not (nat_eq q t.0))) r r refl (λ k lt.
-    rw (ne_eqb q (get_or r.keys.items k 0) (λ e. none k lt (sym e)), and-true) refl)
+pub with_quiet_none : (r : Row) (key : ℕ) → ((k : ℕ) → k < length r.keys.items → get_or r.keys.items k 0 ≢ key) → entries r ≡ with_quiet key (entries r)
+with_quiet_none r key none = each (λ t. (t.0, t.1 && not (nat_eq key t.0))) r.keys.items r.quiet r.quiet (λ k lt.
+    rw (ne_eqb key (get_or r.keys.items k 0) (λ e. none k lt (sym e)), and-true) refl)
 
-pub all_ready : (r new : Row) → new.keys.items ≡ r.keys.items → ((k : ℕ) → is_quiet_place new.quiet k ≡ false) → entries new ≡ as_ready (entries r)
-all_ready r new keys none = each (λ e. (e.0, true)) r new (ap length keys) (λ k lt. rw (keys, none k) refl)
+pub all_ready : (ks : List ℕ) (q p : QuietPlaces) → ((k : ℕ) → is_quiet_place p k ≡ false) → tags_with ks p ≡ as_ready (tags_with ks q)
+all_ready ks q p none = each (λ e. (e.0, true)) ks q p (λ k lt. rw (none k) refl)
 
-pub new_entries : (r : Row) → ((k : ℕ) → is_quiet_place r.quiet k ≡ false) → entries r ≡ map (λ k. (k, true)) r.keys.items
-new_entries r none =
-    all_ready r r refl none
-    ∙ sym (map-map (λ (k : ℕ). (k, true)) (λ (e : ℕ × Bool). e.0) (entries r))
-    ∙ ap (λ (ks : List ℕ). map (λ k. (k, true)) ks) (keys_of_entries r)
+pub new_tags : (ks : List ℕ) (q : QuietPlaces) → ((k : ℕ) → is_quiet_place q k ≡ false) → tags_with ks q ≡ map (λ k. (k, true)) ks
+new_tags ks q none =
+    all_ready ks q q none
+    ∙ sym (map-map (λ (k : ℕ). (k, true)) (λ (e : ℕ × Bool). e.0) (tags_with ks q))
+    ∙ ap (λ (ls : List ℕ). map (λ k. (k, true)) ls) (keys_of_tags ks q)
 
 -- ---- a tag more
 
@@ -115,16 +115,16 @@ moved ks es key place k old new d within size lt entry before put after =
     grind (arith, past, after_place ks place key 0 k, after_place es place (key, true) d k, get_or-insert_below ks place key 0 k, get_or-insert_at ks place key 0, get_or-insert_below es place (key, true) d k, get_or-insert_at es place (key, true) d, entry k, entry (k - 1))
 
 -- a row with one tag more, Ready
-pub inserted : (r new : Row) (key place : ℕ) → place ≤ length r.keys.items → new.keys.items ≡ insert r.keys.items place key
-    → ((k : ℕ) → k < place → is_quiet_place new.quiet k ≡ is_quiet_place r.quiet k) → is_quiet_place new.quiet place ≡ false
-    → ((k : ℕ) → place ≤ k → k < length r.keys.items → is_quiet_place new.quiet (k + 1) ≡ is_quiet_place r.quiet k) → entries new ≡ insert (entries r) place (key, true)
-inserted r new key place within keys before put after =
+pub inserted : (r : Row) (new : List ℕ) (p : QuietPlaces) (key place : ℕ) → place ≤ length r.keys.items → new ≡ insert r.keys.items place key
+    → ((k : ℕ) → k < place → is_quiet_place p k ≡ is_quiet_place r.quiet k) → is_quiet_place p place ≡ false
+    → ((k : ℕ) → place ≤ k → k < length r.keys.items → is_quiet_place p (k + 1) ≡ is_quiet_place r.quiet k) → tags_with new p ≡ insert (entries r) place (key, true)
+inserted r new p key place within keys before put after =
     let ks = r.keys.items in
-    let size = length_entries r in
+    let size = length_tags ks r.quiet in
     let more = ap length keys ∙ length-insert ks place key within in
     let one = length-insert (entries r) place (key, true) (omega arith) in
-    sym (fill_by_all (entry_at new) (insert (entries r) place (key, true)) (length new.keys.items) (0, false) (omega arith) (λ k lt.
-    rw keys (moved ks (entries r) key place k (is_quiet_place r.quiet) (is_quiet_place new.quiet) (0, false) within size (omega arith) (λ j h. entry r j (0, false) h) (before k) put after)))
+    sym (fill_by_all (tag_at new p) (insert (entries r) place (key, true)) (length new) (0, false) (omega arith) (λ k lt.
+    rw keys (moved ks (entries r) key place k (is_quiet_place r.quiet) (is_quiet_place p) (0, false) within size (omega arith) (λ j h. tag ks r.quiet j (0, false) h) (before k) put after)))
 
 -- ---- what is heard
 
@@ -138,30 +138,36 @@ skipped a b [] (suc n) none = refl
 skipped a b (e ∷ es) (suc n) none = rw (none 0 e (omega arith) (omega arith)) (skipped a b es n (λ k d lt h. none (suc k) d (omega arith) (omega arith)))
 
 -- from one position to another none answers
-passed : (r : Row) (a b from to : ℕ) → from ≤ to → ((k : ℕ) → from ≤ k → k < to → k < length r.keys.items → answers a b (entry_at r k) ≡ false)
+passed : (r : Row) (a b from to : ℕ) → from ≤ to → ((k : ℕ) → from ≤ k → k < to → k < length r.keys.items → answers a b (tag_at r.keys.items r.quiet k) ≡ false)
     → ready_between a b (drop from (entries r)) ≡ ready_between a b (drop to (entries r))
 passed r a b from to le none =
-    let size = length_entries r in
+    let size = length_tags r.keys.items r.quiet in
     let rest = length-drop from (entries r) in
     let end : from + (to - from) ≡ to = omega arith in
-    skipped a b (drop from (entries r)) (to - from) (λ k d lt h. ap (answers a b) (get_or-drop from (entries r) k d ∙ entry r (from + k) d (omega arith)) ∙ none (from + k) (omega arith) (omega arith) (omega arith))
+    skipped a b (drop from (entries r)) (to - from) (λ k d lt h. ap (answers a b) (get_or-drop from (entries r) k d ∙ tag r.keys.items r.quiet (from + k) d (omega arith)) ∙ none (from + k) (omega arith) (omega arith) (omega arith))
     ∙ ap (ready_between a b) (drop-drop (to - from) from (entries r) ∙ ap (λ n. drop n (entries r)) end)
+
+too_low : (a b key : ℕ) (ready : Bool) → key < a → answers a b (key, ready) ≡ false
+too_low a b key ready below = grind (arith, nat_tests)
+
+quiet_or_high : (a b key : ℕ) (quiet : Bool) → (key ≤ b → quiet ≡ true) → answers a b (key, not quiet) ≡ false
+quiet_or_high a b key quiet h = grind (arith, nat_tests, h)
 
 -- those behind position `from` where none is Ready
 pub hears_none : (r : Row) (a b from : ℕ) → HasNoneReady r from b → ready_between a b (drop from (entries r)) ≡ []
 hears_none r a b from none =
     let to = from + length r.keys.items in
-    passed r a b from to (omega arith) (λ k low lt h. grind (arith, nat_tests, none k low h))
-    ∙ ap (ready_between a b) (drop_of_length-le (entries r) (let size = length_entries r in omega arith))
+    passed r a b from to (omega arith) (λ k low lt h. quiet_or_high a b _ _ (none k low h))
+    ∙ ap (ready_between a b) (drop_of_length-le (entries r) (let size = length_tags r.keys.items r.quiet in omega arith))
 
 -- where position i has the next one
 pub hears_next : (r : Row) (a b from i : ℕ) → IsNextReady r from b i → a ≤ get_or r.keys.items i 0
     → ready_between a b (drop from (entries r)) ≡ uid_of (get_or r.keys.items i 0) ∷ ready_between a b (drop (i + 1) (entries r))
 hears_next r a b from i n low =
-    let there : i < length (entries r) = let size = length_entries r in let lt = n.there in omega arith in
-    passed r a b from i n.low (λ k le lt h. grind (arith, nat_tests, n.quiet k le lt))
-    ∙ rw (add-one, drop-cons (entries r) i (0, false) there, entry r i (0, false) n.there, le-leb a _ low, le-leb _ b n.key, n.ready) refl
+    let there : i < length (entries r) = let size = length_tags r.keys.items r.quiet in let lt = n.there in omega arith in
+    passed r a b from i n.low (λ k le lt h. quiet_or_high a b _ _ (λ _. n.quiet k le lt))
+    ∙ rw (add-one, drop-cons (entries r) i (0, false) there, tag r.keys.items r.quiet i (0, false) n.there, le-leb a _ low, le-leb _ b n.key, n.ready) refl
 
 -- those with keys from a on are all that count
 pub hears_from : (r : Row) (a b from : ℕ) → IsKeyPlace a r.keys.items from → ready_between a b (entries r) ≡ ready_between a b (drop from (entries r))
-hears_from r a b from p = passed r a b 0 from (omega arith) (λ k low lt h. let below = p.below k lt in grind (arith, nat_tests))
+hears_from r a b from p = passed r a b 0 from (omega arith) (λ k low lt h. too_low a b _ _ (p.below k lt))

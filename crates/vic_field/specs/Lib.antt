@@ -1,5 +1,6 @@
 pub mod Tags
 pub mod Keys
+pub mod Bits
 pub mod Places
 pub mod Rows
 pub mod Simulation

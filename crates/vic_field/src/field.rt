@@ -8,14 +8,14 @@ ghost use Rattle.vic_field.specs.Tags.{uids, readiness, ready_in, quiets, heard,
 ghost use Rattle.vic_frame.specs.LowBitsFirst.{uid_of};
 ghost use Rattle.vic_frame.specs.Uids.{has};
 
-use crate::hear::hear_mask;
+use crate::hear::hear;
 use crate::index::Index;
 use crate::outcome::Outcome;
 use crate::quiet::QuietPlaces;
-use crate::row::{self, Row};
+use crate::row::Row;
 use std::alloc::{AllocError, Global};
 use std::marker::Model;
-use vic_frame::{Mask, Request, Uid, low_bits_first};
+use vic_frame::{Mask, Request, Uid, low_bits_first, without_top_byte};
 
 /// Why a field doesn't take one more tag.
 #[derive(Clone, Copy, Debug, PartialEq, Eq)]
@@ -46,13 +46,11 @@ pub struct Field {
 impl Model for Field {
     ghost use Rattle.std.specs.Prelude.{ℕ, List, Bool};
     ghost use Rattle.vic_field.specs.Keys.{tags_of};
-    ghost use Rattle.vic_field.specs.Rows.{entries, IsRow};
+    ghost use Rattle.vic_field.specs.Rows.{entries};
 
     ghost Value = { List (ℕ × Bool) };
 
     ghost view = { λ a. tags_of (entries a.row) };
-
-    ghost invariant = { λ a. IsRow a.row };
 }
 
 impl Field {
@@ -74,8 +72,10 @@ impl Field {
         requires { AreKeys keys.items }
         ensures { IfOk result (HasAdded (has (uids_at keys.items)) []) }
     {
+        let quiet = QuietPlaces::over(alloc, keys.len())?;
+        let index = Index::over(alloc, &keys)?;
         Ok(Field {
-            row: row::of_keys(alloc, keys)?,
+            row: Row { keys, quiet, index },
         })
     }
 
@@ -92,7 +92,7 @@ impl Field {
         if self.holds(uid) {
             return Err(AddFault::Already);
         }
-        row::put(&mut self.row, low_bits_first::key(uid))?;
+        self.row.put(low_bits_first::key(uid))?;
         Ok(())
     }
 
@@ -100,7 +100,7 @@ impl Field {
     fn holds(&self, uid: Uid) -> bool
         ensures { result ≡ has (uids self.now) uid }
     {
-        row::holds(&self.row, low_bits_first::key(uid))
+        self.row.holds(low_bits_first::key(uid))
     }
 
     /// What the tags do when a request is sent: a Stay Quiet makes the tag with its UID Quiet, if
@@ -119,7 +119,7 @@ impl Field {
     fn quiet(&mut self, uid: Uid)
         ensures { HasSilenced (λ u. u == uid) self.old self.new }
     {
-        row::silence(&mut self.row, low_bits_first::key(uid));
+        self.row.silence(low_bits_first::key(uid));
     }
 
     /// Makes every tag Ready, as a field that is switched off and on does. Allocates no memory.
@@ -127,7 +127,7 @@ impl Field {
         ensures { (u : ℕ) → readiness self.new u
             ≡ option_map (λ _. true) (readiness self.old u) }
     {
-        row::wake(&mut self.row);
+        self.row.wake();
     }
 
     /// What a reader hears of the Ready tags in a mask. Allocates no memory.
@@ -138,6 +138,11 @@ impl Field {
         ensures heard { result ≡ heard (ready_in mask.now self.now) }
         ensures population { IsPopulation (uids self.now) }
     {
-        hear_mask(&self.row, mask)
+        let row = &self.row;
+        let Some(mask) = without_top_byte(mask) else {
+            return Outcome::Silent;
+        };
+        let (first, last) = low_bits_first::key_range(&mask);
+        hear(row, first, last)
     }
 }

@@ -2,8 +2,7 @@
 
 ghost use Rattle.std.specs.Prelude.{◌≡◌, ℕ, ◌<◌, ◌≤◌, ◌+◌, ◌*◌, ◌/◌, ◌%◌, true, false, length, IfOk, ◌||◌, nat_eq};
 ghost use Rattle.std.specs.Int.{bit_at};
-ghost use Rattle.vic_field.specs.Places.{AreUpTo, HasRoomFor, IsFull, IsSound, is_quiet_place, is_set};
-ghost use Rattle.vic_field.specs.inner.Places.{AreBlank, HasBitMore, HasBits, IsMoved};
+ghost use Rattle.vic_field.specs.Bits.{AreUpTo, HasBitMore, HasBits, IsFull, IsSound, is_set};
 
 use std::alloc::{AllocError, Global};
 
@@ -41,13 +40,15 @@ pub(crate) struct QuietPlaces {
     pub(crate) full_groups: Vec<Word>,
     /// The number of the stretch between two field cycles, from 1.
     pub(crate) stretch: u32,
+    ghost sound: { IsSound stretch places.items full_words.items full_groups.items },
 }
 
 impl QuietPlaces {
+    ghost use Rattle.vic_field.specs.Places.{HasRoomFor, is_quiet_place};
+    ghost use Rattle.vic_field.specs.inner.Places.{IsMoved};
+
     /// Without positions.
-    pub(crate) fn new(alloc: Global) -> QuietPlaces
-        ensures sound { IsSound result }
-    {
+    pub(crate) fn new(alloc: Global) -> QuietPlaces {
         QuietPlaces {
             places: Vec::new(alloc),
             full_words: Vec::new(alloc),
@@ -58,7 +59,6 @@ impl QuietPlaces {
 
     /// That many positions, none of them Quiet.
     pub(crate) fn over(alloc: Global, count: usize) -> Result<QuietPlaces, AllocError>
-        ensures sound { IfOk result IsSound }
         ensures room { IfOk result (HasRoomFor count) }
         ensures none { IfOk result (λ q. (k : ℕ) → is_quiet_place q k ≡ false) }
     {
@@ -72,8 +72,8 @@ impl QuietPlaces {
 
     /// At least this many positions from `place` on are Quiet: none if it is Ready, at least a word
     /// if a full word begins here, at least a group if a full group does.
+    #[tactic(auto, using(crate::proofs::PlaceLaws::unnoted))]
     pub(crate) fn run_from(&self, place: usize) -> usize
-        requires { IsSound self.now }
         ensures quiet { (k : ℕ) → place ≤ k → k < place + result
             → is_quiet_place self.now k ≡ true }
         ensures ready { result ≡ 0 → is_quiet_place self.now place ≡ false }
@@ -101,9 +101,7 @@ impl QuietPlaces {
 
     /// Makes a position Quiet.
     pub(crate) fn add(&mut self, place: usize)
-        requires sound { IsSound self.old }
-        requires room { place < length self.old.places.items * WORD }
-        ensures sound { IsSound self.new }
+        requires { place < length self.old.places.items * WORD }
         ensures room { length self.new.places.items ≡ length self.old.places.items }
         ensures added { (k : ℕ) → is_quiet_place self.new k
             ≡ (nat_eq k place || is_quiet_place self.old k) }
@@ -118,41 +116,22 @@ impl QuietPlaces {
 
     /// Makes every position Ready.
     pub(crate) fn wake(&mut self)
-        requires sound { IsSound self.old }
-        ensures sound { IsSound self.new }
         ensures room { length self.new.places.items ≡ length self.old.places.items }
         ensures none { (k : ℕ) → is_quiet_place self.new k ≡ false }
     {
         if self.stretch == u32::MAX {
-            self.forget();
+            forget(&mut self.places);
+            forget(&mut self.full_words);
+            forget(&mut self.full_groups);
+            self.stretch = 0;
         }
         self.stretch += 1;
-    }
-
-    /// Makes all words blank, and restarts the count of stretches, before the first.
-    fn forget(&mut self)
-        ensures places { AreBlank self.new.places.items }
-        ensures full_words { AreBlank self.new.full_words.items }
-        ensures full_groups { AreBlank self.new.full_groups.items }
-        ensures place_room { length self.new.places.items ≡ length self.old.places.items }
-        ensures word_room { length self.new.full_words.items
-            ≡ length self.old.full_words.items }
-        ensures group_room { length self.new.full_groups.items
-            ≡ length self.old.full_groups.items }
-        ensures stretch { self.new.stretch ≡ 0 }
-    {
-        self.places.fill(BLANK);
-        self.full_words.fill(BLANK);
-        self.full_groups.fill(BLANK);
-        self.stretch = 0;
     }
 
     /// The same with one more position, so that there are `count`: `gap` is new and Ready, and what
     /// was at `gap` or after it has moved by one.
     pub(crate) fn with_gap(&self, gap: usize, count: usize) -> Result<QuietPlaces, AllocError>
-        requires sound { IsSound self.now }
-        requires within { gap < count }
-        ensures sound { IfOk result IsSound }
+        requires { gap < count }
         ensures room { IfOk result (HasRoomFor count) }
         ensures moved { IfOk result (IsMoved gap count self.now) }
     {
@@ -167,9 +146,16 @@ impl QuietPlaces {
     }
 }
 
+/// Makes words blank.
+fn forget(words: &mut Vec<Word>)
+    ensures blank { AreUpTo 0 words.new.items }
+    ensures size { length words.new.items ≡ length words.old.items }
+{
+    words.fill(BLANK);
+}
+
 /// The bits of a word that are set in a stretch.
 fn bits_in(words: &[Word], stretch: u32, number: usize) -> u64
-    requires { 0 < stretch }
     ensures { HasBits stretch words.now number result }
 {
     match words.get(number) {
@@ -186,7 +172,6 @@ fn bits_in(words: &[Word], stretch: u32, number: usize) -> u64
 
 /// How many bits from this one on, all in its word, are set in a stretch without a gap.
 fn run_in(words: &[Word], stretch: u32, bit: usize) -> usize
-    requires { 0 < stretch }
     ensures set { (k : ℕ) → bit ≤ k → k < bit + result → is_set stretch words.now k ≡ true }
     ensures end { result ≡ 0 → is_set stretch words.now bit ≡ false }
     ensures most { result ≤ WORD }
@@ -206,8 +191,7 @@ fn ones_from(bits: u64, bit: usize) -> usize
 
 /// Sets a bit, and returns whether all bits of its word are then set.
 fn set(words: &mut Vec<Word>, stretch: u32, bit: usize) -> bool
-    requires begun { 0 < stretch }
-    requires room { bit < length words.old.items * WORD }
+    requires { bit < length words.old.items * WORD }
     ensures size { length words.new.items ≡ length words.old.items }
     ensures set { HasBitMore stretch bit words.old.items words.new.items }
     ensures up_to { AreUpTo stretch words.old.items → AreUpTo stretch words.new.items }

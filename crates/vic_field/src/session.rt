@@ -2,16 +2,13 @@
 
 ghost use Rattle.std.specs.Prelude.{◌≡◌, ◌+◌, ◌<◌, ◌≤◌, ◌++◌, [], ◌∷◌, List, Some, None, IfOk, IfErr, OnOk, MatchOption, nat_le};
 ghost use Rattle.vic_field.specs.Simulation.{IsSimulation, HasNoSlots, IsFirstSlot, RefusesLines, last_needed};
-ghost use Rattle.vic_field.specs.inner.Steps.{slot_line, slot_lines_to, slot_lines, with_entries, next_line, IsAfter};
+ghost use Rattle.vic_field.specs.inner.Steps.{FitsNext, IsAfter, slot_line, slot_lines, slot_lines_to, with_entries};
 ghost use Rattle.vic_field.specs.Tags.{uids};
 ghost use Rattle.vic_frame.specs.Requests.{IsValid};
 ghost use Rattle.vic_frame.specs.Slots.{slot_count};
 ghost use Rattle.vic_log.specs.declared.entry.Entry.{Entry};
-ghost use Rattle.vic_log.specs.declared.entry.Version.TheVariants.{V1, V2};
-ghost use Rattle.vic_log.specs.FirstVersion.{IsOfFirstVersion};
-ghost use Rattle.vic_log.specs.SecondVersion.{IsOfSecondVersion};
-ghost use Rattle.vic_log.specs.Log.{last_from, IsValidEntry};
-ghost use Rattle.vic_log.specs.Order.{entries, refusal};
+ghost use Rattle.vic_log.specs.Log.{last_from};
+ghost use Rattle.vic_log.specs.Order.{entries};
 ghost use Rattle.vic_log.specs.Populations.{IsPopulation};
 ghost use Rattle.vic_log.specs.Rounds.{slots_opened};
 
@@ -117,11 +114,7 @@ fn slots_opened(item: &Entry) -> u32
 
 /// Adds an entry, and a line for each slot that it opens, according to what the tags answer.
 fn play_entry(filled: &mut Log, field: &mut Field, item: &Entry) -> Result<(), SimFault>
-    requires follows { refusal (entries filled.old.lines) item.now ≡ None }
-    requires valid { IsValidEntry item.now }
-    requires first_version { filled.old.version ≡ V1 → IsOfFirstVersion item.now }
-    requires second_version { filled.old.version ≡ V2 → IsOfSecondVersion item.now }
-    requires room { next_line filled.old + slots_opened (Some item.now) ≤ MAX_LINES }
+    requires { FitsNext filled.old item.now }
     ensures added { OnOk result
         (filled.new ≡ with_entries filled.old (item.now ∷ slot_lines field.new item.now)) }
     ensures tags { OnOk result (IsAfter item.now field.old field.new) }
@@ -188,11 +181,7 @@ fn slot_line(outcome: Outcome) -> Entry
 
 /// Adds an entry on the next line.
 fn push_next(filled: &mut Log, item: Entry) -> Result<(), SimFault>
-    requires follows { refusal (entries filled.old.lines) item ≡ None }
-    requires valid { IsValidEntry item }
-    requires first_version { filled.old.version ≡ V1 → IsOfFirstVersion item }
-    requires second_version { filled.old.version ≡ V2 → IsOfSecondVersion item }
-    requires room { next_line filled.old ≤ MAX_LINES }
+    requires { FitsNext filled.old item }
     ensures added { OnOk result (filled.new ≡ with_entries filled.old (item ∷ [])) }
     ensures memory { IfErr result (λ e. e ≡ SimFault.Memory) }
 {

@@ -1,7 +1,6 @@
 -- What each kind of entry makes of what a tally knows.
-use Rattle.vic_margin.proofs.Words.{◌≡◌, ◌≢◌, ◌==◌, ◌||◌, ◌&&◌, not, ℕ, suc, ◌+◌, ◌<◌, ◌≤◌, Bool, true, false, Some, List, length, slice_get, slice_index, add-one, ap, sym, refl, subst, ◌∙◌, inl, inr, arith, nat_tests, cases_Bool, cases_eq, false_from_ne_true, eqb-true, nat_lt, IsUid, mirror, Entry, Reply, Captured, Collision, FieldCycle, Garbled, Heard, Listed, Sent, Silent, Unknown, StayQuiet, answers_at, is_quiet, silences, wakes, lies_in_some, mask_at, AreBorders, IsPartOf, AreCut, names, is_marked, Span, is_overlooked, denies_reply_of, some_denies_reply_of, margin_before, margin_of, one_if, Tally, AreMargins, HasRoom, IsCounted, IsSpanAt, IsTallyAt, IsTallyOf, IsTurned, within}
+use Rattle.vic_margin.proofs.Words.{◌≡◌, ◌≢◌, ◌==◌, ◌||◌, ◌&&◌, not, ℕ, suc, ◌+◌, ◌<◌, ◌≤◌, Bool, true, false, Some, List, length, slice_get, slice_index, add-one, ap, sym, refl, subst, ◌∙◌, inl, inr, arith, nat_tests, cases_Bool, cases_eq, false_from_ne_true, eqb-true, nat_lt, IsUid, mirror, Entry, Reply, Captured, Collision, FieldCycle, Garbled, Heard, Listed, Sent, Silent, Unknown, StayQuiet, answers_at, is_quiet, silences, wakes, lies_in_some, mask_at, AreBorders, IsPartOf, AreCut, names, is_marked, Span, is_overlooked, denies_reply_of, some_denies_reply_of, margin_before, margin_of, one_if, Tally, AreMargins, IsCounted, IsSpanAt, IsTallyAt, IsTallyOf, IsTurned, within}
 use Rattle.vic_walk.proofs.PartLaws.{one_part}
-use Rattle.vic_margin.proofs.Turning.{room_turned}
 
 eqb-same : (n : ℕ) → (n == n) ≡ true
 eqb-same n = grind (arith, nat_tests)
@@ -40,15 +39,6 @@ counted_of es i u p e s back old new k silent awake room h counted left t =
       kept = λ it. let q : is_quiet es i u ≡ true = sym same ∙ it in let a = left q in let b = t.kept q in omega arith;
     }
 
-room_counted : (n : ℕ) (s : Span) (back : ℕ → Bool) (old new : Tally) → IsCounted s back old new
-    → ((p : ℕ) → one_if (back p) ≤ one_if (within s.from s.to p)) → HasRoom n old → HasRoom n new
-room_counted n s back old new h few room = record {
-  leaves = rw h.leaves room.leaves;
-  rest = h.places ∙ room.rest;
-  marks = rw h.quiet room.marks;
-  least = λ p lt. let c = h.counts p (let l = room.leaves in omega (arith, lt)) in let r = h.rest p in let f = few p in let l = room.least p lt in omega arith;
-}
-
 silent_ready : (es : List Entry) (i u p : ℕ) (s : Span) → slice_get es i ≡ Some Silent → lies_in_some (mask_at es i) u ≡ within s.from s.to p → is_quiet es i u ≡ false → one_if (within s.from s.to p) ≡ one_if (is_overlooked es i u) + one_if false
 silent_ready es i u p s k inside q = rw (overlooked_is es i Silent u k, q, inside) (grind (arith, nat_tests))
 
@@ -57,9 +47,9 @@ quiet_none es i u q = rw q (grind (arith, nat_tests))
 
 pub tally_silent : (bs : List ℕ) (es : List Entry) (i : ℕ) (s : Span) (old new : Tally) → slice_get es i ≡ Some Silent → IsSpanAt bs es i s → IsCounted s (λ p. false) old new → IsTallyAt bs es i old → IsTallyAt bs es (i + 1) new
 tally_silent bs es i s old new k span h t = rw add-one (record {
-  room = room_counted _ s (λ p. false) old new h (λ p. grind (arith, nat_tests)) t.room;
+  room = h.places ∙ t.room;
   few = let r = h.raised in let f = t.few in omega arith;
-  known = λ u p is at. counted_of es i u p Silent s (λ p. false) old new k refl refl (let w = at.within in let l = t.room.leaves in omega arith) h
+  known = λ u p is at. counted_of es i u p Silent s (λ p. false) old new k refl refl (let w = at.within in let l = old.leaves in let r = t.room in omega arith) h
       (silent_ready es i u p s k (span u p is at)) (λ q. let no = quiet_none es i u q in omega arith) (t.known u p is at);
 })
 
@@ -103,17 +93,11 @@ heard_quiet es i u p own s old marked q = elim (cases_eq p own) [
       rw (quiet_none es i u q, own_isnt) refl
 ]
 
-heard_few : (s : Span) (own p : ℕ) (old : Tally) → one_if (heard_back s own old p) ≤ one_if (within s.from s.to p)
-heard_few s own p old = elim (cases_eq p own) [
-  | inl here ↦ rw here (grind (arith, nat_tests))
-  | inr other ↦ grind (arith, nat_tests)
-]
-
 pub tally_heard : (bs : List ℕ) (es : List Entry) (i own : ℕ) (r : Reply) (s : Span) (old new : Tally) → slice_get es i ≡ Some (Heard r) → AreBorders bs → AreCut bs es → IsUid r.uid → IsPartOf bs (mirror r.uid) own → IsSpanAt bs es i s → IsCounted s (heard_back s own old) old new → IsTallyAt bs es i old → IsTallyAt bs es (i + 1) new
 tally_heard bs es i own r s old new k borders cut is own_at span h t = rw add-one (record {
-  room = room_counted _ s (heard_back s own old) old new h (λ p. heard_few s own p old) t.room;
+  room = h.places ∙ t.room;
   few = let r = h.raised in let f = t.few in omega arith;
-  known = λ u p is_u at. counted_of es i u p (Heard r) s (heard_back s own old) old new k refl refl (let w = at.within in let l = t.room.leaves in omega arith) h
+  known = λ u p is_u at. counted_of es i u p (Heard r) s (heard_back s own old) old new k refl refl (let w = at.within in let l = old.leaves in let r = t.room in omega arith) h
       (heard_ready bs es i u p own r s old k borders cut is own_at is_u at (span u p is_u at) (t.known u p is_u at).quiet)
       (heard_quiet es i u p own s old (t.known u p is_u at).quiet) (t.known u p is_u at);
 })
@@ -180,16 +164,16 @@ abbrev silenced_which : ℕ → Tally → ℕ → Bool
 silenced_which part old p = p == part && not (is_marked old.quiet part)
 
 pub tally_silenced : (bs : List ℕ) (es : List Entry) (i link uid part : ℕ) (old new : Tally) → slice_get es i ≡ Some (Sent (StayQuiet link uid)) → AreBorders bs → AreCut bs es → IsUid uid → IsPartOf bs (mirror uid) part
-    → IsTurned (silenced_which part old) old new → ((p : ℕ) → is_marked new.quiet p ≡ (p == part || is_marked old.quiet p)) → length new.quiet ≡ length old.quiet → IsTallyAt bs es i old → IsTallyAt bs es (i + 1) new
-tally_silenced bs es i link uid part old new k borders cut is at h quiet marks t = rw add-one (record {
-  room = room_turned _ _ old new h marks t.room;
+    → IsTurned (silenced_which part old) old new → ((p : ℕ) → is_marked new.quiet p ≡ (p == part || is_marked old.quiet p)) → IsTallyAt bs es i old → IsTallyAt bs es (i + 1) new
+tally_silenced bs es i link uid part old new k borders cut is at h quiet t = rw add-one (record {
+  room = h.places ∙ t.room;
   few = rw h.counts (let f = t.few in omega arith);
   known = λ u p is_u at_u. elim (cases_eq p part) [
     | inl here ↦
         let name : names (slice_get es i) uid ≡ true = rw (k, eqb-same uid) refl in
         let same : uid ≡ u = same_uid bs es i u uid p cut name is_u is at_u (rw here at) in
         let own_is : (p == part) ≡ true = rw here (eqb-same part) in
-        silenced_part es i link u p (silenced_which part old) old new (rw same at k) h (let r = t.room.rest in let w = at_u.within in omega arith)
+        silenced_part es i link u p (silenced_which part old) old new (rw same at k) h (let r = t.room in let w = at_u.within in omega arith)
         (λ was. let m = ap (is_marked old.quiet) here in rw own_is (let w : is_marked old.quiet part ≡ false = sym m ∙ was in rw w refl))
         (λ was. let m = ap (is_marked old.quiet) here in rw own_is (let w : is_marked old.quiet part ≡ true = sym m ∙ was in rw w refl))
         (rw (quiet p, own_is) refl) (t.known u p is_u at_u)
@@ -214,11 +198,11 @@ woken_of es i u p old new k h unmarked lt t =
       kept = λ q. absurd (cc);
     }
 
-pub tally_woken : (bs : List ℕ) (es : List Entry) (i : ℕ) (old new : Tally) → slice_get es i ≡ Some FieldCycle → IsTurned (is_marked old.quiet) old new → ((p : ℕ) → is_marked new.quiet p ≡ false) → length new.quiet ≡ length old.quiet → IsTallyAt bs es i old → IsTallyAt bs es (i + 1) new
-tally_woken bs es i old new k h quiet marks t = rw add-one (record {
-  room = room_turned _ _ old new h marks t.room;
+pub tally_woken : (bs : List ℕ) (es : List Entry) (i : ℕ) (old new : Tally) → slice_get es i ≡ Some FieldCycle → IsTurned (is_marked old.quiet) old new → ((p : ℕ) → is_marked new.quiet p ≡ false) → IsTallyAt bs es i old → IsTallyAt bs es (i + 1) new
+tally_woken bs es i old new k h quiet t = rw add-one (record {
+  room = h.places ∙ t.room;
   few = rw h.counts (let f = t.few in omega arith);
-  known = λ u p is at. woken_of es i u p old new k h (quiet p) (let r = t.room.rest in let w = at.within in omega arith) (t.known u p is at);
+  known = λ u p is at. woken_of es i u p old new k h (quiet p) (let r = t.room in let w = at.within in omega arith) (t.known u p is at);
 })
 
 -- ---- after the last entry
@@ -238,6 +222,6 @@ margin_at_end es u p n old new h all lt t = elim (cases_Bool (is_quiet es (lengt
 
 pub margins_at_end : (bs : List ℕ) (es : List Entry) (n : ℕ) (old new : Tally) → IsTurned (λ q. nat_lt q n && not (is_marked old.quiet q)) old new → length old.rest.items ≤ n → IsTallyAt bs es (length es) old → AreMargins bs es new.rest.items
 margins_at_end bs es n old new h all t = record {
-  room = h.places ∙ t.room.rest;
-  margin = λ u p is at. margin_at_end es u p n old new h all (let r = t.room.rest in let w = at.within in omega arith) (t.known u p is at);
+  room = h.places ∙ t.room;
+  margin = λ u p is at. margin_at_end es u p n old new h all (let r = t.room in let w = at.within in omega arith) (t.known u p is at);
 }

@@ -1,25 +1,11 @@
 -- Parts of a tally that are turned: from what isn't counted to what is, and back.
-use Rattle.vic_margin.proofs.Words.{◌≡◌, ◌≢◌, ℕ, ◌+◌, ◌-◌, ◌<◌, ◌≤◌, Bool, true, false, not, ◌&&◌, length, nat_lt, slice_index, slice_set, inl, inr, refl, sym, ◌∙◌, arith, nat_tests, cases_Bool, cases_eq, get_or-set_same, get_or-set_other, length-set}
+use Rattle.vic_margin.proofs.Words.{◌≡◌, ◌≢◌, ℕ, ◌+◌, ◌-◌, ◌<◌, Bool, true, false, not, ◌&&◌, length, nat_lt, slice_index, slice_set, inl, inr, refl, sym, ◌∙◌, arith, nat_tests, cases_eq, get_or-set_same, get_or-set_other, length-set}
 use Rattle.vic_walk.specs.Marked.{is_marked}
 use Rattle.vic_margin.specs.declared.tally.Tally.{Tally}
 use Rattle.vic_margin.specs.inner.Counts.{count_at}
-use Rattle.vic_margin.specs.inner.Tallies.{HasRoom, IsTurned}
+use Rattle.vic_margin.specs.inner.Tallies.{IsTurned}
 
 -- ---- a part more
-
-turned_rest : (which : ℕ → Bool) (n p : ℕ) (old new : Tally) → IsTurned which old new → HasRoom n old → p < n → slice_index new.rest.items p ≤ count_at old.counts p
-turned_rest which n p old new h room lt = elim (cases_Bool (which p)) [
-  | inl it ↦ let e = h.turned p (let r = room.rest in omega (arith, lt)) it in omega arith
-  | inr it ↦ let e = h.same p it in let l = room.least p lt in omega arith
-]
-
-pub room_turned : (which : ℕ → Bool) (n : ℕ) (old new : Tally) → IsTurned which old new → length new.quiet ≡ length old.quiet → HasRoom n old → HasRoom n new
-room_turned which n old new h marks room = record {
-  leaves = rw h.counts room.leaves;
-  rest = h.places ∙ room.rest;
-  marks = marks ∙ room.marks;
-  least = λ p lt. rw h.counts (turned_rest which n p old new h room lt);
-}
 
 -- no part is turned
 pub none_turned : (which : ℕ → Bool) (t : Tally) → ((p : ℕ) → which p ≡ false) → IsTurned which t t
@@ -32,15 +18,14 @@ none_turned which t none = record {
 
 -- one part more is turned
 pub turned_next : (which more : ℕ → Bool) (part : ℕ) (old now new : Tally) → part < length old.rest.items
-    → HasRoom (length old.rest.items) old
     → which part ≡ false → more part ≡ true → ((p : ℕ) → p ≢ part → more p ≡ which p)
     → new.rest.items ≡ slice_set now.rest.items part (count_at now.counts part - slice_index now.rest.items part) → new.counts ≡ now.counts
     → IsTurned which old now → IsTurned more old new
-turned_next which more part old now new lt room isnt is others rest counts h = record {
+turned_next which more part old now new lt isnt is others rest counts h = record {
   turned = λ p within it. elim (cases_eq p part) [
     | inl here ↦
         let e = h.same part isnt in
-        let l = room.least part lt in
+        let l = old.least part lt in
         let s = get_or-set_same now.rest.items part (count_at now.counts part - slice_index now.rest.items part) 0 (let r = h.places in omega (arith, lt)) in
         rw (here, rest, s, h.counts, e) (omega arith)
     | inr other ↦ rw (rest, get_or-set_other now.rest.items part p (count_at now.counts part - slice_index now.rest.items part) 0 other) (h.turned p within (sym (others p other) ∙ it))
@@ -59,7 +44,6 @@ turned_next which more part old now new lt room isnt is others rest counts h = r
 pub record IsWokenTo (old now : Tally) (from : ℕ) : Type 0 where
   pub turned : IsTurned (λ p. is_marked old.quiet p && nat_lt p from) old now
   pub quiet : (p : ℕ) → is_marked now.quiet p ≡ (is_marked old.quiet p && not (nat_lt p from))
-  pub marks : length now.quiet ≡ length old.quiet
 
 -- ---- all Ready parts
 
@@ -70,11 +54,11 @@ ready_other : (n p : ℕ) (t : Tally) → p ≢ n → is_ready_before (n + 1) t 
 ready_other n p t other = grind (arith, nat_tests)
 
 pub turned_more : (part : ℕ) (old now new : Tally) → part < length old.rest.items
-    → HasRoom (length old.rest.items) old → is_marked old.quiet part ≡ false
+    → is_marked old.quiet part ≡ false
     → new.rest.items ≡ slice_set now.rest.items part (count_at now.counts part - slice_index now.rest.items part) → new.counts ≡ now.counts
     → IsTurned (is_ready_before part old) old now → IsTurned (is_ready_before (part + 1) old) old new
-turned_more part old now new lt room ready rest counts h =
-    turned_next (is_ready_before part old) (is_ready_before (part + 1) old) part old now new lt room (grind (arith, nat_tests)) (rw ready (grind (arith, nat_tests))) (λ p other. ready_other part p old other) rest counts h
+turned_more part old now new lt ready rest counts h =
+    turned_next (is_ready_before part old) (is_ready_before (part + 1) old) part old now new lt (grind (arith, nat_tests)) (rw ready (grind (arith, nat_tests))) (λ p other. ready_other part p old other) rest counts h
 
 ready_past : (n p : ℕ) (t : Tally) → is_marked t.quiet n ≡ true → is_ready_before (n + 1) t p ≡ is_ready_before n t p
 ready_past n p t quiet = elim (cases_eq p n) [

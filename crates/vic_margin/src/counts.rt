@@ -61,21 +61,6 @@ fn raise(nodes: &mut Vec<u32>, from: usize, to: usize)
     }
 }
 
-/// The numbers of a node and of those above it, added up: so many of them.
-fn sum_up(nodes: &[u32], leaf: usize, levels: usize) -> u32
-    requires leaf { leaf < length nodes.now }
-    requires small { sum_up nodes.now levels leaf < 2 ^ 32 }
-    ensures { result ≡ sum_up nodes.now levels leaf }
-{
-    let mut sum = 0;
-    let mut node = leaf;
-    for _level in 0..levels {
-        sum += nodes[node];
-        node /= 2;
-    }
-    sum
-}
-
 impl Counts {
     /// At least so many counts, all of them 0.
     pub(crate) fn none(alloc: Global, count: usize) -> Result<Counts, AllocError>
@@ -127,6 +112,12 @@ impl Counts {
         if self.raised == 0 {
             return 0;
         }
-        sum_up(&self.nodes, self.leaves + place, self.levels)
+        let mut sum = 0;
+        let mut node = self.leaves + place;
+        for _level in 0..self.levels {
+            sum += self.nodes[node];
+            node /= 2;
+        }
+        sum
     }
 }

@@ -1,56 +1,48 @@
 //! The least margin of the UIDs that a log doesn't list.
 
-ghost use Rattle.std.specs.Prelude.{◌≡◌, ◌^◌, ◌<◌, ◌≤◌, ◌&&◌, ◌||◌, ℕ, Bool, true, false, not, length};
+ghost use Rattle.std.specs.Prelude.{◌≡◌, ◌^◌, ◌<◌, ◌≤◌, ◌&&◌, ◌||◌, ℕ, Bool, true, false, not};
 ghost use Rattle.std.specs.List.Sorted.{IsNonDecreasing};
 ghost use Rattle.vic_frame.specs.LowBitsFirst.{IsKey};
 ghost use Rattle.vic_frame.specs.Uids.{has};
 ghost use Rattle.vic_tree.specs.OpenSet.{AreKeys};
-ghost use Rattle.vic_walk.specs.Borders.{AreBorders, part_count};
 ghost use Rattle.vic_margin.specs.inner.Least.{IsLeastOf, is_free, lesser};
 ghost use Rattle.vic_margin.specs.inner.Trees.{within};
 
+use crate::margins::PartMargins;
 use vic_frame::UID_BITS;
-use vic_walk::Parts;
 
 /// The least margin of the UIDs without those with some keys, which come in order; `None` if there
 /// is no other key.
-pub(crate) fn least_besides(parts: &Parts, margins: &[u32], keys: &[u64]) -> Option<u32>
-    requires borders { AreBorders parts.now }
-    requires room { length margins.now ≡ part_count parts.now }
+pub(crate) fn least_besides(margins: &PartMargins, keys: &[u64]) -> Option<u32>
     requires order { IsNonDecreasing keys.now }
     requires keys { AreKeys keys.now }
-    ensures { IsLeastOf parts.now margins.now (is_free keys.now (2 ^ UID_BITS)) result }
+    ensures { IsLeastOf margins.now.parts margins.now.each.items
+        (is_free keys.now (2 ^ UID_BITS)) result }
 {
     let mut least = None;
     let mut from = 0;
     for key in keys {
-        least = least_between(parts, margins, from, *key, least);
+        least = least_between(margins, from, *key, least);
         from = *key + 1;
     }
-    least_between(parts, margins, from, 1 << UID_BITS, least)
+    least_between(margins, from, 1 << UID_BITS, least)
 }
 
 /// The least margin of those up to now and of the UIDs with keys from `from` on and before `end`;
 /// `None` if there is neither.
-fn least_between(
-    parts: &Parts,
-    margins: &[u32],
-    from: u64,
-    end: u64,
-    least: Option<u32>,
-) -> Option<u32>
-    requires borders { AreBorders parts.now }
-    requires room { length margins.now ≡ part_count parts.now }
-    requires end { end ≤ 2 ^ UID_BITS }
-    ensures { (wanted : ℕ → Bool) → IsLeastOf parts.now margins.now wanted least
-        → IsLeastOf parts.now margins.now (λ k. wanted k || within from end k) result }
+fn least_between(margins: &PartMargins, from: u64, end: u64, least: Option<u32>) -> Option<u32>
+    requires { end ≤ 2 ^ UID_BITS }
+    ensures { (wanted : ℕ → Bool)
+        → IsLeastOf margins.now.parts margins.now.each.items wanted least
+        → IsLeastOf margins.now.parts margins.now.each.items
+        (λ k. wanted k || within from end k) result }
 {
     if end <= from {
         return least;
     }
     let mut found = least;
-    for part in parts.at(from)..parts.at(end - 1) + 1 {
-        found = Some(lesser(found, margins[part]));
+    for part in margins.parts.at(from)..margins.parts.at(end - 1) + 1 {
+        found = Some(lesser(found, margins.each[part]));
     }
     found
 }

@@ -1,9 +1,9 @@
 //! The margins of UIDs.
 
-ghost use Rattle.std.specs.Prelude.{◌≡◌, ◌<◌, ◌^◌, IfOk, map};
+ghost use Rattle.std.specs.Prelude.{◌≡◌, ◌<◌, ◌^◌, IfOk, length, map};
+ghost use Rattle.std.proofs.Props.{props};
 ghost use Rattle.vic_log.specs.Order.{entries};
-ghost use Rattle.vic_verdict.specs.LogLines.{AreLogLines};
-ghost use Rattle.vic_walk.specs.Borders.{AreBorders};
+ghost use Rattle.vic_walk.specs.Borders.{AreBorders, part_count};
 ghost use Rattle.vic_walk.specs.Cuts.{AreCut};
 ghost use Rattle.vic_margin.specs.UidMargins.{margin_of};
 ghost use Rattle.vic_margin.specs.inner.Tallies.{AreMargins};
@@ -15,18 +15,26 @@ use vic_frame::low_bits_first::key;
 use vic_log::{Entry, Log, PackedLine, RoundCursor};
 use vic_walk::{Notes, Parts};
 
+/// The parts of the keys, and the margin of the UIDs of each.
+#[derive(Drop)]
+pub(crate) struct PartMargins {
+    pub parts: Parts,
+    pub each: Vec<u32>,
+    ghost borders: { AreBorders parts } by { Prim.hlevel props },
+    ghost room: { length each.items ≡ part_count parts },
+}
+
 /// The margin of each UID that is handed in: in how many slots of a log it was overlooked. It fails
 /// only if memory is refused.
 pub fn overlooked(alloc: Global, log: &Log, uids: &[Uid]) -> Result<Vec<u32>, AllocError>
     ensures { IfOk result (λ v. v.items ≡ map (margin_of (entries log.now.lines)) uids.now) }
 {
-    let lines = log.lines();
-    let parts = Parts::of(alloc, lines)?;
+    let parts = Parts::of(alloc, log.lines())?;
     let mut notes = Notes::none(alloc);
-    let margins = part_margins(alloc, lines, &parts, &mut notes)?;
+    let margins = part_margins(alloc, log, parts, &mut notes)?;
     let mut found = Vec::with_capacity(alloc, uids.len())?;
     for uid in uids {
-        found.push(margins[parts.at(key(*uid))])?;
+        found.push(margins.each[margins.parts.at(key(*uid))])?;
     }
     Ok(found)
 }
@@ -34,24 +42,25 @@ pub fn overlooked(alloc: Global, log: &Log, uids: &[Uid]) -> Result<Vec<u32>, Al
 /// The margin of the UIDs of each part of a log, with notes of an earlier walk over it.
 pub(crate) fn part_margins(
     alloc: Global,
-    lines: &[PackedLine],
-    parts: &Parts,
+    log: &Log,
+    parts: Parts,
     notes: &mut Notes,
-) -> Result<Vec<u32>, AllocError>
-    requires lines { AreLogLines lines.now }
-    requires borders { AreBorders parts.now }
-    requires cut { AreCut parts.now (entries lines.now) }
-    ensures { IfOk result (λ v. AreMargins parts.now (entries lines.now) v.items) }
+) -> Result<PartMargins, AllocError>
+    requires borders { AreBorders parts }
+    requires cut { AreCut parts (entries log.now.lines) }
+    ensures { IfOk result (λ m. AreMargins m.parts (entries log.now.lines) m.each.items) }
 {
+    let lines = log.lines();
     let mut tally = Tally::start(alloc, parts.count())?;
     let mut rounds = RoundCursor::first();
     notes.rewind();
     for line in lines {
         let entry = entry_of(*line);
-        tally.pass(parts, &rounds, &entry, notes);
+        tally.pass(&parts, &rounds, &entry, notes);
         rounds.advance(&entry);
     }
-    Ok(tally.margins())
+    let each = tally.margins();
+    Ok(PartMargins { parts, each })
 }
 
 /// The entry of a line. By clause `number` a proof sees that positions fit 32 bits, since the

@@ -1,35 +1,33 @@
 //! The keys of the parts with another margin than a given one.
 
-ghost use Rattle.std.specs.Prelude.{◌≡◌, ◌==◌, ◌||◌, ℕ, ◌+◌, ◌^◌, ◌<◌, ◌≤◌, not, IfOk, OnOk, length, slice_index};
+ghost use Rattle.std.specs.Prelude.{◌≡◌, ◌==◌, ◌||◌, ℕ, ◌+◌, ◌^◌, ◌<◌, ◌≤◌, not, IfOk, OnOk, slice_index};
 ghost use Rattle.vic_frame.specs.declared.uid.TheConstants.{UID_BITS};
 ghost use Rattle.vic_tree.specs.Ranges.{in_ranges};
-ghost use Rattle.vic_walk.specs.Borders.{AreBorders, IsPartOf, part_count};
+ghost use Rattle.vic_walk.specs.Borders.{IsPartOf};
 ghost use Rattle.vic_margin.specs.inner.Trees.{within};
 
+use crate::margins::PartMargins;
 use std::alloc::{AllocError, Global};
 use vic_frame::UID_BITS;
 use vic_tree::KeyRange;
-use vic_walk::Parts;
 
 /// The keys of the parts with another margin, as ranges.
 pub(crate) fn other_keys(
     alloc: Global,
-    parts: &Parts,
-    margins: &[u32],
+    margins: &PartMargins,
     margin: u32,
 ) -> Result<Vec<KeyRange>, AllocError>
-    requires borders { AreBorders parts.now }
-    requires room { length margins.now ≡ part_count parts.now }
-    ensures { IfOk result (λ others. (k p : ℕ) → IsPartOf parts.now k p → k < 2 ^ UID_BITS
-        → in_ranges others.items k ≡ not (slice_index margins.now p == margin)) }
+    ensures { IfOk result (λ others. (k p : ℕ) → IsPartOf margins.now.parts k p
+        → k < 2 ^ UID_BITS
+        → in_ranges others.items k ≡ not (slice_index margins.now.each.items p == margin)) }
 {
     let mut others = Vec::new(alloc);
     // the keys from this one up to the part looked at have another, and aren't in `others` yet
     let mut from = 0;
-    for part in 0..parts.count() {
-        if margins[part] == margin {
-            push_keys(&mut others, from, parts.first(part))?;
-            from = parts.end(part);
+    for part in 0..margins.parts.count() {
+        if margins.each[part] == margin {
+            push_keys(&mut others, from, margins.parts.first(part))?;
+            from = margins.parts.end(part);
         }
     }
     push_keys(&mut others, from, 1 << UID_BITS)?;

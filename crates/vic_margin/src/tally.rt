@@ -11,7 +11,6 @@ ghost use Rattle.vic_walk.specs.Marked.{is_marked};
 ghost use Rattle.vic_margin.specs.UidMargins.{one_if};
 ghost use Rattle.vic_margin.specs.inner.Counts.{count_at};
 ghost use Rattle.vic_margin.specs.inner.Trees.{within};
-ghost use Rattle.vic_margin.specs.inner.Tallies.{AreMargins, HasRoom, IsCounted, IsPlace, IsSpanAt, IsTallyAt, IsTurned};
 
 use crate::counts::Counts;
 use std::alloc::{AllocError, Global};
@@ -31,9 +30,15 @@ pub(crate) struct Tally {
     pub rest: Vec<u32>,
     /// Whether they are Quiet.
     pub quiet: Marks,
+    ghost leaves: { length rest.items ≤ counts.leaves },
+    ghost marks: { length quiet ≡ length rest.items },
+    ghost least: { (p : ℕ) → p < length rest.items
+        → slice_index rest.items p ≤ count_at counts p },
 }
 
 impl Tally {
+    ghost use Rattle.vic_margin.specs.inner.Tallies.{AreMargins, IsCounted, IsPlace, IsSpanAt, IsTallyAt, IsTurned};
+
     /// The tally before the first entry, of so many parts.
     pub(crate) fn start(alloc: Global, count: usize) -> Result<Tally, AllocError>
         requires { count ≤ 2 ^ 56 }
@@ -49,8 +54,7 @@ impl Tally {
 
     /// Takes what is left of the count of a part.
     fn turn(&mut self, part: usize)
-        requires room { HasRoom (length self.old.rest.items) self.old }
-        requires within { part < length self.old.rest.items }
+        requires { part < length self.old.rest.items }
         ensures rest { self.new.rest.items ≡ slice_set self.old.rest.items part
             (count_at self.old.counts part - slice_index self.old.rest.items part) }
         ensures counts { self.new.counts ≡ self.old.counts }
@@ -62,13 +66,11 @@ impl Tally {
 
     /// Makes a part Quiet.
     fn silence(&mut self, part: usize)
-        requires room { HasRoom (length self.old.rest.items) self.old }
-        requires within { part < length self.old.rest.items }
+        requires { part < length self.old.rest.items }
         ensures turned { IsTurned (λ p. p == part && not (is_marked self.old.quiet part))
             self.old self.new }
         ensures quiet { (p : ℕ) → is_marked self.new.quiet p
             ≡ (p == part || is_marked self.old.quiet p) }
-        ensures marks { length self.new.quiet ≡ length self.old.quiet }
     {
         if !self.quiet.has(part) {
             self.turn(part);
@@ -78,10 +80,8 @@ impl Tally {
 
     /// Makes all parts Ready.
     fn wake(&mut self)
-        requires room { HasRoom (length self.old.rest.items) self.old }
         ensures turned { IsTurned (is_marked self.old.quiet) self.old self.new }
         ensures quiet { (p : ℕ) → is_marked self.new.quiet p ≡ false }
-        ensures marks { length self.new.quiet ≡ length self.old.quiet }
     {
         let mut from = 0;
         while let Some(part) = self.quiet.first(from, self.rest.len()) {
@@ -102,7 +102,6 @@ impl Tally {
 
     /// Counts a slot in which the UID of part `own` was heard alone, but not for that UID.
     fn hear(&mut self, span: Span, own: usize)
-        requires room { HasRoom (length self.old.rest.items) self.old }
         requires within { span.to ≤ self.old.counts.leaves }
         requires own { own < length self.old.rest.items }
         requires few { self.old.counts.raised + 1 < 2 ^ 32 }
@@ -119,7 +118,7 @@ impl Tally {
     /// is a hint of the part.
     fn pass_request(&mut self, parts: &Parts, request: &Request, notes: &mut Notes)
         requires borders { AreBorders parts.now }
-        requires room { HasRoom (part_count parts.now) self.old }
+        requires room { length self.old.rest.items ≡ part_count parts.now }
         ensures { (es : List EntryValue) (i : ℕ) → slice_get es i ≡ Some (Sent request.now)
             → AreCut parts.now es → IsTallyAt parts.now es i self.old
             → IsTallyAt parts.now es (i + 1) self.new }
@@ -145,7 +144,7 @@ impl Tally {
         notes: &mut Notes,
     )
         requires borders { AreBorders parts.now }
-        requires room { HasRoom (part_count parts.now) self.old }
+        requires room { length self.old.rest.items ≡ part_count parts.now }
         requires few { self.old.counts.raised + 1 < 2 ^ 32 }
         ensures { (es : List EntryValue) (i : ℕ) → IsPlace parts.now es i entry.now rounds.now
             → IsTallyAt parts.now es i self.old → IsTallyAt parts.now es (i + 1) self.new }
@@ -153,9 +152,9 @@ impl Tally {
         match *entry {
             Entry::Sent(request) => self.pass_request(parts, &request, notes),
             Entry::FieldCycle => self.wake(),
-            Entry::Silent => self.count(span_of(parts, rounds)),
+            Entry::Silent => self.count(Tally::span_of(parts, rounds)),
             Entry::Heard(response) => {
-                let span = span_of(parts, rounds);
+                let span = Tally::span_of(parts, rounds);
                 let own = part_near(parts, span.from, key(response.uid()));
                 self.hear(span, own);
             }
@@ -168,9 +167,21 @@ impl Tally {
         }
     }
 
+    /// The parts whose UIDs lie in the mask of the next slot.
+    fn span_of(parts: &Parts, rounds: &RoundCursor) -> Span
+        ensures within { result.to ≤ part_count parts.now }
+        ensures inside { (es : List EntryValue) (i : ℕ) (e : EntryValue)
+            → IsPlace parts.now es i e rounds.now → is_slot e ≡ true
+            → IsSpanAt parts.now es i result }
+    {
+        match rounds.keys() {
+            Some(block) => parts.span(&block),
+            None => Span { from: 0, to: 0 },
+        }
+    }
+
     /// The margin of each part, after the last entry.
     pub(crate) fn margins(self) -> Vec<u32>
-        requires { HasRoom (length self.rest.items) self }
         ensures { (bs : List ℕ) (es : List EntryValue) → IsTallyAt bs es (length es) self
             → AreMargins bs es result.items }
     {
@@ -204,17 +215,4 @@ fn has_key(parts: &Parts, part: usize, key: u64) -> bool
     ensures { result ≡ true → IsPartOf parts.now key part }
 {
     part < parts.count() && parts.first(part) <= key && key < parts.end(part)
-}
-
-/// The parts whose UIDs lie in the mask of the next slot.
-fn span_of(parts: &Parts, rounds: &RoundCursor) -> Span
-    ensures within { result.to ≤ part_count parts.now }
-    ensures inside { (es : List EntryValue) (i : ℕ) (e : EntryValue)
-        → IsPlace parts.now es i e rounds.now → is_slot e ≡ true
-        → IsSpanAt parts.now es i result }
-{
-    match rounds.keys() {
-        Some(block) => parts.span(&block),
-        None => Span { from: 0, to: 0 },
-    }
 }

@@ -1,12 +1,11 @@
 //! The margin of a log, and the first mask of UIDs that have it.
 
-ghost use Rattle.std.specs.Prelude.{◌≡◌, ◌≤◌, IfOk, MatchOption, length};
+ghost use Rattle.std.specs.Prelude.{IfOk, MatchOption};
 ghost use Rattle.vic_log.specs.Order.{entries};
 ghost use Rattle.vic_tree.specs.Ranges.{is_open_in};
 ghost use Rattle.vic_walk.specs.Borders.{AreBorders};
 ghost use Rattle.vic_walk.specs.Cuts.{AreCut};
 ghost use Rattle.vic_verdict.specs.Facts.{IsTold};
-ghost use Rattle.vic_verdict.specs.LogLines.{AreLogLines};
 ghost use Rattle.vic_verdict.specs.Possible.{IsPossible};
 ghost use Rattle.vic_verdict.specs.Verdict.{IsVerdict};
 ghost use Rattle.vic_margin.specs.Margins.{IsWeakest};
@@ -16,7 +15,7 @@ use crate::least::least_besides;
 use crate::margins::part_margins;
 use crate::others::other_keys;
 use std::alloc::{AllocError, Global};
-use vic_log::{Log, MAX_LINES, PackedLine};
+use vic_log::Log;
 use vic_tree::{OpenSet, RangeSet};
 use vic_verdict::{
     Facts, LogParts, Verdict, facts_and_parts_of, first_finding, keys_in_order, listed_uids,
@@ -39,7 +38,7 @@ pub fn margin(alloc: Global, log: &Log) -> Result<Margin, AllocError>
                 certain,
             } = facts;
             let verdict = first_finding(alloc, open, &certain, lines)?;
-            let weakest = weakest_by(alloc, lines, parts, &verdict)?;
+            let weakest = weakest_by(alloc, log, parts, &verdict)?;
             Ok(Margin {
                 verdict,
                 weakest: Some(weakest),
@@ -56,16 +55,14 @@ pub fn margin(alloc: Global, log: &Log) -> Result<Margin, AllocError>
 /// have it.
 fn weakest_by(
     alloc: Global,
-    lines: &[PackedLine],
+    log: &Log,
     parts: LogParts,
     verdict: &Verdict,
 ) -> Result<Weakest, AllocError>
-    requires lines { AreLogLines lines.now }
-    requires limit { length lines.now ≤ MAX_LINES }
     requires borders { AreBorders parts.parts }
-    requires cut { AreCut parts.parts (entries lines.now) }
-    requires verdict { IsVerdict lines.now verdict.now }
-    ensures { IfOk result (IsWeakest (entries lines.now)) }
+    requires cut { AreCut parts.parts (entries log.now.lines) }
+    requires verdict { IsVerdict log.now.lines verdict.now }
+    ensures { IfOk result (IsWeakest (entries log.now.lines)) }
 {
     match verdict {
         // its UIDs were overlooked nowhere
@@ -77,26 +74,24 @@ fn weakest_by(
         | Verdict::Absent(_)
         | Verdict::Unlisted(_)
         | Verdict::Doubtful(_)
-        | Verdict::Complete { .. } => weakest_of(alloc, lines, parts),
+        | Verdict::Complete { .. } => weakest_of(alloc, log, parts),
     }
 }
 
 /// The margin of the lines of a log, and the first mask of UIDs that have it.
-fn weakest_of(alloc: Global, lines: &[PackedLine], parts: LogParts) -> Result<Weakest, AllocError>
-    requires lines { AreLogLines lines.now }
-    requires limit { length lines.now ≤ MAX_LINES }
+fn weakest_of(alloc: Global, log: &Log, parts: LogParts) -> Result<Weakest, AllocError>
     requires borders { AreBorders parts.parts }
-    requires cut { AreCut parts.parts (entries lines.now) }
-    ensures { IfOk result (IsWeakest (entries lines.now)) }
+    requires cut { AreCut parts.parts (entries log.now.lines) }
+    ensures { IfOk result (IsWeakest (entries log.now.lines)) }
 {
     let LogParts { parts, mut notes } = parts;
-    let margins = part_margins(alloc, lines, &parts, &mut notes)?;
-    let listed = listed_uids(alloc, lines)?;
+    let margins = part_margins(alloc, log, parts, &mut notes)?;
+    let listed = listed_uids(alloc, log.lines())?;
     let keys = keys_in_order(alloc, &listed)?;
-    let Some(least) = least_besides(&parts, &margins, &keys) else {
+    let Some(least) = least_besides(&margins, &keys) else {
         unreachable!()
     };
-    let others = other_keys(alloc, &parts, &margins, least)?;
+    let others = other_keys(alloc, &margins, least)?;
     let set = RangeSet::without(alloc, others)?;
     let Some(mask) = set.widest_besides(&keys)? else {
         unreachable!()

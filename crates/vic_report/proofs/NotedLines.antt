@@ -1,5 +1,5 @@
 -- Lines that are noted of UIDs, one after another.
-use Rattle.vic_report.proofs.Words.{◌≡◌, ℕ, true, List, Some, sym, ap, subst, ◌∙◌, arith, cond, inl, inr, cases_eq, false≢true, nat_cmp, ◌+◌, ◌<◌, ◌≤◌, length, take, get_or, get_or_default, slice_get, refl, eqb-true, has, cases_lt, hears, Answering, Entry, LogLine, entries, ShowsCertain}
+use Rattle.vic_report.proofs.Words.{◌≡◌, ℕ, true, List, Some, sym, ap, subst, ◌∙◌, arith, cond, inl, inr, cases_eq, false≢true, nat_cmp, ◌+◌, ◌<◌, ◌≤◌, length, take, get_or, get_or_default, slice_get, eqb-true, has, cases_lt, hears, Answering, Entry, LogLine, entries, ShowsCertain}
 use Rattle.std.proofs.Common.{is_some, nat_eq, ◌⊎◌}
 use Rattle.std.proofs.lemmas.Bool.{or_cases}
 use Rattle.std.proofs.lemmas.Option.{slice_get_past}

@@ -1,5 +1,5 @@
 -- The first line that rules a UID out, by the end that a walk knows of it.
-use Rattle.vic_report.proofs.Words.{◌≡◌, ℕ, ◌-◌, ◌<◌, ◌≤◌, zero, suc, List, length, Bool, true, false, Option, Some, None, refl, sym, ap, ◌∙◌, subst, arith, cases_lt, nat_tests, inl, inr, false≢true, slice_get, get_or, get_or_default, IsUid, Entry, LogLine, IsRisingFrom, entries, answers_at, reading_of, slots_before, is_open, IsPossible, RulesOut, denies_reply_of, entry_allows, [], ◌∷◌, option_map, slice_get-map, open_step}
+use Rattle.vic_report.proofs.Words.{◌≡◌, ℕ, ◌-◌, ◌<◌, ◌≤◌, zero, suc, All, List, length, Bool, true, false, Option, Some, None, refl, sym, ap, ◌∙◌, subst, arith, cases_lt, nat_tests, inl, inr, false≢true, slice_get, get_or, get_or_default, IsUid, Entry, LogLine, IsRisingFrom, entries, answers_at, reading_of, slots_before, is_open, IsPossible, RulesOut, denies_reply_of, entry_allows, [], ◌∷◌, option_map, slice_get-map, open_step}
 use Rattle.vic_verdict.proofs.Listing.{number_above}
 use Rattle.vic_verdict.proofs.Walking.{broken_log}
 use Rattle.vic_verdict.specs.Verdict.{IsLeast}
@@ -32,7 +32,7 @@ comes_to_end bs es (Some i) w possible end =
     absurd (broken_log bs es (Some i) w end refl possible)
 
 -- and knows the end of each UID by that of its part
-pub known_end : (es : List Entry) (w : LogWalk) (u p key end : ℕ) → IsPossible es → IsWalkOver es w → IsUid u → key ≡ mirror u → IsPartOf w.parts key p → end ≡ get_or w.walk.ends.items p end → IsEnd es (length es) u end
+known_end : (es : List Entry) (w : LogWalk) (u p key end : ℕ) → IsPossible es → IsWalkOver es w → IsUid u → key ≡ mirror u → IsPartOf w.parts key p → end ≡ get_or w.walk.ends.items p end → IsEnd es (length es) u end
 known_end es w u p key end possible over is k part read =
     let at = comes_to_end w.parts es w.broken w.walk possible over.walk in
     let inside = part.within in
@@ -40,9 +40,17 @@ known_end es w u p key end possible over is k part read =
     subst (IsEnd es (length es) u) same (at.known u p is (subst (λ x. IsPartOf w.parts x p) k part)).end
 
 -- a UID that isn't open has an end
-pub has_end : (es : List Entry) (n u end : ℕ) → IsEnd es n u end → is_open (slots_before es n) u ≡ false → (0 < end) × (end ≤ n)
+has_end : (es : List Entry) (n u end : ℕ) → IsEnd es n u end → is_open (slots_before es n) u ≡ false → (0 < end) × (end ≤ n)
 has_end es n u zero h shut = absurd (false≢true (sym shut ∙ h))
 has_end es n u (suc j) h shut = let below = h.0 in (omega arith, omega (arith, below))
+
+-- so a walk knows the end of each UID in a list of such
+pub listed_end : (es : List Entry) (w : LogWalk) (us : List ℕ) (i u p key end : ℕ) → IsPossible es → IsWalkOver es w → All (λ v. is_open (slots_before es (length es)) v ≡ false) us → i < length us → u ≡ get_or us i u → IsUid u → key ≡ mirror u → IsPartOf w.parts key p → end ≡ get_or w.walk.ends.items p end
+    → IsEnd es (length es) u end × (0 < end) × (end ≤ length es)
+listed_end es w us i u p key end possible over shut lt at is k part read =
+    let known = known_end es w u p key end possible over is k part read in
+    let some = has_end es (length es) u end known (subst (λ v. is_open (slots_before es (length es)) v ≡ false) (sym at) (shut i u lt)) in
+    (known, some.0, some.1)
 
 -- what an entry doesn't allow to a tag lacks its reply, which it would have given
 not_allowed : (e : Entry) (answers : Bool) (u : ℕ) → entry_allows (reading_of e) answers u ≡ false → (answers ≡ true) × (denies_reply_of e u ≡ true)

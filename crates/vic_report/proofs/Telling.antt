@@ -1,5 +1,5 @@
 -- Lines that tell of UIDs.
-use Rattle.vic_report.proofs.Words.{has, length, ◌≡◌, ℕ, List, true, Some, refl, sym, ap, ◌∙◌, subst, ⊎_elim, slice_get, and_parts, and_from, Entry, Collision, Garbled, Heard, Captured, hears, eqb-true, false≢true, LogLine, entries, answers_at, slots_of, is_open, Forces, ManyReplies, SomeReply, Reply, IsFound, MayAnswer, TellsOf, ShowsCertain, IsPossible, Answering, answering, IsPossibleUid-iff, needs_two_or_one, forces_two_iff, forces_one_iff}
+use Rattle.vic_report.proofs.Words.{has, length, ◌≡◌, ℕ, List, true, Some, refl, sym, ap, ◌∙◌, subst, ⊎_elim, slice_get, and_parts, and_from, Entry, Collision, Garbled, Heard, Captured, hears, eqb-true, false≢true, LogLine, entries, answers_at, slots_of, is_open, Forces, ManyReplies, SomeReply, IsFound, MayAnswer, TellsOf, ShowsCertain, IsPossible, Answering, answering, IsPossibleUid-iff, needs_two_or_one, forces_two_iff, forces_one_iff}
 use Rattle.vic_report.proofs.Conflicts.{line_of}
 
 -- ---- what a line tells

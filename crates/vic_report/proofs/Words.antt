@@ -1,5 +1,5 @@
 -- The words of proofs, from one place: what files name from outside of the crate, and the definitions that several of them name.
-pub use Rattle.std.proofs.Common.{All, Bool, Equal, Err, Greater, Less, List, MatchOption, MatchResult, None, Ok, OnOk, Option, Result, Some, [], add-one, ap, arith, cond, drop, false, filter, get_or, if◌then◌else◌, inl, inr, is_err, leb, length, length-append, ltb-true, map, nat_cmp, nat_eq, nat_le, not, option_map, refl, rules, slice_get, subst, suc, sym, take, true, zero, ℕ, ⊎_elim, ◌&&◌, ◌*◌, ◌++◌, ◌+◌, ◌-◌, ◌<◌, ◌||◌, ◌↔◌, ◌∙◌, ◌∷◌, ◌≡◌, ◌≤◌}
+pub use Rattle.std.proofs.Common.{All, Bool, Equal, Err, Greater, Less, List, MatchOption, None, Ok, OnOk, Option, Result, Some, [], add-one, ap, arith, cond, drop, false, filter, get_or, if◌then◌else◌, inl, inr, leb, length, length-append, ltb-true, map, nat_cmp, nat_eq, nat_le, not, option_map, refl, rules, slice_get, subst, suc, sym, take, true, zero, ℕ, ⊎_elim, ◌&&◌, ◌*◌, ◌++◌, ◌+◌, ◌-◌, ◌<◌, ◌||◌, ◌↔◌, ◌∙◌, ◌∷◌, ◌≡◌, ◌≤◌}
 pub use Rattle.std.proofs.lemmas.Bool.{and_from, and_parts, cases_Bool, cases_eq, cases_lt, cond_both, eq-eqb, eqb-true, false≢true, le-leb, leb-false, leb-true, not-true, not_from_false, true_from_ne_false}
 pub use Rattle.std.proofs.lemmas.Bool.Decides.{nat_tests}
 pub use Rattle.std.proofs.lemmas.Cmp.{ranked}
@@ -29,7 +29,7 @@ pub use Rattle.vic_log.specs.Quiet.{is_quiet, silences, wakes}
 pub use Rattle.vic_log.specs.Rounds.{ends_round, is_slot, mask_at, mask_of_slot, mask_since, opener, slots_left}
 pub use Rattle.vic_log.specs.Slots.{Forces, ManyReplies, SomeReply, is_open, reading_of, slots_before, slots_of, hears, tells}
 pub use Rattle.vic_log.specs.declared.entry.Entry.{Entry}
-pub use Rattle.vic_log.specs.declared.entry.Entry.TheVariants.{Captured, Collision, FieldCycle, Garbled, Heard, Listed, Sent, Silent, Unknown}
+pub use Rattle.vic_log.specs.declared.entry.Entry.TheVariants.{Captured, Collision, FieldCycle, Garbled, Heard, Listed, Sent, Unknown}
 pub use Rattle.vic_log.specs.declared.entry.LogLine.{LogLine}
 pub use Rattle.vic_tree.proofs.GatheringLaws.{found_among, has_dedup}
 pub use Rattle.vic_tree.specs.OpenSet.{SameUids, has_key, without_keys}
@@ -39,13 +39,12 @@ pub use Rattle.vic_verdict.proofs.Decide.{IsPossibleUid-iff}
 pub use Rattle.vic_verdict.proofs.Differing.{AreFacts, AreListed, all_findings, doubtful_list, first_mask, log_facts, missing_least, missing_or_absent, none_unsettled, open_iff}
 pub use Rattle.vic_verdict.proofs.Entries.{entry_allows, forces_one_iff, forces_two_iff, needs_two_or_one, open_step}
 pub use Rattle.vic_verdict.proofs.Failing.{head_least, member_at, none_of, place_of, rising_order}
-pub use Rattle.vic_verdict.proofs.Possibility.{IsPossible-front}
 pub use Rattle.vic_verdict.proofs.Listing.{entry_at}
 pub use Rattle.vic_verdict.proofs.Verdicts.{first_lines}
 pub use Rattle.vic_verdict.specs.Needs.{IsFound}
 pub use Rattle.vic_verdict.specs.Differences.{IsLeftOpen, IsUndecided, MayBeMissing}
 pub use Rattle.vic_verdict.specs.Places.{answering}
-pub use Rattle.vic_verdict.specs.Possible.{IsCertainUid, IsContradictedAt, IsPossible, IsPossibleUid}
+pub use Rattle.vic_verdict.specs.Possible.{IsCertainUid, IsPossible, IsPossibleUid}
 pub use Rattle.vic_verdict.specs.Rising.{IsFailing, IsListOf}
 pub use Rattle.vic_verdict.specs.Verdict.{IsAbsent, IsFirstMask, IsUnlisted, IsVerdict, NoSuch, entries_to}
 pub use Rattle.vic_walk.specs.declared.answers.Answering.{Answering}

@@ -3,7 +3,7 @@
 //! The first line is noted of each UID: of replies, and then of the unread slots that need all who
 //! answer there. That a reply is the first one is only tested.
 
-ghost use Rattle.std.specs.Prelude.{◌≡◌, ℕ, IfNone, IfOk, IfSome, OnOk, Some, List, length, slice_get, true};
+ghost use Rattle.std.specs.Prelude.{◌≡◌, ℕ, IfOk, OnOk, Some, List, slice_get, true};
 ghost use Rattle.std.specs.List.{All};
 ghost use Rattle.vic_frame.specs.Uids.{has};
 ghost use Rattle.vic_log.specs.declared.entry.LogLine.{LogLine as LogLineValue};
@@ -116,10 +116,13 @@ fn note_exact(
     requires found { IsFound (entries lines.now) slot.now }
     ensures { OnOk result (HasNoted lines.now noted.old noted.new (IsExactAt slot.now)) }
 {
-    let Some(line) = exact_line(lines, slot) else {
+    if slot.uids.len() != slot.need {
         return Ok(());
+    }
+    let Some(line) = lines.get(slot.at) else {
+        unreachable!()
     };
-    note_all(noted, &slot.uids, line)?;
+    note_all(noted, &slot.uids, line.number())?;
     Ok(())
 }
 
@@ -133,22 +136,4 @@ fn note_all(noted: &mut BTreeMap<Uid, u32>, uids: &[Uid], line: u32) -> Result<(
         note(noted, *uid, line)?;
     }
     Ok(())
-}
-
-/// The line of a slot in which no more open UIDs answer than have to be there: it shows that each
-/// of them is there. None if more answer.
-fn exact_line(lines: &[PackedLine], slot: &Answering) -> Option<u32>
-    requires possible { IsPossible (entries lines.now) }
-    requires found { IsFound (entries lines.now) slot.now }
-    ensures shows { IfSome result (λ n. (u : ℕ) → has slot.now.uids.items u ≡ true
-        → ShowsCertain lines.now n u) }
-    ensures exact { IfNone result (length slot.now.uids.items ≡ slot.now.need → ⊥) }
-{
-    if slot.uids.len() != slot.need {
-        return None;
-    }
-    let Some(line) = lines.get(slot.at) else {
-        unreachable!()
-    };
-    Some(line.number())
 }

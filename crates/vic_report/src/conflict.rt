@@ -1,11 +1,10 @@
 //! Why a log became impossible: slot lines that no population fits.
 
-ghost use Rattle.std.specs.Prelude.{◌≡◌, ℕ, ◌≤◌, IfOk, length, true};
+ghost use Rattle.std.specs.Prelude.{◌≡◌, ℕ, IfOk, true};
 ghost use Rattle.std.specs.List.Sorted.{IsStrictlyIncreasing};
 ghost use Rattle.vic_frame.specs.Uids.{has};
 ghost use Rattle.vic_report.specs.Conflicts.{IsConflict, IsConflictAt, IsSlotLine};
 ghost use Rattle.vic_report.specs.inner.SlotLines.{AreSlotLinesTo};
-ghost use Rattle.vic_verdict.specs.LogLines.{AreLogLines};
 ghost use Rattle.vic_verdict.specs.Verdict.{IsVerdict};
 ghost use Rattle.vic_verdict.specs.declared.judging.Verdict.TheVariants.{Impossible};
 
@@ -13,7 +12,7 @@ use crate::kept_log::kept_lines;
 use crate::silencer::silencer_of_line;
 use std::alloc::{AllocError, Global};
 use vic_guess::guess_conflict;
-use vic_log::{MAX_LINES, PackedLine};
+use vic_log::{Log, PackedLine};
 use vic_verdict::is_possible;
 
 /// The first line up to which no population could have produced a log, and slot lines up to it that
@@ -33,21 +32,15 @@ pub struct Conflict {
 }
 
 /// The conflict of an impossible log, `line` being the number of the first impossible line.
-pub(crate) fn find_conflict(
-    alloc: Global,
-    lines: &[PackedLine],
-    line: u32,
-) -> Result<Conflict, AllocError>
-    requires lines { AreLogLines lines.now }
-    requires limit { length lines.now ≤ MAX_LINES }
-    requires impossible { IsVerdict lines.now (Impossible line) }
-    ensures { IfOk result (IsConflict lines.now) }
+pub(crate) fn find_conflict(alloc: Global, log: &Log, line: u32) -> Result<Conflict, AllocError>
+    requires { IsVerdict log.now.lines (Impossible line) }
+    ensures { IfOk result (IsConflict log.now.lines) }
 {
-    let silenced_by = silencer_of_line(lines, line);
+    let silenced_by = silencer_of_line(log, line);
     let numbers = match silenced_by {
         // no population fits a reply of a Quiet tag: that line alone is the conflict
         Some(_) => vec![in alloc; line]?,
-        None => numbers_of_conflict(alloc, lines, line)?,
+        None => numbers_of_conflict(alloc, log, line)?,
     };
     Ok(Conflict {
         line,
@@ -58,23 +51,18 @@ pub(crate) fn find_conflict(
 
 /// The numbers of the lines of a conflict, `last` being that of the first impossible line: the
 /// guess if it is one, otherwise those of all slot lines up to that line.
-fn numbers_of_conflict(
-    alloc: Global,
-    lines: &[PackedLine],
-    last: u32,
-) -> Result<Vec<u32>, AllocError>
-    requires lines { AreLogLines lines.now }
-    requires limit { length lines.now ≤ MAX_LINES }
-    requires impossible { IsVerdict lines.now (Impossible last) }
-    ensures { IfOk result (λ numbers. IsConflictAt lines.now last numbers.items) }
+fn numbers_of_conflict(alloc: Global, log: &Log, last: u32) -> Result<Vec<u32>, AllocError>
+    requires { IsVerdict log.now.lines (Impossible last) }
+    ensures { IfOk result (λ numbers. IsConflictAt log.now.lines last numbers.items) }
 {
+    let lines = log.lines();
     let count = lines.partition_point(|line| line.number() <= last);
     let mut guess = guess_conflict(alloc, &lines[..count])?;
     put_numbers_in_order(&mut guess);
-    if is_conflict_at(alloc, lines, &guess, last)? {
+    if is_conflict_at(alloc, log, &guess, last)? {
         return Ok(guess);
     }
-    slot_numbers_to(alloc, lines, last)
+    slot_numbers_to(alloc, log, last)
 }
 
 /// Puts numbers in rising order, each once.
@@ -88,24 +76,17 @@ fn put_numbers_in_order(numbers: &mut Vec<u32>)
 
 /// Whether rising numbers are those of slot lines, the last one a given line, and the log that
 /// keeps only these slot lines (`kept_lines`) is impossible.
-fn is_conflict_at(
-    alloc: Global,
-    lines: &[PackedLine],
-    numbers: &[u32],
-    last: u32,
-) -> Result<bool, AllocError>
-    requires lines { AreLogLines lines.now }
-    requires limit { length lines.now ≤ MAX_LINES }
-    requires rising { IsStrictlyIncreasing numbers.now }
-    ensures { IfOk result (λ b. b ≡ true → IsConflictAt lines.now last numbers.now) }
+fn is_conflict_at(alloc: Global, log: &Log, numbers: &[u32], last: u32) -> Result<bool, AllocError>
+    requires { IsStrictlyIncreasing numbers.now }
+    ensures { IfOk result (λ b. b ≡ true → IsConflictAt log.now.lines last numbers.now) }
 {
     let Some(end) = numbers.last() else {
         return Ok(false);
     };
-    if *end != last || !are_slot_lines(lines, numbers) {
+    if *end != last || !are_slot_lines(log.lines(), numbers) {
         return Ok(false);
     }
-    let kept = kept_lines(alloc, lines, numbers)?;
+    let kept = kept_lines(alloc, log, numbers)?;
     Ok(!is_possible(alloc, &kept)?)
 }
 
@@ -133,11 +114,10 @@ fn is_slot_line(lines: &[PackedLine], number: u32) -> bool
 
 /// The numbers of the slot lines up to the line with number `last` that tell something. They rise,
 /// as those of all lines do.
-fn slot_numbers_to(alloc: Global, lines: &[PackedLine], last: u32) -> Result<Vec<u32>, AllocError>
-    requires { AreLogLines lines.now }
-    ensures { IfOk result (λ numbers. AreSlotLinesTo lines.now last numbers.items) }
+fn slot_numbers_to(alloc: Global, log: &Log, last: u32) -> Result<Vec<u32>, AllocError>
+    ensures { IfOk result (λ numbers. AreSlotLinesTo log.now.lines last numbers.items) }
 {
-    lines
+    log.lines()
         .iter()
         .filter(|line| line.number() <= last && line.item().tells())
         .map(|line| line.number())

@@ -5,7 +5,6 @@ ghost use Rattle.std.specs.Option.{option_map};
 ghost use Rattle.vic_tree.specs.Ranges.{is_open_in};
 ghost use Rattle.vic_log.specs.Order.{entries};
 ghost use Rattle.vic_verdict.specs.Facts.{AreFactsOf};
-ghost use Rattle.vic_verdict.specs.LogLines.{AreLogLines};
 ghost use Rattle.vic_report.specs.Reports.{AreFindings, AreNone, first_verdict, unsettled_with};
 
 use crate::absent_lines::lines_of_absent;
@@ -13,7 +12,7 @@ use crate::certain_lines::lines_of_certain;
 use crate::shown::ShownUid;
 use std::alloc::{AllocError, Global};
 use vic_frame::{Mask, Uid};
-use vic_log::PackedLine;
+use vic_log::Log;
 use vic_tree::{OpenMasks, RangeSet};
 use vic_verdict::{Facts, Verdict, compare, keys_in_order, listed_uids, missing_from};
 
@@ -80,13 +79,13 @@ impl Findings {
 pub(crate) fn find_findings(
     alloc: Global,
     facts: Facts<RangeSet>,
-    lines: &[PackedLine],
+    log: &Log,
 ) -> Result<Findings, AllocError>
-    requires lines { AreLogLines lines.now }
-    requires facts { AreFactsOf (entries lines.now) (is_open_in facts.«open») facts.met
+    requires { AreFactsOf (entries log.now.lines) (is_open_in facts.«open») facts.met
         facts.certain.items }
-    ensures { IfOk result (AreFindings lines.now) }
+    ensures { IfOk result (AreFindings log.now.lines) }
 {
+    let lines = log.lines();
     let Facts { open, met, certain } = facts;
     let listed = listed_uids(alloc, lines)?;
     let keys = keys_in_order(alloc, &certain)?;
@@ -97,7 +96,7 @@ pub(crate) fn find_findings(
     let uncertain = missing_from(alloc, &listed, &certain)?;
     let doubtful = missing_from(alloc, &uncertain, &differences.absent)?;
     Ok(Findings {
-        absent: lines_of_absent(alloc, lines, &differences.absent)?,
+        absent: lines_of_absent(alloc, log, &differences.absent)?,
         unlisted: lines_of_certain(alloc, lines, &met, &differences.unlisted)?,
         unsettled: left_to_ask(differences.unsettled, masks),
         doubtful,

@@ -15,23 +15,22 @@ ghost use Rattle.vic_report.specs.inner.KeptLogs.{IsKeptLog, KeepsLine};
 
 use std::alloc::{AllocError, Global};
 use vic_frame::{Mask, Request};
-use vic_log::{Entry, MAX_LINES, PackedLine, RoundCursor};
+use vic_log::{Entry, Log, MAX_LINES, PackedLine, RoundCursor};
 
 /// The slot lines with some numbers, and up to the last of them every Stay Quiet and every field
 /// cycle. They are numbered anew, from 1. Each slot line has a request of its own that asks for its
 /// mask, so there may be up to twice as many lines as a text can have.
 pub(crate) fn kept_lines(
     alloc: Global,
-    lines: &[PackedLine],
+    log: &Log,
     numbers: &[u32],
 ) -> Result<Vec<PackedLine>, AllocError>
-    requires lines { AreLogLines lines.now }
-    requires limit { length lines.now ≤ MAX_LINES }
-    requires rising { IsStrictlyIncreasing numbers.now }
+    requires { IsStrictlyIncreasing numbers.now }
     ensures log { IfOk result (λ kept. AreLogLines kept.items) }
     ensures given { IfOk result (λ kept. (p : List ℕ)
-        → FitsLines lines.now numbers.now p → CouldHaveGiven p (entries kept.items)) }
+        → FitsLines log.now.lines numbers.now p → CouldHaveGiven p (entries kept.items)) }
 {
+    let lines = log.lines();
     let mut kept = Vec::new(alloc);
     let mut cursor = RoundCursor::first();
     for line in lines {

@@ -1,16 +1,15 @@
 //! All findings of a log, and the lines that show them; or the conflict of an impossible one.
 
-ghost use Rattle.std.specs.Prelude.{◌≡◌, ◌≤◌, IfOk, length};
+ghost use Rattle.std.specs.Prelude.{◌≡◌, IfOk};
 ghost use Rattle.vic_tree.specs.Ranges.{is_open_in};
 ghost use Rattle.vic_log.specs.Order.{entries};
 ghost use Rattle.vic_verdict.specs.Facts.{AreFactsOf};
-ghost use Rattle.vic_verdict.specs.LogLines.{AreLogLines};
 ghost use Rattle.vic_report.specs.Reports.{IsReport, verdict_of};
 
 use crate::conflict::{Conflict, find_conflict};
 use crate::findings::{Findings, find_findings};
 use std::alloc::{AllocError, Global};
-use vic_log::{Log, MAX_LINES, PackedLine};
+use vic_log::Log;
 use vic_tree::RangeSet;
 use vic_verdict::{Facts, Verdict, count_listed, facts_of};
 
@@ -45,36 +44,22 @@ impl LogReport {
 pub fn report(alloc: Global, log: &Log) -> Result<LogReport, AllocError>
     ensures { IfOk result (IsReport log.now.lines) }
 {
-    report_lines(alloc, log.lines())
-}
-
-/// The report on the lines of a log.
-fn report_lines(alloc: Global, lines: &[PackedLine]) -> Result<LogReport, AllocError>
-    requires lines { AreLogLines lines.now }
-    requires limit { length lines.now ≤ MAX_LINES }
-    ensures { IfOk result (IsReport lines.now) }
-{
-    match facts_of::<RangeSet>(alloc, lines)? {
-        Ok(facts) => report_facts(alloc, facts, lines),
-        Err(line) => Ok(LogReport::Impossible(find_conflict(alloc, lines, line)?)),
+    match facts_of::<RangeSet>(alloc, log.lines())? {
+        Ok(facts) => report_facts(alloc, facts, log),
+        Err(line) => Ok(LogReport::Impossible(find_conflict(alloc, log, line)?)),
     }
 }
 
 /// The report on a possible log, by what it tells.
-fn report_facts(
-    alloc: Global,
-    facts: Facts<RangeSet>,
-    lines: &[PackedLine],
-) -> Result<LogReport, AllocError>
-    requires lines { AreLogLines lines.now }
-    requires facts { AreFactsOf (entries lines.now) (is_open_in facts.«open») facts.met
+fn report_facts(alloc: Global, facts: Facts<RangeSet>, log: &Log) -> Result<LogReport, AllocError>
+    requires { AreFactsOf (entries log.now.lines) (is_open_in facts.«open») facts.met
         facts.certain.items }
-    ensures { IfOk result (IsReport lines.now) }
+    ensures { IfOk result (IsReport log.now.lines) }
 {
-    let findings = find_findings(alloc, facts, lines)?;
+    let findings = find_findings(alloc, facts, log)?;
     if !findings.is_empty() {
         return Ok(LogReport::NotWhole(findings));
     }
-    let count = count_listed(lines);
+    let count = count_listed(log.lines());
     Ok(LogReport::Complete { count })
 }

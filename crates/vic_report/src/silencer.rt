@@ -6,18 +6,17 @@ ghost use Rattle.vic_log.specs.Quiet.{is_quiet};
 ghost use Rattle.vic_log.specs.Slots.{hears};
 ghost use Rattle.vic_log.specs.declared.entry.LogLine.{LogLine as LogLineValue};
 ghost use Rattle.vic_report.specs.Conflicts.{IsNoQuietReply, IsSilencedBefore, IsSilencedBy};
-ghost use Rattle.vic_verdict.specs.LogLines.{AreLogLines};
 
 use vic_frame::{Request, Uid};
-use vic_log::{Entry, PackedLine};
+use vic_log::{Entry, Log, PackedLine};
 
 /// If the line with a number is a reply of a UID that is Quiet there, the number of the last Stay
 /// Quiet line with that UID before it.
-pub(crate) fn silencer_of_line(lines: &[PackedLine], number: u32) -> Option<u32>
-    requires { AreLogLines lines.now }
-    ensures { MatchOption result (IsNoQuietReply lines.now number)
-        (IsSilencedBy lines.now number) }
+pub(crate) fn silencer_of_line(log: &Log, number: u32) -> Option<u32>
+    ensures { MatchOption result (IsNoQuietReply log.now.lines number)
+        (IsSilencedBy log.now.lines number) }
 {
+    let lines = log.lines();
     match lines.binary_search_by_key(&number, |line| line.number()) {
         Ok(place) => silencer_of_reply(lines, place),
         Err(_) => None,

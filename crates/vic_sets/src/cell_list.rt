@@ -3,7 +3,6 @@
 ghost use Rattle.vic_sets.specs.Cells.{in_cells};
 
 use crate::cells::{gather_cells, is_in, least, settled};
-use crate::cut::whole;
 use arrayvec::ArrayVec;
 use std::alloc::{AllocError, Global};
 use std::marker::Model;
@@ -35,7 +34,7 @@ impl OpenSet for CellList {
 
     fn everything(alloc: Global) -> Result<CellList, AllocError> {
         let mut cells = Vec::new(alloc);
-        cells.push(whole())?;
+        cells.push(Mask::default())?;
         Ok(CellList { cells, alloc })
     }
 

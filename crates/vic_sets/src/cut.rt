@@ -6,16 +6,6 @@ ghost use Rattle.vic_sets.specs.Cells.{IsCell, holds, cut_at, beside};
 
 use vic_frame::{Mask, UID_BITS};
 
-/// The mask of no bits, in which every UID lies.
-pub(crate) fn whole() -> Mask
-    ensures { result ≡ record { len = 0; value = 0 } }
-{
-    let Some(whole) = Mask::new(0, 0) else {
-        unreachable!()
-    };
-    whole
-}
-
 /// Whether a mask holds all of another.
 fn holds(outer: &Mask, inner: &Mask) -> bool
     requires short { outer.now.len ≤ UID_BITS }
@@ -57,10 +47,7 @@ pub(crate) fn flipped(mask: &Mask, len: u8) -> Mask
     } else {
         low
     };
-    let Some(flipped) = Mask::new(len + 1, value) else {
-        unreachable!()
-    };
-    flipped
+    Mask::of_bits(len + 1, value)
 }
 
 /// The mask that fixes one bit less.
@@ -71,8 +58,5 @@ pub(crate) fn widened(mask: &Mask) -> Mask
     ensures cell { IsCell result }
 {
     let len = mask.len() - 1;
-    let Some(widened) = Mask::new(len, mask.value() % (1 << len)) else {
-        unreachable!()
-    };
-    widened
+    Mask::of_bits(len, mask.value() % (1 << len))
 }

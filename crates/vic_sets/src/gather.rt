@@ -1,8 +1,7 @@
 //! Gathering UIDs that share their low bits, at most three.
 
-ghost use Rattle.std.specs.Prelude.{◌≡◌, ◌+◌, ◌-◌, ◌*◌, ◌^◌, ◌<◌, ◌≤◌};
+ghost use Rattle.std.specs.Prelude.{◌^◌, ◌<◌, ◌≤◌};
 ghost use Rattle.std.specs.List.Sorted.{IsStrictlyIncreasing};
-ghost use Rattle.vic_frame.specs.Uids.{uid_from_low_bits};
 ghost use Rattle.vic_tree.specs.Gathering.{Gathers};
 ghost use Rattle.vic_sets.specs.inner.Free.{IsFree};
 
@@ -22,16 +21,6 @@ pub(crate) fn gather_all(out: &mut ArrayVec<Uid, 3>, except: &[Uid], depth: u8, 
         if out.is_full() {
             return;
         }
-        gather_one(out, except, uid_with(depth, low, high));
+        gather_one(out, except, Uid::from_low_bits((high << depth) + low));
     }
-}
-
-/// The UID with these low bits and these above them.
-fn uid_with(depth: u8, low: u64, high: u64) -> Uid
-    requires depth_fits { depth ≤ UID_BITS }
-    requires low_fits { low < 2 ^ depth }
-    requires high_fits { high < 2 ^ (UID_BITS - depth) }
-    ensures { result ≡ uid_from_low_bits (high * 2 ^ depth + low) }
-{
-    Uid::from_low_bits((high << depth) + low)
 }

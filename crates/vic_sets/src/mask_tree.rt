@@ -1,22 +1,21 @@
 //! A set of open UIDs as a tree of their low bits.
 
-ghost use Rattle.std.specs.Prelude.{◌≡◌, ℕ, ◌≤◌, ◌&&◌, ◌||◌, IfOk, OnOk, filter};
-ghost use Rattle.vic_frame.specs.Uids.{IsUid, has};
+ghost use Rattle.std.specs.Prelude.{◌≡◌, ◌&&◌, IfOk, filter};
 ghost use Rattle.vic_frame.specs.Masks.{lies_in};
-ghost use Rattle.vic_tree.specs.OpenSet.{SameUids, settled};
-ghost use Rattle.vic_sets.specs.Nodes.{open_at, height, IsReduced};
+ghost use Rattle.vic_sets.specs.Nodes.{open_at};
 
 use crate::node::{Node, below, fill, is_open_at};
 use crate::node_queries::{gather_open, widest_below};
 use arrayvec::ArrayVec;
 use std::alloc::{AllocError, Global};
 use std::marker::Model;
+use std::mem;
 use vic_frame::{Mask, UID_BITS, Uid, without_top_byte};
 use vic_tree::OpenSet;
 
-/// A set of UIDs as a tree that tests their low 56 bits, lowest first. No fork in it has two equal
-/// leaves, and it is at most 56 forks deep. Settling a mask takes one step for each of its bits, 56
-/// for each exception in it, and a look at the other exceptions.
+/// A set of UIDs as a tree that tests their low 56 bits, lowest first, at most 56 forks deep.
+/// Settling a mask takes one step for each of its bits, 56 for each exception in it, and a look at
+/// the other exceptions.
 #[derive(Drop)]
 pub struct MaskTree {
     root: Node,
@@ -27,7 +26,7 @@ impl Model for MaskTree {
     ghost use Rattle.std.specs.Prelude.{◌≤◌};
     ghost use Rattle.vic_frame.specs.declared.uid.TheConstants.{UID_BITS};
     ghost use Rattle.vic_sets.specs.declared.node.Node.{Node};
-    ghost use Rattle.vic_sets.specs.Nodes.{height, IsReduced};
+    ghost use Rattle.vic_sets.specs.Nodes.{height};
     ghost use Rattle.vic_sets.specs.contracts.node.Node as e;
     ghost use Rattle.std.specs.Coded.{codes};
 
@@ -37,7 +36,7 @@ impl Model for MaskTree {
 
     ghost view = { λ a. a.root };
 
-    ghost invariant = { λ a. IsReduced a.root × (height a.root ≤ UID_BITS) };
+    ghost invariant = { λ a. height a.root ≤ UID_BITS };
 }
 
 impl OpenSet for MaskTree {
@@ -54,13 +53,21 @@ impl OpenSet for MaskTree {
         let Some(mask) = without_top_byte(mask) else {
             return Ok(());
         };
-        match settle_below(&mut self.root, self.alloc, &mask, except) {
-            Ok(()) => Ok(()),
-            Err(error) => {
-                self.root = Node::Shut;
-                Err(error)
-            }
+        // if memory is refused, no UID is left
+        let mut root = mem::replace(&mut self.root, Node::Shut);
+        let kept = open_in_mask(self.alloc, &root, &mask, except)?;
+        fill(&mut root, self.alloc, mask.len(), mask.value(), false)?;
+        for uid in &kept {
+            fill(
+                &mut root,
+                self.alloc,
+                UID_BITS,
+                uid.number() % (1 << UID_BITS),
+                true,
+            )?;
         }
+        self.root = root;
+        Ok(())
     }
 
     fn has(&self, uid: Uid) -> bool {
@@ -81,27 +88,6 @@ impl OpenSet for MaskTree {
     }
 }
 
-/// Shuts a mask, and reopens the exceptions in it that were open.
-fn settle_below(
-    root: &mut Node,
-    alloc: Global,
-    mask: &Mask,
-    except: &[Uid],
-) -> Result<(), AllocError>
-    requires reduced { IsReduced root.old }
-    requires low { height root.old ≤ UID_BITS }
-    requires short { mask.now.len ≤ UID_BITS }
-    ensures reduced { OnOk result (IsReduced root.new) }
-    ensures low { OnOk result (height root.new ≤ UID_BITS) }
-    ensures settled { OnOk result (SameUids (open_at root.new)
-        (settled (open_at root.old) mask.now except.now)) }
-{
-    let kept = open_in_mask(alloc, root, mask, except)?;
-    fill(root, alloc, mask.len(), mask.value(), false)?;
-    reopen(root, alloc, &kept)?;
-    Ok(())
-}
-
 /// The UIDs of a list that are open and lie in a mask.
 fn open_in_mask(
     alloc: Global,
@@ -119,19 +105,4 @@ fn open_in_mask(
         }
     }
     Ok(kept)
-}
-
-/// Opens the UIDs of a list.
-fn reopen(root: &mut Node, alloc: Global, uids: &[Uid]) -> Result<(), AllocError>
-    requires reduced { IsReduced root.old }
-    requires low { height root.old ≤ UID_BITS }
-    ensures reduced { OnOk result (IsReduced root.new) }
-    ensures low { OnOk result (height root.new ≤ UID_BITS) }
-    ensures opened { OnOk result ((u : ℕ) → IsUid u
-        → open_at root.new u ≡ (has uids.now u || open_at root.old u)) }
-{
-    for uid in uids {
-        fill(root, alloc, UID_BITS, uid.number() % (1 << UID_BITS), true)?;
-    }
-    Ok(())
 }

@@ -2,12 +2,11 @@
 
 ghost use Rattle.std.specs.Prelude.{◌≡◌, ℕ, ◌+◌, ◌^◌, ◌<◌, ◌≤◌, false, IfSome, IfNone};
 ghost use Rattle.std.specs.List.Sorted.{IsStrictlyIncreasing};
-ghost use Rattle.vic_sets.specs.Nodes.{open_at, height, IsReduced};
+ghost use Rattle.vic_sets.specs.Nodes.{open_at, height};
 ghost use Rattle.vic_tree.specs.Gathering.{Gathers};
 ghost use Rattle.vic_sets.specs.inner.Free.{IsFreeUnder};
 ghost use Rattle.vic_sets.specs.inner.Widest.{IsWidestOf, with_low_bit};
 
-use crate::cut::whole;
 use crate::gather::gather_all;
 use crate::node::Node;
 use arrayvec::ArrayVec;
@@ -44,29 +43,30 @@ fn lengthened(mask: &Mask, bit: u64) -> Mask
     requires bit { bit ≤ 1 }
     ensures { result ≡ with_low_bit bit mask.now }
 {
-    let Some(lengthened) = Mask::new(mask.len() + 1, 2 * mask.value() + bit) else {
-        unreachable!()
-    };
-    lengthened
+    Mask::of_bits(mask.len() + 1, 2 * mask.value() + bit)
 }
 
 /// The mask of least length, then of least value, all of whose numbers are open below a node; none
 /// if no number is.
 pub(crate) fn widest_below(node: &Node) -> Option<Mask>
-    requires reduced { IsReduced node.now }
-    requires low { height node.now ≤ UID_BITS }
+    requires { height node.now ≤ UID_BITS }
     ensures found { IfSome result (IsWidestOf (open_at node.now)) }
     ensures short { IfSome result (λ m. m.len ≤ height node.now) }
     ensures none { IfNone result ((u : ℕ) → open_at node.now u ≡ false) }
 {
     match node {
-        Node::Clear => Some(whole()),
+        Node::Clear => Some(Mask::default()),
         Node::Shut => None,
         Node::Fork(halves) => match (widest_below(&halves.zero), widest_below(&halves.one)) {
             (None, None) => None,
             (Some(zero), None) => Some(lengthened(&zero, 0)),
             (None, Some(one)) => Some(lengthened(&one, 1)),
-            (Some(zero), Some(one)) => Some(lengthened(&zero, 0).min(lengthened(&one, 1))),
+            (Some(zero), Some(one)) => {
+                if zero.len() == 0 && one.len() == 0 {
+                    return Some(zero);
+                }
+                Some(lengthened(&zero, 0).min(lengthened(&one, 1)))
+            }
         },
     }
 }

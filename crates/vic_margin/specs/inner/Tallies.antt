@@ -17,13 +17,6 @@ use Rattle.vic_margin.specs.UidMargins.{margin_before, margin_of, one_if}
 use Rattle.vic_margin.specs.inner.Counts.{count_at}
 use Rattle.vic_margin.specs.inner.Trees.{within}
 
--- there is room for that many parts
-pub record HasRoom (count : ℕ) (t : Tally) : Type 0 where
-  pub leaves : count ≤ t.counts.leaves
-  pub rest : length t.rest.items ≡ count
-  pub marks : length t.quiet ≡ count
-  pub least : (p : ℕ) → p < count → slice_index t.rest.items p ≤ count_at t.counts p
-
 -- before position i, what the tally says of a part is so of a UID in it
 pub record IsTallyOf (es : List Entry) (i u p : ℕ) (t : Tally) : Type 0 where
   pub quiet : is_marked t.quiet p ≡ is_quiet es i u
@@ -33,7 +26,7 @@ pub record IsTallyOf (es : List Entry) (i u p : ℕ) (t : Tally) : Type 0 where
 
 -- the tally is before position i
 pub record IsTallyAt (bs : List ℕ) (es : List Entry) (i : ℕ) (t : Tally) : Type 0 where
-  pub room : HasRoom (part_count bs) t
+  pub room : length t.rest.items ≡ part_count bs
   pub few : t.counts.raised ≤ i
   pub known : (u p : ℕ) → IsUid u → IsPartOf bs (mirror u) p → IsTallyOf es i u p t
 

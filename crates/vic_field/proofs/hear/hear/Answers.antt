@@ -1,23 +1,19 @@
-use Rattle.vic_field.proofs.Words.{ℕ, ◌+◌, ◌∷◌, ◌≡◌, Option, Some, None, get_or, refl, ap, sym, subst, ◌∙◌, arith, get_or_default, IsKey, uid_of, heard}
+use Rattle.vic_field.proofs.Words.{◌+◌, ◌∷◌, ◌≡◌, get_or, ap, sym, subst, ◌∙◌, arith, get_or_default, IsKey, uid_of, heard}
 use Rattle.vic_field.specs.declared.outcome.Outcome.TheVariants.{Lone}
 use Rattle.vic_field.proofs.RowLaws.{hears_from, hears_next, hears_none}
 use Rattle.vic_field.proofs.hear.hear.Goals as goal
-
-none_of : (o : Option ℕ) → ((x : ℕ) → o ≡ Some x → ⊥) → o ≡ None
-none_of None n = refl
-none_of (Some x) n = absurd (n x refl)
 
 pub returns-in_default : goal.returns-in_default
 returns-in_default c =
     let row = c.args.row.now in
     let from = c.place_of.result in
-    ap heard (sym (hears_from row c.args.first c.args.last from c.place_of.ensures ∙ hears_none row c.args.first c.args.last from (c.next_ready.ensures.none (none_of c.next_ready.result c.in_default.not-Some))))
+    ap heard (sym (hears_from row c.args.first c.args.last from c.place_of.ensures ∙ hears_none row c.args.first c.args.last from (c.next_ready.ensures.none c.in_default.is)))
 
 pub uid_at-requires : goal.uid_at-requires
 uid_at-requires c =
     let ks = c.args.row.now.keys.items in
     let there = c.in-Some.ensures.some.there in
-    subst IsKey (sym (c.index.ensures ∙ get_or_default ks c.in-Some.one _ 0 there)) (c.requires.keys.small c.in-Some.one 0 there)
+    subst IsKey (sym (c.index.ensures ∙ get_or_default ks c.in-Some.one _ 0 there)) (c.args.row.now.rising.small c.in-Some.one 0 there)
 
 pub returns-in-Some-next_ready : goal.returns-in-Some-next_ready
 returns-in-Some-next_ready c =

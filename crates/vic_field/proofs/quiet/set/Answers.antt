@@ -3,7 +3,7 @@ use Rattle.vic_field.proofs.PlaceLaws.{full_bits, set_bit, set_full}
 use Rattle.vic_field.proofs.quiet.set.Goals as goal
 
 there : (c : goal.After-words-1) → c.args.bit / 64 < length c.args.words.now.items
-there c = let room = c.requires.room in omega (arith, room)
+there c = let room = c.requires in omega (arith, room)
 
 pub returns-clause-set : goal.returns-clause-set
 returns-clause-set c = set_bit c.args.stretch c.args.bit c.bits_in.result c.args.words.now.items (there c) (subst (λ ws. HasBits c.args.stretch ws (c.args.bit / 64) c.bits_in.result) c.deref.ensures.value c.bits_in.ensures)

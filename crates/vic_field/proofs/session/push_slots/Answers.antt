@@ -1,28 +1,41 @@
-use Rattle.vic_field.proofs.Words.{◌≡◌, ◌<◌, ◌++◌, [], ◌∷◌, sym, ap, ◌∙◌, subst, add-one, arith, slot_count, mask_in, Entry, last_from, LogValue, entries, BitMask, slot_line, slot_lines_to, with_entries, heard, ready_in}
+use Rattle.vic_field.proofs.Words.{◌≡◌, ◌<◌, ◌++◌, [], ◌∷◌, Some, refl, sym, ap, ◌∙◌, subst, add-one, arith, slot_count, mask_in, Entry, last_from, LogValue, entries, BitMask, IsValidEntry, slots_opened, slot_line, slot_lines_to, with_entries, heard, ready_in}
 use Rattle.vic_field.proofs.Numbering.{entries-with, last_from-with, with_none, with-append}
 use Rattle.vic_field.proofs.Rounds.{IsOpen, IsOpen-sent, IsOpen-slots, IsOpen-follows, slot_lines_to-length, slot_line-is_slot}
+use Rattle.vic_field.specs.declared.outcome.Outcome.{Outcome}
+use Rattle.vic_field.specs.declared.outcome.Outcome.TheVariants.{Lone, Several, Silent}
+use Rattle.vic_log.specs.FirstVersion.{IsOfFirstVersion}
+use Rattle.vic_log.specs.SecondVersion.{IsOfSecondVersion}
 use Rattle.vic_field.proofs.session.push_slots.Goals as goal
 
 pub loop-k-init : goal.loop-k-init
 loop-k-init c = record { filled = with_none c.args.filled.now; population = λ h. absurd (omega arith) }
 
-pub push_next-requires-clause-follows : goal.push_next-requires-clause-follows
-push_next-requires-clause-follows c =
+-- slot lines of what is heard are lines of each version
+in_each_version : (o : Outcome) → IsValidEntry (slot_line o) × IsOfFirstVersion (slot_line o) × IsOfSecondVersion (slot_line o) × (slots_opened (Some (slot_line o)) ≡ 0)
+in_each_version Silent = (tt, tt, tt, refl)
+in_each_version (Lone u) = (tt, tt, tt, refl)
+in_each_version Several = (tt, tt, tt, refl)
+
+pub push_next-requires : goal.push_next-requires
+push_next-requires c =
     let q = c.args.request.now in
     let tags = c.args.field.now in
+    let k = c.loop-k.k in
     let before = c.requires.sent in
     let open_now : IsOpen (entries c.args.filled.now.lines) q 0 = subst (λ es. IsOpen es q 0) (sym before.1) (IsOpen-sent before.0 q) in
-    let all : entries c.loop-k.filled.lines ≡ entries c.args.filled.now.lines ++ slot_lines_to tags q c.loop-k.k = ap (λ (v : LogValue). entries v.lines) c.loop-k.invariant.filled ∙ entries-with c.args.filled.now (slot_lines_to tags q c.loop-k.k) in
-    let more : c.loop-k.k < slot_count q = let e = c.slots-k-end.ensures in let b = c.loop-k-test.true in omega arith in
-    rw (all, c.slot_line.ensures) (IsOpen-follows (entries c.args.filled.now.lines ++ slot_lines_to tags q c.loop-k.k) q c.loop-k.k (slot_line c.answer.result) (IsOpen-slots (entries c.args.filled.now.lines) q tags c.loop-k.k open_now) more (slot_line-is_slot c.answer.result))
-
-pub push_next-requires-clause-room : goal.push_next-requires-clause-room
-push_next-requires-clause-room c =
-    let told = slot_lines_to-length c.args.field.now c.args.request.now c.loop-k.k in
-    let last = ap (λ (v : LogValue). last_from 1 v.lines) c.loop-k.invariant.filled ∙ last_from-with c.args.filled.now (slot_lines_to c.args.field.now c.args.request.now c.loop-k.k) in
-    let more : c.loop-k.k < slot_count c.args.request.now = let e = c.slots-k-end.ensures in let b = c.loop-k-test.true in omega arith in
+    let all : entries c.loop-k.filled.lines ≡ entries c.args.filled.now.lines ++ slot_lines_to tags q k = ap (λ (v : LogValue). entries v.lines) c.loop-k.invariant.filled ∙ entries-with c.args.filled.now (slot_lines_to tags q k) in
+    let more : k < slot_count q = let e = c.slots-k-end.ensures in let b = c.loop-k-test.true in omega arith in
+    let told = slot_lines_to-length tags q k in
+    let last = ap (λ (v : LogValue). last_from 1 v.lines) c.loop-k.invariant.filled ∙ last_from-with c.args.filled.now (slot_lines_to tags q k) in
     let room = c.requires.room in
-    omega arith
+    let fits = in_each_version c.answer.result in
+    rw c.slot_line.ensures (record {
+      follows = rw all (IsOpen-follows (entries c.args.filled.now.lines ++ slot_lines_to tags q k) q k (slot_line c.answer.result) (IsOpen-slots (entries c.args.filled.now.lines) q tags k open_now) more (slot_line-is_slot c.answer.result));
+      valid = fits.0;
+      first_version = λ _. fits.1;
+      second_version = λ _. fits.2;
+      room = let none = fits.3 in omega (arith, none);
+    })
 
 pub loop-k-preserved : goal.loop-k-preserved
 loop-k-preserved c =

@@ -19,23 +19,26 @@ here c =
     let lines = c.lines-lines.result.now in
     rw c.item.ensures (entry_at lines c.loop-line.line-index c.line-item.result (slice_get_read lines (length lines) c.loop-line.line-index c.line-item.result refl c.loop-line-test.true c.line-item.is))
 
-pub play_entry-requires-clause-follows : goal.play_entry-requires-clause-follows
-play_entry-requires-clause-follows c =
+pub play_entry-requires : goal.play_entry-requires
+play_entry-requires c =
+    let log = c.lines-lines.ensures.log in
     let lines = c.lines-lines.result.now in
     let i = c.loop-line.line-index in
-    let at = slice_get_read lines (length lines) i c.line-item.result refl c.loop-line-test.true c.line-item.is in
-    follows (entries lines) (entries c.loop-line.filled.lines) i c.item.result c.lines-lines.ensures.log.order (here c)
-    (rw c.item.ensures (c.in_default.ensures i c.line-item.result c.loop-line-test.true at))
-    (c.loop-line.invariant.played.kept ∙ entries_take lines i)
-
-pub play_entry-requires-clause-valid : goal.play_entry-requires-clause-valid
-play_entry-requires-clause-valid c = valid_entry c.item.result (λ q e. c.lines-lines.ensures.log.valid c.loop-line.line-index q (here c ∙ ap (λ (x : Entry). Some x) e))
-
-pub play_entry-requires-clause-second_version : goal.play_entry-requires-clause-second_version
-play_entry-requires-clause-second_version c v = c.lines-lines.ensures.log.second_version (sym c.loop-line.invariant.version ∙ v) c.loop-line.line-index c.item.result (here c)
-
-pub play_entry-requires-clause-first_version : goal.play_entry-requires-clause-first_version
-play_entry-requires-clause-first_version c v = c.lines-lines.ensures.log.first_version (sym c.loop-line.invariant.version ∙ v) c.loop-line.line-index c.item.result (here c)
+    let l = c.line-item.result in
+    let played = c.loop-line.invariant.played in
+    let last = last_is c.loop-line.filled.lines c.loop-line.invariant.numbers in
+    let lined = played.count in
+    let at : slice_get lines i ≡ Some l = slice_get_read lines (length lines) i l refl c.loop-line-test.true c.line-item.is in
+    let counted = line_count-next (entries (take i lines)) l.item in
+    let front : line_count (entries (take i lines) ++ l.item ∷ []) ≤ line_count (entries lines) = subst (λ es. line_count es ≤ line_count (entries lines)) (sym (entries_take lines (suc i)) ∙ entries_next lines i l at) (line_count-front (entries lines) (suc i)) in
+    let room : last_needed lines ≤ MAX_LINES = leb-true (last_needed lines) MAX_LINES (sym c.fit_filled.ensures ∙ c.if-not-fit_filled.false) in
+    record {
+      follows = follows (entries lines) (entries c.loop-line.filled.lines) i c.item.result log.order (here c) (rw c.item.ensures (c.in_default.ensures i l c.loop-line-test.true at)) (played.kept ∙ entries_take lines i);
+      valid = valid_entry c.item.result (λ q e. log.valid i q (here c ∙ ap (λ (x : Entry). Some x) e));
+      first_version = λ v. log.first_version (sym c.loop-line.invariant.version ∙ v) i c.item.result (here c);
+      second_version = λ v. log.second_version (sym c.loop-line.invariant.version ∙ v) i c.item.result (here c);
+      room = rw c.item.ensures (omega arith);
+    }
 
 pub loop-line-preserved : goal.loop-line-preserved
 loop-line-preserved c =
@@ -56,19 +59,6 @@ loop-line-preserved c =
           (IsPlayed-next (listed (entries lines)) (entries (take i lines)) (entries log.lines) c.loop-line.field c.play_entry.new.field l.item pop
           (c.in_default.ensures i l c.loop-line-test.true at) (rw (sym c.item.ensures) c.in_ok-play_entry.ensures.population) (rw (sym c.item.ensures) c.in_ok-play_entry.ensures.tags) h.played);
     }
-
-pub play_entry-requires-clause-room : goal.play_entry-requires-clause-room
-play_entry-requires-clause-room c =
-    let lines = c.lines-lines.result.now in
-    let i = c.loop-line.line-index in
-    let l = c.line-item.result in
-    let last = last_is c.loop-line.filled.lines c.loop-line.invariant.numbers in
-    let lined = c.loop-line.invariant.played.count in
-    let at : slice_get lines i ≡ Some l = slice_get_read lines (length lines) i l refl c.loop-line-test.true c.line-item.is in
-    let counted = line_count-next (entries (take i lines)) l.item in
-    let front : line_count (entries (take i lines) ++ l.item ∷ []) ≤ line_count (entries lines) = subst (λ es. line_count es ≤ line_count (entries lines)) (sym (entries_take lines (suc i)) ∙ entries_next lines i l at) (line_count-front (entries lines) (suc i)) in
-    let room : last_needed lines ≤ MAX_LINES = leb-true (last_needed lines) MAX_LINES (sym c.fit_filled.ensures ∙ c.if-not-fit_filled.false) in
-    rw c.item.ensures (omega arith)
 
 pub returns-clause-simulated : goal.returns-clause-simulated
 returns-clause-simulated c =

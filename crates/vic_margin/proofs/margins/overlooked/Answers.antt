@@ -1,20 +1,18 @@
-use Rattle.vic_margin.proofs.Words.{arith, ap, length, subst, ◌≡◌, ◌<◌, ◌∙◌, ◌++◌, ◌∷◌, [], List, IsPartOf, mirror, margin_of, AreMargins}
+use Rattle.vic_margin.proofs.Words.{arith, ap, length, ◌≡◌, ◌<◌, ◌∙◌, ◌++◌, ◌∷◌, [], IsPartOf, mirror, margin_of, AreMargins}
 use Rattle.std.proofs.lemmas.List.{get_or_default}
 use Rattle.vic_log.specs.Order.{entries}
-use Rattle.vic_log.specs.declared.entry.LogLine.{LogLine}
-use Rattle.vic_verdict.proofs.Verdicts.{first_lines}
 use Rattle.vic_margin.proofs.Places.{map_taken}
 use Rattle.vic_margin.proofs.margins.overlooked.Goals as goal
 
-pub part_margins-requires-clause-lines : goal.part_margins-requires-clause-lines
-part_margins-requires-clause-lines c = first_lines c.args.log.now.version c.lines-lines.result.now c.lines-lines.ensures.log
+pub part_margins-requires-clause-cut : goal.part_margins-requires-clause-cut
+part_margins-requires-clause-cut c = rw c.lines.ensures.value at c.in_ok-parts.ensures.cut
 
 pub loop-uid-preserved : goal.loop-uid-preserved
 loop-uid-preserved c =
     let es = entries c.args.log.now.lines in
     let l = c.loop-uid in
-    let margins : AreMargins c.in_ok-parts.parts es c.in_ok-margins.margins.items = subst (λ (lines : List LogLine). AreMargins c.in_ok-parts.parts (entries lines) c.in_ok-margins.margins.items) c.lines-lines.ensures.value c.in_ok-margins.ensures in
-    let own : IsPartOf c.in_ok-parts.parts (mirror c.uid-item.result) c.at.result = rw c.key.ensures.value at c.at.ensures in
-    let lt : c.at.result < length c.in_ok-margins.margins.items = let within = own.within in let room = margins.room in omega (arith, within, room) in
-    let read : c.index.result.now ≡ margin_of es c.uid-item.result = c.index.ensures ∙ (get_or_default c.in_ok-margins.margins.items c.at.result c.index.result.now 0 lt ∙ margins.margin c.uid-item.result c.at.result c.key.ensures.is_uid own) in
+    let margins : AreMargins c.in_ok-margins.margins.parts es c.in_ok-margins.margins.each.items = c.in_ok-margins.ensures in
+    let own : IsPartOf c.in_ok-margins.margins.parts (mirror c.uid-item.result) c.at.result = rw c.key.ensures.value at c.at.ensures in
+    let lt : c.at.result < length c.in_ok-margins.margins.each.items = let within = own.within in let room = margins.room in omega (arith, within, room) in
+    let read : c.index.result.now ≡ margin_of es c.uid-item.result = c.index.ensures ∙ (get_or_default c.in_ok-margins.margins.each.items c.at.result c.index.result.now 0 lt ∙ margins.margin c.uid-item.result c.at.result c.key.ensures.is_uid own) in
     c.in_ok-push.ensures.items ∙ (ap (λ xs. xs ++ c.index.result.now ∷ []) l.invariant ∙ map_taken (margin_of es) c.args.uids.now l.uid-index c.uid-item.result c.index.result.now c.loop-uid-test.true c.uid-item.is read)

@@ -1,5 +1,4 @@
-use Rattle.vic_margin.proofs.Words.{arith, subst, List}
-use Rattle.vic_log.proofs.Push.{rising_long}
+use Rattle.vic_margin.proofs.Words.{subst, List}
 use Rattle.vic_log.specs.declared.entry.LogLine.{LogLine}
 use Rattle.vic_verdict.proofs.Verdicts.{first_lines, possible_to, rising_lower}
 use Rattle.vic_verdict.specs.Verdict.{IsVerdict}
@@ -12,15 +11,11 @@ facts_and_parts_of-requires c = first_lines _ _ c.lines-lines.ensures.log
 pub first_finding-requires-clause-lines : goal.first_finding-requires-clause-lines
 first_finding-requires-clause-lines c = first_lines _ _ c.lines-lines.ensures.log
 
-pub weakest_by-requires-clause-lines : goal.weakest_by-requires-clause-lines
-weakest_by-requires-clause-lines c = first_lines _ _ c.lines-lines.ensures.log
+pub weakest_by-requires-clause-cut : goal.weakest_by-requires-clause-cut
+weakest_by-requires-clause-cut c = rw c.lines-lines.ensures.value at (rw c.in-Ok.is at c.in_ok-facts.ensures.cut)
 
-pub weakest_by-requires-clause-limit : goal.weakest_by-requires-clause-limit
-weakest_by-requires-clause-limit c =
-    let log = c.lines-lines.ensures.log in
-    let long = rising_long 1 c.lines-lines.result.now log.rising in
-    let limit = log.limit in
-    omega arith
+pub weakest_by-requires-clause-verdict : goal.weakest_by-requires-clause-verdict
+weakest_by-requires-clause-verdict c = rw c.lines-lines.ensures.value at c.in_ok-verdict-in-Ok.ensures
 
 impossible : (c : goal.In-Err) → IsVerdict c.args.log.now.lines (Impossible c.in-Err.line)
 impossible c = subst (λ (ls : List LogLine). IsVerdict ls (Impossible c.in-Err.line)) c.lines-lines.ensures.value (rw c.in-Err.is at c.in_ok-facts.ensures.facts)

@@ -4,5 +4,5 @@ use Rattle.vic_report.proofs.absent_lines.lines_of_absent.Given as goal
 abbrev pub invariant-loop-uid : goal.invariant-loop-uid
 invariant-loop-uid l = record {
   uids : uids_of l.shown.items ≡ take l.uid-index l.absent;
-  shown : All (IsRuledOut l.lines) l.shown.items;
+  shown : All (IsRuledOut l.log.lines) l.shown.items;
 }

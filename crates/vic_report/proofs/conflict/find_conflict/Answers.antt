@@ -5,10 +5,10 @@ use Rattle.vic_report.proofs.conflict.find_conflict.Goals as goal
 
 pub returns : goal.returns
 returns c =
-    let lines = c.args.lines.now in
+    let lines = c.args.log.now.lines in
     let line = c.args.line in
     record {
-      line = c.requires.impossible;
+      line = c.requires;
       lines_unfit = elim c.match-silenced_by.branch [
         | in-Some+in_ok-numbers-in-Some w ↦
             subst (IsConflictAt lines line) (sym (ap (λ v. v.items) w.numbers-is ∙ w.in_ok-numbers-in-Some.ensures.items))

@@ -1,15 +1,11 @@
 use Rattle.std.proofs.lemmas.Result.{IfOk-weaker}
+use Rattle.vic_report.proofs.Words.{first_lines}
 use Rattle.vic_report.proofs.Conflicts.{log_front, slots_conflict}
 use Rattle.vic_report.proofs.conflict.numbers_of_conflict.Goals as goal
 
-pub guess_conflict-requires-clause-order : goal.guess_conflict-requires-clause-order
-guess_conflict-requires-clause-order c = (log_front c.partition_point-count.result c.args.lines.now c.requires.lines).order
-
-pub guess_conflict-requires-clause-valid : goal.guess_conflict-requires-clause-valid
-guess_conflict-requires-clause-valid c = (log_front c.partition_point-count.result c.args.lines.now c.requires.lines).valid
-
-pub guess_conflict-requires-clause-rising : goal.guess_conflict-requires-clause-rising
-guess_conflict-requires-clause-rising c = (log_front c.partition_point-count.result c.args.lines.now c.requires.lines).rising
+pub guess_conflict-requires : goal.guess_conflict-requires
+guess_conflict-requires c =
+    let log = log_front c.partition_point-count.result c.lines-lines.result.now (first_lines _ _ c.lines-lines.ensures.log) in record { order = log.order; valid = log.valid; rising = log.rising }
 
 pub returns : goal.returns
-returns c = IfOk-weaker c.slot_numbers_to.result _ _ (λ v slots. slots_conflict c.args.lines.now c.args.last v.items c.requires.lines.rising c.requires.impossible slots) c.slot_numbers_to.ensures
+returns c = IfOk-weaker c.slot_numbers_to.result _ _ (λ v slots. slots_conflict c.args.log.now.lines c.args.last v.items (rw c.lines-lines.ensures.value at (first_lines _ _ c.lines-lines.ensures.log).rising) c.requires slots) c.slot_numbers_to.ensures

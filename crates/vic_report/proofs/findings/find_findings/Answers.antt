@@ -4,29 +4,33 @@ use Rattle.vic_report.proofs.findings.find_findings.Goals as goal
 
 pub lines_of_absent-requires-clause-not_open : goal.lines_of_absent-requires-clause-not_open
 lines_of_absent-requires-clause-not_open c =
-    let es = entries c.args.lines.now in
+    let es = entries c.args.log.now.lines in
     let us = c.in_ok-listed.listed.items in
     let certain = c.args.facts.certain.items in
     let d = c.in_ok-differences.differences in
     let here = rw (c.deref-3.ensures.value, c.deref-4.ensures.value) at c.in_ok-differences.ensures in
-    rw c.deref-9.ensures.value (shut_all es (is_open_in c.args.facts.open) us certain d.absent.items c.requires.facts.told.uids_open c.in_ok-listed.ensures.uids here.absent)
+    rw c.deref-9.ensures.value (shut_all es (is_open_in c.args.facts.open) us certain d.absent.items c.requires.told.uids_open c.in_ok-listed.ensures.uids here.absent)
 
-pub lines_of_certain-requires-clause-forced : goal.lines_of_certain-requires-clause-forced
-lines_of_certain-requires-clause-forced c u h =
-    let w = (c.in_ok-differences.ensures.unlisted.members u).0 (subst (λ xs. has xs u ≡ true) c.deref-10.ensures.value h) in
-    c.requires.facts.met_for u (subst (λ xs. has xs u ≡ true) c.deref-3.ensures.value w.0)
+pub lines_of_certain-requires : goal.lines_of_certain-requires
+lines_of_certain-requires c = record {
+  possible = rw c.lines-lines.ensures.value c.requires.told.possible;
+  met = rw c.lines-lines.ensures.value c.requires.is_met;
+  forced = λ u h.
+      let w = (c.in_ok-differences.ensures.unlisted.members u).0 (subst (λ xs. has xs u ≡ true) c.deref-10.ensures.value h) in
+      c.requires.met_for u (subst (λ xs. has xs u ≡ true) c.deref-3.ensures.value w.0);
+}
 
 pub returns : goal.returns
 returns c =
-    let es = entries c.args.lines.now in
+    let es = entries c.args.log.now.lines in
     let set = is_open_in c.args.facts.open in
     let us = c.in_ok-listed.listed.items in
     let certain = c.args.facts.certain.items in
     let keys = c.deref-2.result.now in
     let some = c.in_ok-uncertain.uncertain.items in
     let d = c.in_ok-differences.differences in
-    let facts = log_facts es set certain c.requires.facts.told in
-    let own : AreListed us (listed es) = record { members = c.in_ok-listed.ensures.members; are_uids = c.in_ok-listed.ensures.uids } in
+    let facts = log_facts es set certain c.requires.told in
+    let own : AreListed us (listed es) = record { members = rw c.lines-lines.ensures.value at c.in_ok-listed.ensures.members; are_uids = c.in_ok-listed.ensures.uids } in
     let here = rw (c.deref-3.ensures.value, c.deref-4.ensures.value) at c.in_ok-differences.ensures in
     let all = all_findings (IsPossibleUid es) (IsCertainUid es) set certain us (listed es) d facts own here in
     let masks : AreOpenMasks es c.open_masks_besides-masks.result = record {
@@ -39,7 +43,7 @@ returns c =
       absent = subst (IsListOf (IsAbsent es)) (sym (c.in_ok-lines_of_absent.ensures.uids ∙ c.deref-9.ensures.value)) all.absent;
       absent_shown = c.in_ok-lines_of_absent.ensures.shown;
       unlisted = subst (IsListOf (IsUnlisted es)) (sym (c.in_ok-lines_of_certain.ensures.uids ∙ c.deref-10.ensures.value)) all.unlisted;
-      unlisted_shown = c.in_ok-lines_of_certain.ensures.shown;
+      unlisted_shown = rw c.lines-lines.ensures.value at c.in_ok-lines_of_certain.ensures.shown;
       unsettled = subst (λ o. MatchOption o (NoSuch (IsLeftOpen es)) (IsUnsettledWith es)) (sym c.left_to_ask.ensures) (left_to_ask es d.unsettled c.open_masks_besides-masks.result all.unsettled masks);
       doubtful = doubtful_list (IsPossibleUid es) (IsCertainUid es) set certain us (listed es) some d.absent.items c.in_ok-doubtful.doubtful.items facts own
           (rw (c.deref-5.ensures.value, c.deref-6.ensures.value) at c.in_ok-uncertain.ensures)

@@ -1,9 +1,8 @@
-use Rattle.vic_report.proofs.Words.{arith, rising_long, first_lines}
+use Rattle.vic_report.proofs.Words.{first_lines}
 use Rattle.vic_report.proofs.reporting.report.Goals as goal
 
-pub report_lines-requires : goal.report_lines-requires
-report_lines-requires c =
-    let log = c.lines.ensures.log in
-    let long = rising_long 1 c.lines.result.now log.rising in
-    let limit = log.limit in
-    record { lines = first_lines _ _ log; limit = omega arith }
+pub facts_of-requires : goal.facts_of-requires
+facts_of-requires c = first_lines _ _ c.lines.ensures.log
+
+pub find_conflict-requires : goal.find_conflict-requires
+find_conflict-requires c = rw c.lines.ensures.value at (rw c.in-Err.is at c.in_ok-facts.ensures)

@@ -1,15 +1,18 @@
-use Rattle.vic_report.proofs.Words.{ap, subst, MatchOption, entries, uids_of, IsLeftOpen, MayBeMissing, IsUnsettledWith, IsListOf, IsAbsent, IsUnlisted, NoSuch}
+use Rattle.vic_report.proofs.Words.{ap, first_lines, subst, MatchOption, entries, uids_of, IsLeftOpen, MayBeMissing, IsUnsettledWith, IsListOf, IsAbsent, IsUnlisted, NoSuch}
 use Rattle.vic_report.proofs.AllFindings.{none_is_complete}
 use Rattle.vic_report.proofs.reporting.report_facts.Goals as goal
 
+pub count_listed-count-requires : goal.count_listed-count-requires
+count_listed-count-requires c = (first_lines _ _ c.lines.ensures.log).rising
+
 pub returns : goal.returns
 returns c =
-    let es = entries c.args.lines.now in
+    let es = entries c.args.log.now.lines in
     let all = c.in_ok-findings.ensures in
     let none = c.is_empty.ensures.0 c.if-not-is_empty.false in
-    none_is_complete c.args.lines.now c.count_listed-count.result c.requires.facts.told.possible
+    none_is_complete c.args.log.now.lines c.count_listed-count.result c.requires.told.possible
     (subst (IsListOf (IsAbsent es)) (ap uids_of none.absent) all.absent)
     (subst (IsListOf (IsUnlisted es)) (ap uids_of none.unlisted) all.unlisted)
     (subst (λ o. MatchOption o (NoSuch (IsLeftOpen es)) (IsUnsettledWith es)) none.unsettled all.unsettled)
     (subst (IsListOf (MayBeMissing es)) none.doubtful all.doubtful)
-    c.count_listed-count.ensures
+    (rw c.lines.ensures.value at c.count_listed-count.ensures)

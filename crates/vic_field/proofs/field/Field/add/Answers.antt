@@ -5,7 +5,7 @@ use Rattle.vic_field.proofs.field.Field.add.Goals as goal
 
 pub put-requires-clause-fresh : goal.put-requires-clause-fresh
 put-requires-clause-fresh c =
-    row_has c.self.inside.row c.args.uid c.key.result c.self.invariant c.key.ensures.is_uid c.key.ensures.value
+    row_has c.self.inside.row c.args.uid c.key.result c.key.ensures.is_uid c.key.ensures.value
     ∙ ap (λ (ts : List (ℕ × Bool)). has (uids ts) c.args.uid) c.self.view_is
     ∙ sym c.if-holds.ensures
 

@@ -5,5 +5,5 @@ use Rattle.vic_field.proofs.field.Field.holds.Goals as goal
 pub returns : goal.returns
 returns c =
     c.holds.ensures
-    ∙ row_has c.self.inside.row c.args.uid c.key.result c.self.invariant c.key.ensures.is_uid c.key.ensures.value
+    ∙ row_has c.self.inside.row c.args.uid c.key.result c.key.ensures.is_uid c.key.ensures.value
     ∙ ap (λ (ts : List (ℕ × Bool)). has (uids ts) c.args.uid) c.self.view_is

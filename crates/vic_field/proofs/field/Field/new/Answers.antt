@@ -11,7 +11,6 @@ no_keys = record {
 
 pub invariant_of-result : goal.invariant_of-result
 invariant_of-result c = record {
-  keys = subst AreKeys (sym c.new.ensures.items) no_keys;
-  quiet = c.new-2.ensures.sound;
+  rising = subst AreKeys (sym c.new.ensures.items) no_keys;
   room = let none = ap length c.new.ensures.items in omega (arith, none);
 }

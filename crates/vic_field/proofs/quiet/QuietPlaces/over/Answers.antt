@@ -2,9 +2,9 @@ use Rattle.vic_field.proofs.Words.{arith}
 use Rattle.vic_field.proofs.PlaceLaws.{all_blank, sound_later}
 use Rattle.vic_field.proofs.quiet.QuietPlaces.over.Goals as goal
 
-pub returns-clause-sound : goal.returns-clause-sound
-returns-clause-sound c =
+pub invariant_of-result : goal.invariant_of-result
+invariant_of-result c =
     let places = all_blank _ _ (c.in_ok-vec.ensures.items_if_clones_equal (λ y e. e)) in
     let words = all_blank _ _ (c.in_ok-vec-2.ensures.items_if_clones_equal (λ y e. e)) in
     let groups = all_blank _ _ (c.in_ok-vec-3.ensures.items_if_clones_equal (λ y e. e)) in
-    sound_later 0 _ (omega arith) places.0 words.0 groups.0 (omega (arith, places.1, words.1)) (omega (arith, words.1, groups.1))
+    record { sound = sound_later 0 1 _ _ _ (omega arith) places.0 words.0 groups.0 (omega (arith, places.1, words.1)) (omega (arith, words.1, groups.1)) }

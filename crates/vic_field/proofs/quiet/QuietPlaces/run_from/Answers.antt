@@ -1,21 +1,12 @@
 use Rattle.vic_field.proofs.Words.{◌≡◌, ◌/◌, false, subst, arith, both_ways, is_set}
 use Rattle.vic_field.proofs.quiet.QuietPlaces.run_from.Goals as goal
-use Rattle.vic_field.proofs.quiet.QuietPlaces.run_from.Goals.{then-place-eq0+else-groups-gt0, else-place-eq0, then-place-eq0-2+else-words-gt0, else-place-eq0-2}
-
-pub returns-then-words-gt0-clause-group : goal.returns-then-words-gt0-clause-group
-returns-then-words-gt0-clause-group c begins lt full = elim c.if-place-eq0.branch [
-  | then-place-eq0+else-groups-gt0 w ↦
-      let none = w.if-groups-gt0.false in
-      let ready = w.run_in-groups.ensures.end (omega (arith, none)) in
-      absurd (both_ways _ (subst (λ ws. is_set c.args.self.now.stretch ws (c.args.place / 4096) ≡ false) w.deref.ensures.value ready) (c.requires.full_groups.noted _ lt full))
-  | else-place-eq0 w ↦ absurd (w.if-place-eq0.false begins)
-]
+use Rattle.vic_field.proofs.quiet.QuietPlaces.run_from.Goals.{then-place-eq0-2+else-words-gt0, else-place-eq0-2}
 
 pub returns-clause-word : goal.returns-clause-word
 returns-clause-word c begins lt full = elim c.if-place-eq0-2.branch [
   | then-place-eq0-2+else-words-gt0 w ↦
       let none = w.if-words-gt0.false in
       let ready = w.run_in-words.ensures.end (omega (arith, none)) in
-      absurd (both_ways _ (subst (λ ws. is_set c.args.self.now.stretch ws (c.args.place / 64) ≡ false) w.deref-then-place-eq0-2.ensures.value ready) (c.requires.full_words.noted _ lt full))
+      absurd (both_ways _ (subst (λ ws. is_set c.args.self.now.stretch ws (c.args.place / 64) ≡ false) w.deref-then-place-eq0-2.ensures.value ready) (c.args.self.now.sound.full_words.noted _ lt full))
   | else-place-eq0-2 w ↦ absurd (w.if-place-eq0-2.false begins)
 ]

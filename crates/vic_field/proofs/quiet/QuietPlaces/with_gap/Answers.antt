@@ -5,7 +5,7 @@ use Rattle.vic_field.proofs.quiet.QuietPlaces.with_gap.Goals.{then-run_from-gt0,
 
 pub loop-next-init : goal.loop-next-init
 loop-next-init c =
-    assumption (c.in_ok-moved.ensures.sound, c.in_ok-moved.ensures.room, none_gapped c.args.gap (is_quiet_place c.args.self.now) (is_quiet_place c.in_ok-moved.moved) c.in_ok-moved.ensures.none)
+    assumption (c.in_ok-moved.ensures.room, none_gapped c.args.gap (is_quiet_place c.args.self.now) (is_quiet_place c.in_ok-moved.moved) c.in_ok-moved.ensures.none)
 
 pub loop-next-preserved : goal.loop-next-preserved
 loop-next-preserved c =
@@ -22,14 +22,13 @@ loop-next-preserved c =
             | else-place-gap w' ↦ let from = w'.if-place-gap.false in inr (w'.add-is, omega (arith, from, c.loop-next.auto.next))
           ] in
           rw w.moved-is (record {
-            sound = w.add.ensures.sound;
             room = rw room i.room;
             gapped = gapped_quiet c.args.gap next to (is_quiet_place old) (is_quiet_place c.loop-next.moved) (is_quiet_place w.add.new.self) (λ k here. c.run_from.ensures.quiet k (omega (arith, here)) (omega (arith, here, some))) place w.add.ensures.added i.gapped;
           })
       | else-run_from-gt0 w ↦
           let none = w.if-run_from-gt0.false in
           let gapped = gapped_ready c.args.gap c.loop-next.next (is_quiet_place old) (is_quiet_place c.loop-next.moved) (λ k here. let same : c.loop-next.next - 1 ≡ k = omega (arith, here) in subst (λ n. is_quiet_place old n ≡ false) same (c.run_from.ensures.ready (omega (arith, none)))) i.gapped in
-          rw w.moved-is (record { sound = i.sound; room = i.room; gapped = gapped })
+          rw w.moved-is (record { room = i.room; gapped = gapped })
     ]
 
 pub returns-clause-moved : goal.returns-clause-moved
@@ -38,7 +37,7 @@ returns-clause-moved c =
     let end = c.loop-next-test.false in
     let old = is_quiet_place c.args.self.now in
     record {
-      before = λ k lt. let within = c.requires.within in i.before k lt ∙ ap (λ (b : Bool). b && old k) (lt-ltb (k + 1) c.loop-next.next (omega (arith, lt, within, end)));
+      before = λ k lt. let within = c.requires in i.before k lt ∙ ap (λ (b : Bool). b && old k) (lt-ltb (k + 1) c.loop-next.next (omega (arith, lt, within, end)));
       put = i.put;
       after = λ k le h. i.after k le ∙ ap (λ (b : Bool). b && old k) (lt-ltb (k + 1) c.loop-next.next (omega (arith, h, end)));
     }

@@ -1,6 +1,6 @@
 use Rattle.vic_field.proofs.Words.{◌≡◌, ◌+◌, ◌-◌, true, false, ltb, ltb-true, ltb-false, List, ℕ, length, take, drop, subst, sym, arith, rules, nat_cmp, length-drop, length-take-le, IsStrictlySortedBy, non_decreasing_from_sorted, IsPartitionPoint, IsNonDecreasingBy-drop, IsNonDecreasingBy-take, IsPartitionPoint-from_clause, IsPartitionedBy-ltb, HasKeyPlaceBetween, IsKeyPlace}
 use Rattle.vic_field.proofs.RowLaws.{found}
-use Rattle.vic_field.proofs.row.place_of.Goals as goal
+use Rattle.vic_field.proofs.row.Row.place_of.Goals as goal
 
 pub returns : goal.returns
 returns c =
@@ -9,7 +9,7 @@ returns c =
     let from = c.bounds-from.result.0 in
     let to = c.bounds-from.result.1 in
     let place = c.partition_point.result in
-    let order : IsStrictlySortedBy nat_cmp ks = subst (IsStrictlySortedBy nat_cmp) (sym c.deref.ensures.value) c.requires in
+    let order : IsStrictlySortedBy nat_cmp ks = subst (IsStrictlySortedBy nat_cmp) (sym c.deref.ensures.value) c.args.self.now.rising.rising in
     let near : HasKeyPlaceBetween key ks from to = subst (λ xs. HasKeyPlaceBetween key xs from to) (sym c.deref.ensures.value) c.bounds-from.ensures in
     let part = take (to - from) (drop from ks) in
     let up = IsNonDecreasingBy-take (λ (y : ℕ). y) (to - from) (drop from ks) (IsNonDecreasingBy-drop (λ (y : ℕ). y) from ks (non_decreasing_from_sorted ks order)) in

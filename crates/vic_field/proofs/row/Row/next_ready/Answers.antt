@@ -1,5 +1,5 @@
 use Rattle.vic_field.proofs.Words.{◌<◌, ◌≤◌, length, arith, ⊎_elim, cases_lt, get_or_default, non_decreasing_from_sorted}
-use Rattle.vic_field.proofs.row.next_ready.Goals as goal
+use Rattle.vic_field.proofs.row.Row.next_ready.Goals as goal
 
 pub loop-place-preserved : goal.loop-place-preserved
 loop-place-preserved c =
@@ -15,12 +15,12 @@ loop-place-preserved c =
 
 pub returns-else-index-last-clause-none : goal.returns-else-index-last-clause-none
 returns-else-index-last-clause-none c none k low lt high =
-    let ks = c.args.row.now.keys.items in
+    let ks = c.args.self.now.keys.items in
     let place = c.loop-place.place in
     ⊎_elim
     (λ (before : k < place). c.loop-place.invariant.quiet k low before)
     (λ (from : place ≤ k).
-    let up = non_decreasing_from_sorted ks c.requires.keys.rising place k 0 from lt in
+    let up = non_decreasing_from_sorted ks c.args.self.now.rising.rising place k 0 from lt in
     let there : place < length ks = omega (arith, from, lt) in
     let same = get_or_default ks place 0 c.index.result.now there in
     let here = c.index.ensures in

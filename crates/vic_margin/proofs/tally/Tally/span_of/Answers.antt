@@ -1,7 +1,7 @@
 use Rattle.vic_margin.proofs.Words.{◌≡◌, ℕ, ◌∙◌, IsUid, Option, ap, mask_at, lies_in_some, sym, mirror, mirror_below, is_in_block, is_in_some_block}
 use Rattle.vic_frame.specs.declared.low_bits_first.KeyBlock.{KeyBlock}
 use Rattle.vic_walk.proofs.Alike.{block_by_parts}
-use Rattle.vic_margin.proofs.tally.span_of.Goals as goal
+use Rattle.vic_margin.proofs.tally.Tally.span_of.Goals as goal
 
 pub returns-in-Some-clause-inside : goal.returns-in-Some-clause-inside
 returns-in-Some-clause-inside c es i e place slot u p is at =

@@ -1,7 +1,7 @@
 use Rattle.vic_field.proofs.Words.{◌<◌, ◌-◌, ◌∙◌, get_or, sym, arith, leb-true, ltb-true}
 use Rattle.vic_field.proofs.RowLaws.{between}
-use Rattle.vic_field.proofs.row.is_between.Goals as goal
-use Rattle.vic_field.proofs.row.is_between.Goals.{then-from-eq0, else-from-eq0}
+use Rattle.vic_field.proofs.row.Row.is_between.Goals as goal
+use Rattle.vic_field.proofs.row.Row.is_between.Goals.{then-from-eq0, else-from-eq0}
 
 pub returns-then-to-keys : goal.returns-then-to-keys
 returns-then-to-keys c _ =

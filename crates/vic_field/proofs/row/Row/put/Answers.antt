@@ -1,28 +1,27 @@
 use Rattle.vic_field.proofs.Words.{length, ap, subst, sym, ◌∙◌, arith, AreKeys, length-insert}
 use Rattle.vic_field.proofs.RowLaws.{inserted, inserted_keys}
-use Rattle.vic_field.proofs.row.put.Goals as goal
+use Rattle.vic_field.proofs.row.Row.put.Goals as goal
 
-pub returns-clause-row : goal.returns-clause-row
-returns-clause-row c =
-    let ks = c.args.row.now.keys.items in
+pub invariant_of-self-2 : goal.invariant_of-self-2
+invariant_of-self-2 c =
+    let ks = c.args.self.now.keys.items in
     let place = c.place_of-place.result in
     let p = c.place_of-place.ensures in
     let items = c.in_ok-insert.ensures.items in
     let size = ap length items ∙ length-insert ks place c.args.key p.within in
     record {
-      keys = subst AreKeys (sym items) (inserted_keys ks place c.args.key c.requires.row.keys p c.requires.fresh c.requires.small);
-      quiet = c.in_ok-quiet.ensures.sound;
+      rising = subst AreKeys (sym items) (inserted_keys ks place c.args.key c.args.self.now.rising p c.requires.fresh c.requires.small);
       room = let room = c.in_ok-quiet.ensures.room in omega (arith, size, room, c.len.ensures);
     }
 
 pub returns-clause-more : goal.returns-clause-more
 returns-clause-more c =
-    let row = c.args.row.now in
+    let row = c.args.self.now in
     let place = c.place_of-place.result in
     let moved = c.in_ok-quiet.ensures.moved in
     let size = c.len.ensures in (
       place,
-      inserted row (record { keys = c.insert.new.self; quiet = c.in_ok-quiet.quiet; index = row.index }) c.args.key place c.place_of-place.ensures.within c.in_ok-insert.ensures.items
+      inserted row c.insert.new.self.items c.in_ok-quiet.quiet c.args.key place c.place_of-place.ensures.within c.in_ok-insert.ensures.items
           moved.before
           moved.put
           (λ k from lt. moved.after k from (omega (arith, lt, size))),
