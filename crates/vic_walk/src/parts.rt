@@ -144,6 +144,14 @@ impl Parts {
         &self.hints
     }
 
+    /// Whether a border has this number.
+    fn has_border(&self, number: usize, border: u64) -> bool
+        ensures within { result ≡ true → number < length self.now }
+        ensures border { result ≡ true → slice_index self.now number ≡ border }
+    {
+        number < self.borders.len() && self.borders[number] == border
+    }
+
     /// Whether a key lies between two borders.
     fn is_between(&self, key: u64, from: usize, to: usize) -> bool
         ensures { result ≡ true → IsBetween self.now key from to }
@@ -198,6 +206,10 @@ impl Parts {
     {
         // shows a proof what is so of the borders
         let _ = &self.borders;
+        let to = end.max(near.saturating_add(1));
+        if self.has_border(near, block.first) && self.has_border(to, block.last() + 1) {
+            return Span { from: near, to };
+        }
         let from = self.at_or_in(near, block.first);
         let last = self.at_or_after(end.saturating_sub(1).max(from), block.last());
         Span { from, to: last + 1 }
