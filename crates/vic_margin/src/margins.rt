@@ -13,7 +13,7 @@ use std::alloc::{AllocError, Global};
 use vic_frame::Uid;
 use vic_frame::low_bits_first::key;
 use vic_log::{Entry, Log, PackedLine, RoundCursor};
-use vic_walk::{Notes, Parts};
+use vic_walk::{Hints, Parts};
 
 /// The margin of each UID that is handed in: in how many slots of a log it was overlooked. It fails
 /// only if memory is refused.
@@ -21,9 +21,8 @@ pub fn overlooked(alloc: Global, log: &Log, uids: &[Uid]) -> Result<Vec<u32>, Al
     ensures { IfOk result (λ v. v.items ≡ map (margin_of (entries log.now.lines)) uids.now) }
 {
     let lines = log.lines();
-    let parts = Parts::of(alloc, lines)?;
-    let mut notes = Notes::none(alloc);
-    let margins = part_margins(alloc, lines, &parts, &mut notes)?;
+    let parts = Parts::of(alloc, lines)?.indexed(alloc)?;
+    let margins = part_margins(alloc, lines, &parts)?;
     let mut found = Vec::with_capacity(alloc, uids.len())?;
     for uid in uids {
         found.push(margins[parts.at(key(*uid))])?;
@@ -31,12 +30,11 @@ pub fn overlooked(alloc: Global, log: &Log, uids: &[Uid]) -> Result<Vec<u32>, Al
     Ok(found)
 }
 
-/// The margin of the UIDs of each part of a log, with notes of an earlier walk over it.
+/// The margin of the UIDs of each part of a log.
 pub(crate) fn part_margins(
     alloc: Global,
     lines: &[PackedLine],
     parts: &Parts,
-    notes: &mut Notes,
 ) -> Result<Vec<u32>, AllocError>
     requires lines { AreLogLines lines.now }
     requires borders { AreBorders parts.now }
@@ -45,10 +43,11 @@ pub(crate) fn part_margins(
 {
     let mut tally = Tally::start(alloc, parts.count())?;
     let mut rounds = RoundCursor::first();
-    notes.rewind();
+    let mut hints = Hints::first();
     for line in lines {
         let entry = entry_of(*line);
-        tally.pass(parts, &rounds, &entry, notes);
+        let near = hints.next(parts.hints(), &entry);
+        tally.pass(parts, &rounds, near, &entry);
         rounds.advance(&entry);
     }
     Ok(tally.margins())

@@ -11,14 +11,15 @@ ghost use Rattle.vic_walk.specs.Marked.{is_marked};
 ghost use Rattle.vic_margin.specs.UidMargins.{one_if};
 ghost use Rattle.vic_margin.specs.inner.Counts.{count_at};
 ghost use Rattle.vic_margin.specs.inner.Trees.{within};
-ghost use Rattle.vic_margin.specs.inner.Tallies.{AreMargins, HasRoom, IsCounted, IsPlace, IsSpanAt, IsTallyAt, IsTurned};
+ghost use Rattle.vic_margin.specs.inner.Tallies.{AreMargins, HasRoom, IsCounted, IsTallyAt, IsTurned};
+ghost use Rattle.vic_walk.specs.Spans.{IsPlace};
 
 use crate::counts::Counts;
 use std::alloc::{AllocError, Global};
 use vic_frame::low_bits_first::key;
 use vic_frame::{Request, Uid};
 use vic_log::{Entry, RoundCursor};
-use vic_walk::{Marks, Notes, Parts, Span};
+use vic_walk::{Marks, Near, Parts, Span, span_of};
 
 /// What is known of each part before a position of a log.
 #[derive(Drop)]
@@ -115,9 +116,8 @@ impl Tally {
         }
     }
 
-    /// Makes the part of the UID Quiet that a request silences, if it silences one. The next note
-    /// is a hint of the part.
-    fn pass_request(&mut self, parts: &Parts, request: &Request, notes: &mut Notes)
+    /// Makes the part of the UID Quiet that a request silences, if it silences one.
+    fn pass_request(&mut self, parts: &Parts, near: Near, request: &Request)
         requires borders { AreBorders parts.now }
         requires room { HasRoom (part_count parts.now) self.old }
         ensures { (es : List EntryValue) (i : ℕ) → slice_get es i ≡ Some (Sent request.now)
@@ -128,8 +128,7 @@ impl Tally {
             Request::StayQuiet { uid, .. } => {
                 // no tag has another number
                 if let Some(uid) = Uid::new(uid) {
-                    let near = notes.next().unwrap_or(0);
-                    self.silence(part_near(parts, near, key(uid)));
+                    self.silence(parts.at_or_after(near.own, key(uid)));
                 }
             }
             Request::Inventory { .. } => {}
@@ -137,13 +136,7 @@ impl Tally {
     }
 
     /// Takes the tally past an entry.
-    pub(crate) fn pass(
-        &mut self,
-        parts: &Parts,
-        rounds: &RoundCursor,
-        entry: &Entry,
-        notes: &mut Notes,
-    )
+    pub(crate) fn pass(&mut self, parts: &Parts, rounds: &RoundCursor, near: Near, entry: &Entry)
         requires borders { AreBorders parts.now }
         requires room { HasRoom (part_count parts.now) self.old }
         requires few { self.old.counts.raised + 1 < 2 ^ 32 }
@@ -151,12 +144,12 @@ impl Tally {
             → IsTallyAt parts.now es i self.old → IsTallyAt parts.now es (i + 1) self.new }
     {
         match *entry {
-            Entry::Sent(request) => self.pass_request(parts, &request, notes),
+            Entry::Sent(request) => self.pass_request(parts, near, &request),
             Entry::FieldCycle => self.wake(),
-            Entry::Silent => self.count(span_of(parts, rounds)),
+            Entry::Silent => self.count(span_of(parts, rounds, near)),
             Entry::Heard(response) => {
-                let span = span_of(parts, rounds);
-                let own = part_near(parts, span.from, key(response.uid()));
+                let span = span_of(parts, rounds, near);
+                let own = parts.at_or_after(near.own, key(response.uid()));
                 self.hear(span, own);
             }
             // in these no UID is overlooked
@@ -181,40 +174,5 @@ impl Tally {
             }
         }
         tally.rest
-    }
-}
-
-/// The part that has a key, which is expected in this part or in the next.
-fn part_near(parts: &Parts, part: usize, key: u64) -> usize
-    requires borders { AreBorders parts.now }
-    requires key { IsKey key }
-    ensures { IsPartOf parts.now key result }
-{
-    if has_key(parts, part, key) {
-        part
-    } else if has_key(parts, part.saturating_add(1), key) {
-        part.saturating_add(1)
-    } else {
-        parts.at(key)
-    }
-}
-
-/// Whether there is this part, and it has a key.
-fn has_key(parts: &Parts, part: usize, key: u64) -> bool
-    ensures { result ≡ true → IsPartOf parts.now key part }
-{
-    part < parts.count() && parts.first(part) <= key && key < parts.end(part)
-}
-
-/// The parts whose UIDs lie in the mask of the next slot.
-fn span_of(parts: &Parts, rounds: &RoundCursor) -> Span
-    ensures within { result.to ≤ part_count parts.now }
-    ensures inside { (es : List EntryValue) (i : ℕ) (e : EntryValue)
-        → IsPlace parts.now es i e rounds.now → is_slot e ≡ true
-        → IsSpanAt parts.now es i result }
-{
-    match rounds.keys() {
-        Some(block) => parts.span(&block),
-        None => Span { from: 0, to: 0 },
     }
 }

@@ -18,10 +18,8 @@ use crate::others::other_keys;
 use std::alloc::{AllocError, Global};
 use vic_log::{Log, MAX_LINES, PackedLine};
 use vic_tree::{OpenSet, RangeSet};
-use vic_verdict::{
-    Facts, LogParts, Verdict, facts_and_parts_of, first_finding, keys_in_order, listed_uids,
-};
-use vic_walk::Notes;
+use vic_verdict::{Facts, Verdict, facts_and_parts_of, first_finding, keys_in_order, listed_uids};
+use vic_walk::Parts;
 
 /// The verdict on a log, and its margin, if it is possible. It fails only if memory is refused.
 pub fn margin(alloc: Global, log: &Log) -> Result<Margin, AllocError>
@@ -31,7 +29,7 @@ pub fn margin(alloc: Global, log: &Log) -> Result<Margin, AllocError>
         (λ w. IsPossible (entries log.now.lines) × IsWeakest (entries log.now.lines) w)) }
 {
     let lines = log.lines();
-    match facts_and_parts_of::<RangeSet>(alloc, lines, Notes::kept(alloc))? {
+    match facts_and_parts_of::<RangeSet>(alloc, lines)? {
         Ok((facts, parts)) => {
             let Facts {
                 open,
@@ -57,13 +55,13 @@ pub fn margin(alloc: Global, log: &Log) -> Result<Margin, AllocError>
 fn weakest_by(
     alloc: Global,
     lines: &[PackedLine],
-    parts: LogParts,
+    parts: Parts,
     verdict: &Verdict,
 ) -> Result<Weakest, AllocError>
     requires lines { AreLogLines lines.now }
     requires limit { length lines.now ≤ MAX_LINES }
-    requires borders { AreBorders parts.parts }
-    requires cut { AreCut parts.parts (entries lines.now) }
+    requires borders { AreBorders parts }
+    requires cut { AreCut parts (entries lines.now) }
     requires verdict { IsVerdict lines.now verdict.now }
     ensures { IfOk result (IsWeakest (entries lines.now)) }
 {
@@ -77,20 +75,19 @@ fn weakest_by(
         | Verdict::Absent(_)
         | Verdict::Unlisted(_)
         | Verdict::Doubtful(_)
-        | Verdict::Complete { .. } => weakest_of(alloc, lines, parts),
+        | Verdict::Complete { .. } => weakest_of(alloc, lines, parts.indexed(alloc)?),
     }
 }
 
 /// The margin of the lines of a log, and the first mask of UIDs that have it.
-fn weakest_of(alloc: Global, lines: &[PackedLine], parts: LogParts) -> Result<Weakest, AllocError>
+fn weakest_of(alloc: Global, lines: &[PackedLine], parts: Parts) -> Result<Weakest, AllocError>
     requires lines { AreLogLines lines.now }
     requires limit { length lines.now ≤ MAX_LINES }
-    requires borders { AreBorders parts.parts }
-    requires cut { AreCut parts.parts (entries lines.now) }
+    requires borders { AreBorders parts }
+    requires cut { AreCut parts (entries lines.now) }
     ensures { IfOk result (IsWeakest (entries lines.now)) }
 {
-    let LogParts { parts, mut notes } = parts;
-    let margins = part_margins(alloc, lines, &parts, &mut notes)?;
+    let margins = part_margins(alloc, lines, &parts)?;
     let listed = listed_uids(alloc, lines)?;
     let keys = keys_in_order(alloc, &listed)?;
     let Some(least) = least_besides(&parts, &margins, &keys) else {

@@ -15,7 +15,7 @@ use std::alloc::{AllocError, Global};
 use vic_frame::Uid;
 use vic_frame::low_bits_first::key;
 use vic_log::PackedLine;
-use vic_walk::{LogWalk, Notes, walk_log};
+use vic_walk::{LogWalk, walk_log};
 
 /// For each of some UIDs that a possible log doesn't leave open, the first line that rules it out.
 pub(crate) fn lines_of_absent(
@@ -33,9 +33,18 @@ pub(crate) fn lines_of_absent(
     if absent.is_empty() {
         return Ok(shown);
     }
-    let walk = walk_log(alloc, lines, Notes::none(alloc))?;
+    let LogWalk {
+        parts,
+        walk,
+        broken,
+    } = walk_log(alloc, lines)?;
+    let walked = LogWalk {
+        parts: parts.indexed(alloc)?,
+        walk,
+        broken,
+    };
     for uid in absent {
-        let line = ruling_line(lines, &walk, *uid);
+        let line = ruling_line(lines, &walked, *uid);
         shown.push(ShownUid { uid: *uid, line })?;
     }
     Ok(shown)

@@ -30,8 +30,8 @@ use vic_log::{Entry, PackedLine, RoundCursor};
 pub struct Parts {
     /// In rising order, from 0 to the end of the keys.
     borders: Vec<u64>,
-    /// A hint of where a key is among them.
-    index: Index,
+    /// A hint of where any key is among them, if it was asked for, or there are no other hints.
+    index: Option<Index>,
     /// Hints for the walks over the log, in the order in which they ask.
     hints: Vec<u32>,
 }
@@ -66,10 +66,27 @@ impl Parts {
         ensures cut { IfOk result (λ parts. AreCut parts (entries lines.now)) }
     {
         let (borders, hints) = gather(alloc, lines)?.in_order(alloc)?;
-        let index = Index::over(alloc, &borders)?;
+        let index = if hints.is_empty() {
+            Some(Index::over(alloc, &borders)?)
+        } else {
+            None
+        };
         Ok(Parts {
             borders,
             index,
+            hints,
+        })
+    }
+
+    /// The same, with an index, by which `at` finds any key faster: up to 2 bytes a part.
+    pub fn indexed(self, alloc: Global) -> Result<Parts, AllocError>
+        ensures { IfOk result (λ parts. parts ≡ self) }
+    {
+        let Parts { borders, hints, .. } = self;
+        let index = Index::over(alloc, &borders)?;
+        Ok(Parts {
+            borders,
+            index: Some(index),
             hints,
         })
     }
@@ -103,7 +120,10 @@ impl Parts {
         requires { IsKey key }
         ensures { IsPartOf self.now key result }
     {
-        let (from, to) = self.index.hint(key);
+        let (from, to) = match &self.index {
+            Some(index) => index.hint(key),
+            None => (0, 0),
+        };
         let near = up_to(&self.borders, from, key);
         if self.is_between(key, near, near.saturating_add(1)) {
             near
@@ -127,7 +147,7 @@ impl Parts {
     }
 
     /// The part that has a key, which is expected in this part or in one of the next few.
-    pub(crate) fn at_or_after(&self, part: usize, key: u64) -> usize
+    pub fn at_or_after(&self, part: usize, key: u64) -> usize
         requires { IsKey key }
         ensures { IsPartOf self.now key result }
     {
@@ -140,7 +160,7 @@ impl Parts {
     }
 
     /// Hints for the walks over the log, in the order in which they ask.
-    pub(crate) fn hints(&self) -> &[u32] {
+    pub fn hints(&self) -> &[u32] {
         &self.hints
     }
 
@@ -177,26 +197,9 @@ impl Parts {
         low
     }
 
-    /// The parts whose keys are in a block, if the block has all keys of each part or none.
-    pub fn span(&self, block: &KeyBlock) -> Span
-        requires { IsBlock block.now.first block.now.len }
-        ensures within { result.to ≤ part_count self.now }
-        ensures inside { IsByParts self.now (is_in_block block.now.first block.now.len)
-            → (k p : ℕ) → IsKey k → IsPartOf self.now k p
-            → is_in_block block.now.first block.now.len k
-            ≡ (nat_le result.from p && nat_lt p result.to) }
-    {
-        // shows a proof what is so of the borders
-        let _ = &self.borders;
-        let from = self.at(block.first);
-        Span {
-            from,
-            to: self.at_or_after(from, block.last()) + 1,
-        }
-    }
-
-    /// The same, with hints of the first part and of the one after the last.
-    pub(crate) fn span_near(&self, block: &KeyBlock, near: usize, end: usize) -> Span
+    /// The parts whose keys are in a block, if the block has all keys of each part or none; with
+    /// hints of the first one and of the one after the last.
+    pub(crate) fn span(&self, block: &KeyBlock, near: usize, end: usize) -> Span
         requires { IsBlock block.now.first block.now.len }
         ensures within { result.to ≤ part_count self.now }
         ensures inside { IsByParts self.now (is_in_block block.now.first block.now.len)

@@ -12,7 +12,7 @@ unreachable-requires c =
     let es = entries c.args.lines.now in
     let keys = c.in_ok-keys.keys.items in
     let named : AreListedKeys es keys = listed_keys es keys _ _ c.in_ok-keys.ensures c.deref.ensures.value c.in_ok-listed.ensures.members in
-    let none : IsLeastOf c.args.parts.parts c.in_ok-margins.margins.items (is_free keys (2 ^ 56)) None = rw (c.deref-2.ensures.value, c.deref-3.ensures.value) at c.in_default.ensures in
+    let none : IsLeastOf c.args.parts c.in_ok-margins.margins.items (is_free keys (2 ^ 56)) None = rw (c.deref-2.ensures.value, c.deref-3.ensures.value) at c.in_default.ensures in
     least_is_there _ _ keys es c.requires.borders named (omega (arith, entries_long c.args.lines.now, c.requires.limit)) none
 
 pub unreachable-requires-in_default-2 : goal.unreachable-requires-in_default-2
@@ -23,8 +23,8 @@ unreachable-requires-in_default-2 c =
     let m = c.in-Some.least in
     let borders = c.requires.borders in
     let named : AreListedKeys es keys = listed_keys es keys _ _ c.in_ok-keys.ensures c.deref.ensures.value c.in_ok-listed.ensures.members in
-    let least : IsLeastOf c.args.parts.parts ms (is_free keys (2 ^ 56)) (Some m) = rw (c.deref-2.ensures.value, c.deref-3.ensures.value) at c.in-Some.ensures in
-    let others : (k p : ℕ) → IsPartOf c.args.parts.parts k p → k < 2 ^ 56 → in_ranges c.in_ok-others.others.items k ≡ not (slice_index ms p == m) = rw c.deref-4.ensures.value at c.in_ok-others.ensures in
+    let least : IsLeastOf c.args.parts ms (is_free keys (2 ^ 56)) (Some m) = rw (c.deref-2.ensures.value, c.deref-3.ensures.value) at c.in-Some.ensures in
+    let others : (k p : ℕ) → IsPartOf c.args.parts k p → k < 2 ^ 56 → in_ranges c.in_ok-others.others.items k ≡ not (slice_index ms p == m) = rw c.deref-4.ensures.value at c.in_ok-others.ensures in
     let is : (u : ℕ) → IsUid u → without_keys (is_open_in c.in_ok-set.set) keys u ≡ has_it es m u = set_is _ ms keys es m (is_open_in c.in_ok-set.set) _ borders c.in_ok-margins.ensures named others c.in_ok-set.ensures in
     let empty : SameUids (without_keys (is_open_in c.in_ok-set.set) keys) (λ _. false) = rw (c.in_default-2.is, c.deref-5.ensures.value) at c.in_ok-mask.ensures.empty in
     set_has_some es m (without_keys (is_open_in c.in_ok-set.set) keys) is (is_margin _ ms keys es m borders c.in_ok-margins.ensures named least).0 empty
@@ -37,8 +37,8 @@ returns c =
     let m = c.in-Some.least in
     let borders = c.requires.borders in
     let named : AreListedKeys es keys = listed_keys es keys _ _ c.in_ok-keys.ensures c.deref.ensures.value c.in_ok-listed.ensures.members in
-    let least : IsLeastOf c.args.parts.parts ms (is_free keys (2 ^ 56)) (Some m) = rw (c.deref-2.ensures.value, c.deref-3.ensures.value) at c.in-Some.ensures in
-    let others : (k p : ℕ) → IsPartOf c.args.parts.parts k p → k < 2 ^ 56 → in_ranges c.in_ok-others.others.items k ≡ not (slice_index ms p == m) = rw c.deref-4.ensures.value at c.in_ok-others.ensures in
+    let least : IsLeastOf c.args.parts ms (is_free keys (2 ^ 56)) (Some m) = rw (c.deref-2.ensures.value, c.deref-3.ensures.value) at c.in-Some.ensures in
+    let others : (k p : ℕ) → IsPartOf c.args.parts k p → k < 2 ^ 56 → in_ranges c.in_ok-others.others.items k ≡ not (slice_index ms p == m) = rw c.deref-4.ensures.value at c.in_ok-others.ensures in
     let is : (u : ℕ) → IsUid u → without_keys (is_open_in c.in_ok-set.set) keys u ≡ has_it es m u = set_is _ ms keys es m (is_open_in c.in_ok-set.set) _ borders c.in_ok-margins.ensures named others c.in_ok-set.ensures in
     let widest : IsWidest (without_keys (is_open_in c.in_ok-set.set) keys) c.in-Some-2.mask = rw (c.in-Some-2.is, c.deref-5.ensures.value) at c.in_ok-mask.ensures.found in
     record {

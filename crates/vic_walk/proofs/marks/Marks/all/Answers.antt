@@ -1,6 +1,3 @@
-use Rattle.std.proofs.Common.{arith}
-use Rattle.std.proofs.lemmas.Grind.{div_ceil_times}
-use Rattle.vic_walk.proofs.BitLaws.{first_noted}
 use Rattle.vic_walk.proofs.MarkLaws.{all_below, marked_below}
 use Rattle.vic_walk.proofs.marks.Marks.all.Goals as goal
 
