@@ -3,7 +3,8 @@ the same.
 
 The logs are the same each time; `pytest tests/test_oracle.py --logs 100000` judges others, of a new
 seed, which is printed, or of `--seed`. Wrong judges and wrong reports are put in the library's
-place, each wrong in one rule, and have to be found."""
+place, each wrong in one rule, and have to be found. One log with a great many borders is judged by
+arithmetic."""
 import collections
 import random
 
@@ -11,6 +12,7 @@ import pytest
 from vicinity._native import AnswerStruct
 
 from helpers import oracle, reports
+from helpers.air import SILENT, TOP_BYTE, Ask, Listed, Reply
 from helpers.library import STATUSES, answer_to
 from helpers.oracle import Case
 from helpers.random_logs import random_log, text_of
@@ -24,6 +26,12 @@ PLANTED = 8000
 LEAST_SHARE = 20
 KINDS = ("complete", "absent", "unlisted", "unsettled", "doubtful", "impossible")
 ROOM = 64
+# Of the log with many borders: each mask of so many bits is asked in sixteen slots, all of them so
+# often. Each time this gives 48 borders a mask: before each slot's keys, and around its UID.
+ASKED_BITS, TIMES, BORDERS = 10, 50, 48
+# How many borders are sorted together with their places (`MOST_RANKED` of vic_walk).
+MOST_RANKED = 2**21
+HEADER = b"vicinity-log 1\n"
 
 
 @pytest.fixture
@@ -85,3 +93,25 @@ def test_a_wrong_judge_is_found(rule):
 def test_a_wrong_report_is_found(rule):
     kind = reports.WRONG[rule]
     assert found(lambda case: case.wrong_report(kind(case.lines, case.known).given()))
+
+
+@pytest.mark.slow
+def test_more_borders_than_are_ranked(program):
+    """Each UID is heard alone in its slot, time after time, which rules out all others."""
+    uids = [TOP_BYTE | 1 << 40 | low for low in range(16 << ASKED_BITS)]
+    once = [line for low in range(1 << ASKED_BITS)
+            for line in [Ask(True, ASKED_BITS, low), *map(Reply, uids[low::1 << ASKED_BITS])]]
+    assert TIMES * BORDERS << ASKED_BITS > MOST_RANKED
+
+    def text(lines):
+        return text_of(1, lines).removeprefix(HEADER)
+
+    slots = HEADER + text(once) * (TIMES - 1) + text(once[:-1])
+
+    def answer(last, listed):
+        return program.run("check", given=slots + text([last, *map(Listed, listed)]))
+
+    count, lines = len(uids), 1 + TIMES * len(once)
+    assert answer(once[-1], uids) == (f"complete {count}\n".encode(), b"", 0)
+    assert answer(once[-1], uids[:-1]) == (f"unlisted {uids[-1]:016X}\n".encode(), b"", 1)
+    assert answer(SILENT, uids) == (f"impossible at line {lines}\n".encode(), b"", 2)

@@ -30,7 +30,8 @@ LOGS = (
     ("I1 RA", "1 tag is here; others may be, if stronger replies hid them. The log has no list to "
      "compare with."),
     ("I1 RA QA I1 S", "1 tag is here, and no other. The log has no list to compare with."),
-    ("I16 S RA RB S12 C UA UB", "All 2 listed tags are here; others may be too."),
+    ("I16 S RA RB S12 C UA UB", "All 2 listed tags are here; others are too."),
+    ("I16 S RA S10 UA", "The one listed tag is here; others may be too."),
     ("QB I1 RA UA", "The one listed tag is here; 1 tag may be here or not: it was silenced before"),
     ("I1 S UA", "0 of 1 listed tag is here; 1 didn't answer."),
     ("I16 S RA RB S13 UA", "1 of 1 listed tag is here; 1 tag here isn't listed."),
@@ -51,19 +52,20 @@ LOGS = (
     ("MB RA", BROKEN + "line 3 is a reply of ..00A1, a tag that wasn't asked"),
     ("UA UA", "This log can't be used. Line 3: an earlier U line has the same UID."))
 # How the two lights are for some of them.
-LIGHTS = (("I1 RA QA I1 S UA", "yes", "matches"), ("I1 RA UA", "not known yet", "matches"),
+LIGHTS = (("I1 RA QA I1 S UA", "yes", "matches"),
+          ("I1 RA UA", "not known yet", "matches what was heard"),
           ("I1 RA", "not known yet", "none given"),
           ("I1 RA QA I1 S", "yes", "none given"),
-          ("I16 S RA RB S12 C UA UB", "no", "not known yet"),
-          ("I1 S UA", "yes", "differs"), ("I1 C UA", "no", "not known yet"),
+          ("I16 S RA RB S12 C UA UB", "no", "incomplete"),
+          ("I16 S RA S10 UA", "no", "not known yet"),
+          ("I1 S UA", "yes", "differs"), ("I1 C UA", "no", "incomplete"),
           ("I1 RA I1 S UA", "not known", "not known"), ("I1 RA I1 S", "not known", "none given"),
           ("I1 S", "yes", "none given"))
 # What is said besides, at the shelf and to whoever maintains the reader; and what isn't.
 SAID = (
     ("I1 S", "check the antenna", "Nothing to do"),
     ("I1 RA QA I1 S UA", "Nothing to do.", "whoever maintains the reader"),
-    ("I1 RA UA", "only asking again, until none answers, shows whether a strong reply hid a weaker "
-     "one.", "Nothing to do"),
+    ("I1 RA UA", "until none answers, shows whether a strong reply hid a weaker one.", "Nothing"),
     ("I1 RA UA", "To know whether a strong reply hid a weaker one, silence each tag that was "
      "heard, and ask all in one slot, until none answers:", "may be wrong. To know"),
     ("I1 S UA", "If the list is what the reader found: tags were taken", "shown by"),
@@ -83,8 +85,9 @@ SAID = (
     ("I1 S I1 RA", "if always, it came later", "a Stay Quiet isn't in the log; if never"),
     ("I1 RA I1 S", "A Stay Quiet or another request was sent", "One of these may have happened"),
     ("V2 I1 D I1 S", "a slot that may have been noise gets the line N", "write D"),
-    ("I1 QA I1 S UA", "Line 3 silenced ..00A1 before it was heard: a reply before", "no slot was logged"),
-    ("QA QB I1 S UA UB", "Lines 2 and 3 silenced 2 tags before they were heard: a reply", "not proved"),
+    ("I1 QA I1 S UA", "Line 3 silenced ..00A1 before it was heard: a reply", "no slot was logged"),
+    ("QA QB I1 S UA UB", "Lines 2 and 3 silenced 2 tags before they were heard: replies",
+     "not proved"),
     ("I16 S14", "ended before slots E and F.", "E to F"),
     ("I16 S12", "Of all possible UIDs 75 % are settled.", "Search finished. "),
     ("", "Of all possible UIDs 0 % are settled", "one for each"),
@@ -114,8 +117,8 @@ SAID = (
     ("MB S", "one that no earlier round asked would go unnoticed", "stronger replies"),
     ("MB S I1 S", "check the antenna", "Notes"),
     ("I1 UA", "no slot was logged", "ended before"),
-    ("I16 " * 30, "In 30 rounds, mainly in those of lines 28, 29, 30 and 31, 480 slots weren't "
-     "reached.", "round of line 2,"),
+    ("I16 " * 30, "In 30 rounds 480 slots weren't reached: most of these UIDs were asked in "
+     "lines 28, 29, 30 and 31.", "round of line 2,"),
     ("UA UA", "Count again, in a new log.", "UIDs listed"),
     ('""', "Choose another file, or count again.", "Write the header"))
 # Texts that are no logs, with what is said of them.
@@ -123,7 +126,7 @@ FOREIGN = (("\uFEFFvicinity-log 1\n", "byte order mark"), ("v\0i\0c\0\n\0", "UTF
            ("uid,title\nE004,Emma\n", "This file isn't a log, but a table."),
            ("uid,title\nE004,Emma\n", "its first line begins with 'vicinity-log'"),
            ("Dear reader\n", "Choose another file, or count again."),
-           ("uid,title\nE004,Emma\n", "open both at once in vicinity.html: choose or drop the table"),
+           ("uid,title\nE004,Emma\n", "in vicinity.html: choose or drop the table"),
            ("title;\"UID\"\nEmma;E004\n", "open both at once in vicinity.html"),
            ("Tag UID,title\nE004,Emma\n", "In its first row, name the column of tag numbers"),
            ("vicinity-log 1\rT 260100F60A\rS\r", "CR alone"),
@@ -149,7 +152,7 @@ THIRD = {
         (ALL, OVER_A, QUIET_A, ALL, "S", LIST_A), "The one listed tag is here, and no other.",
         "The answer allows for strong replies that hid weaker ones."),
     "two were hidden": (
-        (ALL, OVER_A, QUIET_A, ALL, "C", LIST_A), "The one listed tag is here; others may be too.",
+        (ALL, OVER_A, QUIET_A, ALL, "C", LIST_A), "The one listed tag is here; others are too.",
         "In slot 0 of the round of line 5, which asked all UIDs, two or more tags answered"),
     "a slot that isn't known": (
         (EACH, "N", *"S" * 15),
@@ -247,7 +250,7 @@ def test_a_log_is_dropped(page, program, names, headline):
     log = log_of(names)
     page.drop(log=log)
     page.until("h1", headline)
-    assert page.texts(".banner code") == [program.run("check", given=log).out.decode().strip()]
+    assert page.texts(".record code")[0] == program.run("check", given=log).out.decode().strip()
 
 
 @pytest.mark.parametrize(("names", "read", "listed"), LIGHTS, ids=[row[0] for row in LIGHTS])
@@ -447,7 +450,8 @@ def test_replies_that_may_have_hidden_others_come_last(page):
     again = [line for bits in range(8, 32, 4) for line in (biglog.ask((bits, 0xA1), 1), OVER_A)]
     page.drop(log=text_of(["vicinity-log 3", EACH, "S", OVER_A, "C", *"S" * 13, *again]))
     page.until(".why", "In slot 2 of the round of line 2, which asked all UIDs, two or more tags")
-    assert "In 7 slots of 7 rounds, mainly in those of lines 2, 19, 21 and 23," in page.said()
+    assert "In 7 slots of 7 rounds one tag was read, perhaps over others, and no" in page.said()
+    assert "most of these UIDs were asked in lines 2, 19, 21 and 23." in page.said()
     assert ["two or more" in it["title"] for it in page.run(RINGED)] == [True]
     assert page.texts(".copy") == [biglog.ask((4, 2), 16), f"{QUIET_A}\n{ALL}"]
 
@@ -587,7 +591,8 @@ def test_two_that_were_silenced_before_are_told_in_one_mask(page, vicinity):
     page.drop(log=log)
     page.until("h1", "2 tags may be here or not: they were silenced before they were heard.")
     assert page.texts(".why") == [
-        "The cause: Lines 2 and 3 silenced 2 tags before they were heard."]
+        "The cause: Lines 2 and 3 silenced 2 tags before they were heard: replies before them "
+        "aren't in the log, or the reader had the UIDs from an earlier count."]
     assert "by no request" not in page.said()
 
 
@@ -983,7 +988,7 @@ def test_items_are_told_by_their_shelves(page):
         "C (shelf-c.log): 3 tags proved; left to ask, by 1 request or more: UIDs ending in E or F")
     page.run("for (const it of document.querySelectorAll('details:has(> .items)')) it.open = true")
     assert page.texts(ROWS) == [
-        "A", "missing: look for it\nWalden\nE00401502B91C435",
+        "A", "missing: look for it\nWalden\n1 slot\nE00401502B91C435",
         "take to B\nThe Time Machine\nE00401504477EB73",
         "C", "Ulysses\nE00401506D9320CE"]
     page.until("#told > p", "The 9 other items of the catalogue are here, and in place.")
@@ -1024,7 +1029,7 @@ def test_rows_without_a_tag(page):
     assert page.texts(".lights dd") == ["1 of 1 log", "0 of 2 items"]
     names = "return [...document.querySelectorAll('.items th[scope=row]')]"
     assert page.run(f"{names}.map((it) => [it.cellIndex, it.innerText])") == [
-        [1, "Walden"], [2, "E0040100000000B2"], [1, "Emma"]]
+        [1, "Walden"], [3, "E0040100000000B2"], [1, "Emma"]]
     page.drop(**{"catalogue": catalogue, "one.log": log_of("I1 RA QA I1 S")})
     page.until(".banner.yes h1", "The one expected item is here, and no other.")
     assert page.texts(".lights dd") == ["1 of 1 log", "1 of 2 items, 1 without a tag"]
@@ -1051,7 +1056,7 @@ def test_how_often_a_missing_item_was_asked(page):
     page.drop(**{"catalogue": b"title;uid\nWalden;E0:04:01:00:00:00:00:A1\n",
                  "one.log": log_of("I1 S I1 S I1 S"), "two.log": log_of("I1 S I1 S")})
     page.until("h1", "1 item missing.")
-    assert "would have been missed in 2 slots or more of each" in page.texts("details")[0]
+    assert page.texts(ROWS) == ["missing: look for it\nWalden\n2 slots\nE0040100000000A1"]
 
 
 @pytest.mark.parametrize(("name", "content", "words"), [

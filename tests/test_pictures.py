@@ -258,7 +258,7 @@ def opened(vicinity, run, browser, tmp_path):
         told, plain = drawn_in(written.decode())
         assert plain == run("show", tmp_path / f"{name}.log").stdout.decode()
         assert told["answer"] == str(vicinity.check(text))
-        assert f"{name}.log · {told['answer']}" in one.texts("header p")
+        assert f"vicinity {told['version']}: {told['answer']}" in one.texts(".record p")[1]
         assert bool(one.texts(".banner.yes")) == (told["kind"] == "complete" and told["count"] > 0)
         one.is_readable()
         assert 0 < one.sheets() <= SHEETS
@@ -355,7 +355,8 @@ def test_page_of_a_collection(reconciled):
     groups = ["Count again (1 log)", "At the shelves (1)", "Not known yet (1)",
               "Read to the end (2 logs)", "What this takes for granted (9)"]
     assert page.texts("details > summary h2") == groups
-    assert page.texts(".items tbody tr")[0] == "missing: look for it\nWalden\nA\n1 slot\nE00401502B91C435"
+    assert page.texts(".items tbody tr")[0] == (
+        "missing: look for it\nWalden\nA\n1 slot\nE00401502B91C435")
     assert page.texts(".logs summary")[0] == (
         "shelf-c.log: 3 tags proved; left to ask, by 1 request or more: UIDs ending in E or F")
 

@@ -69,7 +69,7 @@ const countAgain = (logs) => `Run ${logs === 1 ? "its inventory" : "the inventor
 export function collectionView(object) {
   const of = (/** @type {State} */ state) => object.items.filter((item) => item.state === state), shelves = new Shelves(object.logs);
   const home = (/** @type {Item} */ { belongs = "" }) => printable(belongs), known = new Set(["", ...of("there").map(home)]);
-  const slots = { "missed in": (/** @type {Item} */ { overlooked }) => overlooked ? count(overlooked, "slot") : "" };
+  const slots = { "asked in": (/** @type {Item} */ { overlooked }) => overlooked ? count(overlooked, "slot") : "" };
   const mayBe = { "may be in": (/** @type {Item} */ item) => shelves.names(item.may_be_in, "or") }, unknown = of("not provable");
   const away = unknown.filter((item) => shelves.isAway(item)), others = unknown.filter((item) => !shelves.isAway(item));
   const some = others.filter((item) => known.has(home(item))), none = others.filter((item) => !known.has(home(item)));

@@ -107,7 +107,8 @@ function unmet({ count: number, first, last, heard, isNone }, unread) {
   return { sentence: `in line ${unread.line} ${two ? "two or more tags" : "a tag"} answered, but ${others} ${isOne && two ? "at most one" : "none"}.`,
     causes: [...isOne ? tags : read, ...isOne ? read : tags, ...heard.length ? [HIDDEN] : [], LEFT_OUT, SECOND_READER],
     test: `Switch the field off and on, and ask for the tags of line ${unread.line} in sixteen slots, in a new log. If ` +
-      `tags answer, replies were lost; if none does, line ${unread.line} was noise.` };
+      `${two ? "two or more tags answer" : "a tag answers"}, one of the other causes is left; if not, line ${unread.line} was noise, or ` +
+      "tags have left since." };
 }
 
 /**

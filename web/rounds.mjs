@@ -193,7 +193,7 @@ function legend(told) {
   const isShort = told.rows.some((row) => row.kind === "round" && row.slots.length > 1 && row.slots.some((slot) => slot.uid !== null));
   const digits = isShort ? [el("li", {}, "2C in the row ..1: a UID that ends in 2C1")] : [];
   const isCut = told.rows.some((row) => row.kind === "round" && row.asked.len % 4);
-  const bits = isCut ? [el("li", {}, "bits 01: those before, in binary")] : [];
+  const bits = isCut ? [el("li", {}, "..7, bit 1: an odd digit before 7")] : [];
   if (slots.some((slot) => slot.silenced)) drawn.add("heard quiet");
   if (told.ringed.length || told.named.length) drawn.add("silent named");
   const classOf = (/** @type {string} */ look) => look === "heard quiet" && !drawn.has("heard") ? "captured quiet" : look;

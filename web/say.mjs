@@ -36,8 +36,9 @@ const LOOK = "Or look whether what isn't proved is there: the answer speaks only
 const EMPTY = ["If nothing should be here: nothing to do.", "If items should be here: check the antenna, switch the reader's field off and " +
   "on, and count again."];
 const NOTHING = "Nothing to do.";
-const ONE_MORE = ["Spread out items that lie on each other, and count again.", "If the answer stays the same, send the log and this page " +
-  "(printed as PDF) to whoever maintains the reader: only asking again, until none answers, shows whether a strong reply hid a weaker one."];
+const ONE_MORE = ["Send the log and this page (printed as PDF) to whoever maintains the reader: it stopped without asking all tags once more, " +
+  "and only that, until none answers, shows whether a strong reply hid a weaker one.",
+  "Until then: spread out items that lie on each other, and count again. The answer may stay the same."];
 const ONE_ROUND = "To see whether others are here: run the inventory again, to a last round that no tag answers.";
 const COMPARE = "Compare these tags with what should be here: open a catalogue (CSV) together with the log.";
 const TITLES = "To see the items' titles: open a catalogue (CSV) together with the log.";
@@ -50,7 +51,8 @@ const STRANGERS = "the tags here that aren't listed belong elsewhere, or the lis
 const WERE_OMITTED = "the reader's software omitted tags that were here";
 const STAYS = "If the answer stays the same, send the log and this page (printed as PDF) to whoever maintains the reader.";
 /** For whoever maintains it, of tags that didn't answer, and of those that aren't listed. */
-const NOT_HEARD = "If a tag that didn't answer is here after all, its reply was lost in the slot of the line that rules it out.";
+const NOT_HEARD = "If a tag that didn't answer is here after all, it never answers (it is broken or covered), or its reply was lost in each slot " +
+  "that asked it: the line beside it is the first of these.";
 const NOT_CLAIMED = `${IF_READ}its software has to write a U line for each UID that it heard.`;
 
 const NO_LINES = "The log lists no UIDs: the reader's software has to write a U line for each UID that it heard.";
@@ -67,8 +69,7 @@ const NO_LIST_GIVEN = " The log has no list to compare with.";
 const NO_CONFLICT = `${HIDDEN} Read so, the log doesn't contradict itself.`;
 export const ALLOWED = "The answer allows for strong replies that hid weaker ones.";
 
-const WHENCE = "a reply before it isn't in the log, or the reader had the UID from an earlier count.";
-const NOT_SETTLED = "no later request settled all of these UIDs.";
+const NOT_SETTLED = "no later request settled all of these UIDs";
 
 /** How many rounds that hold the same are told one by one, and how many of more are named. */
 const MOST_CAUSES = 6, MOST_NAMED_ROUNDS = 4;
@@ -84,8 +85,8 @@ export const granted = (holds, isAnswered = false) => [
   "The log is true: it says what was sent and what each logged slot held, in the order in which it happened.",
   "Nothing else was sent that changes which tags answer, by this reader or another: no Select, no Reset to Ready, no quiet " +
     "command of a manufacturer.",
-  holds ? "Every reply came from a tag." : isAnswered ? "Every reply came from a tag. The answer doesn't need it, but what else " +
-    "is said here does: no strong reply hid a weaker one." : "No strong reply hid a weaker one, and every reply came from a tag.",
+  holds ? "Every reply came from a tag." : isAnswered ? "Every reply came from a tag. No strong reply hid a weaker " +
+    "one: the answer itself doesn't need that, but what else is said here does." : "No strong reply hid a weaker one, and every reply came from a tag.",
   "The tags conform to ISO/IEC 15693-3, and no two have the same UID.",
   "No tag came or went during the log, all were ready when it began, and the field stayed on, except where the log says that " +
     "it was switched off and on.",
@@ -240,20 +241,25 @@ export function settled(open) {
  * Why UIDs are open.
  * @param {Told} told
  */
-function whyOpen({ causes, silenced, neverAsked, counts }) {
+function whyOpen({ causes, silenced, neverAsked, counts, notes: { last } }) {
   const [first] = silenced, numbers = silenced.map((it) => it.line);
   const why = ORDER.flatMap((reading) => {
     const its = causes.filter((cause) => cause.reading === reading);
     return its.length > MOST_CAUSES ? [together(its)] : its.map(because);
   });
+  if (causes.length > MOST_CAUSES && last) why.push(`The search stopped after the round of line ${last.line}.`);
   if (neverAsked) why.push(counts.rounds ? "Some UIDs were asked by no request, or only after they were silenced." : "No request asked for any tag.");
-  if (silenced.length === 1) why.push(`Line ${first.line} silenced ${short(first.uid)} before it was heard: ${WHENCE}`);
+  if (silenced.length === 1) why.push(`Line ${first.line} silenced ${short(first.uid)} before it was heard: ${whence(1)}`);
   if (silenced.length > 1) {
     const said = lines(numbers);
-    why.push(`${said[0].toUpperCase()}${said.slice(1)} silenced ${count(silenced.length, "tag")} before they were heard: ${WHENCE}`);
+    why.push(`${said[0].toUpperCase()}${said.slice(1)} silenced ${count(silenced.length, "tag")} before they were heard: ${whence(silenced.length)}`);
   }
   return why;
 }
+
+/** @param {number} number of tags that were silenced before they were heard */
+const whence = (number) => number === 1 ? "a reply before it isn't in the log, or the reader had the UID from an earlier count."
+  : "replies before them aren't in the log, or the reader had the UIDs from an earlier count.";
 
 /**
  * A cause for the shelf: where the reader stopped, or else of what is widest.
@@ -275,9 +281,9 @@ function mainly({ causes }, why) {
 function together(causes) {
   const [{ reading }] = causes, slots = count(causes.reduce((sum, cause) => sum + cause.slots.length, 0), "slot");
   const widest = [...causes].sort((one, other) => widthOf(other) - widthOf(one)).slice(0, MOST_NAMED_ROUNDS).map((cause) => cause.round);
-  const rounds = `${count(causes.length, "round")}, mainly in those of ${lines(widest.sort((one, other) => one - other))},`;
-  if (reading === "unreached") return `In ${rounds} ${slots} weren't reached.`;
-  return `In ${slots} of ${rounds} ${reading === "captured" ? readIn([]) : HELD[reading]}, and ${NOT_SETTLED}`;
+  const most = `most of these UIDs were asked in ${lines(widest.sort((one, other) => one - other))}.`, rounds = count(causes.length, "round");
+  if (reading === "unreached") return `In ${rounds} ${slots} weren't reached: ${most}`;
+  return `In ${slots} of ${rounds} ${reading === "captured" ? readIn([]) : HELD[reading]}, and ${NOT_SETTLED}: ${most}`;
 }
 
 /**
@@ -317,7 +323,7 @@ function because(cause) {
   const many = cause.slots.length > 1, slots = `slot${many ? "s" : ""} ${runs(cause.slots)}`;
   if (cause.reading === "unreached") return cause.slots[0] === 0 ? `Of the ${round} no slot was logged.` : `The ${round} ended before ${slots}.`;
   const held = cause.reading === "captured" ? readIn(cause.uids) : HELD[cause.reading];
-  return `In ${many ? "each of " : ""}${slots} of the ${round} ${held}, and ${NOT_SETTLED}`;
+  return `In ${many ? "each of " : ""}${slots} of the ${round} ${held}, and ${NOT_SETTLED}.`;
 }
 
 /**

@@ -173,8 +173,8 @@ function record({ object: { file, kind, version, sha256, answer }, counts, fault
   // of a text that isn't a log nothing but its lines is known
   if (!isRefused) said.push(...parts.filter(([number]) => number).map((part) => count(...part)));
   const sum = sha256 ? [` · SHA-256 of the ${isRefused ? "file" : "log"} `, el("code", {}, sha256)] : [];
-  return el("footer", { class: "record" }, ...said.length ? [el("p", {}, said.join("\u00A0· "))] : [], el("p", {}, `vicinity ${version}`, ...sum),
-    ...isRefused || !isAlone ? [] : signed(headline, `${printable(file)} · ${answer}`));
+  return el("footer", { class: "record" }, ...said.length ? [el("p", {}, said.join("\u00A0· "))] : [], el("p", {}, `vicinity ${version}: `, el("code", {}, answer), ...sum),
+    ...isRefused || !isAlone ? [] : signed(headline, printable(file)));
 }
 
 /**

@@ -7,7 +7,7 @@ use crate::steps::{Step, steps_of};
 use crate::waiting::Waiting;
 use std::alloc::{AllocError, Global};
 use vic_log::PackedLine;
-use vic_walk::{Answering, LogWalk, Notes, Parts, Span, open_answers, walk_log};
+use vic_walk::{Answering, LogWalk, Parts, Span, open_answers, walk_log};
 
 /// A guess at lines that contradict each other, in a log that became impossible with its last line:
 /// that one, and as few of those before it as needed. Their numbers, in no order.
@@ -20,7 +20,7 @@ pub fn guess_conflict(alloc: Global, lines: &[PackedLine]) -> Result<Vec<u32>, A
         parts,
         mut walk,
         broken,
-    } = walk_log(alloc, lines, Notes::none(alloc))?;
+    } = walk_log(alloc, lines)?;
     let steps = steps_of(alloc, lines, &parts)?;
     let mut numbers = match broken {
         Some(_) => match other_line(lines, &steps, &walk.ends) {

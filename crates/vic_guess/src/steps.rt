@@ -4,7 +4,7 @@ use std::alloc::{AllocError, Global};
 use vic_frame::low_bits_first::key;
 use vic_frame::{Request, Uid};
 use vic_log::{Entry, PackedLine, RoundCursor};
-use vic_walk::{Parts, Span};
+use vic_walk::{Hints, Near, Parts, Span, span_of};
 
 /// What a line does.
 #[derive(Clone, Copy)]
@@ -23,39 +23,32 @@ pub(crate) enum Step {
     Unread(usize, Span),
 }
 
-/// The parts whose UIDs lie in the mask of the next slot.
-fn span_of(parts: &Parts, rounds: &RoundCursor) -> Span {
-    match rounds.keys() {
-        Some(block) => parts.span(&block),
-        None => Span { from: 0, to: 0 },
-    }
-}
-
 /// What the entry of a line does, whose position and number are given.
 fn step_of(
     at: usize,
     number: u32,
     entry: &Entry,
     rounds: &RoundCursor,
+    near: Near,
     parts: &Parts,
 ) -> Option<Step> {
     match *entry {
         Entry::Silent => {
-            let span = span_of(parts, rounds);
+            let span = span_of(parts, rounds, near);
             Some(Step::Ruling(number, span, span.to))
         }
         Entry::Heard(response) => {
-            let own = parts.at(key(response.uid()));
-            Some(Step::Ruling(number, span_of(parts, rounds), own))
+            let own = parts.at_or_after(near.own, key(response.uid()));
+            Some(Step::Ruling(number, span_of(parts, rounds, near), own))
         }
         Entry::Captured(response) => {
-            let own = parts.at(key(response.uid()));
-            Some(Step::Captured(number, span_of(parts, rounds), own))
+            let own = parts.at_or_after(near.own, key(response.uid()));
+            Some(Step::Captured(number, span_of(parts, rounds, near), own))
         }
-        Entry::Collision | Entry::Garbled => Some(Step::Unread(at, span_of(parts, rounds))),
+        Entry::Collision | Entry::Garbled => Some(Step::Unread(at, span_of(parts, rounds, near))),
         Entry::FieldCycle => Some(Step::Wake),
         Entry::Sent(Request::StayQuiet { uid, .. }) => {
-            Some(Step::Quiet(parts.at(key(Uid::new(uid)?))))
+            Some(Step::Quiet(parts.at_or_after(near.own, key(Uid::new(uid)?))))
         }
         Entry::Sent(Request::Inventory { .. }) | Entry::Unknown | Entry::Listed(_) => None,
     }
@@ -83,9 +76,11 @@ pub(crate) fn steps_of(
     let mut stretch: u32 = 1;
     let mut steps = Vec::new(alloc);
     let mut rounds = RoundCursor::first();
+    let mut hints = Hints::first();
     for (at, line) in lines.iter().enumerate() {
         let entry = line.item();
-        match step_of(at, line.number(), &entry, &rounds, parts) {
+        let near = hints.next(parts.hints(), &entry);
+        match step_of(at, line.number(), &entry, &rounds, near, parts) {
             None => {}
             Some(Step::Quiet(part)) if !was_ready(&mut silenced, part, stretch) => {}
             Some(step) => {

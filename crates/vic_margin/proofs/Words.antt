@@ -21,6 +21,7 @@ pub use Rattle.vic_walk.specs.declared.parts.Span.{Span}
 pub use Rattle.vic_log.specs.Overlooked.{is_overlooked, denies_reply_of, some_denies_reply_of}
 pub use Rattle.vic_margin.specs.UidMargins.{margin_before, margin_of, one_if}
 pub use Rattle.vic_margin.specs.declared.tally.Tally.{Tally}
-pub use Rattle.vic_margin.specs.inner.Tallies.{AreMargins, IsCounted, IsPlace, IsSpanAt, IsTallyAt, IsTallyOf, IsTurned}
+pub use Rattle.vic_margin.specs.inner.Tallies.{AreMargins, IsCounted, IsTallyAt, IsTallyOf, IsTurned}
+pub use Rattle.vic_walk.specs.Spans.{IsPlace, IsSpanAt}
 pub use Rattle.vic_margin.specs.inner.Trees.{within}
 pub use Rattle.vic_frame.proofs.KeyLaws.{is_uid}

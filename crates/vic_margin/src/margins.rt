@@ -13,7 +13,7 @@ use std::alloc::{AllocError, Global};
 use vic_frame::Uid;
 use vic_frame::low_bits_first::key;
 use vic_log::{Entry, Log, PackedLine, RoundCursor};
-use vic_walk::{Notes, Parts};
+use vic_walk::{Hints, Parts};
 
 /// The parts of the keys, and the margin of the UIDs of each.
 #[derive(Drop)]
@@ -29,9 +29,8 @@ pub(crate) struct PartMargins {
 pub fn overlooked(alloc: Global, log: &Log, uids: &[Uid]) -> Result<Vec<u32>, AllocError>
     ensures { IfOk result (λ v. v.items ≡ map (margin_of (entries log.now.lines)) uids.now) }
 {
-    let parts = Parts::of(alloc, log.lines())?;
-    let mut notes = Notes::none(alloc);
-    let margins = part_margins(alloc, log, parts, &mut notes)?;
+    let parts = Parts::of(alloc, log.lines())?.indexed(alloc)?;
+    let margins = part_margins(alloc, log, parts)?;
     let mut found = Vec::with_capacity(alloc, uids.len())?;
     for uid in uids {
         found.push(margins.each[margins.parts.at(key(*uid))])?;
@@ -39,12 +38,11 @@ pub fn overlooked(alloc: Global, log: &Log, uids: &[Uid]) -> Result<Vec<u32>, Al
     Ok(found)
 }
 
-/// The margin of the UIDs of each part of a log, with notes of an earlier walk over it.
+/// The margin of the UIDs of each part of a log.
 pub(crate) fn part_margins(
     alloc: Global,
     log: &Log,
     parts: Parts,
-    notes: &mut Notes,
 ) -> Result<PartMargins, AllocError>
     requires borders { AreBorders parts }
     requires cut { AreCut parts (entries log.now.lines) }
@@ -53,10 +51,11 @@ pub(crate) fn part_margins(
     let lines = log.lines();
     let mut tally = Tally::start(alloc, parts.count())?;
     let mut rounds = RoundCursor::first();
-    notes.rewind();
+    let mut hints = Hints::first();
     for line in lines {
         let entry = entry_of(*line);
-        tally.pass(&parts, &rounds, &entry, notes);
+        let near = hints.next(parts.hints(), &entry);
+        tally.pass(&parts, &rounds, near, &entry);
         rounds.advance(&entry);
     }
     let each = tally.margins();

@@ -11,13 +11,14 @@ ghost use Rattle.vic_walk.specs.Marked.{is_marked};
 ghost use Rattle.vic_margin.specs.UidMargins.{one_if};
 ghost use Rattle.vic_margin.specs.inner.Counts.{count_at};
 ghost use Rattle.vic_margin.specs.inner.Trees.{within};
+ghost use Rattle.vic_walk.specs.Spans.{IsPlace};
 
 use crate::counts::Counts;
 use std::alloc::{AllocError, Global};
 use vic_frame::low_bits_first::key;
 use vic_frame::{Request, Uid};
 use vic_log::{Entry, RoundCursor};
-use vic_walk::{Marks, Notes, Parts, Span};
+use vic_walk::{Marks, Near, Parts, Span, span_of};
 
 /// What is known of each part before a position of a log.
 #[derive(Drop)]
@@ -37,7 +38,7 @@ pub(crate) struct Tally {
 }
 
 impl Tally {
-    ghost use Rattle.vic_margin.specs.inner.Tallies.{AreMargins, IsCounted, IsPlace, IsSpanAt, IsTallyAt, IsTurned};
+    ghost use Rattle.vic_margin.specs.inner.Tallies.{AreMargins, IsCounted, IsTallyAt, IsTurned};
 
     /// The tally before the first entry, of so many parts.
     pub(crate) fn start(alloc: Global, count: usize) -> Result<Tally, AllocError>
@@ -114,9 +115,8 @@ impl Tally {
         }
     }
 
-    /// Makes the part of the UID Quiet that a request silences, if it silences one. The next note
-    /// is a hint of the part.
-    fn pass_request(&mut self, parts: &Parts, request: &Request, notes: &mut Notes)
+    /// Makes the part of the UID Quiet that a request silences, if it silences one.
+    fn pass_request(&mut self, parts: &Parts, near: Near, request: &Request)
         requires borders { AreBorders parts.now }
         requires room { length self.old.rest.items ≡ part_count parts.now }
         ensures { (es : List EntryValue) (i : ℕ) → slice_get es i ≡ Some (Sent request.now)
@@ -127,8 +127,7 @@ impl Tally {
             Request::StayQuiet { uid, .. } => {
                 // no tag has another number
                 if let Some(uid) = Uid::new(uid) {
-                    let near = notes.next().unwrap_or(0);
-                    self.silence(part_near(parts, near, key(uid)));
+                    self.silence(parts.at_or_after(near.own, key(uid)));
                 }
             }
             Request::Inventory { .. } => {}
@@ -136,13 +135,7 @@ impl Tally {
     }
 
     /// Takes the tally past an entry.
-    pub(crate) fn pass(
-        &mut self,
-        parts: &Parts,
-        rounds: &RoundCursor,
-        entry: &Entry,
-        notes: &mut Notes,
-    )
+    pub(crate) fn pass(&mut self, parts: &Parts, rounds: &RoundCursor, near: Near, entry: &Entry)
         requires borders { AreBorders parts.now }
         requires room { length self.old.rest.items ≡ part_count parts.now }
         requires few { self.old.counts.raised + 1 < 2 ^ 32 }
@@ -150,12 +143,12 @@ impl Tally {
             → IsTallyAt parts.now es i self.old → IsTallyAt parts.now es (i + 1) self.new }
     {
         match *entry {
-            Entry::Sent(request) => self.pass_request(parts, &request, notes),
+            Entry::Sent(request) => self.pass_request(parts, near, &request),
             Entry::FieldCycle => self.wake(),
-            Entry::Silent => self.count(Tally::span_of(parts, rounds)),
+            Entry::Silent => self.count(span_of(parts, rounds, near)),
             Entry::Heard(response) => {
-                let span = Tally::span_of(parts, rounds);
-                let own = part_near(parts, span.from, key(response.uid()));
+                let span = span_of(parts, rounds, near);
+                let own = parts.at_or_after(near.own, key(response.uid()));
                 self.hear(span, own);
             }
             // in these no UID is overlooked
@@ -164,19 +157,6 @@ impl Tally {
             | Entry::Captured(_)
             | Entry::Unknown
             | Entry::Listed(_) => {}
-        }
-    }
-
-    /// The parts whose UIDs lie in the mask of the next slot.
-    fn span_of(parts: &Parts, rounds: &RoundCursor) -> Span
-        ensures within { result.to ≤ part_count parts.now }
-        ensures inside { (es : List EntryValue) (i : ℕ) (e : EntryValue)
-            → IsPlace parts.now es i e rounds.now → is_slot e ≡ true
-            → IsSpanAt parts.now es i result }
-    {
-        match rounds.keys() {
-            Some(block) => parts.span(&block),
-            None => Span { from: 0, to: 0 },
         }
     }
 
@@ -193,26 +173,4 @@ impl Tally {
         }
         tally.rest
     }
-}
-
-/// The part that has a key, which is expected in this part or in the next.
-fn part_near(parts: &Parts, part: usize, key: u64) -> usize
-    requires borders { AreBorders parts.now }
-    requires key { IsKey key }
-    ensures { IsPartOf parts.now key result }
-{
-    if has_key(parts, part, key) {
-        part
-    } else if has_key(parts, part.saturating_add(1), key) {
-        part.saturating_add(1)
-    } else {
-        parts.at(key)
-    }
-}
-
-/// Whether there is this part, and it has a key.
-fn has_key(parts: &Parts, part: usize, key: u64) -> bool
-    ensures { result ≡ true → IsPartOf parts.now key part }
-{
-    part < parts.count() && parts.first(part) <= key && key < parts.end(part)
 }

@@ -17,10 +17,8 @@ use crate::others::other_keys;
 use std::alloc::{AllocError, Global};
 use vic_log::Log;
 use vic_tree::{OpenSet, RangeSet};
-use vic_verdict::{
-    Facts, LogParts, Verdict, facts_and_parts_of, first_finding, keys_in_order, listed_uids,
-};
-use vic_walk::Notes;
+use vic_verdict::{Facts, Verdict, facts_and_parts_of, first_finding, keys_in_order, listed_uids};
+use vic_walk::Parts;
 
 /// The verdict on a log, and its margin, if it is possible. It fails only if memory is refused.
 pub fn margin(alloc: Global, log: &Log) -> Result<Margin, AllocError>
@@ -30,7 +28,7 @@ pub fn margin(alloc: Global, log: &Log) -> Result<Margin, AllocError>
         (λ w. IsPossible (entries log.now.lines) × IsWeakest (entries log.now.lines) w)) }
 {
     let lines = log.lines();
-    match facts_and_parts_of::<RangeSet>(alloc, lines, Notes::kept(alloc))? {
+    match facts_and_parts_of::<RangeSet>(alloc, lines)? {
         Ok((facts, parts)) => {
             let Facts {
                 open,
@@ -56,11 +54,11 @@ pub fn margin(alloc: Global, log: &Log) -> Result<Margin, AllocError>
 fn weakest_by(
     alloc: Global,
     log: &Log,
-    parts: LogParts,
+    parts: Parts,
     verdict: &Verdict,
 ) -> Result<Weakest, AllocError>
-    requires borders { AreBorders parts.parts }
-    requires cut { AreCut parts.parts (entries log.now.lines) }
+    requires borders { AreBorders parts }
+    requires cut { AreCut parts (entries log.now.lines) }
     requires verdict { IsVerdict log.now.lines verdict.now }
     ensures { IfOk result (IsWeakest (entries log.now.lines)) }
 {
@@ -74,18 +72,17 @@ fn weakest_by(
         | Verdict::Absent(_)
         | Verdict::Unlisted(_)
         | Verdict::Doubtful(_)
-        | Verdict::Complete { .. } => weakest_of(alloc, log, parts),
+        | Verdict::Complete { .. } => weakest_of(alloc, log, parts.indexed(alloc)?),
     }
 }
 
 /// The margin of the lines of a log, and the first mask of UIDs that have it.
-fn weakest_of(alloc: Global, log: &Log, parts: LogParts) -> Result<Weakest, AllocError>
-    requires borders { AreBorders parts.parts }
-    requires cut { AreCut parts.parts (entries log.now.lines) }
+fn weakest_of(alloc: Global, log: &Log, parts: Parts) -> Result<Weakest, AllocError>
+    requires borders { AreBorders parts }
+    requires cut { AreCut parts (entries log.now.lines) }
     ensures { IfOk result (IsWeakest (entries log.now.lines)) }
 {
-    let LogParts { parts, mut notes } = parts;
-    let margins = part_margins(alloc, log, parts, &mut notes)?;
+    let margins = part_margins(alloc, log, parts)?;
     let listed = listed_uids(alloc, log.lines())?;
     let keys = keys_in_order(alloc, &listed)?;
     let Some(least) = least_besides(&margins, &keys) else {

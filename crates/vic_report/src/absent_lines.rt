@@ -12,7 +12,7 @@ use std::alloc::{AllocError, Global};
 use vic_frame::Uid;
 use vic_frame::low_bits_first::key;
 use vic_log::Log;
-use vic_walk::{Notes, walk_log};
+use vic_walk::{LogWalk, walk_log};
 
 /// For each of some UIDs that a possible log doesn't leave open, the first line that rules it out.
 pub(crate) fn lines_of_absent(
@@ -31,7 +31,7 @@ pub(crate) fn lines_of_absent(
         return Ok(shown);
     }
     let lines = log.lines();
-    let walked = walk_log(alloc, lines, Notes::none(alloc))?;
+    let walked = indexed(alloc, walk_log(alloc, lines)?)?;
     for uid in absent {
         // not 0, since the UID isn't open
         let end = walked.walk.ends[walked.parts.at(key(*uid))] as usize;
@@ -39,4 +39,21 @@ pub(crate) fn lines_of_absent(
         shown.push(ShownUid { uid: *uid, line })?;
     }
     Ok(shown)
+}
+
+/// A walk in whose parts keys are looked up by an index.
+fn indexed(alloc: Global, walked: LogWalk) -> Result<LogWalk, AllocError>
+    ensures { IfOk result (λ w. w ≡ walked) }
+{
+    let LogWalk {
+        parts,
+        walk,
+        broken,
+    } = walked;
+    let parts = parts.indexed(alloc)?;
+    Ok(LogWalk {
+        parts,
+        walk,
+        broken,
+    })
 }

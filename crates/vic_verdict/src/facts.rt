@@ -28,7 +28,7 @@ use vic_log::{Entry, PackedLine};
 use vic_tree::OpenSet;
 use vic_tree::rising::put_in_order;
 use vic_walk::{
-    Answering, LogWalk, Notes, Parts, closed_keys, first_lack, list_start, open_answers, walk_log,
+    Answering, LogWalk, Parts, closed_keys, first_lack, list_start, open_answers, walk_log,
 };
 
 /// What a possible log tells of the tags: which may be there, and which must.
@@ -51,15 +51,6 @@ pub struct Met {
     pub found: Vec<Answering>,
 }
 
-/// The parts of a possible log.
-#[derive(Drop)]
-pub struct LogParts {
-    /// Cut for the log.
-    pub parts: Parts,
-    /// Where the UIDs of its Stay Quiet requests were found among them, if notes are kept.
-    pub notes: Notes,
-}
-
 /// What the lines of a log tell, if some population could have produced them; else the number of
 /// the first line up to which none could.
 pub fn facts_of<S: OpenSet>(
@@ -71,27 +62,26 @@ pub fn facts_of<S: OpenSet>(
         (λ f. AreFactsOf (entries lines.now) (S.is_open f.«open») f.met f.certain.items)
         (λ n. IsVerdict lines.now (Impossible n))) }
 {
-    match facts_and_parts_of::<S>(alloc, lines, Notes::none(alloc))? {
+    match facts_and_parts_of::<S>(alloc, lines)? {
         Ok((facts, _)) => Ok(Ok(facts)),
         Err(line) => Ok(Err(line)),
     }
 }
 
-/// The same, and the parts by which it was judged, with notes if they are kept.
+/// The same, and the parts by which it was judged.
 pub fn facts_and_parts_of<S: OpenSet>(
     alloc: Global,
     lines: &[PackedLine],
-    notes: Notes,
-) -> Result<Result<(Facts<S>, LogParts), u32>, AllocError>
+) -> Result<Result<(Facts<S>, Parts), u32>, AllocError>
     requires { AreLogLines lines.now }
     ensures facts { IfOk result (λ r. MatchResult r
         (λ p. AreFactsOf (entries lines.now) (S.is_open p.0.«open») p.0.met p.0.certain.items)
         (λ n. IsVerdict lines.now (Impossible n))) }
-    ensures borders { IfOk result (λ r. MatchResult r (λ p. AreBorders p.1.parts) (λ _. ⊤)) }
+    ensures borders { IfOk result (λ r. MatchResult r (λ p. AreBorders p.1) (λ _. ⊤)) }
     ensures cut { IfOk result (λ r. MatchResult r
-        (λ p. AreCut p.1.parts (entries lines.now)) (λ _. ⊤)) }
+        (λ p. AreCut p.1 (entries lines.now)) (λ _. ⊤)) }
 {
-    match open_and_met::<S>(alloc, lines, notes)? {
+    match open_and_met::<S>(alloc, lines)? {
         Ok((open, met, parts)) => {
             let certain = certain_uids(alloc, &met)?;
             Ok(Ok((Facts { open, met, certain }, parts)))
@@ -132,23 +122,22 @@ fn add_if_exactly(certain: &mut Vec<Uid>, uids: &[Uid], count: usize) -> Result<
 fn open_and_met<S: OpenSet>(
     alloc: Global,
     lines: &[PackedLine],
-    notes: Notes,
-) -> Result<Result<(S, Met, LogParts), usize>, AllocError>
+) -> Result<Result<(S, Met, Parts), usize>, AllocError>
     requires { AreLogLines lines.now }
     ensures found { IfOk result (λ r. MatchResult r
         (λ p. IsPossible (entries lines.now)
         × SameUids (S.is_open p.0) (is_open (slots_of (entries lines.now)))
         × IsMet (entries lines.now) p.1)
         (IsFirstImpossible (entries lines.now))) }
-    ensures borders { IfOk result (λ r. MatchResult r (λ p. AreBorders p.2.parts) (λ _. ⊤)) }
+    ensures borders { IfOk result (λ r. MatchResult r (λ p. AreBorders p.2) (λ _. ⊤)) }
     ensures cut { IfOk result (λ r. MatchResult r
-        (λ p. AreCut p.2.parts (entries lines.now)) (λ _. ⊤)) }
+        (λ p. AreCut p.2 (entries lines.now)) (λ _. ⊤)) }
 {
     let LogWalk {
         parts,
         mut walk,
         broken,
-    } = walk_log(alloc, lines, notes)?;
+    } = walk_log(alloc, lines)?;
     if let Some(at) = broken {
         // an unread slot before it may lack tags
         return Ok(Err(first_lack(alloc, lines, &parts, &walk, at)?));
@@ -160,8 +149,7 @@ fn open_and_met<S: OpenSet>(
         return Ok(Err(first_lack(alloc, lines, &parts, &walk, lines.len())?));
     }
     let heard = heard_uids(alloc, lines)?;
-    let notes = walk.notes;
-    Ok(Ok((set, Met { heard, found }, LogParts { parts, notes })))
+    Ok(Ok((set, Met { heard, found }, parts)))
 }
 
 /// Whether some population could have produced a log.
@@ -173,7 +161,7 @@ pub fn is_possible(alloc: Global, lines: &[PackedLine]) -> Result<bool, AllocErr
         parts,
         mut walk,
         broken,
-    } = walk_log(alloc, lines, Notes::none(alloc))?;
+    } = walk_log(alloc, lines)?;
     if broken.is_some() {
         return Ok(false);
     }

@@ -1,10 +1,11 @@
 -- Bits of words, and what is noted of the words.
-use Rattle.std.proofs.Common.{◌≡◌, ◌≢◌, ℕ, ◌+◌, ◌-◌, ◌*◌, ◌/◌, ◌%◌, ◌^◌, ◌<◌, ◌≤◌, Bool, true, false, not, ◌||◌, List, Option, Some, None, length, get_or, set, refl, sym, ap, subst, ◌∙◌, arith, ⊎_elim, bit_or, w64, nat_eq, eq-eqb, eqb-true, get_or-set_same, get_or-set_other, shr-shr}
-use Rattle.std.proofs.lemmas.Bool.{and_parts, both_ways, cases_eq, cases_lt, false_from_ne_true, or_cases, or_right}
+use Rattle.std.proofs.Common.{◌≡◌, ◌≢◌, ℕ, ◌+◌, ◌-◌, ◌*◌, ◌/◌, ◌%◌, ◌^◌, ◌<◌, ◌≤◌, Bool, true, false, not, ◌||◌, List, Option, Some, None, length, get_or, set, refl, sym, ap, subst, ◌∙◌, arith, ⊎_elim, bit_or, w64, nat_eq, nat_lt, replicate, eq-eqb, eqb-true, get_or-set_same, get_or-set_other, shr-shr}
+use Rattle.std.proofs.Math.Pow.{pow-lt}
+use Rattle.std.proofs.lemmas.Bool.{and_parts, both_ways, cases_eq, cases_lt, false_from_ne_true, le-ltb, lt-ltb, ltb-true, or_cases, or_right}
 use Rattle.std.proofs.lemmas.Bool.Decides.{nat_tests}
-use Rattle.std.proofs.lemmas.List.{get_or_default, get_or_past}
+use Rattle.std.proofs.lemmas.List.{get_or-replicate, get_or_default, get_or_past, length-replicate}
 use Rattle.std.proofs.lemmas.Nat.{shr_le}
-use Rattle.std.proofs.lemmas.Nat.Bits.{bit_at-trailing_zeros, bit_at-zero, bit_at_above, bit_at_clear_other, bit_at_clear_same, bit_at_set_other, bit_at_set_same}
+use Rattle.std.proofs.lemmas.Nat.Bits.{bit_at-trailing_zeros, bit_at-zero, bit_at_above, bit_at_clear_other, bit_at_clear_same, bit_at_ones, bit_at_ones_above, bit_at_set_other, bit_at_set_same}
 use Rattle.std.specs.Int.{bit_at, bit_not, trailing_zeros}
 use Rattle.std.specs.Option.{IfNone, IfSome}
 use lib.Bits.{bit_and}
@@ -37,6 +38,43 @@ none_in_zero ws k e = ap (λ w. nat_eq (bit_at w (k % 64)) 1) e ∙ ap (λ b. na
 
 pub none_past : (ws : List ℕ) (k : ℕ) → length ws ≤ k / 64 → is_set ws k ≡ false
 none_past ws k h = none_in_zero ws k (get_or_past ws (k / 64) 0 h)
+
+-- ---- the first bits
+
+ones_here : (ws : List ℕ) (bits n k : ℕ) → n < length ws → k / 64 ≡ n → bits / 64 ≡ n → is_set (set ws n (2 ^ (bits % 64) - 1)) k ≡ nat_lt k bits
+ones_here ws bits n k within at here = set_here ws n (2 ^ (bits % 64) - 1) k within at ∙ ⊎_elim
+    (λ (low : k % 64 < bits % 64). eq-eqb _ 1 (bit_at_ones (bits % 64) (k % 64) low) ∙ sym (lt-ltb k bits (omega (arith, at, here, low))))
+    (λ (high : bits % 64 ≤ k % 64). ap (λ b. nat_eq b 1) (bit_at_ones_above (bits % 64) (k % 64) high) ∙ sym (le-ltb k bits (omega (arith, at, here, high))))
+    (cases_lt (k % 64) (bits % 64))
+
+-- as many words as they need, all bits of which are set
+pub first_bits : (ws : List ℕ) (n bits k : ℕ) → ws ≡ replicate n (2 ^ 64 - 1) → bits ≤ n * 64 → n ≤ bits / 64 → is_set ws k ≡ nat_lt k bits
+first_bits ws n bits k e room none = ap (λ v. is_set v k) e ∙ ⊎_elim
+    (λ (within : k / 64 < n). ap (λ w. nat_eq (bit_at w (k % 64)) 1) (get_or-replicate n (k / 64) (2 ^ 64 - 1) 0 within) ∙ eq-eqb _ 1 (bit_at_ones 64 (k % 64) (omega arith)) ∙ sym (lt-ltb k bits (omega (arith, within, none))))
+    (λ (past : n ≤ k / 64). none_past _ k (let size = length-replicate {A = ℕ} n (2 ^ 64 - 1) in omega (arith, size, past)) ∙ sym (le-ltb k bits (omega (arith, past, room))))
+    (cases_lt (k / 64) n)
+
+-- and a last one with the rest of them
+pub first_bits_and_rest : (ws : List ℕ) (n bits k : ℕ) → ws ≡ set (replicate n (2 ^ 64 - 1)) (bits / 64) (bit_of bits - 1) → bits / 64 < n → n ≤ bits / 64 + 1 → is_set ws k ≡ nat_lt k bits
+first_bits_and_rest ws n bits k e room last =
+    let small : 2 ^ (bits % 64) < 2 ^ 64 = (let lt : bits % 64 < 64 = omega arith in pow-lt lt) in
+    let one : bit_of bits ≡ 2 ^ (bits % 64) = omega (arith, small) in
+    let all = replicate n (2 ^ 64 - 1) in
+    let size : length all ≡ n = length-replicate {A = ℕ} n (2 ^ 64 - 1) in
+    ap (λ v. is_set v k) (e ∙ ap (λ w. set all (bits / 64) (w - 1)) one) ∙ ⊎_elim
+    (λ (here : k / 64 ≡ bits / 64). ones_here all bits (bits / 64) k (omega (arith, size, room)) here refl)
+    (λ (other : k / 64 ≢ bits / 64). set_elsewhere all (bits / 64) (2 ^ (bits % 64) - 1) k other ∙ ⊎_elim
+    (λ (low : k / 64 < bits / 64). first_bits all (bits / 64 + 1) ((bits / 64 + 1) * 64) k (ap (λ m. replicate m (2 ^ 64 - 1)) (omega (arith, room, last))) (omega arith) (omega arith) ∙ lt-ltb k ((bits / 64 + 1) * 64) (omega (arith, low)) ∙ sym (lt-ltb k bits (omega (arith, low))))
+    (λ (high : bits / 64 ≤ k / 64). none_past all k (omega (arith, size, last, high, other)) ∙ sym (le-ltb k bits (omega (arith, high, other))))
+    (cases_lt (k / 64) (bits / 64)))
+    (cases_eq (k / 64) (bits / 64))
+
+-- a bit noted for each of the first words
+pub first_noted : (ws notes : List ℕ) (bits count : ℕ) → ((k : ℕ) → is_set ws k ≡ nat_lt k bits) → ((k : ℕ) → is_set notes k ≡ nat_lt k count) → bits ≤ count * 64 → count * 64 < bits + 64 → AreNoted ws notes
+first_noted ws notes bits count all noted room last = record {
+  noted = λ k is. noted (k / 64) ∙ lt-ltb (k / 64) count (let lt = ltb-true k bits (sym (all k) ∙ is) in omega (arith, lt, room));
+  found = λ n is. let lt = ltb-true n count (sym (noted n) ∙ is) in (n * 64, omega arith, all (n * 64) ∙ lt-ltb (n * 64) bits (omega (arith, lt, last)));
+}
 
 -- ---- the first bit from a bit on
 

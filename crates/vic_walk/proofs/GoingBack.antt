@@ -13,7 +13,7 @@ use Rattle.vic_walk.specs.declared.parts.Span.{Span}
 use Rattle.vic_walk.specs.declared.walk.Walk.{Walk}
 use Rattle.vic_walk.specs.inner.PartUids.{AreUidsOf}
 use Rattle.vic_walk.specs.inner.Reach.{AreRuled, HasReach, IsBackTo, IsReachAt, lasts_to}
-use Rattle.vic_walk.specs.inner.Spans.{IsSpanAt}
+use Rattle.vic_walk.specs.Spans.{IsSpanAt}
 use Rattle.vic_walk.proofs.Ending.{open_earlier}
 use Rattle.vic_walk.proofs.OpenAnswers.{open_by_parts}
 use Rattle.vic_walk.proofs.Ruling.{marked_at, marked_else}

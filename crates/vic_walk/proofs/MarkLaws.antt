@@ -1,10 +1,12 @@
 -- Sets of numbers, by the bits of words.
-use Rattle.std.proofs.Common.{◌≡◌, ◌≢◌, ℕ, ◌+◌, ◌<◌, ◌≤◌, ◌/◌, ◌^◌, Bool, true, false, cond, List, length, get_or, set, replicate, sym, ap, subst, ◌∙◌, arith, ⊎_elim, nat_eq, eq-eqb, eqb-true, ne_eqb, get_or-set_same, get_or-set_other, length-set}
-use Rattle.std.proofs.lemmas.Bool.{and_parts, both_ways, cases_eq, cases_lt, false_from_ne_true, or_cases}
+use Rattle.std.proofs.Common.{◌≡◌, ◌≢◌, ℕ, ◌+◌, ◌<◌, ◌≤◌, ◌/◌, ◌^◌, Bool, true, false, cond, List, length, get_or, nat_lt, set, replicate, sym, ap, subst, ◌∙◌, arith, ⊎_elim, nat_eq, eq-eqb, eqb-true, ne_eqb, get_or-set_same, get_or-set_other, length-set}
+use Rattle.std.proofs.lemmas.Bool.{and_parts, both_ways, cases_eq, cases_lt, false_from_ne_true, lt-ltb, ltb-true, or_cases}
 use Rattle.std.proofs.lemmas.Bool.Decides.{nat_tests}
+use Rattle.std.proofs.lemmas.Grind.{div_ceil_times}
 use Rattle.std.proofs.lemmas.List.{get_or-replicate, get_or_past, length-replicate}
 use Rattle.std.proofs.lemmas.List.FromFn.{fill_by_all, get_or-map-range_with_len, length-map-range_with_len}
-use Rattle.vic_walk.proofs.BitLaws.{none_in_zero, noted_with}
+use Rattle.std.specs.Int.{div_ceil}
+use Rattle.vic_walk.proofs.BitLaws.{first_noted, none_in_zero, noted_with}
 use Rattle.vic_walk.specs.Marked.{IsFirst, is_marked}
 use Rattle.vic_walk.specs.inner.Bits.{AreMarks, AreNoted, IsWith, IsWithout, is_set, marked_in}
 
@@ -97,5 +99,20 @@ blank_marks count l m n places words groups fits e f g el em en = record {
   group_room = ap length g ∙ length-replicate {A = ℕ} n 0 ∙ en;
 }
 
-pub all_marked : (n : ℕ) (marks : List Bool) → length marks ≡ n → ((k : ℕ) → k < n → is_marked marks k ≡ true) → marks ≡ replicate n true
-all_marked n marks size all = fill_by_all (λ _. true) marks n false size all ∙ sym (fill_by_all (λ _. true) (replicate n true) n false (length-replicate n true) (λ k lt. get_or-replicate n k true false lt))
+pub marked_below : (count : ℕ) (places : List ℕ) → ((k : ℕ) → is_set places k ≡ nat_lt k count) → marked_in count places ≡ replicate count true
+marked_below count places all = sym (fill_by_all (is_set places) (replicate count true) count false (length-replicate count true) (λ k lt. get_or-replicate count k true false lt ∙ sym (all k ∙ lt-ltb k count lt)))
+
+pub all_below : (count m n : ℕ) (places words groups : List ℕ) → count < 2 ^ 64 → ((k : ℕ) → is_set places k ≡ nat_lt k count) → ((k : ℕ) → is_set words k ≡ nat_lt k m) → ((k : ℕ) → is_set groups k ≡ nat_lt k n)
+    → m ≡ div_ceil count 64 → n ≡ div_ceil m 64 → length places ≡ count / 64 + 1 → length words ≡ count / 4096 + 1 → length groups ≡ count / 262144 + 1 → AreMarks count places words groups
+all_below count m n places words groups fits all all_words all_groups em en size word_size group_size =
+    let up = div_ceil_times count 64 (omega arith) in
+    let next = div_ceil_times m 64 (omega arith) in
+    record {
+      fits = fits;
+      below = λ k is. ltb-true k count (sym (all k) ∙ is);
+      places_noted = first_noted places words count m all all_words (omega (arith, em, up.0)) (omega (arith, em, up.1));
+      words_noted = first_noted words groups m n all_words all_groups (omega (arith, en, next.0)) (omega (arith, en, next.1));
+      place_room = size;
+      word_room = word_size;
+      group_room = group_size;
+    }

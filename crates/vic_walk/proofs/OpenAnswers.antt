@@ -12,7 +12,7 @@ use Rattle.vic_walk.specs.declared.answers.Answering.{Answering}
 use Rattle.vic_walk.specs.declared.parts.Span.{Span}
 use Rattle.vic_walk.specs.declared.walk.Walk.{Walk}
 use Rattle.vic_walk.specs.inner.PartUids.{AreUidsOf}
-use Rattle.vic_walk.specs.inner.Spans.{IsSpanAt, is_within}
+use Rattle.vic_walk.specs.Spans.{IsSpanAt, is_within}
 use Rattle.vic_walk.proofs.Words.{◌≡◌, ℕ, ◌+◌, ◌<◌, ◌≤◌, ◌++◌, ◌∷◌, ◌∙◌, ◌&&◌, not, Bool, true, false, List, [], inl, inr, refl, sym, and_parts, arith, cases_lt, false≢true, slice_get, Entry, IsPartOf, IsReadyAt, IsUid, IsUid-from, answers_at, is_marked, is_open, is_quiet, mirror}
 
 pub answering_none : (es : List Entry) → AreAnswering es 0 []

@@ -147,6 +147,22 @@ in_span bs first len k p from last borders block a b alike key own =
     let no : is_in_block first len k ≡ true → (from ≤ p) × (p ≤ last) = λ is. let h = between first len k is in (parts_rise bs first k from p borders h.0 a own, parts_rise bs k (first + (2 ^ (56 - len) - 1)) p last borders h.1 own b) in
     both_true _ _ (λ is. let h = no is in let low = h.0 in let high = h.1 in grind (arith, nat_tests, low, high)) (λ is. let h = and_parts (nat_le from p) (nat_lt p (last + 1)) is in yes (leb-true _ _ h.0) (let lt = ltb-true _ _ h.1 in omega (arith, lt)))
 
+-- the part of the key before a border
+part_before : (bs : List ℕ) (k to : ℕ) → AreBorders bs → 0 < to → to < length bs → slice_index bs to ≡ k + 1 → IsPartOf bs k (to - 1)
+part_before bs k to borders some within at =
+    let h = below bs (to - 1) to borders.rising (omega (arith, some)) within in
+    let back : to ≡ to - 1 + 1 = omega (arith, some) in
+    record { within = omega (arith, some, within); from = omega (arith, h, at); before = subst (λ m. k < slice_index bs m) back (omega (arith, at)) }
+
+-- between the borders of a block
+pub in_borders : (bs : List ℕ) (first len k p from to : ℕ) → AreBorders bs → IsBlock first len → from < to → to < length bs → slice_index bs from ≡ first → slice_index bs to ≡ first + (2 ^ (56 - len) - 1) + 1 → IsByParts bs (is_in_block first len) → IsKey k → IsPartOf bs k p
+    → is_in_block first len k ≡ (nat_le from p && nat_lt p to)
+in_borders bs first len k p from to borders block lt within start end alike key own =
+    let a = subst (λ f. IsPartOf bs f from) start (key_of_part bs from borders (omega (arith, lt, within))).0 in
+    let b = part_before bs (first + (2 ^ (56 - len) - 1)) to borders (omega (arith, lt)) within end in
+    let back : to - 1 + 1 ≡ to = omega (arith, lt) in
+    subst (λ m. is_in_block first len k ≡ (nat_le from p && nat_lt p m)) back (in_span bs first len k p from (to - 1) borders block a b alike key own)
+
 -- ---- a key between two borders
 
 pub part_between : (bs : List ℕ) (k p q : ℕ) → IsBetween bs k p q → q ≡ p + 1 → IsPartOf bs k p

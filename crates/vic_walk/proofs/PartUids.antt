@@ -6,7 +6,7 @@ use Rattle.vic_tree.specs.Gathering.{Gathers}
 use Rattle.vic_tree.specs.OpenSet.{UpToThree}
 use Rattle.vic_walk.proofs.PartLaws.{one_part, part_of_key}
 use Rattle.vic_walk.specs.declared.parts.Span.{Span}
-use Rattle.vic_walk.specs.inner.Spans.{is_within}
+use Rattle.vic_walk.specs.Spans.{is_within}
 use Rattle.vic_walk.specs.inner.PartUids.{AreUidsOf, HasKey}
 
 -- a UID that the test passes, in a part before `from`

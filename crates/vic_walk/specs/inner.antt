@@ -2,7 +2,7 @@
 pub mod Bits
 pub mod Gathered
 pub mod Searching
-pub mod Spans
+pub mod Ruled
 pub mod Ready
 pub mod PartUids
 pub mod RangesTo

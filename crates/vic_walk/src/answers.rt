@@ -12,7 +12,7 @@ ghost use Rattle.vic_walk.specs.Cuts.{AreCut};
 ghost use Rattle.vic_walk.specs.Needs.{needs};
 ghost use Rattle.vic_walk.specs.Walk.{AreOpenParts, HasRoom, IsWalkAt};
 ghost use Rattle.vic_walk.specs.inner.Ready.{IsReadyAt};
-ghost use Rattle.vic_walk.specs.inner.Spans.{IsPlace};
+ghost use Rattle.vic_walk.specs.Spans.{IsPlace};
 
 use crate::hints::{Hints, Near};
 use crate::listing::list_start;
@@ -156,7 +156,6 @@ pub fn open_answers(
     ensures heard { OnOk result (walk.new.heard ≡ walk.old.heard) }
     ensures ends { OnOk result (walk.new.ends.items ≡ walk.old.ends.items) }
 {
-    walk.notes.rewind();
     // before the first entry no part is Quiet
     walk.wake();
     let mut found = Vec::new(alloc);

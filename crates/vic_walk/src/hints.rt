@@ -6,13 +6,13 @@ use vic_log::Entry;
 
 /// Hints of the parts of an entry's keys.
 #[derive(Clone, Copy)]
-pub(crate) struct Near {
+pub struct Near {
     /// Of the first key in a slot's mask.
-    pub(crate) from: usize,
+    pub from: usize,
     /// One more than that of the last one; the same as `from` if it is near.
-    pub(crate) to: usize,
+    pub to: usize,
     /// Of the key of the UID that the entry silences or hears.
-    pub(crate) own: usize,
+    pub own: usize,
 }
 
 /// Whether a slot's last key is looked up by a hint of its own. In most rounds of 16 slots, only a
@@ -51,7 +51,7 @@ pub(crate) fn has_sixteen(before: bool, entry: &Entry) -> bool {
 
 /// How many hints a walk has read.
 #[derive(Clone, Copy)]
-pub(crate) struct Hints {
+pub struct Hints {
     read: usize,
     /// Whether the last round has 16 slots.
     sixteen: bool,
@@ -59,7 +59,7 @@ pub(crate) struct Hints {
 
 impl Hints {
     /// Before the first entry.
-    pub(crate) fn first() -> Hints {
+    pub fn first() -> Hints {
         Hints {
             read: 0,
             sixteen: false,
@@ -68,7 +68,7 @@ impl Hints {
 
     /// The hints for the next entry. It is to be called for each entry in turn.
     #[inline(always)]
-    pub(crate) fn next(&mut self, hints: &[u32], entry: &Entry) -> Near {
+    pub fn next(&mut self, hints: &[u32], entry: &Entry) -> Near {
         let sixteen = self.sixteen;
         self.sixteen = has_sixteen(sixteen, entry);
         match *entry {

@@ -11,11 +11,10 @@ ghost use Rattle.vic_walk.specs.Marked.{is_marked};
 ghost use Rattle.vic_walk.specs.Met.{AreMetBefore, HasEndsPast};
 ghost use Rattle.vic_walk.specs.Needs.{needs_at};
 ghost use Rattle.vic_walk.specs.inner.Reach.{AreEndsUpTo, AreRuled, HasReach, IsBackTo, IsReachAt, lasts_to};
-ghost use Rattle.vic_walk.specs.inner.Spans.{IsPlace, IsSpanAt};
+ghost use Rattle.vic_walk.specs.Spans.{IsPlace, IsSpanAt};
 
 use crate::hints::{Hints, Near};
 use crate::marks::Marks;
-use crate::notes::Notes;
 use crate::parts::{Parts, Span};
 use crate::three::up_to_three;
 use crate::walk::{Walk, span_of};
@@ -229,7 +228,6 @@ fn all_ready(alloc: Global, parts: Marks) -> Result<Walk, AllocError>
         quiet: Vec::new(alloc),
         ends: Vec::new(alloc),
         heard: Marks::none(alloc, 0)?,
-        notes: Notes::none(alloc),
     })
 }
 

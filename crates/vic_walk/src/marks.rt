@@ -1,7 +1,7 @@
 //! A set of the numbers below a count, as three levels of bits, by which the first one in a range
 //! is found. Only the top level is searched word by word: four words for a million numbers.
 
-ghost use Rattle.std.specs.Prelude.{◌≡◌, ℕ, ◌+◌, ◌*◌, ◌/◌, ◌^◌, ◌<◌, true, false, length, replicate, slice_index, slice_set, IfOk, IfSome, IfNone};
+ghost use Rattle.std.specs.Prelude.{◌≡◌, ℕ, ◌+◌, ◌*◌, ◌/◌, ◌^◌, ◌<◌, ◌≤◌, true, false, length, nat_lt, replicate, slice_index, slice_set, IfOk, IfSome, IfNone};
 ghost use Rattle.vic_walk.specs.Marked.{IsFirst, NoneBetween, is_marked};
 ghost use Rattle.vic_walk.specs.inner.Bits.{AreNoted, HasNone, HasSome, IsNext, IsWith, IsWithout, is_set};
 
@@ -168,6 +168,20 @@ fn first_place(places: &[u64], words: &[u64], groups: &[u64], from: usize) -> Op
     first_in_word(places, number * WORD)
 }
 
+/// So many words, in which the bits below a number are set.
+fn full(alloc: Global, bits: usize, words: usize) -> Result<Vec<u64>, AllocError>
+    requires room { bits ≤ words * WORD }
+    requires last { words ≤ bits / WORD + 1 }
+    ensures size { IfOk result (λ v. length v.items ≡ words) }
+    ensures set { IfOk result (λ v. (k : ℕ) → is_set v.items k ≡ nat_lt k bits) }
+{
+    let mut full = vec![in alloc; u64::MAX; words]?;
+    if bits / WORD < words {
+        full[bits / WORD] = (1 << (bits % WORD)) - 1;
+    }
+    Ok(full)
+}
+
 impl Marks {
     /// That many numbers, none of them marked.
     pub fn none(alloc: Global, count: usize) -> Result<Marks, AllocError>
@@ -185,11 +199,13 @@ impl Marks {
     pub fn all(alloc: Global, count: usize) -> Result<Marks, AllocError>
         ensures { IfOk result (λ m. m ≡ replicate count true) }
     {
-        let mut marks = Marks::none(alloc, count)?;
-        for place in 0..count {
-            marks.put(place);
-        }
-        Ok(marks)
+        let words = count.div_ceil(WORD);
+        Ok(Marks {
+            count,
+            places: full(alloc, count, count / WORD + 1)?,
+            words: full(alloc, words, count / GROUP + 1)?,
+            groups: full(alloc, words.div_ceil(WORD), count / CLUSTER + 1)?,
+        })
     }
 
     /// Whether a number is marked.

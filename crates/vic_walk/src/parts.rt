@@ -30,8 +30,8 @@ use vic_log::{Entry, PackedLine, RoundCursor};
 pub struct Parts {
     /// In rising order, from 0 to the end of the keys.
     borders: Vec<u64>,
-    /// A hint of where a key is among them.
-    index: Index,
+    /// A hint of where any key is among them, if it was asked for, or there are no other hints.
+    index: Option<Index>,
     /// Hints for the walks over the log, in the order in which they ask.
     hints: Vec<u32>,
 }
@@ -66,10 +66,27 @@ impl Parts {
         ensures cut { IfOk result (λ parts. AreCut parts (entries lines.now)) }
     {
         let (borders, hints) = gather(alloc, lines)?.in_order(alloc)?;
-        let index = Index::over(alloc, &borders)?;
+        let index = if hints.is_empty() {
+            Some(Index::over(alloc, &borders)?)
+        } else {
+            None
+        };
         Ok(Parts {
             borders,
             index,
+            hints,
+        })
+    }
+
+    /// The same, with an index, by which `at` finds any key faster: up to 2 bytes a part.
+    pub fn indexed(self, alloc: Global) -> Result<Parts, AllocError>
+        ensures { IfOk result (λ parts. parts ≡ self) }
+    {
+        let Parts { borders, hints, .. } = self;
+        let index = Index::over(alloc, &borders)?;
+        Ok(Parts {
+            borders,
+            index: Some(index),
             hints,
         })
     }
@@ -103,7 +120,10 @@ impl Parts {
         requires { IsKey key }
         ensures { IsPartOf self.now key result }
     {
-        let (from, to) = self.index.hint(key);
+        let (from, to) = match &self.index {
+            Some(index) => index.hint(key),
+            None => (0, 0),
+        };
         let near = up_to(&self.borders, from, key);
         if self.is_between(key, near, near.saturating_add(1)) {
             near
@@ -127,7 +147,7 @@ impl Parts {
     }
 
     /// The part that has a key, which is expected in this part or in one of the next few.
-    pub(crate) fn at_or_after(&self, part: usize, key: u64) -> usize
+    pub fn at_or_after(&self, part: usize, key: u64) -> usize
         requires { IsKey key }
         ensures { IsPartOf self.now key result }
     {
@@ -140,8 +160,16 @@ impl Parts {
     }
 
     /// Hints for the walks over the log, in the order in which they ask.
-    pub(crate) fn hints(&self) -> &[u32] {
+    pub fn hints(&self) -> &[u32] {
         &self.hints
+    }
+
+    /// Whether a border has this number.
+    fn has_border(&self, number: usize, border: u64) -> bool
+        ensures within { result ≡ true → number < length self.now }
+        ensures border { result ≡ true → slice_index self.now number ≡ border }
+    {
+        number < self.borders.len() && self.borders[number] == border
     }
 
     /// Whether a key lies between two borders.
@@ -169,8 +197,9 @@ impl Parts {
         low
     }
 
-    /// The parts whose keys are in a block, if the block has all keys of each part or none.
-    pub fn span(&self, block: &KeyBlock) -> Span
+    /// The parts whose keys are in a block, if the block has all keys of each part or none; with
+    /// hints of the first one and of the one after the last.
+    pub(crate) fn span(&self, block: &KeyBlock, near: usize, end: usize) -> Span
         requires { IsBlock block.now.first block.now.len }
         ensures within { result.to ≤ part_count self.now }
         ensures inside { IsByParts self.now (is_in_block block.now.first block.now.len)
@@ -180,24 +209,10 @@ impl Parts {
     {
         // shows a proof what is so of the borders
         let _ = &self.borders;
-        let from = self.at(block.first);
-        Span {
-            from,
-            to: self.at_or_after(from, block.last()) + 1,
+        let to = end.max(near.saturating_add(1));
+        if self.has_border(near, block.first) && self.has_border(to, block.last() + 1) {
+            return Span { from: near, to };
         }
-    }
-
-    /// The same, with hints of the first part and of the one after the last.
-    pub(crate) fn span_near(&self, block: &KeyBlock, near: usize, end: usize) -> Span
-        requires { IsBlock block.now.first block.now.len }
-        ensures within { result.to ≤ part_count self.now }
-        ensures inside { IsByParts self.now (is_in_block block.now.first block.now.len)
-            → (k p : ℕ) → IsKey k → IsPartOf self.now k p
-            → is_in_block block.now.first block.now.len k
-            ≡ (nat_le result.from p && nat_lt p result.to) }
-    {
-        // shows a proof what is so of the borders
-        let _ = &self.borders;
         let from = self.at_or_in(near, block.first);
         let last = self.at_or_after(end.saturating_sub(1).max(from), block.last());
         Span { from, to: last + 1 }

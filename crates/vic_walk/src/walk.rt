@@ -13,12 +13,12 @@ ghost use Rattle.vic_walk.specs.Cuts.{AreCut};
 ghost use Rattle.vic_walk.specs.Marked.{is_marked};
 ghost use Rattle.vic_walk.specs.Walk.{HasRoom, IsWalkAt, IsEndOfWalk, IsWalkOver, AreBorneOut};
 ghost use Rattle.vic_walk.specs.inner.Ready.{IsReadyAt};
-ghost use Rattle.vic_walk.specs.inner.Spans.{is_within, is_other, HasLost, IsSpanAt, IsPlace, IsRuledOut};
+ghost use Rattle.vic_walk.specs.Spans.{is_within, IsSpanAt, IsPlace};
+ghost use Rattle.vic_walk.specs.inner.Ruled.{is_other, HasLost, IsRuledOut};
 
 use crate::hints::{Hints, Near};
 use crate::listing::list_start;
 use crate::marks::Marks;
-use crate::notes::Notes;
 use crate::parts::{Parts, Span};
 use std::alloc::{AllocError, Global};
 use vic_frame::low_bits_first::key;
@@ -37,8 +37,6 @@ pub struct Walk {
     pub ends: Vec<u32>,
     /// The parts that were heard; such a part has only one UID.
     pub heard: Marks,
-    /// Where the UIDs of Stay Quiet requests were found.
-    pub notes: Notes,
 }
 
 /// Marks each place of a list.
@@ -55,7 +53,7 @@ fn put_all(marks: &mut Marks, places: &[usize])
 
 impl Walk {
     /// The walk before the first entry: that many parts, all open and Ready.
-    fn start(alloc: Global, count: usize, notes: Notes) -> Result<Walk, AllocError>
+    fn start(alloc: Global, count: usize) -> Result<Walk, AllocError>
         ensures { IfOk result (λ w. (bs : List ℕ) (es : List EntryValue) → part_count bs ≡ count
             → IsWalkAt bs es 0 w) }
     {
@@ -64,7 +62,6 @@ impl Walk {
             quiet: Vec::new(alloc),
             ends: vec![in alloc; 0; count]?,
             heard: Marks::none(alloc, count)?,
-            notes,
         })
     }
 
@@ -188,9 +185,7 @@ impl Walk {
         match *request {
             Request::StayQuiet { uid, .. } => match Uid::new(uid) {
                 Some(uid) => {
-                    let part = parts.at_or_in(near.own, key(uid));
-                    self.notes.note(part)?;
-                    self.silence(part)?;
+                    self.silence(parts.at_or_in(near.own, key(uid)))?;
                     Ok(())
                 }
                 // no tag has this number
@@ -245,15 +240,15 @@ impl Walk {
     }
 }
 
-/// The parts whose UIDs lie in the mask of the next slot.
-pub(crate) fn span_of(parts: &Parts, rounds: &RoundCursor, near: Near) -> Span
+/// The parts whose UIDs lie in the mask of the next slot, with hints for its line.
+pub fn span_of(parts: &Parts, rounds: &RoundCursor, near: Near) -> Span
     ensures within { result.to ≤ part_count parts.now }
     ensures inside { (es : List EntryValue) (i : ℕ) (e : EntryValue)
         → IsPlace parts.now es i e rounds.now → is_slot e ≡ true
         → IsSpanAt parts.now es i result }
 {
     match rounds.keys() {
-        Some(block) => parts.span_near(&block, near.from, near.to),
+        Some(block) => parts.span(&block, near.from, near.to),
         None => Span { from: 0, to: 0 },
     }
 }
@@ -273,7 +268,6 @@ fn walk_over(
     alloc: Global,
     lines: &[PackedLine],
     parts: &Parts,
-    notes: Notes,
 ) -> Result<(Walk, Option<usize>), AllocError>
     requires order { IsInOrder (entries lines.now) }
     requires valid { AreValid (entries lines.now) }
@@ -282,7 +276,7 @@ fn walk_over(
     requires cut { AreCut parts.now (entries lines.now) }
     ensures { IfOk result (λ r. IsEndOfWalk parts.now (entries lines.now) r.1 r.0) }
 {
-    let mut walk = Walk::start(alloc, parts.count(), notes)?;
+    let mut walk = Walk::start(alloc, parts.count())?;
     let mut rounds = RoundCursor::first();
     let mut hints = Hints::first();
     for index in 0..list_start(lines) {
@@ -311,14 +305,14 @@ pub struct LogWalk {
 }
 
 /// The walk over a log: to its end, or past the first entry with which a reply isn't borne out.
-pub fn walk_log(alloc: Global, lines: &[PackedLine], notes: Notes) -> Result<LogWalk, AllocError>
+pub fn walk_log(alloc: Global, lines: &[PackedLine]) -> Result<LogWalk, AllocError>
     requires order { IsInOrder (entries lines.now) }
     requires valid { AreValid (entries lines.now) }
     requires rising { IsRisingFrom 0 lines.now }
     ensures { IfOk result (IsWalkOver (entries lines.now)) }
 {
     let parts = Parts::of(alloc, lines)?;
-    let (walk, broken) = walk_over(alloc, lines, &parts, notes)?;
+    let (walk, broken) = walk_over(alloc, lines, &parts)?;
     Ok(LogWalk {
         parts,
         walk,

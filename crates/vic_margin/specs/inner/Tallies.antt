@@ -1,16 +1,11 @@
 -- What a tally knows of the parts of a log.
-use Rattle.std.specs.Prelude.{◌≡◌, ℕ, ◌+◌, ◌<◌, ◌≤◌, Bool, true, false, List, Some, length, slice_get, slice_index}
+use Rattle.std.specs.Prelude.{◌≡◌, ℕ, ◌+◌, ◌<◌, ◌≤◌, Bool, true, false, List, length, slice_index}
 use Rattle.vic_frame.specs.LowBitsFirst.{mirror}
 use Rattle.vic_frame.specs.Uids.{IsUid}
 use Rattle.vic_log.specs.declared.entry.Entry.{Entry}
-use Rattle.vic_log.specs.declared.rounds.RoundCursor.{RoundCursor}
-use Rattle.vic_log.specs.OpenRounds.{IsCursorAt}
-use Rattle.vic_log.specs.Order.{AreValid}
 use Rattle.vic_log.specs.Quiet.{is_quiet}
-use Rattle.vic_log.specs.Rounds.{mask_at, lies_in_some}
 use Rattle.vic_walk.specs.declared.parts.Span.{Span}
-use Rattle.vic_walk.specs.Borders.{AreBorders, IsPartOf, part_count}
-use Rattle.vic_walk.specs.Cuts.{AreCut}
+use Rattle.vic_walk.specs.Borders.{IsPartOf, part_count}
 use Rattle.vic_walk.specs.Marked.{is_marked}
 use Rattle.vic_margin.specs.declared.tally.Tally.{Tally}
 use Rattle.vic_margin.specs.UidMargins.{margin_before, margin_of, one_if}
@@ -49,21 +44,6 @@ pub record IsCounted (s : Span) (back : ℕ → Bool) (old new : Tally) : Type 0
   pub leaves : new.counts.leaves ≡ old.counts.leaves
   pub raised : new.counts.raised ≡ old.counts.raised + 1
   pub places : length new.rest.items ≡ length old.rest.items
-
--- the parts of the span are those whose UIDs lie in the mask at position i
-abbrev pub IsSpanAt : List ℕ → List Entry → ℕ → Span → Type 0
-IsSpanAt bs es i s =
-    (u p : ℕ) → IsUid u → IsPartOf bs (mirror u) p
-    → lies_in_some (mask_at es i) u ≡ within s.from s.to p
-
--- the entry at position i of a log, for which the borders are cut, with the rounds up to there
-pub record IsPlace (bs : List ℕ) (es : List Entry) (i : ℕ) (e : Entry) (rounds : RoundCursor)
-    : Type 0 where
-  pub here : slice_get es i ≡ Some e
-  pub valid : AreValid es
-  pub rounds_here : IsCursorAt es i rounds
-  pub borders : AreBorders bs
-  pub cut : AreCut bs es
 
 -- the margin of the UIDs of each part
 pub record AreMargins (bs : List ℕ) (es : List Entry) (margins : List ℕ) : Type 0 where

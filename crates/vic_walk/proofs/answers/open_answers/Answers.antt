@@ -2,7 +2,7 @@ use Rattle.vic_walk.proofs.Words.{◌≡◌, ◌∙◌, Some, Entry, ap, arith, 
 use Rattle.vic_log.specs.declared.entry.LogLine.{LogLine}
 use Rattle.vic_log.specs.Order.{entries}
 use Rattle.vic_log.specs.Slots.{slots_of}
-use Rattle.vic_walk.specs.inner.Spans.{IsPlace}
+use Rattle.vic_walk.specs.Spans.{IsPlace}
 use Rattle.vic_walk.proofs.OpenAnswers.{answering_none, answering_rest}
 use Rattle.vic_walk.proofs.Lines.{entry_at}
 use Rattle.vic_walk.proofs.Steps.{ready_of, ready_woken}

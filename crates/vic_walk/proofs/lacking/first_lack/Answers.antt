@@ -1,7 +1,7 @@
 use Rattle.vic_walk.proofs.Words.{◌∙◌, Some, Entry, ap, arith, length-map, slice_index, sym}
 use Rattle.vic_log.specs.declared.entry.LogLine.{LogLine}
 use Rattle.vic_log.specs.Order.{entries}
-use Rattle.vic_walk.specs.inner.Spans.{IsPlace}
+use Rattle.vic_walk.specs.Spans.{IsPlace}
 use Rattle.vic_walk.specs.inner.Reach.{AreEndsUpTo, IsBackTo}
 use Rattle.vic_walk.proofs.Ending.{open_to_end}
 use Rattle.vic_walk.proofs.GoingBack.{has_reach, lack_next, met_next}

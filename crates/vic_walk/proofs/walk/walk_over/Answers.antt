@@ -1,6 +1,6 @@
 use Rattle.vic_walk.proofs.Words.{◌≡◌, ◌∙◌, Some, Entry, add-one, ap, arith, nat_tests, slice_get_within, false≢true, length, refl, slice_get_read, sym, length-map}
 use Rattle.vic_log.specs.declared.entry.LogLine.{LogLine}
-use Rattle.vic_walk.specs.inner.Spans.{IsPlace}
+use Rattle.vic_walk.specs.Spans.{IsPlace}
 use Rattle.vic_log.specs.Order.{entries}
 use Rattle.vic_walk.proofs.Lines.{entry_at, number_above}
 use Rattle.vic_walk.proofs.ListLaws.{walk_at_list}

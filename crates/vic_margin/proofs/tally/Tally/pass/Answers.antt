@@ -10,8 +10,8 @@ pub returns-in-Heard : goal.returns-in-Heard
 returns-in-Heard c es i place h =
     let r = c.in-Heard.response in
     let is : IsUid r.uid = rw c.uid.ensures.value at c.key.ensures.is_uid in
-    let own : IsPartOf c.args.parts.now (mirror r.uid) c.part_near-own.result = rw (c.key.ensures.value, c.uid.ensures.value) at c.part_near-own.ensures in
-    tally_heard _ es i c.part_near-own.result r c.span_of-span.result _ _ (rw c.in-Heard.is at place.here) place.borders place.cut is own (c.span_of-span.ensures.inside es i _ place (rw c.in-Heard.is refl)) c.hear.ensures h
+    let own : IsPartOf c.args.parts.now (mirror r.uid) c.at_or_after-own.result = rw (c.key.ensures.value, c.uid.ensures.value) at c.at_or_after-own.ensures in
+    tally_heard _ es i c.at_or_after-own.result r c.span_of-span.result _ _ (rw c.in-Heard.is at place.here) place.borders place.cut is own (c.span_of-span.ensures.inside es i _ place (rw c.in-Heard.is refl)) c.hear.ensures h
 
 idle : (c : goal.In-Garbled) → is_idle c.args.entry.now ≡ true
 idle c = grind (arith, nat_tests, c.in-Garbled.is)

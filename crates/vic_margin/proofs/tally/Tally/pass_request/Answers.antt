@@ -6,7 +6,7 @@ pub returns-in-Some : goal.returns-in-Some
 returns-in-Some c es i k cut h =
     let w = c.silence.ensures in
     let same : c.in-Some.uid ≡ c.in-StayQuiet.uid = c.in-Some.ensures.1 in
-    tally_silenced _ es i c.in-StayQuiet.link c.in-Some.uid c.part_near.result c.args.self.now _ (rw (c.in-StayQuiet.is, ← same) at k) c.requires.borders cut c.key.ensures.is_uid (rw c.key.ensures.value at c.part_near.ensures) w.turned w.quiet h
+    tally_silenced _ es i c.in-StayQuiet.link c.in-Some.uid c.at_or_after.result c.args.self.now _ (rw (c.in-StayQuiet.is, ← same) at k) c.requires.borders cut c.key.ensures.is_uid (rw c.key.ensures.value at c.at_or_after.ensures) w.turned w.quiet h
 
 pub returns-in_default : goal.returns-in_default
 returns-in_default c es i k cut h =

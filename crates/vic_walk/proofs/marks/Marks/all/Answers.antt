@@ -1,8 +1,8 @@
-use Rattle.std.proofs.Common.{arith}
-use Rattle.vic_walk.proofs.MarkLaws.{all_marked}
+use Rattle.vic_walk.proofs.MarkLaws.{all_below, marked_below}
 use Rattle.vic_walk.proofs.marks.Marks.all.Goals as goal
 
+pub invariant_of-result : goal.invariant_of-result
+invariant_of-result c = all_below _ _ _ _ _ _ c.ranges.count.fits c.in_ok-full.ensures.set c.in_ok-full-2.ensures.set c.in_ok-full-3.ensures.set c.div_ceil-words.ensures c.div_ceil.ensures c.in_ok-full.ensures.size c.in_ok-full-2.ensures.size c.in_ok-full-3.ensures.size
+
 pub returns : goal.returns
-returns c =
-    let end = c.loop-place-test.false in
-    all_marked _ _ c.loop-place.invariant.size (λ k lt. c.loop-place.invariant.marked k (omega (arith, end, lt)))
+returns c = marked_below _ _ c.in_ok-full.ensures.set

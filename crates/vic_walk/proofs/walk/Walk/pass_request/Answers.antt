@@ -6,7 +6,7 @@ pub returns-in_ok-silence-in-Some-clause-ready : goal.returns-in_ok-silence-in-S
 returns-in_ok-silence-in-Some-clause-ready c es set i k borders cut h =
     let w = c.in_ok-silence-in-Some.ensures in
     let same : c.in-Some.uid ≡ c.in-StayQuiet.uid = c.in-Some.ensures.1 in
-    ready_silenced _ es set i c.in-StayQuiet.link c.in-Some.uid c.at_or_in-part.result c.args.self.now _ (rw (c.in-StayQuiet.is, ← same) at k) c.key.ensures.is_uid (rw c.key.ensures.value at c.at_or_in-part.ensures) borders cut w.lasting w.room w.quiet h
+    ready_silenced _ es set i c.in-StayQuiet.link c.in-Some.uid c.at_or_in.result c.args.self.now _ (rw (c.in-StayQuiet.is, ← same) at k) c.key.ensures.is_uid (rw c.key.ensures.value at c.at_or_in.ensures) borders cut w.lasting w.room w.quiet h
 
 pub returns-in-None-clause-ready : goal.returns-in-None-clause-ready
 returns-in-None-clause-ready c es set i k borders cut h =
