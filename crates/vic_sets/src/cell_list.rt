@@ -2,10 +2,11 @@
 
 ghost use Rattle.vic_sets.specs.Cells.{in_cells};
 
-use crate::cells::{gather_cells, is_in, least, settled};
+use crate::cells::{Cells, gather_cells, is_in, least, settled};
 use arrayvec::ArrayVec;
 use std::alloc::{AllocError, Global};
 use std::marker::Model;
+use std::mem;
 use vic_frame::{Mask, Uid, without_top_byte};
 use vic_tree::OpenSet;
 
@@ -13,45 +14,42 @@ use vic_tree::OpenSet;
 /// bits, no UID lies in two of them, and no two are the halves of one mask.
 #[derive(Drop)]
 pub struct CellList {
-    cells: Vec<Mask>,
+    cells: Cells,
     alloc: Global,
 }
 
 impl Model for CellList {
     ghost use Rattle.std.specs.Prelude.{List};
     ghost use Rattle.vic_frame.specs.Masks.{BitMask};
-    ghost use Rattle.vic_sets.specs.Cells.{AreCells};
 
     ghost Value = { List BitMask };
 
-    ghost view = { λ a. a.cells.items };
-
-    ghost invariant = { λ a. AreCells a.cells.items };
+    ghost view = { λ a. a.cells };
 }
 
 impl OpenSet for CellList {
     ghost is_open = { in_cells };
 
     fn everything(alloc: Global) -> Result<CellList, AllocError> {
-        let mut cells = Vec::new(alloc);
-        cells.push(Mask::default())?;
-        Ok(CellList { cells, alloc })
+        let mut list = Vec::new(alloc);
+        list.push(Mask::default())?;
+        Ok(CellList {
+            cells: Cells { list },
+            alloc,
+        })
     }
 
     fn settle(&mut self, mask: &Mask, except: &[Uid]) -> Result<(), AllocError> {
         let Some(mask) = without_top_byte(mask) else {
             return Ok(());
         };
-        match settled(self.alloc, &self.cells, &mask, except) {
-            Ok(left) => {
-                self.cells = left;
-                Ok(())
-            }
-            Err(error) => {
-                self.cells.clear();
-                Err(error)
-            }
-        }
+        // if memory is refused, no UID is left
+        let none = Cells {
+            list: Vec::new(self.alloc),
+        };
+        let cells = mem::replace(&mut self.cells, none);
+        self.cells = settled(self.alloc, &cells, &mask, except)?;
+        Ok(())
     }
 
     fn has(&self, uid: Uid) -> bool {

@@ -13,26 +13,43 @@ use crate::cut::{flipped, shared, widened};
 use crate::gather::gather_all;
 use arrayvec::ArrayVec;
 use std::alloc::{AllocError, Global};
+use std::marker::Model;
 use vic_frame::{Mask, UID_BITS, Uid};
 
+/// Masks of at most 56 bits: no UID lies in two of them, and no two are the halves of one mask.
+#[derive(Drop)]
+pub(crate) struct Cells {
+    pub list: Vec<Mask>,
+}
+
+impl Model for Cells {
+    ghost use Rattle.std.specs.Prelude.{List};
+    ghost use Rattle.vic_frame.specs.Masks.{BitMask};
+    ghost use Rattle.vic_sets.specs.Cells.{AreCells};
+
+    ghost Value = { List BitMask };
+
+    ghost view = { λ a. a.list.items };
+
+    ghost invariant = { λ a. AreCells a.list.items };
+}
+
 /// Whether a UID lies in one of the cells.
-pub(crate) fn is_in(cells: &[Mask], uid: Uid) -> bool
+pub(crate) fn is_in(cells: &Cells, uid: Uid) -> bool
     ensures { result ≡ in_cells cells.now uid }
 {
-    cells.iter().any(|cell| cell.matches(uid))
+    cells.list.iter().any(|cell| cell.matches(uid))
 }
 
 /// What is left of some cells after a mask is removed, except some UIDs.
 pub(crate) fn settled(
     alloc: Global,
-    cells: &[Mask],
+    cells: &Cells,
     mask: &Mask,
     except: &[Uid],
-) -> Result<Vec<Mask>, AllocError>
-    requires cells { AreCells cells.now }
-    requires short { mask.now.len ≤ UID_BITS }
-    ensures cells { IfOk result (λ left. AreCells left.items) }
-    ensures left { IfOk result (λ left. SameUids (in_cells left.items)
+) -> Result<Cells, AllocError>
+    requires { mask.now.len ≤ UID_BITS }
+    ensures { IfOk result (λ left. SameUids (in_cells left)
         (settled (in_cells cells.now) mask.now except.now)) }
 {
     let mut left = outside(alloc, cells, mask)?;
@@ -41,29 +58,27 @@ pub(crate) fn settled(
 }
 
 /// What some cells hold outside of a mask.
-fn outside(alloc: Global, cells: &[Mask], mask: &Mask) -> Result<Vec<Mask>, AllocError>
-    requires cells { AreCells cells.now }
-    requires short { mask.now.len ≤ UID_BITS }
-    ensures cells { IfOk result (λ left. AreCells left.items) }
-    ensures left { IfOk result (λ left. SameUids (in_cells left.items)
+fn outside(alloc: Global, cells: &Cells, mask: &Mask) -> Result<Cells, AllocError>
+    requires { mask.now.len ≤ UID_BITS }
+    ensures { IfOk result (λ left. SameUids (in_cells left)
         (λ u. in_cells cells.now u && not (lies_in mask.now u))) }
 {
-    let mut left = Vec::new(alloc);
-    for cell in cells {
+    let mut left = Cells {
+        list: Vec::new(alloc),
+    };
+    for cell in &cells.list {
         add_rest(&mut left, cell, mask)?;
     }
     Ok(left)
 }
 
 /// Adds what a cell holds outside of a mask.
-fn add_rest(cells: &mut Vec<Mask>, cell: &Mask, mask: &Mask) -> Result<(), AllocError>
-    requires cells { AreCells cells.old.items }
+fn add_rest(cells: &mut Cells, cell: &Mask, mask: &Mask) -> Result<(), AllocError>
     requires cell { IsCell cell.now }
     requires short { mask.now.len ≤ UID_BITS }
-    requires apart { IsApart cell.now cells.old.items }
-    ensures cells { OnOk result (AreCells cells.new.items) }
-    ensures added { OnOk result (SameUids (in_cells cells.new.items)
-        (λ u. in_cells cells.old.items u || (lies_in cell.now u && not (lies_in mask.now u)))) }
+    requires apart { IsApart cell.now cells.old }
+    ensures { OnOk result (SameUids (in_cells cells.new)
+        (λ u. in_cells cells.old u || (lies_in cell.now u && not (lies_in mask.now u)))) }
 {
     let Some(inner) = shared(cell, mask) else {
         add(cells, *cell)?;
@@ -76,11 +91,9 @@ fn add_rest(cells: &mut Vec<Mask>, cell: &Mask, mask: &Mask) -> Result<(), Alloc
 }
 
 /// Adds those UIDs of a list that lie in some cells.
-fn add_back(left: &mut Vec<Mask>, cells: &[Mask], uids: &[Uid]) -> Result<(), AllocError>
-    requires { AreCells left.old.items }
-    ensures cells { OnOk result (AreCells left.new.items) }
-    ensures added { OnOk result (SameUids (in_cells left.new.items)
-        (λ u. in_cells left.old.items u || (in_cells cells.now u && has uids.now u))) }
+fn add_back(left: &mut Cells, cells: &Cells, uids: &[Uid]) -> Result<(), AllocError>
+    ensures { OnOk result (SameUids (in_cells left.new)
+        (λ u. in_cells left.old u || (in_cells cells.now u && has uids.now u))) }
 {
     for uid in uids {
         if is_in(cells, *uid) && !is_in(left, *uid) {
@@ -91,35 +104,32 @@ fn add_back(left: &mut Vec<Mask>, cells: &[Mask], uids: &[Uid]) -> Result<(), Al
 }
 
 /// Adds a mask. If the other half of a mask one bit shorter is there, the two become that mask.
-fn add(cells: &mut Vec<Mask>, mask: Mask) -> Result<(), AllocError>
-    requires cells { AreCells cells.old.items }
+fn add(cells: &mut Cells, mask: Mask) -> Result<(), AllocError>
     requires cell { IsCell mask }
-    requires apart { IsApart mask cells.old.items }
-    ensures cells { OnOk result (AreCells cells.new.items) }
-    ensures added { OnOk result (SameUids (in_cells cells.new.items)
-        (λ u. in_cells cells.old.items u || lies_in mask u)) }
+    requires apart { IsApart mask cells.old }
+    ensures { OnOk result (SameUids (in_cells cells.new)
+        (λ u. in_cells cells.old u || lies_in mask u)) }
 {
     if mask.len() > 0 {
         let other = flipped(&mask, mask.len() - 1);
-        if cells.as_slice().contains(&other) {
-            cells.retain(|cell| *cell != other);
+        if cells.list.as_slice().contains(&other) {
+            cells.list.retain(|cell| *cell != other);
             add(cells, widened(&mask))?;
             return Ok(());
         }
     }
-    cells.push(mask)?;
+    cells.list.push(mask)?;
     Ok(())
 }
 
 /// Appends the UIDs that lie in a mask and in one of the cells, and aren't exceptions.
-pub(crate) fn gather_cells(out: &mut ArrayVec<Uid, 3>, except: &[Uid], cells: &[Mask], mask: &Mask)
+pub(crate) fn gather_cells(out: &mut ArrayVec<Uid, 3>, except: &[Uid], cells: &Cells, mask: &Mask)
     requires rising { IsStrictlyIncreasing except.now }
-    requires cells { All IsCell cells.now }
     requires short { mask.now.len ≤ UID_BITS }
     ensures { Gathers (IsFreeIn (in_cells cells.now) mask.now except.now)
         out.old.items out.new.items }
 {
-    for cell in cells {
+    for cell in &cells.list {
         if let Some(both) = shared(cell, mask) {
             gather_all(out, except, both.len(), both.value());
         }
@@ -127,9 +137,10 @@ pub(crate) fn gather_cells(out: &mut ArrayVec<Uid, 3>, except: &[Uid], cells: &[
 }
 
 /// The shortest of the cells, and of those the one of least value.
-pub(crate) fn least(cells: &[Mask]) -> Option<Mask>
+pub(crate) fn least(cells: &Cells) -> Option<Mask>
+    ensures cells { AreCells cells.now }
     ensures found { IfSome result (λ m. Contains cells.now m × All (IsAtMost m) cells.now) }
     ensures none { IfNone result (cells.now ≡ []) }
 {
-    cells.iter().min().copied()
+    cells.list.iter().min().copied()
 }

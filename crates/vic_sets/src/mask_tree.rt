@@ -58,13 +58,8 @@ impl OpenSet for MaskTree {
         let kept = open_in_mask(self.alloc, &root, &mask, except)?;
         fill(&mut root, self.alloc, mask.len(), mask.value(), false)?;
         for uid in &kept {
-            fill(
-                &mut root,
-                self.alloc,
-                UID_BITS,
-                uid.number() % (1 << UID_BITS),
-                true,
-            )?;
+            let low = uid.number() % (1 << UID_BITS);
+            fill(&mut root, self.alloc, UID_BITS, low, true)?;
         }
         self.root = root;
         Ok(())
