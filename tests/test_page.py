@@ -65,7 +65,7 @@ LIGHTS = (("I1 RA QA I1 S UA", "yes", "matches"),
 SAID = (
     ("I1 S", "check the antenna", "Nothing to do"),
     ("I1 RA QA I1 S UA", "Nothing to do.", "whoever maintains the reader"),
-    ("I1 RA UA", "until none answers, shows whether a strong reply hid a weaker one.", "Nothing"),
+    ("I1 RA UA", "shows whether a strong reply hid a weaker one.", "Nothing to do"),
     ("I1 RA UA", "To know whether a strong reply hid a weaker one, silence each tag that was "
      "heard, and ask all in one slot, until none answers:", "may be wrong. To know"),
     ("I1 S UA", "If the list is what the reader found: tags were taken", "shown by"),

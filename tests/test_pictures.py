@@ -258,7 +258,7 @@ def opened(vicinity, run, browser, tmp_path):
         told, plain = drawn_in(written.decode())
         assert plain == run("show", tmp_path / f"{name}.log").stdout.decode()
         assert told["answer"] == str(vicinity.check(text))
-        assert f"vicinity {told['version']}: {told['answer']}" in one.texts(".record p")[1]
+        assert f"vicinity {told['version']}: {told['answer']}" in "".join(one.texts(".record"))
         assert bool(one.texts(".banner.yes")) == (told["kind"] == "complete" and told["count"] > 0)
         one.is_readable()
         assert 0 < one.sheets() <= SHEETS
