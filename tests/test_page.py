@@ -58,7 +58,7 @@ LIGHTS = (("I1 RA QA I1 S UA", "yes", "matches"),
           ("I1 RA QA I1 S", "yes", "none given"),
           ("I16 S RA RB S12 C UA UB", "no", "incomplete"),
           ("I16 S RA S10 UA", "no", "not known yet"),
-          ("I1 S UA", "yes", "differs"), ("I1 C UA", "no", "incomplete"),
+          ("I1 S UA", "yes", "differs"), ("I1 C UA", "no", "not known yet"),
           ("I1 RA I1 S UA", "not known", "not known"), ("I1 RA I1 S", "not known", "none given"),
           ("I1 S", "yes", "none given"))
 # What is said besides, at the shelf and to whoever maintains the reader; and what isn't.

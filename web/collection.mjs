@@ -1,11 +1,12 @@
 /** Draws a collection: what to count again, what to do at each shelf, what isn't known yet, and each log. */
 import { contradiction } from "./contradiction.mjs";
 import { el, folded, lowered } from "./elements.mjs";
+import { maskOf } from "./frames.mjs";
 import { KIND } from "./kinds.mjs";
 import { Pane } from "./pane.mjs";
-import { ALLOWED, granted, HOLDS, mayBeWrong, missed, notSure, stillHolds } from "./say.mjs";
 import { inOrder, MOST_NAMES, nameOf, shelved, Shelves } from "./shelves.mjs";
-import { maskOf, tell } from "./told.mjs";
+import { ALLOWED, granted, HOLDS, mayBeWrong, missed, notSure, stillHolds } from "./sure.mjs";
+import { tell } from "./told.mjs";
 import { banner, signed, view } from "./view.mjs";
 import { count, endings, listing, printable } from "./words.mjs";
 

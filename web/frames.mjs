@@ -89,6 +89,14 @@ export function requestOf(slots, { len, value }, link) {
 }
 
 /**
+ * @param {{mask_len: number, mask_value: string}} written
+ * @returns {Mask}
+ */
+export function maskOf({ mask_len, mask_value }) {
+  return { len: mask_len, value: mask_value === "-" ? 0n : BigInt(`0x${mask_value}`) };
+}
+
+/**
  * What tells a mask from others.
  * @param {Mask} mask
  */

@@ -1,6 +1,6 @@
 /** Draws what whoever maintains the reader needs: the causes, what tells them apart, and what is left to ask. */
 import { el, folded, linked, toLine } from "./elements.mjs";
-import { alsoHolds, settled, TO_KNOW } from "./say.mjs";
+import { alsoHolds, settled, TO_KNOW } from "./sure.mjs";
 import { count, visible } from "./words.mjs";
 
 /** @typedef {import("./told.mjs").Told} Told */

@@ -5,7 +5,8 @@ import { maintainer } from "./maintainer.mjs";
 import { KIND } from "./kinds.mjs";
 import { noted } from "./notes.mjs";
 import { LOOKS, rounds } from "./rounds.mjs";
-import { alsoHolds, granted, HOLDS, isApart, missed, say, silentIn } from "./say.mjs";
+import { say } from "./say.mjs";
+import { alsoHolds, granted, HOLDS, isApart, missed, silentIn } from "./sure.mjs";
 import { isSpreadsheet } from "./tables.mjs";
 import { count, hex, lines, listing, printable, TRIAL, whom } from "./words.mjs";
 
