@@ -99,7 +99,7 @@ SAID = (
     ("I1 RA I1 RB", "ask in sixteen slots, in a new log, so that fewer tags answer at once.\n\n"
      "T 060100CD09", "each open mask"),
     ("I1 RA I1 RB", "in a log of version 3. Read so, the log doesn't contradict itself.", "Notes"),
-    ("I1 C I1 S", "Later replies of these tags were lost, so slots were logged", "A later reply"),
+    ("I1 C I1 S", "Later replies of these tags were lost, so slots were logged", "damaged reply"),
     ("I1 C QA I1 S", "A later reply of one of these tags was lost", "Later replies"),
     ("I1 UA", "in sixteen slots, or in one", "one for each"),
     ("I1 C", "1 request is left, for the open mask.", "or in one"),

@@ -103,12 +103,13 @@ function unmet({ count: number, first, last, heard, isNone }, unread) {
   const later = last > unread.line ? [`${isOne ? "A later" : "Later"} ${replies} logged as silent.`, `${tag} left the field after line ${unread.line}.`] : [];
   const earlier = first < unread.line ? [`${tag} came into the field before line ${unread.line}.`,
     "A silenced tag lost power for a moment and woke up.", `${isOne ? "An earlier" : "Earlier"} ${replies} logged as silent.`] : [];
-  const read = noise(unread), tags = [...later, ...earlier];
+  // one damaged reply needs a tag
+  const read = isOne ? noise(unread) : [NOISE], tags = [...later, ...earlier];
   return { sentence: `in line ${unread.line} ${two ? "two or more tags" : "a tag"} answered, but ${others} ${isOne && two ? "at most one" : "none"}.`,
     causes: [...isOne ? tags : read, ...isOne ? read : tags, ...heard.length ? [HIDDEN] : [], LEFT_OUT, SECOND_READER],
     test: `Switch the field off and on, and ask for the tags of line ${unread.line} in sixteen slots, in a new log. If ` +
-      `${two ? "two or more tags answer" : "a tag answers"}, one of the other causes is left; if not, line ${unread.line} was noise, or ` +
-      "tags have left since." };
+      `${two ? "two or more tags answer" : "a tag answers"}, one of the other causes is left; ${two ? "if one does, others have left, or it " +
+      `hides another${isOne ? ", or its reply was damaged" : ""}; ` : ""}if none does, line ${unread.line} was noise, or tags have left since.` };
 }
 
 /**

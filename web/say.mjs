@@ -33,9 +33,9 @@ const LOOK = "Or look whether what isn't proved is there: the answer speaks only
 const EMPTY = ["If nothing should be here: nothing to do.", "If items should be here: check the antenna, switch the reader's field off and " +
   "on, and count again."];
 const NOTHING = "Nothing to do.";
-const ONE_MORE = ["Send the log and this page (printed as PDF) to whoever maintains the reader: it stopped without asking all tags once more, " +
-  "and only that, until none answers, shows whether a strong reply hid a weaker one.",
-  "Until then: spread out items that lie on each other, and count again. The answer may stay the same."];
+const ONE_MORE = ["Send the log and this page (printed as PDF) to whoever maintains the reader: it stopped without asking all tags once more. " +
+  "Asking them all, until none answers, shows whether a strong reply hid a weaker one.",
+  "Until then: spread out items that lie on each other, and count again."];
 const ONE_ROUND = "To see whether others are here: run the inventory again, to a last round that no tag answers.";
 const COMPARE = "Compare these tags with what should be here: open a catalogue (CSV) together with the log.";
 const TITLES = "To see the items' titles: open a catalogue (CSV) together with the log.";

@@ -158,7 +158,7 @@ function takenForGranted(told) {
   const { kind, status, captured } = told.object;
   if (kind === KIND.REFUSED) return [];
   const all = told.conflict ? granted(!told.counts.alone) : granted(isApart(told), captured?.holds);
-  const title = told.conflict ? "One of these didn't hold" : "What this takes for granted";
+  const title = told.conflict ? "At least one of these didn't hold" : "What this takes for granted";
   return [folded(`${title} (${all.length})`, !status, el("ul", {}, all.map((it) => el("li", {}, it))))];
 }
 

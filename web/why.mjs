@@ -20,7 +20,7 @@ export function whyOpen({ causes, silenced, neverAsked, counts, notes: { last } 
     const its = causes.filter((cause) => cause.reading === reading);
     return its.length > MOST_CAUSES ? [together(its)] : its.map(because);
   });
-  if (causes.length > MOST_CAUSES && last) why.push(`The search stopped after the round of line ${last.line}.`);
+  if (causes.length > MOST_CAUSES && last) why.unshift(stopped(last.line));
   if (neverAsked) why.push(counts.rounds ? "Some UIDs were asked by no request, or only after they were silenced." : "No request asked for any tag.");
   if (silenced.length === 1) why.push(`Line ${first.line} silenced ${short(first.uid)} before it was heard: ${whence(1)}`);
   if (silenced.length > 1) {
@@ -35,12 +35,19 @@ const whence = (number) => number === 1 ? "a reply before it isn't in the log, o
   : "replies before them aren't in the log, or the reader had the UIDs from an earlier count.";
 
 /**
+ * Of a search that left many slots.
+ * @param {number} line
+ */
+const stopped = (line) => `The search stopped after the round of line ${line}.`;
+
+/**
  * A cause for the shelf: where the reader stopped, or else of what is widest.
  * @param {Told} told
  * @param {string[]} why
  */
-export function mainly({ causes }, why) {
+export function mainly({ causes, notes: { last } }, why) {
   if (!why.length) return "";
+  if (causes.length > MOST_CAUSES && last) return stopped(last.line);
   const [widest] = causes.filter((it) => it.reading !== "captured").sort((one, other) => widthOf(other) - widthOf(one));
   const main = causes.find((it) => it.reading === "unreached") ?? widest, its = causes.filter((it) => it.reading === main?.reading);
   const said = !main ? why[0] : its.length > MOST_CAUSES ? together(its) : because(main);
