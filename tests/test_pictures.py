@@ -356,7 +356,7 @@ def test_page_of_a_collection(reconciled):
               "Read to the end (2 logs)", "What this takes for granted (9)"]
     assert page.texts("details > summary h2") == groups
     assert page.texts(".items tbody tr")[0] == (
-        "missing: look for it\nWalden\nA\n1 slot\nE00401502B91C435")
+        "missing: look for it\nWalden\nA\n1 slot or more\nE00401502B91C435")
     assert page.texts(".logs summary")[0] == (
         "shelf-c.log: 3 tags proved; left to ask, by 1 request or more: UIDs ending in E or F")
 

@@ -70,7 +70,7 @@ const countAgain = (logs) => `Run ${logs === 1 ? "its inventory" : "the inventor
 export function collectionView(object) {
   const of = (/** @type {State} */ state) => object.items.filter((item) => item.state === state), shelves = new Shelves(object.logs);
   const home = (/** @type {Item} */ { belongs = "" }) => printable(belongs), known = new Set(["", ...of("there").map(home)]);
-  const slots = { "asked in": (/** @type {Item} */ { overlooked }) => overlooked ? count(overlooked, "slot") : "" };
+  const slots = { "asked in": (/** @type {Item} */ { overlooked }) => overlooked ? `${count(overlooked, "slot")}${object.logs.length > 1 ? " or more" : ""}` : "" };
   const mayBe = { "may be in": (/** @type {Item} */ item) => shelves.names(item.may_be_in, "or") }, unknown = of("not provable");
   const away = unknown.filter((item) => shelves.isAway(item)), others = unknown.filter((item) => !shelves.isAway(item));
   const some = others.filter((item) => known.has(home(item))), none = others.filter((item) => !known.has(home(item)));
@@ -275,11 +275,11 @@ function saidOf({ list, certain, open, more_open, object }) {
   const proved = `${count(certain, "tag")} proved`;
   if (!open.length) return proved;
   // its own masks are wider than what no other log has proved
-  const masks = object?.open.masks ?? open, all = object?.open.count ?? open.length, more = all - MOST_MASKS;
+  const masks = object?.open.masks ?? open, more = (object?.open.count ?? open.length) - MOST_MASKS;
   const others = more_open && !object ? "more masks" : more > 1 ? `${more.toLocaleString("en")}\u00A0more masks` : "";
-  const first = masks.slice(0, others ? MOST_MASKS : MOST_MASKS + 1).map(maskOf);
-  const plain = told && !told.quiet && !told.requests.hidden.length && told.open.length === told.object.open.count ? `, by ${count(told.requests.open.length, "request")} or more` : "";
-  return `${proved}; left to ask${plain}: ${endings(first, others)}`;
+  const number = told?.quiet ? 0 : told?.requests.open.concat(told.requests.hidden).length, by = number ? `, by ${count(number, "request")} or more` : "";
+  if (by && others) return `${proved}; left to ask${by}`;
+  return `${proved}; left to ask${by}: ${endings(masks.slice(0, others ? MOST_MASKS : MOST_MASKS + 1).map(maskOf), others)}`;
 }
 
 /**

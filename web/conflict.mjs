@@ -17,6 +17,7 @@ import { linkOf, uidIn } from "./frames.mjs";
  * @property {number} silent its first silent slot's line, 0 if it has none
  * @property {Part[]} parts its lines by rounds, the first of many
  * @property {number} rounds of how many rounds they are
+ * @property {boolean} hasCycles whether the log's version has lines for field cycles
  * @property {boolean} hasQuiets whether tags were silenced in the log
  * @property {boolean} isNone whether its other lines are silent slots that leave none of the tags of its collision
  * @property {number} link of the request of its first line
@@ -48,7 +49,7 @@ export function conflictOf(log, lines, silencer) {
   const quietest = silencer && last?.uid ? lastSilence(log, last.uid, log.rowAt(silencer), log.rowAt(last.line)) : 0;
   const isAlone = silencer > 0 && last !== null && stayedSilent(log, log.rowAt(last.line), log.rowAt(quietest || silencer), last.uid);
   const slot = unread ? log.slot(unread) : null;
-  return { hasQuiets: log.counts.quiets > 0, isNone: slot !== null && !heard.length && leavesNone(log, slot, lines), count: lines.length, first: lines[0], last: lines[lines.length - 1], silencer, quietest, isAlone,
+  return { hasCycles: log.version > 1, hasQuiets: log.counts.quiets > 0, isNone: slot !== null && !heard.length && leavesNone(log, slot, lines), count: lines.length, first: lines[0], last: lines[lines.length - 1], silencer, quietest, isAlone,
     link: linkOf(log.frame(log.lineOf(log.rowAt(lines[0])))), unread: slot,
     heard: [...new Set([...heard.slice(0, 1), ...heard.slice(-1)])].flatMap((line) => log.slot(line) ?? []),
     silent: lines.find(isSilent) ?? 0, ...partsOf(log, lines) };

@@ -14,7 +14,7 @@ const ONE_DAMAGED = "One damaged reply was logged as a collision: if the chip ca
 export const HIDDEN = "A strong reply hid a weaker one: if the chip can't rule that out, write H for R, in a log of version 3.";
 const SECOND_READER = "A second reader kept tags powered and silent, or silenced some.";
 const WRONG_PLACE = "The line was logged under the wrong request: a late reply, or lines in the wrong order.";
-const FIELD_OFF = "The field was switched off and on in between: then the log needs a line F there, and the header 'vicinity-log 3'.";
+const FIELD_OFF = "The field was switched off and on in between: then the log needs a line F there";
 /** Where tags were silenced, and where none was: then it makes no difference that the field was off. */
 const LEFT_OUT = "A Stay Quiet or another request was sent that isn't in the log, or the field was off and the log has no line F.";
 const NOT_SENT = "A Stay Quiet or another request was sent that isn't in the log.";
@@ -60,12 +60,12 @@ const noise = (unread) => unread.reading === "collision" ? [NOISE, ONE_DAMAGED] 
  * @param {Conflict} conflict
  * @returns {Contradiction}
  */
-function woke(slot, { silencer, quietest, isAlone, link }) {
+function woke(slot, { silencer, quietest, isAlone, hasCycles, link }) {
   const uid = slot.uid ?? 0n;
   return { sentence: `tag ${name(slot)} was silenced in line ${silencer}, but answered in line ${slot.line}.`,
     causes: [`The tag lost power for a moment${quietest ? ` after line ${quietest}` : ""}, at the edge of the field or behind another tag, ` +
       `and woke up.${isAlone ? " The field stayed on: others that were silenced stayed silent." : ""}`,
-      ...quietest ? [] : [`The tag didn't receive the Stay Quiet of line ${silencer}.`], ...isAlone ? [] : [FIELD_OFF], "A second reader woke it."],
+      ...quietest ? [] : [`The tag didn't receive the Stay Quiet of line ${silencer}.`], ...isAlone ? [] : [hasCycles ? `${FIELD_OFF}.` : `${FIELD_OFF}, and the header 'vicinity-log 3'.`], "A second reader woke it."],
     test: `In a new log, silence ${hex(uid)}, and ask only for it, a few times. If it answers at once, it didn't receive this Stay Quiet; if later, ` +
       "it loses power, or another reader wakes it.", ask: [`T ${stayQuietOf(uid, link)}`, sixteen({ len: UID_LEN, value: uid }, link)],
     shelf: `Move the item with tag ${hex(uid)} nearer to the antenna and away from ` +

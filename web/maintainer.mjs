@@ -38,7 +38,7 @@ function left(told) {
   const { open, by, silenced, hidden } = told.requests, parts = [];
   const end = told.counts.listed ? "before the U lines." : "at the end.";
   const isAll = told.open.length === told.object.open.count, each = `${open.length > 1 ? "one for each" : "for the"} ${by}`;
-  const how = !by ? "What is left to ask, in sixteen slots, or in one." : isAll ? `${requests(open.length)} left, ${each}.`
+  const how = !by ? "What is left to ask, in sixteen slots, or in one." : isAll ? `${requests(open.length)} left${hidden.length ? "" : `, ${each}`}.`
     : `What is left to ask first, ${each}: send ${open.length > 1 ? "these" : "it"}, and judge the log again.`;
   const last = told.notes.last && !hidden.length ? ` At last, ${TO_KNOW}.` : "", { count: masks, share } = told.object.open;
   if (masks > told.quiet) parts.push(el("p", {}, `Of all possible UIDs ${settled(share)} are settled.`));

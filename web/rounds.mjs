@@ -157,7 +157,7 @@ function cell(round, slot, named, name) {
   const one = round.slots.length === 1;
   const sign = uid === null ? look.sign : one ? hex(uid) : hex(BigInt.asUintN(8, uid >> open), 2);
   const title = [slot.line ? `line ${slot.line}` : "", `slot ${slotName(slot.number)}`, ending(slot.mask),
-    look.words + (uid === null ? "" : ` ${hex(uid)}`), printable(name), slot.silenced ? `silenced in line ${slot.silenced}` : ""]
+    uid === null ? look.words : look.words.replace("heard", `heard, ${hex(uid)}`), printable(name), slot.silenced ? `silenced in line ${slot.silenced}` : ""]
     .filter((it) => it).join(", ");
   const attributes = /** @type {Record<string, string>} */ ({ title,
     class: `${slot.reading}${slot.silenced ? " quiet" : ""}${named ? " named" : ""}` });

@@ -32,7 +32,7 @@ const CYCLE = "Switch the reader's field off and on, and count again.";
 const LOOK = "Or look whether what isn't proved is there: the answer speaks only of what the log shows.";
 const EMPTY = ["If nothing should be here: nothing to do.", "If items should be here: check the antenna, switch the reader's field off and " +
   "on, and count again."];
-const NOTHING = "Nothing to do.";
+const NOTHING = "Nothing to do.", ABOVE = "What there is to do here by the catalogue stands above.";
 const ONE_MORE = ["Send the log and this page (printed as PDF) to whoever maintains the reader: it stopped without asking all tags once more. " +
   "Asking them all, until none answers, shows whether a strong reply hid a weaker one.",
   "Until then: spread out items that lie on each other, and count again."];
@@ -49,7 +49,7 @@ const WERE_OMITTED = "the reader's software omitted tags that were here";
 const STAYS = "If the answer stays the same, send the log and this page (printed as PDF) to whoever maintains the reader.";
 /** For whoever maintains it, of tags that didn't answer, and of those that aren't listed. */
 const NOT_HEARD = "If a tag that didn't answer is here after all, it never answers (it is broken or covered), or its reply was lost in each slot " +
-  "that asked it: the line beside it is the first of these.";
+  "that rules it out: the line beside it is the first of these.";
 const NOT_CLAIMED = `${IF_READ}its software has to write a U line for each UID that it heard.`;
 
 const NO_LINES = "The log lists no UIDs: the reader's software has to write a U line for each UID that it heard.";
@@ -93,7 +93,8 @@ function possible(told, isAlone) {
     `Line ${line} silenced ${uid}, which was never heard: its reply may have been lost in line ${at}.`);
   const causes = [...why, ...silenced, ...hasList && found.absent && !lost.length ? [NOT_HEARD] : [], ...hasList && found.unlisted ? [NOT_CLAIMED] : [],
     ...!hasList && isAlone && object.certain.count ? [NO_LINES] : []];
-  return { look: isSure ? "yes" : only ? "read" : "no", sign: isSure ? "✓" : only ? "i" : "!", headline: headline(told, isAlone),
+  const isGreen = isSure && isAlone;
+  return { look: isGreen ? "yes" : only ? "read" : "no", sign: isGreen ? "✓" : only ? "i" : "!", headline: headline(told, isAlone),
     lights: lightsOf(told, isAlone, { value: look === "plain" ? "not known yet" : look, look },
       { value: list, look: isSure ? "yes" : differs || lacks ? "no" : "plain" }),
     shelf: steps(told, isAlone), why: mainly(told, why), lead: "", causes, test: lost.length ? ALONE_AGAIN : "", ask: requests.lost };
@@ -107,7 +108,7 @@ function possible(told, isAlone) {
  * @returns {Light[]}
  */
 function lightsOf({ counts }, isAlone, finished, list) {
-  const shown = counts.listed ? [list] : isAlone ? [{ value: "none given", look: /** @type {const} */ ("plain") }] : [];
+  const shown = counts.listed && isAlone ? [list] : isAlone ? [{ value: "none given", look: /** @type {const} */ ("plain") }] : [];
   return [{ name: "Search finished", ...finished }, ...shown.map((it) => ({ name: "List", ...it }))];
 }
 
@@ -117,7 +118,7 @@ function lightsOf({ counts }, isAlone, finished, list) {
  * @param {boolean} isAlone
  */
 function steps({ object: { kind, found, open, captured }, counts, quiet, notes }, isAlone) {
-  if (kind === KIND.COMPLETE) return !counts.listed ? EMPTY : captured?.holds === false ? ONE_MORE : [NOTHING];
+  if (kind === KIND.COMPLETE) return !isAlone ? [ABOVE] : !counts.listed ? EMPTY : captured?.holds === false ? ONE_MORE : [NOTHING];
   if (!open.count && !counts.listed) return [...captured?.settled === false ? [ONE_ROUND, STAYS] : [], ...isAlone ? [COMPARE] : []];
   const steps = [];
   if (kind === KIND.DOUBTFUL) steps.push(CYCLE, LOOK);
@@ -128,7 +129,7 @@ function steps({ object: { kind, found, open, captured }, counts, quiet, notes }
   if ((read || found.doubtful) && isAlone) steps.push(TITLES);
   // if the reader knew all of them, there is nothing to choose from
   if (found.absent && !isMore && notes.lost.length === found.absent) return [...steps, `If the answer stays the same, ${expected[0]}`];
-  if (read) steps.push(...expected.map((it, at) => `${at ? "Then " : IF_EXPECTED}${it}`), `${IF_READ}${read}. Count again.`);
+  if (read) steps.push(...expected.map((it) => `${IF_EXPECTED}${it}`), `${IF_READ}${read}. Count again.`);
   return [...steps, STAYS];
 }
 
@@ -149,7 +150,9 @@ function headline({ object: { kind, count: number = 0, found, certain, open, cap
   const { listed } = counts, only = open.count > 0 && quiet === open.count, without = listed || !isAlone ? "" : NO_LIST_GIVEN;
   const others = only ? unproved(silenced.length, found.doubtful) : isMore ? "others are too" : "others may be too";
   const left = open.count && !only ? "Not finished: " : "";
-  if (kind === KIND.COMPLETE) return number || isAlone ? whole(number, captured?.holds === false) : "The field is empty.";
+  // what else a catalogue says of it stands above
+  if (kind === KIND.COMPLETE && !isAlone) return number ? tagsHere(number, captured?.holds === false) : "The field is empty.";
+  if (kind === KIND.COMPLETE) return whole(number, captured?.holds === false);
   if (!open.count && !listed) return `${tagsHere(certain.count, captured?.settled === false)}${without}`;
   if (!listed) {
     const here = certain.count ? `${count(certain.count, "tag is", "tags are")} here; ${others}` : only ? others : isMore ? TAGS_HERE : NONE_PROVED;

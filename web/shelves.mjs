@@ -8,6 +8,8 @@ import { listing, printable } from "./words.mjs";
 /** How many rows of a table are drawn, and how many places are named. */
 const MOST_ROWS = 2000;
 export const MOST_NAMES = 3;
+/** How many characters a name has at most that says no more than which shelf it is. */
+const MOST_BARE = 4;
 /** Shelf 2 before Shelf 10. */
 export const inOrder = new Intl.Collator("en", { numeric: true }).compare;
 
@@ -75,7 +77,7 @@ export class Shelves {
 export function shelved(list, shelf, where = {}, toDo) {
   const groups = /** @type {Map<string, Item[]>} */ (new Map(list.map((item) => [shelf(item), []])));
   const isOne = groups.size === 1 && groups.has(""), named = (/** @type {string} */ name, /** @type {string} */ scope) =>
-    el("tr", {}, el("th", { scope, colspan: String(heads.length) }, name || "Place not known"));
+    el("tr", {}, el("th", { scope, colspan: String(heads.length) }, name.length > MOST_BARE ? name : name ? `Shelf ${name}` : "Place not known"));
   for (const item of list) groups.get(shelf(item))?.push(item);
   const isSaid = (/** @type {string} */ head) => list.some(({ columns: { [head]: cell }, belongs }) => cell && (isOne || cell !== belongs));
   const columns = [...new Set(list.flatMap((item) => Object.keys(item.columns)))].filter(isSaid), asked = Object.keys(where);
