@@ -113,7 +113,7 @@ SAID = (
      "silent.", "The field was switched off"),
     ("I1 S UA", "look on this shelf for the item below. If it is here, its tag is broken", "Then "),
     ("I1 RA QA I1 S UB UZ", "for the 2 items below. If one is here", "for the item below"),
-    ("I1 RA QA I1 S UB", "expected here: the tags here that aren't listed belong elsewhere", "Then"),
+    ("I1 RA QA I1 S UB", "here: the tags here that aren't listed belong elsewhere", "Then"),
     ("MB S", "one that no earlier round asked would go unnoticed", "stronger replies"),
     ("MB S I1 S", "check the antenna", "Notes"),
     ("I1 UA", "no slot was logged", "ended before"),
