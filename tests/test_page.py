@@ -1005,7 +1005,7 @@ def test_items_that_are_not_on_their_shelves(page):
     page.until("h1", "1 item not on its shelf and 1 not known yet; count two again.")
     assert page.texts(".logs summary")[0] == (
         "two: nothing is known of its field, since its log contradicts itself: tag ..00A1 "
-        "answered in line 3, but not in line 5, where it was also asked")
+        "answered in line 3, but not in line 5, where it was also asked (Walden · one)")
     assert page.texts(ROWS) == ["Shelf one", "Emma\ntwo\nE0040100000000B2"]
     page.run("for (const it of document.querySelectorAll('#told > details')) it.open = true")
     page.until("details p", "They are all items of two that aren't named above (1).")

@@ -8,7 +8,7 @@ import { inOrder, MOST_NAMES, nameOf, shelved, Shelves } from "./shelves.mjs";
 import { ALLOWED, granted, HOLDS, mayBeWrong, missed, notSure, stillHolds } from "./sure.mjs";
 import { tell } from "./told.mjs";
 import { banner, signed, view } from "./view.mjs";
-import { count, endings, listing, printable } from "./words.mjs";
+import { count, endings, hex, listing, printable } from "./words.mjs";
 
 /** @typedef {import("./told.mjs").LogObject} LogObject */
 /** @typedef {import("./view.mjs").Names} Names */
@@ -45,9 +45,9 @@ const MOST_CELLS = 2;
 const CANNOT_BE_READ = 4;
 /** How much text of logs stands in a page that is saved. */
 const MOST_TEXT = 4_000_000;
-const LOOK_FOR = "If it is in plain sight, its tag is broken or covered: move it, and count again. " +
+const LOOK_FOR = "If it is in plain sight, its tag is broken, covered, or another than in the catalogue: move it, and count again. " +
   "If it isn't found, leave its row in the catalogue.";
-const NOT_EXPECTED = "What isn't in the catalogue: bring it to where it belongs, or add it.";
+const NOT_EXPECTED = "What isn't in the catalogue: find it by reading the items one by one, and bring it to where it belongs, or add it.";
 const AWAY = "Count again first, as said above. The logs of their shelves rule these out: they are in none of the fields, or";
 const NO_TAG = "These rows of the catalogue have no UID, so nothing is known of them: look for them by eye.";
 const UNKNOWN_YET = "Whether these are here isn't known until the logs above are counted again.";
@@ -236,7 +236,7 @@ function oneLog(log, names, shelves) {
   const { object } = log, sha256 = object?.sha256;
   const sum = sha256 ? [el("span", { class: "sum" }, "\u00A0· ", el("code", {}, `SHA-256 ${sha256}`))] : [];
   const name = shelves.name(log.file), file = nameOf(log.file), isSame = [file, file.replace(/\.[^.]*$/, "")].includes(name);
-  const words = [el("b", { title: printable(log.file) }, name), `${isSame ? "" : ` (${file})`}: ${saidOf(log)}`, ...sum];
+  const words = [el("b", { title: printable(log.file) }, name), `${isSame ? "" : ` (${file})`}: ${saidOf(log, names)}`, ...sum];
   if (!object) return el("p", { class: "log" }, words);
   const it = /** @type {HTMLDetailsElement} */ (el("details", { class: "log aside" }, el("summary", {}, words)));
   it.addEventListener("toggle", () => {
@@ -260,8 +260,9 @@ function drawnLog(object, names) {
 /**
  * What a log says, and what is left to ask in its field.
  * @param {OneLog} log
+ * @param {Names} names
  */
-function saidOf({ list, certain, open, more_open, object }) {
+function saidOf({ list, certain, open, more_open, object }, names) {
   if (list.status === CANNOT_BE_READ) return `can't be read: ${list.error ?? ""}`;
   const told = object && tell(object);
   if (list.kind === KIND.REFUSED) {
@@ -270,7 +271,8 @@ function saidOf({ list, certain, open, more_open, object }) {
   }
   if (list.kind === KIND.IMPOSSIBLE) {
     const why = told?.conflict ? `: ${contradiction(told.conflict).sentence.replace(/\.$/, "")}` : ` (line ${list.line})`;
-    return `nothing is known of its field, since its log contradicts itself${why}`;
+    const uids = new Set(told?.conflict?.heard.map((slot) => hex(slot.uid ?? 0n))), name = uids.size === 1 && names.get([...uids][0]);
+    return `nothing is known of its field, since its log contradicts itself${why}${name ? ` (${printable(name)})` : ""}`;
   }
   const proved = `${count(certain, "tag")} proved`;
   if (!open.length) return proved;

@@ -108,8 +108,8 @@ function unmet({ count: number, first, last, heard, isNone }, unread) {
   return { sentence: `in line ${unread.line} ${two ? "two or more tags" : "a tag"} answered, but ${others} ${isOne && two ? "at most one" : "none"}.`,
     causes: [...isOne ? tags : read, ...isOne ? read : tags, ...heard.length ? [HIDDEN] : [], LEFT_OUT, SECOND_READER],
     test: `Switch the field off and on, and ask for the tags of line ${unread.line} in sixteen slots, in a new log. If ` +
-      `${two ? "two or more tags answer" : "a tag answers"}, one of the other causes is left; ${two ? "if one does, others have left, or it " +
-      `hides another${isOne ? ", or its reply was damaged" : ""}; ` : ""}if none does, line ${unread.line} was noise, or tags have left since.` };
+      `${two ? "two or more tags answer" : "a tag answers"}, look at the other lines: a reply was lost there, or tags were kept silent. If not, ` +
+      `look at line ${unread.line} first: it was noise${two && isOne ? " or one damaged reply" : ""}, or tags have left since, or stay silent.` };
 }
 
 /**

@@ -46,7 +46,8 @@ const WERE_TAKEN = "tags were taken away since, or the list is that of another s
 const LOST = "may have been lost. Switch its field off and on, and count again.";
 const STRANGERS = "the tags here that aren't listed belong elsewhere, or the list lacks them.";
 const WERE_OMITTED = "the reader's software omitted tags that were here";
-const STAYS = "If the answer stays the same, send the log and this page (printed as PDF) to whoever maintains the reader.";
+const SEND = "send the log and this page (printed as PDF) to whoever maintains the reader.";
+const STAYS = `If the answer stays the same, ${SEND}`, STILL = `If an item that is here still isn't heard, or the reader's list still differs, ${SEND}`;
 /** For whoever maintains it, of tags that didn't answer, and of those that aren't listed. */
 const NOT_HEARD = "If a tag that didn't answer is here after all, it never answers (it is broken or covered), or its reply was lost in each slot " +
   "that rules it out: the line beside it is the first of these.";
@@ -130,7 +131,7 @@ function steps({ object: { kind, found, open, captured }, counts, quiet, notes }
   // if the reader knew all of them, there is nothing to choose from
   if (found.absent && !isMore && notes.lost.length === found.absent) return [...steps, `If the answer stays the same, ${expected[0]}`];
   if (read) steps.push(...expected.map((it) => `${IF_EXPECTED}${it}`), `${IF_READ}${read}. Count again.`);
-  return [...steps, STAYS];
+  return [...steps, read ? STILL : STAYS];
 }
 
 /** @param {number} number of tags that the reader silenced and never heard */
