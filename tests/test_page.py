@@ -68,7 +68,7 @@ SAID = (
     ("I1 RA UA", "shows whether a strong reply hid a weaker one.", "Nothing to do"),
     ("I1 RA UA", "To know whether a strong reply hid a weaker one, silence each tag that was "
      "heard, and ask all in one slot, until none answers:", "may be wrong. To know"),
-    ("I1 S UA", "If the list is what the reader found: tags were taken", "shown by"),
+    ("I1 S UA", "If the reader wrote the list of what it found:\nTags were taken", "shown by"),
     ("I1 S UA", "ruled out by", "must be here"),
     ("I1 S UA", "would have been missed in 1 slot; ruled out by line 3", "To go unnoticed"),
     ("I1 S MA S I1 S UA", "would have been missed in 3 slots; ruled out by line 3", "in 1 slot"),
@@ -111,9 +111,9 @@ SAID = (
     ("I1 RA QA I1 RA", "The field was switched off and on in between", "The field stayed on"),
     ("I16 S RA RB S13 QB QA I16 S RA S14", "The field stayed on: others that were silenced stayed "
      "silent.", "The field was switched off"),
-    ("I1 S UA", "look on this shelf for the item below. If it is here, its tag is broken", "Then "),
+    ("I1 S UA", "Look on this shelf for the item below. If it is here, its tag is broken", "Then "),
     ("I1 RA QA I1 S UB UZ", "for the 2 items below. If one is here", "for the item below"),
-    ("I1 RA QA I1 S UB", "here: the tags here that aren't listed belong elsewhere", "Then"),
+    ("I1 RA QA I1 S UB", "The tags here that aren't listed belong elsewhere, or the list", "Then"),
     ("MB S", "one that no earlier round asked would go unnoticed", "stronger replies"),
     ("MB S I1 S", "check the antenna", "Notes"),
     ("I1 UA", "no slot was logged", "ended before"),
@@ -1008,7 +1008,7 @@ def test_items_that_are_not_on_their_shelves(page):
         "answered in line 3, but not in line 5, where it was also asked (Walden · one)")
     assert page.texts(ROWS) == ["Shelf one", "Emma\ntwo\nE0040100000000B2"]
     page.run("for (const it of document.querySelectorAll('#told > details')) it.open = true")
-    page.until("details p", "They are all items of two that aren't named above (1).")
+    page.until("details p", "Not named: 1 other item of two.")
     page.until("details p", "they are in none of the fields, or on a shelf that has to be counted")
 
 

@@ -75,8 +75,8 @@ export function collectionView(object) {
   const away = unknown.filter((item) => shelves.isAway(item)), others = unknown.filter((item) => !shelves.isAway(item));
   const some = others.filter((item) => known.has(home(item))), none = others.filter((item) => !known.has(home(item)));
   // of a shelf of which nothing is known to be in place no items are named
-  const all = listing([...new Set(none.map(home))].sort(inOrder)), these = some.length ? ", and these:" : ".";
-  const which = none.length ? ` They are all items of ${all} that aren't named above (${none.length.toLocaleString("en")})${these}` : "";
+  const all = listing([...new Set(none.map(home))].sort(inOrder)), these = some.length ? "; and these:" : ".";
+  const which = none.length ? ` Not named: ${count(none.length, "other item")} of ${all}${these}` : "";
   const open = object.logs.filter(isOpen), isShelf = away.every((item) => item.may_be_in.every((file) => shelves.placeOf(file)));
   const todo = [...of("missing"), ...of("misplaced"), ...of("unexpected")], isKnown = !todo.length && !unknown.length;
   const said = { headline: headlineOf(object), lights: lights(object) }, rests = conditionsOfAll(object, shelves);

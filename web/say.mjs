@@ -10,13 +10,14 @@ import { mainly, whyOpen } from "./why.mjs";
 /** @typedef {"yes" | "no" | "read" | "broken" | "refused" | "plain"} Look */
 /** @typedef {{value: string, look: Look}} Shown */
 /** @typedef {{name: string} & Shown} Light */
+/** @typedef {string | {when: string, steps: string[]}} Step */
 /**
  * @typedef {Object} Said
  * @property {Look} look
  * @property {string} sign
  * @property {string} headline
  * @property {Light[]} lights
- * @property {string[]} shelf what to do at the shelf
+ * @property {Step[]} shelf what to do at the shelf: steps, or steps of a case
  * @property {string} why a cause, for the shelf; empty if there is none
  * @property {string} lead what the causes are
  * @property {string[]} causes why it came so, for whoever maintains the reader
@@ -40,18 +41,18 @@ const ONE_ROUND = "To see whether others are here: run the inventory again, to a
 const COMPARE = "Compare these tags with what should be here: open a catalogue (CSV) together with the log.";
 const TITLES = "To see the items' titles: open a catalogue (CSV) together with the log.";
 /** If the list is what was expected here, and if it is what the reader found: of tags that didn't answer, and of others. */
-const IF_EXPECTED = "If the list is what was expected here: ", IF_READ = "If the list is what the reader found: ";
-const IS_BROKEN = "is here, its tag is broken or covered: move it, and count again. If you don't find it, it is missing.";
-const WERE_TAKEN = "tags were taken away since, or the list is that of another session";
+const IF_EXPECTED = "If the list says what should be here:", IF_READ = "If the reader wrote the list of what it found:";
+const IS_BROKEN = "is here, its tag is broken or covered, or its reply was lost: move it, and count again. If you don't find it, it is missing.";
+const WERE_TAKEN = "Tags were taken away since, or the list is that of another session: count again.";
 const LOST = "may have been lost. Switch its field off and on, and count again.";
-const STRANGERS = "the tags here that aren't listed belong elsewhere, or the list lacks them.";
-const WERE_OMITTED = "the reader's software omitted tags that were here";
+const STRANGERS = "The tags here that aren't listed belong elsewhere, or the list lacks them.";
+const WERE_OMITTED = "The reader's software omitted tags that were here, or the list is that of another session: count again.";
 const SEND = "send the log and this page (printed as PDF) to whoever maintains the reader.";
 const STAYS = `If the answer stays the same, ${SEND}`, STILL = `If an item that is here still isn't heard, or the reader's list still differs, ${SEND}`;
 /** For whoever maintains it, of tags that didn't answer, and of those that aren't listed. */
 const NOT_HEARD = "If a tag that didn't answer is here after all, it never answers (it is broken or covered), or its reply was lost in each slot " +
   "that rules it out: the line beside it is the first of these.";
-const NOT_CLAIMED = `${IF_READ}its software has to write a U line for each UID that it heard.`;
+const NOT_CLAIMED = "If the reader wrote the list, its software has to write a U line for each UID that it heard in this log, and for no other.";
 
 const NO_LINES = "The log lists no UIDs: the reader's software has to write a U line for each UID that it heard.";
 
@@ -117,21 +118,23 @@ function lightsOf({ counts }, isAlone, finished, list) {
  * What to do at the shelf.
  * @param {Told} told
  * @param {boolean} isAlone
+ * @returns {Step[]}
  */
 function steps({ object: { kind, found, open, captured }, counts, quiet, notes }, isAlone) {
   if (kind === KIND.COMPLETE) return !isAlone ? [ABOVE] : !counts.listed ? EMPTY : captured?.holds === false ? ONE_MORE : [NOTHING];
   if (!open.count && !counts.listed) return [...captured?.settled === false ? [ONE_ROUND, STAYS] : [], ...isAlone ? [COMPARE] : []];
-  const steps = [];
+  const steps = /** @type {Step[]} */ ([]);
   if (kind === KIND.DOUBTFUL) steps.push(CYCLE, LOOK);
   else if (open.count) steps.push(quiet === open.count ? CYCLE : AGAIN);
   if (found.absent && notes.lost.length) steps.push(silencedBefore(notes.lost.length));
-  const isMore = found.unlisted > 0 && counts.listed > 0, expected = [...found.absent ? [lookFor(found.absent)] : [], ...isMore ? [STRANGERS] : []];
-  const read = [...found.absent ? [WERE_TAKEN] : [], ...isMore ? [WERE_OMITTED] : []].join("; and ");
-  if ((read || found.doubtful) && isAlone) steps.push(TITLES);
+  const isMore = found.unlisted > 0 && counts.listed > 0, differs = found.absent > 0 || isMore, look = lookFor(found.absent);
+  if ((differs || found.doubtful) && isAlone) steps.push(TITLES);
   // if the reader knew all of them, there is nothing to choose from
-  if (found.absent && !isMore && notes.lost.length === found.absent) return [...steps, `If the answer stays the same, ${expected[0]}`];
-  if (read) steps.push(...expected.map((it) => `${IF_EXPECTED}${it}`), `${IF_READ}${read}. Count again.`);
-  return [...steps, read ? STILL : STAYS];
+  if (found.absent && !isMore && notes.lost.length === found.absent) return [...steps, `If the answer stays the same, ${look}`];
+  if (!differs) return [...steps, STAYS];
+  const of = (/** @type {string} */ absent, /** @type {string} */ more) => [...found.absent ? [absent] : [], ...isMore ? [more] : []];
+  return [...steps, { when: IF_EXPECTED, steps: of(`${look[0].toUpperCase()}${look.slice(1)}`, STRANGERS) },
+    { when: IF_READ, steps: of(WERE_TAKEN, WERE_OMITTED) }, STILL];
 }
 
 /** @param {number} number of tags that the reader silenced and never heard */

@@ -62,12 +62,18 @@ function conditions(told) {
   return parts.length ? [el("section", { class: "holds" }, parts)] : [];
 }
 
+/** @param {import("./say.mjs").Step} step */
+function stepOf(step) {
+  if (typeof step === "string") return el("li", {}, step);
+  return el("li", {}, step.when, el("ul", {}, step.steps.map((it) => el("li", {}, it))));
+}
+
 /** @param {import("./say.mjs").Said} said */
 function shelf(said) {
   if (!said.shelf.length) return [];
   const why = said.why ? [el("p", { class: "why" }, linked(said.why))] : [];
   const heading = el("h2", {}, said.look === "refused" ? "What to do" : "At the shelf");
-  return [el("section", {}, heading, el("ul", { class: "steps" }, said.shelf.map((step) => el("li", {}, step))), ...why)];
+  return [el("section", {}, heading, el("ul", { class: "steps" }, said.shelf.map(stepOf)), ...why)];
 }
 
 /**
