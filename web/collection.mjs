@@ -76,7 +76,7 @@ export function collectionView(object) {
   const some = others.filter((item) => known.has(home(item))), none = others.filter((item) => !known.has(home(item)));
   // of a shelf of which nothing is known to be in place no items are named
   const all = listing([...new Set(none.map(home))].sort(inOrder)), these = some.length ? "; and these:" : ".";
-  const which = none.length ? ` Not named: ${count(none.length, "other item")} of ${all}${these}` : "";
+  const which = none.length ? ` Not named: ${count(none.length, "item")} of ${all}${these}` : "";
   const open = object.logs.filter(isOpen), isShelf = away.every((item) => item.may_be_in.every((file) => shelves.placeOf(file)));
   const todo = [...of("missing"), ...of("misplaced"), ...of("unexpected")], isKnown = !todo.length && !unknown.length;
   const said = { headline: headlineOf(object), lights: lights(object) }, rests = conditionsOfAll(object, shelves);
@@ -270,9 +270,10 @@ function saidOf({ list, certain, open, more_open, object }, names) {
     return `${isCut ? "is cut off" : "isn't a log"} (line ${list.line}), so nothing is known of its field${isCut ? ": copy it again first" : ""}`;
   }
   if (list.kind === KIND.IMPOSSIBLE) {
-    const why = told?.conflict ? `: ${contradiction(told.conflict).sentence.replace(/\.$/, "")}` : ` (line ${list.line})`;
+    const { sentence = ` (line ${list.line})`, shelf = "" } = told?.conflict ? contradiction(told.conflict) : {};
+    const why = told?.conflict ? `: ${sentence.replace(/\.$/, "")}` : sentence;
     const uids = new Set(told?.conflict?.heard.map((slot) => hex(slot.uid ?? 0n))), name = uids.size === 1 && names.get([...uids][0]);
-    return `nothing is known of its field, since its log contradicts itself${why}${name ? ` (${printable(name)})` : ""}`;
+    return `nothing is known of its field, since its log contradicts itself${why}${name ? ` (${printable(name)})` : ""}${shelf && `. ${shelf}`}`;
   }
   const proved = `${count(certain, "tag")} proved`;
   if (!open.length) return proved;

@@ -45,7 +45,8 @@ const IF_EXPECTED = "If the list says what should be here:", IF_READ = "If the r
 const IS_BROKEN = "is here, its tag is broken or covered, or its reply was lost: move it, and count again. If you don't find it, it is missing.";
 const WERE_TAKEN = "Tags were taken away since, or the list is that of another session: count again.";
 const LOST = "may have been lost. Switch its field off and on, and count again.";
-const STRANGERS = "The tags here that aren't listed belong elsewhere, or the list lacks them.";
+const STRANGERS = "The tags here that aren't listed belong elsewhere, or the list lacks them: find the items by reading them one by one, and " +
+  "take each where it belongs, or add it to the list.";
 const WERE_OMITTED = "The reader's software omitted tags that were here, or the list is that of another session: count again.";
 const SEND = "send the log and this page (printed as PDF) to whoever maintains the reader.";
 const STAYS = `If the answer stays the same, ${SEND}`, STILL = `If an item that is here still isn't heard, or the reader's list still differs, ${SEND}`;
