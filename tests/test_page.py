@@ -1008,7 +1008,7 @@ def test_items_that_are_not_on_their_shelves(page):
         "answered in line 3, but not in line 5, where it was also asked (Walden · one)")
     assert page.texts(ROWS) == ["Shelf one", "Emma\ntwo\nE0040100000000B2"]
     page.run("for (const it of document.querySelectorAll('#told > details')) it.open = true")
-    page.until("details p", "Not named: 1 item of two.")
+    page.until("details p", "They are 1 item of two, not named here.")
     page.until("details p", "they are in none of the fields, or on a shelf that has to be counted")
 
 

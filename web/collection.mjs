@@ -45,7 +45,7 @@ const MOST_CELLS = 2;
 const CANNOT_BE_READ = 4;
 /** How much text of logs stands in a page that is saved. */
 const MOST_TEXT = 4_000_000;
-const LOOK_FOR = "If it is in plain sight, its tag is broken, covered, or another than in the catalogue: move it, and count again. " +
+const LOOK_FOR = "If it is in plain sight, its tag is broken, covered, or another than in the catalogue, or its reply was lost: move it, and count again. " +
   "If it isn't found, leave its row in the catalogue.";
 const NOT_EXPECTED = "What isn't in the catalogue: find it by reading the items one by one, and bring it to where it belongs, or add it.";
 const AWAY = "Count again first, as said above. The logs of their shelves rule these out: they are in none of the fields, or";
@@ -75,8 +75,8 @@ export function collectionView(object) {
   const away = unknown.filter((item) => shelves.isAway(item)), others = unknown.filter((item) => !shelves.isAway(item));
   const some = others.filter((item) => known.has(home(item))), none = others.filter((item) => !known.has(home(item)));
   // of a shelf of which nothing is known to be in place no items are named
-  const all = listing([...new Set(none.map(home))].sort(inOrder)), these = some.length ? "; and these:" : ".";
-  const which = none.length ? ` Not named: ${count(none.length, "item")} of ${all}${these}` : "";
+  const all = listing([...new Set(none.map(home))].sort(inOrder)), these = some.length ? ", and these:" : ".";
+  const which = none.length ? ` They are ${count(none.length, "item")} of ${all}, not named here${these}` : "";
   const open = object.logs.filter(isOpen), isShelf = away.every((item) => item.may_be_in.every((file) => shelves.placeOf(file)));
   const todo = [...of("missing"), ...of("misplaced"), ...of("unexpected")], isKnown = !todo.length && !unknown.length;
   const said = { headline: headlineOf(object), lights: lights(object) }, rests = conditionsOfAll(object, shelves);

@@ -42,8 +42,9 @@ const COMPARE = "Compare these tags with what should be here: open a catalogue (
 const TITLES = "To see the items' titles: open a catalogue (CSV) together with the log.";
 /** If the list is what was expected here, and if it is what the reader found: of tags that didn't answer, and of others. */
 const IF_EXPECTED = "If the list says what should be here:", IF_READ = "If the reader wrote the list of what it found:";
+const NOT_KNOWN_WHOSE = "If you don't know who made the list: count again first, and look for what still differs.";
 const IS_BROKEN = "is here, its tag is broken or covered, or its reply was lost: move it, and count again. If you don't find it, it is missing.";
-const WERE_TAKEN = "Tags were taken away since, or the list is that of another session: count again.";
+const WERE_TAKEN = "Tags were taken away since it was written, it is that of another session, or it has UIDs that weren't heard: count again.";
 const LOST = "may have been lost. Switch its field off and on, and count again.";
 const STRANGERS = "The tags here that aren't listed belong elsewhere, or the list lacks them: find the items by reading them one by one, and " +
   "take each where it belongs, or add it to the list.";
@@ -134,7 +135,7 @@ function steps({ object: { kind, found, open, captured }, counts, quiet, notes }
   if (found.absent && !isMore && notes.lost.length === found.absent) return [...steps, `If the answer stays the same, ${look}`];
   if (!differs) return [...steps, STAYS];
   const of = (/** @type {string} */ absent, /** @type {string} */ more) => [...found.absent ? [absent] : [], ...isMore ? [more] : []];
-  return [...steps, { when: IF_EXPECTED, steps: of(`${look[0].toUpperCase()}${look.slice(1)}`, STRANGERS) },
+  return [...steps, NOT_KNOWN_WHOSE, { when: IF_EXPECTED, steps: of(`${look[0].toUpperCase()}${look.slice(1)}`, STRANGERS) },
     { when: IF_READ, steps: of(WERE_TAKEN, WERE_OMITTED) }, STILL];
 }
 
