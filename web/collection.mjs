@@ -49,6 +49,8 @@ const LOOK_FOR = "If it is in plain sight, its tag is broken, covered, or anothe
   "If it isn't found, leave its row in the catalogue.";
 const NOT_EXPECTED = "What isn't in the catalogue: find it by reading the items one by one, and bring it to where it belongs, or add it.";
 const AWAY = "Count again first, as said above. The logs of their shelves rule these out: they are in none of the fields, or";
+const STILL_AWAY = "What isn't found then: look on its own shelf, as its tag may be broken or covered.";
+const AGAIN_BROKEN = "If it happens again, send the log and this page to whoever maintains the reader";
 const NO_TAG = "These rows of the catalogue have no UID, so nothing is known of them: look for them by eye.";
 const UNKNOWN_YET = "Whether these are here isn't known until the logs above are counted again.";
 const OF_LOGS = ["Nothing was carried from one field to another while the logs were written.", "Each place of the catalogue was " +
@@ -84,7 +86,7 @@ export function collectionView(object) {
     `${printable(object.name)} · ${count(object.logs.length, "log")}`), ...isKnown ? rests : [],
     ...logs("Count again", countAgain(open.length), open, true, object, shelves),
     ...part("At the shelves", todo, true, howTo(object), shelved(todo, (item) => shelves.at(item), object.counts.missing ? slots : {}, (item) => shelves.toDo(item))),
-    ...part("Not on their shelves", away, true, `${AWAY} ${isShelf ? "on a shelf" : "in a field"} that has to be counted again.`,
+    ...part("Not on their shelves", away, true, `${AWAY} ${isShelf ? "on a shelf" : "in a field"} that has to be counted again. ${STILL_AWAY}`,
       shelved(away, home, mayBe)),
     ...part("Without a tag", of("no tag"), true, NO_TAG, shelved(of("no tag"), home, {}, () => "look for")),
     ...part("Not known yet", others, false, UNKNOWN_YET + which, shelved(some, home, some.every(home) ? {} : mayBe)),
@@ -273,7 +275,7 @@ function saidOf({ list, certain, open, more_open, object }, names) {
     const { sentence = ` (line ${list.line})`, shelf = "" } = told?.conflict ? contradiction(told.conflict) : {};
     const why = told?.conflict ? `: ${sentence.replace(/\.$/, "")}` : sentence;
     const uids = new Set(told?.conflict?.heard.map((slot) => hex(slot.uid ?? 0n))), name = uids.size === 1 && names.get([...uids][0]);
-    return `nothing is known of its field, since its log contradicts itself${why}${name ? ` (${printable(name)})` : ""}${shelf && `. ${shelf}`}`;
+    return `nothing is known of its field, since its log contradicts itself${why}${name ? ` (${printable(name)})` : ""}${shelf && `. ${shelf.replace(/\.$/, "")}`}. ${AGAIN_BROKEN}`;
   }
   const proved = `${count(certain, "tag")} proved`;
   if (!open.length) return proved;
