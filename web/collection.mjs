@@ -53,8 +53,8 @@ const STILL_AWAY = "What isn't found then: look on its own shelf, as its tag may
 const AGAIN_BROKEN = "If it happens again, send the log and this page to whoever maintains the reader";
 const NO_TAG = "These rows of the catalogue have no UID, so nothing is known of them: look for them by eye.";
 const UNKNOWN_YET = "Whether these are here isn't known until the logs above are counted again.";
-const OF_LOGS = ["Nothing was carried from one field to another while the logs were written.", "Each place of the catalogue was " +
-  "counted: what stands in a place without a log is called missing."];
+const OF_LOGS = ["Nothing was carried from one field to another while the logs were written.", "Each place of the catalogue has " +
+  "a log: what stands in a place without one is called missing."];
 
 /** @param {OneLog} log */
 const isAside = (log) => log.list.status > 1;

@@ -69,7 +69,7 @@ function woke(slot, { silencer, quietest, isAlone, hasCycles, link }) {
     test: `In a new log, silence ${hex(uid)}, and ask only for it, a few times. If it answers at once, it didn't receive this Stay Quiet; if later, ` +
       "it loses power, or another reader wakes it.", ask: [`T ${stayQuietOf(uid, link)}`, sixteen({ len: UID_LEN, value: uid }, link)],
     shelf: `Move the item with tag ${hex(uid)} nearer to the antenna and away from ` +
-      "others, and count again, in a new log. If you can't tell which it is, spread all of them out." };
+      "others, and count again, in a new log. If you can't find it, spread all of them out." };
 }
 
 /**
