@@ -1005,8 +1005,9 @@ def test_items_that_are_not_on_their_shelves(page):
     page.until("h1", "1 item not on its shelf and 1 not known yet; count two again.")
     assert page.texts(".logs summary")[0] == (
         "two: nothing is known of its field, since its log contradicts itself: tag ..00A1 "
-        "answered in line 3, but not in line 5, where it was also asked (Walden · one). If it "
-        "happens again, send the log and this page to whoever maintains the reader")
+        "answered in line 3, but not in line 5, where it was also asked")
+    assert page.texts(".advice") == ["If it happens again, send the log and this page to whoever "
+                                     "maintains the reader."]
     assert page.texts(ROWS) == ["Shelf one", "Emma\ntwo\nE0040100000000B2"]
     page.run("for (const it of document.querySelectorAll('#told > details')) it.open = true")
     page.until("details p", "They are 1 item of two, not named here.")

@@ -50,7 +50,7 @@ const LOOK_FOR = "If it is in plain sight, its tag is broken, covered, or anothe
 const NOT_EXPECTED = "What isn't in the catalogue: find it by reading the items one by one, and bring it to where it belongs, or add it.";
 const AWAY = "Count again first, as said above. The logs of their shelves rule these out: they are in none of the fields, or";
 const STILL_AWAY = "What isn't found then: look on its own shelf, as its tag may be broken or covered.";
-const AGAIN_BROKEN = "If it happens again, send the log and this page to whoever maintains the reader";
+const AGAIN_BROKEN = "If it happens again, send the log and this page to whoever maintains the reader.";
 const NO_TAG = "These rows of the catalogue have no UID, so nothing is known of them: look for them by eye.";
 const UNKNOWN_YET = "Whether these are here isn't known until the logs above are counted again.";
 const OF_LOGS = ["Nothing was carried from one field to another while the logs were written.", "Each place of the catalogue has " +
@@ -238,13 +238,15 @@ function oneLog(log, names, shelves) {
   const { object } = log, sha256 = object?.sha256;
   const sum = sha256 ? [el("span", { class: "sum" }, "\u00A0· ", el("code", {}, `SHA-256 ${sha256}`))] : [];
   const name = shelves.name(log.file), file = nameOf(log.file), isSame = [file, file.replace(/\.[^.]*$/, "")].includes(name);
-  const words = [el("b", { title: printable(log.file) }, name), `${isSame ? "" : ` (${file})`}: ${saidOf(log, names)}`, ...sum];
-  if (!object) return el("p", { class: "log" }, words);
+  const broken = log.list.kind === KIND.IMPOSSIBLE ? brokenBy(log, names) : null, advice = broken ? [el("p", { class: "advice" }, broken.advice)] : [];
+  const said = broken ? `nothing is known of its field, since its log contradicts itself${broken.why}` : saidOf(log);
+  const words = [el("b", { title: printable(log.file) }, name), `${isSame ? "" : ` (${file})`}: ${said}`, ...sum];
+  if (!object) return [el("p", { class: "log" }, words), ...advice];
   const it = /** @type {HTMLDetailsElement} */ (el("details", { class: "log aside" }, el("summary", {}, words)));
   it.addEventListener("toggle", () => {
     if (it.open && it.childElementCount === 1) it.append(drawnLog(object, names));
   });
-  return it;
+  return [it, ...advice];
 }
 
 /**
@@ -260,22 +262,28 @@ function drawnLog(object, names) {
 }
 
 /**
- * What a log says, and what is left to ask in its field.
+ * Why a log contradicts itself, and what to do.
  * @param {OneLog} log
  * @param {Names} names
  */
-function saidOf({ list, certain, open, more_open, object }, names) {
+function brokenBy({ list, object }, names) {
+  const conflict = object && tell(object).conflict;
+  if (!conflict) return { why: ` (line ${list.line})`, advice: AGAIN_BROKEN };
+  const { sentence, shelf = "" } = contradiction(conflict), uids = new Set(conflict.heard.map((slot) => hex(slot.uid ?? 0n)));
+  const name = uids.size === 1 ? names.get([...uids][0]) : "", move = name ? shelf.replace(/the item with tag (\w+)/, `${printable(name)} (tag $1)`) : shelf;
+  return { why: `: ${sentence.replace(/\.$/, "")}`, advice: `${move} ${AGAIN_BROKEN}`.trim() };
+}
+
+/**
+ * What a log says that doesn't contradict itself, and what is left to ask in its field.
+ * @param {OneLog} log
+ */
+function saidOf({ list, certain, open, more_open, object }) {
   if (list.status === CANNOT_BE_READ) return `can't be read: ${list.error ?? ""}`;
   const told = object && tell(object);
   if (list.kind === KIND.REFUSED) {
     const isCut = object && !object.ended && list.line === object.lines;
     return `${isCut ? "is cut off" : "isn't a log"} (line ${list.line}), so nothing is known of its field${isCut ? ": copy it again first" : ""}`;
-  }
-  if (list.kind === KIND.IMPOSSIBLE) {
-    const { sentence = ` (line ${list.line})`, shelf = "" } = told?.conflict ? contradiction(told.conflict) : {};
-    const why = told?.conflict ? `: ${sentence.replace(/\.$/, "")}` : sentence;
-    const uids = new Set(told?.conflict?.heard.map((slot) => hex(slot.uid ?? 0n))), name = uids.size === 1 && names.get([...uids][0]);
-    return `nothing is known of its field, since its log contradicts itself${why}${name ? ` (${printable(name)})` : ""}${shelf && `. ${shelf.replace(/\.$/, "")}`}. ${AGAIN_BROKEN}`;
   }
   const proved = `${count(certain, "tag")} proved`;
   if (!open.length) return proved;
