@@ -6,6 +6,7 @@ seed, which is printed, or of `--seed`. Wrong judges and wrong reports are put i
 place, each wrong in one rule, and have to be found. One log with a great many borders is judged by
 arithmetic."""
 import collections
+import json
 import random
 
 import pytest
@@ -13,9 +14,11 @@ from vicinity._native import AnswerStruct
 
 from helpers import oracle, reports
 from helpers.air import SILENT, TOP_BYTE, Ask, Listed, Reply
+from helpers.claims import claims
 from helpers.library import STATUSES, answer_to
 from helpers.oracle import Case
-from helpers.random_logs import random_log, text_of
+from helpers.program import TOP, Program
+from helpers.random_logs import contradicted, random_log, text_of
 
 NUMBER, SEED = 20000, 15693
 # In how many parts the logs are judged; the last of four has logs of version 3.
@@ -24,6 +27,9 @@ PARTS = 20
 # verdict.
 PLANTED = 8000
 LEAST_SHARE = 20
+# The page is asked for as many as so many of these parts have, and what it claims beyond the
+# library's answer.
+PAGE_PARTS, CLAIMS = 3, 5
 KINDS = ("complete", "absent", "unlisted", "unsettled", "doubtful", "impossible")
 ROOM = 64
 # Of the log with many borders: each mask of so many bits is asked in sixteen slots, all of them so
@@ -93,6 +99,25 @@ def test_a_wrong_judge_is_found(rule):
 def test_a_wrong_report_is_found(rule):
     kind = reports.WRONG[rule]
     assert found(lambda case: case.wrong_report(kind(case.lines, case.known).given()))
+
+
+@pytest.mark.slow
+def test_what_the_page_adds(wasm_module, logs):
+    """Each claim that it makes beyond the library's answer is so; of other logs it isn't."""
+    number, seed = logs
+    rng, node = random.Random(seed), Program("node", TOP / "tests/wasm/told.mjs", wasm_module)
+    versions = (rng.randint(1, 3) for _ in range(PAGE_PARTS * number))
+    cases = [Case(version, *random_log(rng, version)) for version in versions]
+    cases += [Case(version, [], lines) for version, lines in map(contradicted, [rng] * number)]
+    texts = [text_of(case.version, case.lines) for case in cases]
+    given, seen = b"".join(b"%d\n%s" % (len(text), text) for text in texts), set()
+    for case, text, line in zip(cases, texts, node.told(given=given).splitlines(), strict=True):
+        told = json.loads(line)
+        for name, (is_made, is_so) in claims(case, told).items():
+            assert is_so or not is_made, f"{name}: {told['headline']}\n{text.decode()}"
+            seen |= {(name, "made")} if is_made else set()
+            seen |= {(name, "not so")} if not is_so else set()
+    assert number < NUMBER // PARTS or len(seen) == 2 * CLAIMS
 
 
 @pytest.mark.slow

@@ -1,8 +1,9 @@
 /**
  * What is told of a log: what the library says of it, and the rows that show why.
  *
- * Nothing here judges. The answer, findings and open masks are those of the library; of the rows only those are picked out that
- * a finding names, or whose slots overlap what is open.
+ * The answer, findings and open masks are those of the library; of the rows only those are picked out that a finding names, or
+ * whose slots overlap what is open. Three things follow from them here: `hasMore`, and in conflict.mjs `leavesNone` and
+ * `stayedSilent`. tests/test_oracle.py compares them with what brute force finds.
  */
 import { causesOf, silencedUnheard, widthOf } from "./causes.mjs";
 import { conflictOf, isLarge, keyLines } from "./conflict.mjs";

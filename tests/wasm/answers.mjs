@@ -63,19 +63,23 @@ function measured(library, text) {
 }
 
 /**
- * Of texts, each after its length in decimal and an LF.
+ * Texts, each after its length in decimal and an LF.
+ * @param {Uint8Array} texts
+ */
+export function* textsIn(texts) {
+  for (let at = 0; at < texts.length;) {
+    const end = texts.indexOf(10, at), length = Number(new TextDecoder().decode(texts.subarray(at, end)));
+    yield texts.subarray(end + 1, at = end + 1 + length);
+  }
+}
+
+/**
  * @param {Library} library
  * @param {Uint8Array} texts
  */
 export function answers(library, texts) {
-  const written = [];
-  for (let at = 0; at < texts.length;) {
-    const end = texts.indexOf(10, at), length = Number(new TextDecoder().decode(texts.subarray(at, end)));
-    const text = texts.subarray(end + 1, end + 1 + length);
-    written.push(shown(library.check(text)), explained(library, text), surveyed(library, text), measured(library, text));
-    at = end + 1 + length;
-  }
-  return written.join("");
+  return [...textsIn(texts)].map((text) =>
+    [shown(library.check(text)), explained(library, text), surveyed(library, text), measured(library, text)].join("")).join("");
 }
 
 if (typeof process !== "undefined" && process.argv[1]?.endsWith("answers.mjs")) {
