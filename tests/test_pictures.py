@@ -319,7 +319,7 @@ def test_page_of_a_longer_session(opened, sessions, name):
     bars = page.run("return document.querySelectorAll('.strip i').length")
     # that shows all rounds where not all are drawn
     assert bool(bars) == (name not in ("empty", "conflict"))
-    marked = page.run("return document.querySelector('.strip')?.ariaLabel.split(' at ')[1]")
+    marked = page.run("return document.querySelector('.strip + p')?.textContent.split(' at ')[1]")
     assert bool(marked) == (name in ("half", "lost", "woke"))
     if name == "conflict":
         page.until("summary", "The 737 lines that can't all be true, of 47 rounds")

@@ -86,7 +86,7 @@ export function collectionView(object) {
     `${printable(object.name)} · ${count(object.logs.length, "log")}`), ...isKnown ? rests : [],
     ...logs("Count again", countAgain(open.length), open, true, object, shelves),
     ...part("At the shelves", todo, true, howTo(object), shelved(todo, (item) => shelves.at(item), object.counts.missing ? slots : {}, (item) => shelves.toDo(item))),
-    ...part("Not on their shelves", away, true, `${AWAY} ${isShelf ? "on a shelf" : "in a field"} that has to be counted again. ${STILL_AWAY}`,
+    ...part("Not heard on their shelves", away, true, `${AWAY} ${isShelf ? "on a shelf" : "in a field"} that has to be counted again. ${STILL_AWAY}`,
       shelved(away, home, mayBe)),
     ...part("Without a tag", of("no tag"), true, NO_TAG, shelved(of("no tag"), home, {}, () => "look for")),
     ...part("Not known yet", others, false, UNKNOWN_YET + which, shelved(some, home, some.every(home) ? {} : mayBe)),
@@ -111,8 +111,8 @@ function part(title, list, open, words, drawn) {
 }
 
 /** @param {CollectionObject} object */
-function howTo({ counts }) {
-  const look = counts.missing ? `What is missing answered in none of the fields. ${LOOK_FOR} ` : "";
+function howTo({ counts, logs: fields }) {
+  const look = counts.missing ? `What is missing ${fields.length > 1 ? "answered in none of the fields" : "didn't answer"}. ${LOOK_FOR} ` : "";
   return look + (counts.unexpected ? NOT_EXPECTED : "");
 }
 

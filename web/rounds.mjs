@@ -38,11 +38,10 @@ export function rounds(told, names) {
   const body = told.rows.map((row) => rowOf(row, ringed, named, names));
   const table = el("table", { class: "rounds" }, el("caption", {}, "The rounds of the session"), el("thead", {}, head), el("tbody", {}, body));
   const bars = told.strip.map(barOf);
-  const label = `The whole session of ${count(told.counts.rounds, "round")}, with ${count(told.counts.heard, "reply", "replies")} in ` +
-    `${count(told.counts.slots, "slot")}${markedAt(told.marked)}`;
-  const strip = bars.length ? [el("p", { class: "strip", role: "img", "aria-label": label }, bars)] : [];
-  return [el("section", {}, el("h2", {}, "The rounds"), ...strip, legend(told),
-    scrolled(table))];
+  const whole = `The whole session, from left to right: ${count(told.counts.rounds, "round")}, with ` +
+    `${count(told.counts.heard, "reply", "replies")} in ${count(told.counts.slots, "slot")}${markedAt(told.marked)}.`;
+  const strip = bars.length ? [el("p", { class: "strip", "aria-hidden": "true" }, bars), el("p", {}, whole)] : [];
+  return [el("section", {}, el("h2", {}, "The rounds"), ...strip, legend(told), scrolled(table))];
 }
 
 /**
