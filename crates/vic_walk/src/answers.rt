@@ -7,7 +7,7 @@ ghost use Rattle.vic_log.specs.declared.entry.Entry.{Entry as EntryValue};
 ghost use Rattle.vic_log.specs.Order.{AreValid, IsInOrder, entries};
 ghost use Rattle.vic_log.specs.Slots.{slots_of, is_open};
 ghost use Rattle.vic_walk.specs.Answers.{AreAnswering, is_unread};
-ghost use Rattle.vic_walk.specs.Borders.{AreBorders, part_count};
+ghost use Rattle.vic_walk.specs.Borders.{part_count};
 ghost use Rattle.vic_walk.specs.Cuts.{AreCut};
 ghost use Rattle.vic_walk.specs.Needs.{needs};
 ghost use Rattle.vic_walk.specs.Walk.{AreOpenParts, HasRoom, IsWalkAt};
@@ -64,7 +64,6 @@ fn pass_again(
     at: usize,
     entry: &Entry,
 ) -> Result<(), AllocError>
-    requires borders { AreBorders parts.now }
     requires room { length walk.old.lasting ≡ part_count parts.now }
     requires listed { (p : ℕ) → has walk.old.quiet.items p ≡ true → p < part_count parts.now }
     ensures ready { OnOk result ((es : List EntryValue) (set : ℕ → Bool)
@@ -145,7 +144,6 @@ pub fn open_answers(
 ) -> Result<Vec<Answering>, AllocError>
     requires order { IsInOrder (entries lines.now) }
     requires valid { AreValid (entries lines.now) }
-    requires borders { AreBorders parts.now }
     requires cut { AreCut parts.now (entries lines.now) }
     requires walk { IsWalkAt parts.now (entries lines.now) (length (entries lines.now)) walk.old }
     ensures found { IfOk result (λ found.

@@ -65,7 +65,6 @@ impl Reach {
         at: usize,
         entry: &Entry,
     ) -> Result<(), AllocError>
-        requires borders { AreBorders parts.now }
         requires count { part_count parts.now ≡ length ends.now }
         requires reach { HasReach ends.now self.old }
         ensures ruled { OnOk result (AreRuled ends.now self.new.upto self.new.ordered
@@ -115,13 +114,13 @@ impl Reach {
         at: usize,
         need: usize,
     ) -> Result<(), AllocError>
-        requires borders { AreBorders parts.now }
         requires within { span.to ≤ part_count parts.now }
         requires count { part_count parts.now ≡ length ends.now }
         requires reach { HasReach ends.now self.old }
         ensures reach { OnOk result (HasReach ends.now self.new) }
-        ensures back { OnOk result ((es : List EntryValue) → IsSpanAt parts.now es at span
-            → needs_at es at ≡ need → IsReachAt parts.now es ends.now at self.old
+        ensures back { OnOk result ((es : List EntryValue) → AreBorders parts.now
+            → IsSpanAt parts.now es at span → needs_at es at ≡ need
+            → IsReachAt parts.now es ends.now at self.old
             → IsBackTo es at self.old.upto self.new.upto) }
         ensures ready { OnOk result ((es : List EntryValue) (i : ℕ)
             → IsReachAt parts.now es ends.now i self.old
@@ -196,7 +195,6 @@ pub fn first_lack(
 ) -> Result<usize, AllocError>
     requires order { IsInOrder (entries lines.now) }
     requires valid { AreValid (entries lines.now) }
-    requires borders { AreBorders parts.now }
     requires cut { AreCut parts.now (entries lines.now) }
     requires walk { HasEndsPast parts.now (entries lines.now) upto walk.now }
     ensures upto { IfOk result (λ m. m ≤ upto) }

@@ -91,7 +91,8 @@ impl Parts {
         })
     }
 
-    /// How many there are. Clause `borders` tells a proof what is so of any `Parts`.
+    /// How many there are. Clause `borders`, here and of other calls, tells a proof what is so of any
+    /// `Parts`.
     pub fn count(&self) -> usize
         ensures count { result ≡ part_count self.now }
         ensures borders { AreBorders self.now }
@@ -102,7 +103,8 @@ impl Parts {
     /// The first key of a part.
     pub fn first(&self, part: usize) -> u64
         requires { part < part_count self.now }
-        ensures { result ≡ slice_index self.now part }
+        ensures first { result ≡ slice_index self.now part }
+        ensures borders { AreBorders self.now }
     {
         self.borders[part]
     }
@@ -160,7 +162,9 @@ impl Parts {
     }
 
     /// Hints for the walks over the log, in the order in which they ask.
-    pub fn hints(&self) -> &[u32] {
+    pub fn hints(&self) -> &[u32]
+        ensures borders { AreBorders self.now }
+    {
         &self.hints
     }
 

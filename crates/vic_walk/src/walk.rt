@@ -97,13 +97,12 @@ impl Walk {
         self.quiet.clear();
     }
 
-    /// Rules out the parts of a span that last, by the entry at a position. Returns whether one of
-    /// them was heard.
-    fn rule_out(&mut self, span: Span, at: u32) -> bool
+    /// Rules out the parts of a span that last, with this end. Returns whether one of them was
+    /// heard.
+    fn rule_out(&mut self, span: Span, end: u32) -> bool
         requires within { span.to ≤ length self.old.lasting }
         requires ends { length self.old.ends.items ≡ length self.old.lasting }
-        requires at { at + 1 < 2 ^ 32 }
-        ensures ruled_out { IsRuledOut self.old self.new (is_within span) at }
+        ensures ruled_out { IsRuledOut self.old self.new (is_within span) end }
         ensures heard { self.new.heard ≡ self.old.heard }
         ensures lost { (result ≡ true) ↔ HasLost self.old (is_within span) }
     {
@@ -111,7 +110,7 @@ impl Walk {
         let mut from = span.from;
         while let Some(part) = self.lasting.first(from, span.to) {
             self.lasting.take(part);
-            self.ends[part] = at + 1;
+            self.ends[part] = end;
             lost |= self.heard.has(part);
             from = part + 1;
         }
@@ -119,15 +118,14 @@ impl Walk {
     }
 
     /// Hears the UID of part `own` in a slot whose mask has the UIDs of a span: rules out the other
-    /// parts of the span that last. Returns whether the replies are still borne out: `own` is in
-    /// the span and lasts, and none of the parts now ruled out was heard.
-    fn hear(&mut self, span: Span, own: usize, at: u32) -> bool
+    /// parts of the span that last, with this end. Returns whether the replies are still borne out:
+    /// `own` is in the span and lasts, and none of the parts now ruled out was heard.
+    fn hear(&mut self, span: Span, own: usize, end: u32) -> bool
         requires within { span.to ≤ length self.old.lasting }
         requires own { own < length self.old.lasting }
         requires heard { length self.old.heard ≡ length self.old.lasting }
         requires ends { length self.old.ends.items ≡ length self.old.lasting }
-        requires at { at + 1 < 2 ^ 32 }
-        ensures ruled_out { IsRuledOut self.old self.new (is_other span own) at }
+        ensures ruled_out { IsRuledOut self.old self.new (is_other span own) end }
         ensures heard { (p : ℕ) → is_marked self.new.heard p
             ≡ (p == own || is_marked self.old.heard p) }
         ensures room { length self.new.heard ≡ length self.old.heard }
@@ -138,7 +136,7 @@ impl Walk {
         let lasts = self.lasting.has(own);
         // so that `rule_out` passes it over
         self.lasting.take(own);
-        let lost = self.rule_out(span, at);
+        let lost = self.rule_out(span, end);
         if lasts {
             self.lasting.put(own);
         }
@@ -195,24 +193,24 @@ impl Walk {
         }
     }
 
-    /// Takes the walk past an entry. Returns whether the replies are still borne out.
+    /// Takes the walk past an entry; a part that it rules out gets this end. Returns whether the
+    /// replies are still borne out.
     fn pass(
         &mut self,
         parts: &Parts,
         rounds: &RoundCursor,
         near: Near,
-        at: u32,
+        end: u32,
         entry: &Entry,
     ) -> Result<bool, AllocError>
-        requires room { HasRoom (part_count parts.now) self.old }
-        requires at { at + 1 < 2 ^ 32 }
-        ensures walk { OnOk result ((es : List EntryValue)
-            → IsPlace parts.now es at entry.now rounds.now
-            → IsWalkAt parts.now es at self.old → IsWalkAt parts.now es (at + 1) self.new) }
-        ensures fine { IfOk result (λ fine. (es : List EntryValue)
-            → IsPlace parts.now es at entry.now rounds.now
-            → IsWalkAt parts.now es at self.old → AreBorneOut es at
-            → (fine ≡ true) ↔ AreBorneOut es (at + 1)) }
+        requires { HasRoom (part_count parts.now) self.old }
+        ensures walk { OnOk result ((es : List EntryValue) (i : ℕ) → end ≡ i + 1
+            → IsPlace parts.now es i entry.now rounds.now
+            → IsWalkAt parts.now es i self.old → IsWalkAt parts.now es (i + 1) self.new) }
+        ensures fine { IfOk result (λ fine. (es : List EntryValue) (i : ℕ)
+            → IsPlace parts.now es i entry.now rounds.now
+            → IsWalkAt parts.now es i self.old → AreBorneOut es i
+            → (fine ≡ true) ↔ AreBorneOut es (i + 1)) }
     {
         match *entry {
             Entry::Sent(request) => {
@@ -223,11 +221,11 @@ impl Walk {
                 self.wake();
                 Ok(true)
             }
-            Entry::Silent => Ok(!self.rule_out(span_of(parts, rounds, near), at)),
+            Entry::Silent => Ok(!self.rule_out(span_of(parts, rounds, near), end)),
             Entry::Heard(response) => {
                 let span = span_of(parts, rounds, near);
                 let own = parts.at_or_after(near.own, key(response.uid()));
-                Ok(self.hear(span, own, at))
+                Ok(self.hear(span, own, end))
             }
             Entry::Captured(response) => {
                 let span = span_of(parts, rounds, near);
@@ -272,7 +270,6 @@ fn walk_over(
     requires order { IsInOrder (entries lines.now) }
     requires valid { AreValid (entries lines.now) }
     requires rising { IsRisingFrom 0 lines.now }
-    requires borders { AreBorders parts.now }
     requires cut { AreCut parts.now (entries lines.now) }
     ensures { IfOk result (λ r. IsEndOfWalk parts.now (entries lines.now) r.1 r.0) }
 {
@@ -282,7 +279,7 @@ fn walk_over(
     for index in 0..list_start(lines) {
         let entry = entry_of(lines[index]);
         let near = hints.next(parts.hints(), &entry);
-        if !walk.pass(parts, &rounds, near, index as u32, &entry)? {
+        if !walk.pass(parts, &rounds, near, (index + 1) as u32, &entry)? {
             return Ok((walk, Some(index)));
         }
         rounds.advance(&entry);

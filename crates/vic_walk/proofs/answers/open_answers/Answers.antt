@@ -25,7 +25,7 @@ loop-index-preserved c =
     let es = entries c.args.lines.now in
     let l = c.loop-index in
     let here = entry_at c.args.lines.now l.index c.index-lines-index.result (omega (arith, c.loop-index-test.true, c.after_unread-after.ensures.within)) c.index-lines-index.is ∙ ap (λ (e : Entry). Some e) (sym c.item-entry.ensures) in
-    let place : IsPlace c.args.parts.now es l.index c.item-entry.result l.rounds = record { here = here; valid = c.requires.valid; rounds_here = l.invariant.rounds; borders = c.requires.borders; cut = c.requires.cut } in
+    let place : IsPlace c.args.parts.now es l.index c.item-entry.result l.rounds = record { here = here; valid = c.requires.valid; rounds_here = l.invariant.rounds; borders = c.hints.ensures.borders; cut = c.requires.cut } in
     record {
       ready = c.in_ok-pass_again.ensures.ready es (is_open (slots_of es)) place l.invariant.ready;
       heard = c.in_ok-pass_again.ensures.heard ∙ l.invariant.heard;

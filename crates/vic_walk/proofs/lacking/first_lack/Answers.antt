@@ -34,7 +34,7 @@ loop-index-preserved c =
     let es = entries c.args.lines.now in
     let l = c.loop-index in
     let here = entry_at c.args.lines.now l.index c.index-lines-index.result c.loop-index-test.true c.index-lines-index.is ∙ ap (λ (e : Entry). Some e) (sym c.item-entry.ensures) in
-    let place : IsPlace c.args.parts.now es l.index c.item-entry.result l.rounds = record { here = here; valid = c.requires.valid; rounds_here = l.invariant.rounds; borders = c.requires.borders; cut = c.requires.cut } in
+    let place : IsPlace c.args.parts.now es l.index c.item-entry.result l.rounds = record { here = here; valid = c.requires.valid; rounds_here = l.invariant.rounds; borders = c.hints.ensures.borders; cut = c.requires.cut } in
     let ready = rw (← c.deref-in-loop-index.ensures.value) at l.invariant.ready in
     let back : IsBackTo es l.index l.reach.upto c.pass.new.self.upto = c.in_ok-pass.ensures.back es place ready in
     record {
