@@ -44,8 +44,7 @@ pub(crate) fn part_margins(
     log: &Log,
     parts: Parts,
 ) -> Result<PartMargins, AllocError>
-    requires borders { AreBorders parts }
-    requires cut { AreCut parts (entries log.now.lines) }
+    requires { AreCut parts (entries log.now.lines) }
     ensures { IfOk result (λ m. AreMargins m.parts (entries log.now.lines) m.each.items) }
 {
     let lines = log.lines();

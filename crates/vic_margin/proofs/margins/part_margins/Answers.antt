@@ -7,7 +7,7 @@ use Rattle.vic_margin.proofs.Places.{entry_at, entries_long, few_parts}
 use Rattle.vic_margin.proofs.margins.part_margins.Goals as goal
 
 pub start-requires : goal.start-requires
-start-requires c = rw c.count.ensures.count (few_parts c.args.parts c.requires.borders)
+start-requires c = rw c.count.ensures.count (few_parts c.args.parts c.count.ensures.borders)
 
 pub loop-line-init : goal.loop-line-init
 loop-line-init c = record {
@@ -27,7 +27,7 @@ loop-line-preserved c =
     let es = entries c.lines-lines.result.now in
     let l = c.loop-line in
     let here = entry_at c.lines-lines.result.now l.line-index c.line-item.result c.loop-line-test.true c.line-item.is ∙ ap (λ (e : Entry). Some e) (sym c.entry_of-entry.ensures.value) in
-    let place : IsPlace c.args.parts es l.line-index c.entry_of-entry.result l.rounds = record { here = here; valid = (first_lines _ _ c.lines-lines.ensures.log).valid; rounds_here = l.invariant.rounds; borders = c.requires.borders; cut = rw c.lines-lines.ensures.value c.requires.cut } in
+    let place : IsPlace c.args.parts es l.line-index c.entry_of-entry.result l.rounds = record { here = here; valid = (first_lines _ _ c.lines-lines.ensures.log).valid; rounds_here = l.invariant.rounds; borders = c.count.ensures.borders; cut = rw c.lines-lines.ensures.value c.requires } in
     record {
       tally = c.pass.ensures es l.line-index place l.invariant.tally;
       rounds = c.advance.ensures es l.line-index (first_lines _ _ c.lines-lines.ensures.log).order here l.invariant.rounds;
@@ -43,4 +43,4 @@ pub invariant_of-result : goal.invariant_of-result
 invariant_of-result c =
     let lines = c.lines-lines.result.now in
     let end : length (entries lines) ≡ c.loop-line.line-index = omega (arith, entries_long lines, c.loop-line-test.false, c.loop-line.auto.line-index-end) in
-    record { borders = c.requires.borders; room = (c.margins-each.ensures c.args.parts (entries lines) (rw end c.loop-line.invariant.tally)).room }
+    record { borders = c.count.ensures.borders; room = (c.margins-each.ensures c.args.parts (entries lines) (rw end c.loop-line.invariant.tally)).room }
