@@ -13,7 +13,7 @@ use std::alloc::{AllocError, Global};
 use vic_frame::Uid;
 use vic_frame::low_bits_first::key;
 use vic_log::{Entry, Log, PackedLine, RoundCursor};
-use vic_walk::{Hints, Parts};
+use vic_walk::{Hints, LogLines, Parts};
 
 /// The parts of the keys, and the margin of the UIDs of each.
 #[derive(Drop)]
@@ -29,7 +29,7 @@ pub(crate) struct PartMargins {
 pub fn overlooked(alloc: Global, log: &Log, uids: &[Uid]) -> Result<Vec<u32>, AllocError>
     ensures { IfOk result (λ v. v.items ≡ map (margin_of (entries log.now.lines)) uids.now) }
 {
-    let parts = Parts::of(alloc, log.lines())?.indexed(alloc)?;
+    let parts = Parts::of(alloc, &LogLines::of(log))?.indexed(alloc)?;
     let margins = part_margins(alloc, log, parts)?;
     let mut found = Vec::with_capacity(alloc, uids.len())?;
     for uid in uids {

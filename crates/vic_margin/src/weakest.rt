@@ -26,15 +26,14 @@ pub fn margin(alloc: Global, log: &Log) -> Result<Margin, AllocError>
         (IsPossible (entries log.now.lines) → ⊥)
         (λ w. IsPossible (entries log.now.lines) × IsWeakest (entries log.now.lines) w)) }
 {
-    let lines = log.lines();
-    match facts_and_parts_of::<RangeSet>(alloc, lines)? {
+    match facts_and_parts_of::<RangeSet>(alloc, log)? {
         Ok((facts, parts)) => {
             let Facts {
                 open,
                 met: _,
                 certain,
             } = facts;
-            let verdict = first_finding(alloc, open, &certain, lines)?;
+            let verdict = first_finding(alloc, open, &certain, log)?;
             let weakest = weakest_by(alloc, log, parts, &verdict)?;
             Ok(Margin {
                 verdict,

@@ -8,7 +8,7 @@ ghost use Rattle.vic_frame.specs.LowBitsFirst.{IsBlock, IsKey, is_in_block};
 ghost use Rattle.vic_frame.specs.declared.uid.TheConstants.{UID_BITS};
 ghost use Rattle.vic_log.specs.declared.entry.Entry.{Entry as EntryValue};
 ghost use Rattle.vic_log.specs.OpenRounds.{IsCursorAt};
-ghost use Rattle.vic_log.specs.Order.{AreValid, IsInOrder, entries};
+ghost use Rattle.vic_log.specs.Order.{AreValid, entries};
 ghost use Rattle.vic_log.specs.Rounds.{is_slot};
 ghost use Rattle.vic_walk.specs.Borders.{AreBorders, IsByParts, IsPartOf, part_count};
 ghost use Rattle.vic_walk.specs.Cuts.{AreCut, names};
@@ -18,12 +18,13 @@ ghost use Rattle.vic_walk.specs.inner.Searching.{IsBetween};
 use crate::gathered::Gathered;
 use crate::hints::{asks_for_end, asks_for_own, has_sixteen};
 use crate::index::{Index, up_to};
+use crate::lines::LogLines;
 use crate::listing::list_start;
 use std::alloc::{AllocError, Global};
 use std::marker::Model;
 use vic_frame::low_bits_first::{KeyBlock, key};
 use vic_frame::{Request, Uid};
-use vic_log::{Entry, PackedLine, RoundCursor};
+use vic_log::{Entry, RoundCursor};
 
 /// The keys, divided into parts. A part has the keys from one border on and below the next.
 #[derive(Drop)]
@@ -59,9 +60,7 @@ pub struct Span {
 impl Parts {
     /// Parts, so that a log treats all UIDs of a part alike: cut at the borders of each slot's
     /// mask, and around each UID that a line silences or hears.
-    pub fn of(alloc: Global, lines: &[PackedLine]) -> Result<Parts, AllocError>
-        requires order { IsInOrder (entries lines.now) }
-        requires valid { AreValid (entries lines.now) }
+    pub fn of(alloc: Global, lines: &LogLines) -> Result<Parts, AllocError>
         ensures borders { IfOk result AreBorders }
         ensures cut { IfOk result (λ parts. AreCut parts (entries lines.now)) }
     {
@@ -224,9 +223,7 @@ impl Parts {
 }
 
 /// The borders that the lines of a log need, in no order.
-fn gather(alloc: Global, lines: &[PackedLine]) -> Result<Gathered, AllocError>
-    requires order { IsInOrder (entries lines.now) }
-    requires valid { AreValid (entries lines.now) }
+fn gather(alloc: Global, lines: &LogLines) -> Result<Gathered, AllocError>
     ensures cut { IfOk result (λ bs. (i : ℕ) → i < length (entries lines.now)
         → HasCuts (entries lines.now) bs i) }
     ensures borders { IfOk result (λ bs. All IsBorder bs) }
@@ -238,7 +235,7 @@ fn gather(alloc: Global, lines: &[PackedLine]) -> Result<Gathered, AllocError>
     let mut cursor = RoundCursor::first();
     let mut sixteen = false;
     for index in 0..end {
-        let entry = lines[index].item();
+        let entry = lines.entry(index);
         push_mask(&mut borders, &cursor, &entry, asks_for_end(&entry, sixteen))?;
         push_named(&mut borders, &entry, asks_for_own(&entry, sixteen))?;
         sixteen = has_sixteen(sixteen, &entry);

@@ -5,7 +5,7 @@ ghost use Rattle.vic_frame.specs.LowBitsFirst.{mirror};
 ghost use Rattle.vic_frame.specs.Uids.{IsUid, has};
 ghost use Rattle.vic_log.specs.declared.entry.Entry.{Entry as EntryValue};
 ghost use Rattle.vic_log.specs.OpenRounds.{IsCursorAt};
-ghost use Rattle.vic_log.specs.Order.{IsRisingFrom, IsInOrder, AreValid, entries};
+ghost use Rattle.vic_log.specs.Order.{entries};
 ghost use Rattle.vic_log.specs.Rounds.{is_slot};
 ghost use Rattle.vic_log.specs.declared.entry.Entry.TheVariants.{Sent};
 ghost use Rattle.vic_walk.specs.Borders.{AreBorders, part_count};
@@ -17,13 +17,14 @@ ghost use Rattle.vic_walk.specs.Spans.{is_within, IsSpanAt, IsPlace};
 ghost use Rattle.vic_walk.specs.inner.Ruled.{is_other, HasLost, IsRuledOut};
 
 use crate::hints::{Hints, Near};
+use crate::lines::LogLines;
 use crate::listing::list_start;
 use crate::marks::Marks;
 use crate::parts::{Parts, Span};
 use std::alloc::{AllocError, Global};
 use vic_frame::low_bits_first::key;
 use vic_frame::{Request, Uid};
-use vic_log::{Entry, PackedLine, RoundCursor};
+use vic_log::{Entry, RoundCursor};
 
 /// What a walk over the first entries of a log knows of its parts.
 #[derive(Drop)]
@@ -251,33 +252,21 @@ pub fn span_of(parts: &Parts, rounds: &RoundCursor, near: Near) -> Span
     }
 }
 
-/// The entry of a line. By clause `number` a proof sees that positions fit 32 bits, since the
-/// numbers of lines rise.
-fn entry_of(line: PackedLine) -> Entry
-    ensures value { result ≡ line.item }
-    ensures number { line.number < 2 ^ 32 }
-{
-    line.item()
-}
-
 /// The walk over the entries of a log, whose parts are given: up to its end, or past the first
 /// entry with which the replies aren't borne out, whose position is returned.
 fn walk_over(
     alloc: Global,
-    lines: &[PackedLine],
+    lines: &LogLines,
     parts: &Parts,
 ) -> Result<(Walk, Option<usize>), AllocError>
-    requires order { IsInOrder (entries lines.now) }
-    requires valid { AreValid (entries lines.now) }
-    requires rising { IsRisingFrom 0 lines.now }
-    requires cut { AreCut parts.now (entries lines.now) }
+    requires { AreCut parts.now (entries lines.now) }
     ensures { IfOk result (λ r. IsEndOfWalk parts.now (entries lines.now) r.1 r.0) }
 {
     let mut walk = Walk::start(alloc, parts.count())?;
     let mut rounds = RoundCursor::first();
     let mut hints = Hints::first();
     for index in 0..list_start(lines) {
-        let entry = entry_of(lines[index]);
+        let entry = lines.entry(index);
         let near = hints.next(parts.hints(), &entry);
         if !walk.pass(parts, &rounds, near, (index + 1) as u32, &entry)? {
             return Ok((walk, Some(index)));
@@ -302,10 +291,7 @@ pub struct LogWalk {
 }
 
 /// The walk over a log: to its end, or past the first entry with which a reply isn't borne out.
-pub fn walk_log(alloc: Global, lines: &[PackedLine]) -> Result<LogWalk, AllocError>
-    requires order { IsInOrder (entries lines.now) }
-    requires valid { AreValid (entries lines.now) }
-    requires rising { IsRisingFrom 0 lines.now }
+pub fn walk_log(alloc: Global, lines: &LogLines) -> Result<LogWalk, AllocError>
     ensures { IfOk result (IsWalkOver (entries lines.now)) }
 {
     let parts = Parts::of(alloc, lines)?;

@@ -2,7 +2,7 @@ use Rattle.vic_margin.proofs.Words.{arith, ap, refl, sym, length, ◌≡◌, ◌
 use Rattle.std.proofs.lemmas.Option.{slice_get_read}
 use Rattle.vic_log.specs.Order.{entries}
 use Rattle.vic_verdict.proofs.Listing.{number_above}
-use Rattle.vic_verdict.proofs.Verdicts.{first_lines}
+use Rattle.vic_walk.proofs.LineLaws.{first_lines}
 use Rattle.vic_margin.proofs.Places.{entry_at, entries_long, few_parts}
 use Rattle.vic_margin.proofs.margins.part_margins.Goals as goal
 

@@ -1,7 +1,6 @@
-use Rattle.vic_walk.proofs.Words.{Some, Entry, arith, ap, cases_lt, inl, inr, sym, ◌∙◌, ◌≡◌, slice_get}
+use Rattle.vic_walk.proofs.Words.{Some, arith, cases_lt, inl, inr, ◌≡◌, slice_get}
 use Rattle.vic_log.specs.Order.{entries}
 use Rattle.vic_walk.proofs.CutLaws.{all_cuts, cuts_here, more_again}
-use Rattle.vic_walk.proofs.Lines.{entry_at}
 use Rattle.vic_walk.proofs.ListLaws.{cuts_past}
 use Rattle.vic_walk.proofs.parts.gather.Goals as goal
 
@@ -23,10 +22,10 @@ loop-index-preserved c =
     let masked = c.in_ok-push_mask.ensures in
     let named = c.in_ok-push_named.ensures in
     let more = more_again _ _ _ masked.more named.more in
-    let here : slice_get es l.index ≡ Some c.item-entry.result = entry_at lines l.index c.index-lines-index.result (omega (arith, c.loop-index-test.true, c.list_start-end.ensures.within)) c.index-lines-index.is ∙ ap (λ (e : Entry). Some e) (sym c.item-entry.ensures) in
+    let here : slice_get es l.index ≡ Some c.entry-entry.result = c.entry-entry.ensures.here in
     record {
-      cursor = c.advance.ensures es l.index c.requires.order here i.cursor;
-      cut = all_cuts es l.index _ _ more i.cut (cuts_here es l.index _ _ _ here (masked.mask es l.index c.requires.valid i.cursor) named.more named.named);
+      cursor = c.advance.ensures es l.index c.entry-entry.ensures.log.order here i.cursor;
+      cut = all_cuts es l.index _ _ more i.cut (cuts_here es l.index _ _ _ here (masked.mask es l.index c.entry-entry.ensures.log.valid i.cursor) named.more named.named);
       borders = more.borders i.borders;
       first = more.kept _ i.first;
       end = more.kept _ i.end;

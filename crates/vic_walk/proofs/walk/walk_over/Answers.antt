@@ -1,8 +1,7 @@
-use Rattle.vic_walk.proofs.Words.{◌≡◌, ◌∙◌, Some, Entry, add-one, ap, arith, nat_tests, slice_get_within, false≢true, length, refl, slice_get_read, sym, length-map}
+use Rattle.vic_walk.proofs.Words.{◌≡◌, add-one, arith, nat_tests, slice_get_within, false≢true, refl, sym, length-map}
 use Rattle.vic_log.specs.declared.entry.LogLine.{LogLine}
 use Rattle.vic_walk.specs.Spans.{IsPlace}
 use Rattle.vic_log.specs.Order.{entries}
-use Rattle.vic_walk.proofs.Lines.{entry_at, number_above}
 use Rattle.vic_walk.proofs.ListLaws.{walk_at_list}
 use Rattle.vic_walk.proofs.walk.walk_over.Goals as goal
 
@@ -13,20 +12,14 @@ loop-index-init c = record {
   borne = record { answer = λ j u below. absurd (omega arith); openness = λ u heard. absurd (false≢true heard) };
 }
 
-pub overflow_cast-index : goal.overflow_cast-index
-overflow_cast-index c =
-    let i = c.loop-index.index in
-    let at = slice_get_read c.args.lines.now (length c.args.lines.now) i c.index-lines-index.result refl (omega (arith, c.loop-index-test.true, c.list_start-index-end.ensures.within)) c.index-lines-index.is in
-    omega (arith, number_above 0 c.args.lines.now i c.index-lines-index.result c.requires.rising at, c.entry_of-entry.ensures.number)
-
 pub returns-then-not-branch : goal.returns-then-not-branch
 returns-then-not-branch c =
     let es = entries c.args.lines.now in
     let l = c.loop-index in
-    let here = entry_at c.args.lines.now l.index c.index-lines-index.result (omega (arith, c.loop-index-test.true, c.list_start-index-end.ensures.within)) c.index-lines-index.is ∙ ap (λ (e : Entry). Some e) (sym c.entry_of-entry.ensures.value) in
-    let place : IsPlace c.args.parts.now es l.index c.entry_of-entry.result l.rounds = record { here = here; valid = c.requires.valid; rounds_here = l.invariant.rounds; borders = c.count.ensures.borders; cut = c.requires.cut } in
+    let here = c.entry-entry.ensures.here in
+    let place : IsPlace c.args.parts.now es l.index c.entry-entry.result l.rounds = record { here = here; valid = c.entry-entry.ensures.log.valid; rounds_here = l.invariant.rounds; borders = c.count.ensures.borders; cut = c.requires } in
     let fine = c.in_ok-pass.ensures.fine es l.index place l.invariant.walk l.invariant.borne in (
-      slice_get_within es l.index c.entry_of-entry.result here,
+      slice_get_within es l.index c.entry-entry.result here,
       rw (← add-one) (c.in_ok-pass.ensures.walk es l.index refl place l.invariant.walk),
       l.invariant.borne,
       λ b. let yes_fine = fine.1 (rw add-one b) in let no_fine = c.if-not-branch.true in grind (arith, nat_tests),
@@ -36,12 +29,12 @@ pub loop-index-preserved : goal.loop-index-preserved
 loop-index-preserved c =
     let es = entries c.args.lines.now in
     let l = c.loop-index in
-    let here = entry_at c.args.lines.now l.index c.index-lines-index.result (omega (arith, c.loop-index-test.true, c.list_start-index-end.ensures.within)) c.index-lines-index.is ∙ ap (λ (e : Entry). Some e) (sym c.entry_of-entry.ensures.value) in
-    let place : IsPlace c.args.parts.now es l.index c.entry_of-entry.result l.rounds = record { here = here; valid = c.requires.valid; rounds_here = l.invariant.rounds; borders = c.count.ensures.borders; cut = c.requires.cut } in
+    let here = c.entry-entry.ensures.here in
+    let place : IsPlace c.args.parts.now es l.index c.entry-entry.result l.rounds = record { here = here; valid = c.entry-entry.ensures.log.valid; rounds_here = l.invariant.rounds; borders = c.count.ensures.borders; cut = c.requires } in
     let fine = c.in_ok-pass.ensures.fine es l.index place l.invariant.walk l.invariant.borne in
     record {
       walk = c.in_ok-pass.ensures.walk es l.index refl place l.invariant.walk;
-      rounds = c.advance.ensures es l.index c.requires.order here l.invariant.rounds;
+      rounds = c.advance.ensures es l.index c.entry-entry.ensures.log.order here l.invariant.rounds;
       borne = fine.0 (let it = c.if-not-branch.false in grind (arith, nat_tests));
     }
 
