@@ -1,11 +1,10 @@
 //! Parts: the keys, divided at borders, so that a log treats all UIDs of a part alike.
 
-ghost use Rattle.std.specs.Prelude.{◌≡◌, ℕ, ◌+◌, ◌-◌, ◌^◌, ◌<◌, ◌≤◌, ◌&&◌, true, Some, List, IfOk, IfSome, OnOk, length, nat_le, nat_lt, slice_index};
-ghost use Rattle.std.specs.List.{All, Contains};
+ghost use Rattle.std.specs.Prelude.{◌≡◌, ℕ, ◌+◌, ◌-◌, ◌<◌, ◌≤◌, ◌&&◌, true, Some, List, IfOk, IfSome, OnOk, length, nat_le, nat_lt, slice_index};
+ghost use Rattle.std.specs.List.{Contains};
 ghost use Rattle.std.specs.List.Sorted.{IsStrictlyIncreasing};
 ghost use Rattle.vic_frame.specs.Uids.{IsUid};
 ghost use Rattle.vic_frame.specs.LowBitsFirst.{IsBlock, IsKey, is_in_block};
-ghost use Rattle.vic_frame.specs.declared.uid.TheConstants.{UID_BITS};
 ghost use Rattle.vic_log.specs.declared.entry.Entry.{Entry as EntryValue};
 ghost use Rattle.vic_log.specs.OpenRounds.{IsCursorAt};
 ghost use Rattle.vic_log.specs.Order.{AreValid, entries};
@@ -224,11 +223,8 @@ impl Parts {
 
 /// The borders that the lines of a log need, in no order.
 fn gather(alloc: Global, lines: &LogLines) -> Result<Gathered, AllocError>
-    ensures cut { IfOk result (λ bs. (i : ℕ) → i < length (entries lines.now)
+    ensures { IfOk result (λ bs. (i : ℕ) → i < length (entries lines.now)
         → HasCuts (entries lines.now) bs i) }
-    ensures borders { IfOk result (λ bs. All IsBorder bs) }
-    ensures first { IfOk result (λ bs. Contains bs 0) }
-    ensures end { IfOk result (λ bs. Contains bs (2 ^ UID_BITS)) }
 {
     let end = list_start(lines);
     let mut borders = Gathered::new(alloc, end.saturating_add(end))?;

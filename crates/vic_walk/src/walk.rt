@@ -1,6 +1,6 @@
 //! The walk over the entries of a log: what becomes of each part.
 
-ghost use Rattle.std.specs.Prelude.{◌≡◌, ◌↔◌, ◌+◌, ◌^◌, ℕ, ◌<◌, ◌≤◌, ◌==◌, ◌&&◌, ◌||◌, not, true, false, Bool, IfOk, OnOk, List, Some, length, nat_le, nat_lt, slice_get, slice_index, if◌then◌else◌};
+ghost use Rattle.std.specs.Prelude.{◌≡◌, ◌↔◌, ◌+◌, ℕ, ◌<◌, ◌≤◌, ◌==◌, ◌&&◌, ◌||◌, not, true, false, Bool, IfOk, OnOk, List, Some, length, nat_le, nat_lt, slice_get, slice_index, if◌then◌else◌};
 ghost use Rattle.vic_frame.specs.LowBitsFirst.{mirror};
 ghost use Rattle.vic_frame.specs.Uids.{IsUid, has};
 ghost use Rattle.vic_log.specs.declared.entry.Entry.{Entry as EntryValue};
@@ -11,7 +11,7 @@ ghost use Rattle.vic_log.specs.declared.entry.Entry.TheVariants.{Sent};
 ghost use Rattle.vic_walk.specs.Borders.{AreBorders, part_count};
 ghost use Rattle.vic_walk.specs.Cuts.{AreCut};
 ghost use Rattle.vic_walk.specs.Marked.{is_marked};
-ghost use Rattle.vic_walk.specs.Walk.{HasRoom, IsWalkAt, IsEndOfWalk, IsWalkOver, AreBorneOut};
+ghost use Rattle.vic_walk.specs.Walk.{HasRoom, IsWalkAt, IsWalkOver, AreBorneOut};
 ghost use Rattle.vic_walk.specs.inner.Ready.{IsReadyAt};
 ghost use Rattle.vic_walk.specs.Spans.{is_within, IsSpanAt, IsPlace};
 ghost use Rattle.vic_walk.specs.inner.Ruled.{is_other, HasLost, IsRuledOut};
@@ -252,30 +252,6 @@ pub fn span_of(parts: &Parts, rounds: &RoundCursor, near: Near) -> Span
     }
 }
 
-/// The walk over the entries of a log, whose parts are given: up to its end, or past the first
-/// entry with which the replies aren't borne out, whose position is returned.
-fn walk_over(
-    alloc: Global,
-    lines: &LogLines,
-    parts: &Parts,
-) -> Result<(Walk, Option<usize>), AllocError>
-    requires { AreCut parts.now (entries lines.now) }
-    ensures { IfOk result (λ r. IsEndOfWalk parts.now (entries lines.now) r.1 r.0) }
-{
-    let mut walk = Walk::start(alloc, parts.count())?;
-    let mut rounds = RoundCursor::first();
-    let mut hints = Hints::first();
-    for index in 0..list_start(lines) {
-        let entry = lines.entry(index);
-        let near = hints.next(parts.hints(), &entry);
-        if !walk.pass(parts, &rounds, near, (index + 1) as u32, &entry)? {
-            return Ok((walk, Some(index)));
-        }
-        rounds.advance(&entry);
-    }
-    Ok((walk, None))
-}
-
 /// The parts of a log, and what a walk over it knows of them.
 #[derive(Drop)]
 pub struct LogWalk {
@@ -295,10 +271,24 @@ pub fn walk_log(alloc: Global, lines: &LogLines) -> Result<LogWalk, AllocError>
     ensures { IfOk result (IsWalkOver (entries lines.now)) }
 {
     let parts = Parts::of(alloc, lines)?;
-    let (walk, broken) = walk_over(alloc, lines, &parts)?;
+    let mut walk = Walk::start(alloc, parts.count())?;
+    let mut rounds = RoundCursor::first();
+    let mut hints = Hints::first();
+    for index in 0..list_start(lines) {
+        let entry = lines.entry(index);
+        let near = hints.next(parts.hints(), &entry);
+        if !walk.pass(&parts, &rounds, near, (index + 1) as u32, &entry)? {
+            return Ok(LogWalk {
+                parts,
+                walk,
+                broken: Some(index),
+            });
+        }
+        rounds.advance(&entry);
+    }
     Ok(LogWalk {
         parts,
         walk,
-        broken,
+        broken: None,
     })
 }

@@ -8,9 +8,6 @@ pub loop-index-init : goal.loop-index-init
 loop-index-init c = record {
   cursor = c.first-cursor.ensures (entries c.args.lines.now);
   cut = λ i lt. absurd (omega (arith, lt));
-  borders = c.in_ok-borders.ensures.borders;
-  first = c.in_ok-borders.ensures.first;
-  end = c.in_ok-borders.ensures.end;
 }
 
 pub loop-index-preserved : goal.loop-index-preserved
@@ -26,13 +23,10 @@ loop-index-preserved c =
     record {
       cursor = c.advance.ensures es l.index c.entry-entry.ensures.log.order here i.cursor;
       cut = all_cuts es l.index _ _ more i.cut (cuts_here es l.index _ _ _ here (masked.mask es l.index c.entry-entry.ensures.log.valid i.cursor) named.more named.named);
-      borders = more.borders i.borders;
-      first = more.kept _ i.first;
-      end = more.kept _ i.end;
     }
 
-pub returns-clause-cut : goal.returns-clause-cut
-returns-clause-cut c i within = elim (cases_lt i c.loop-index.index) [
+pub returns : goal.returns
+returns c i within = elim (cases_lt i c.loop-index.index) [
   | inl before ↦ c.loop-index.invariant.cut i before
   | inr past ↦ cuts_past (entries c.args.lines.now) _ c.list_start-end.result i c.list_start-end.ensures.list (omega (arith, past, c.loop-index-test.false))
 ]
