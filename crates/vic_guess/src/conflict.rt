@@ -1,26 +1,22 @@
 //! A guess at the lines of a conflict, none of which can be left out.
 
 ghost use Rattle.std.specs.Prelude.{◌≤◌, IfSome, length};
-ghost use Rattle.vic_log.specs.Order.{AreValid, IsInOrder, IsRisingFrom, entries};
 
 use crate::steps::{Step, steps_of};
 use crate::waiting::Waiting;
 use std::alloc::{AllocError, Global};
 use vic_log::PackedLine;
-use vic_walk::{Answering, LogWalk, Parts, Span, open_answers, walk_log};
+use vic_walk::{Answering, LogLines, LogWalk, Parts, Span, open_answers, walk_log};
 
 /// A guess at lines that contradict each other, in a log that became impossible with its last line:
 /// that one, and as few of those before it as needed. Their numbers, in no order.
-pub fn guess_conflict(alloc: Global, lines: &[PackedLine]) -> Result<Vec<u32>, AllocError>
-    requires order { IsInOrder (entries lines.now) }
-    requires valid { AreValid (entries lines.now) }
-    requires rising { IsRisingFrom 0 lines.now }
-{
+pub fn guess_conflict(alloc: Global, log: &LogLines) -> Result<Vec<u32>, AllocError> {
     let LogWalk {
         parts,
         mut walk,
         broken,
-    } = walk_log(alloc, lines)?;
+    } = walk_log(alloc, log)?;
+    let lines = log.as_slice();
     let steps = steps_of(alloc, lines, &parts)?;
     let mut numbers = match broken {
         Some(_) => match other_line(lines, &steps, &walk.ends) {
@@ -28,7 +24,7 @@ pub fn guess_conflict(alloc: Global, lines: &[PackedLine]) -> Result<Vec<u32>, A
             None => Vec::new(alloc),
         },
         None => {
-            let found = open_answers(alloc, lines, &parts, &mut walk)?;
+            let found = open_answers(alloc, log, &parts, &mut walk)?;
             lines_of_lack(alloc, lines, &steps, &parts, &found)?
         }
     };

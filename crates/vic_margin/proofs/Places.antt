@@ -1,16 +1,11 @@
 -- Lines of a log, and how many parts there are.
-use Rattle.vic_margin.proofs.Words.{◌≡◌, ℕ, zero, suc, ◌+◌, ◌-◌, ◌^◌, ◌<◌, ◌≤◌, ◌∙◌, List, Some, length, get_or, refl, ap, arith, slice_get, slice_index, length-map, cases_lt, inl, inr, AreBorders, part_count}
-use Rattle.std.proofs.Common.{map, option_map, sym, take, [], ◌++◌, ◌∷◌}
+use Rattle.vic_margin.proofs.Words.{◌≡◌, ℕ, zero, suc, ◌+◌, ◌-◌, ◌^◌, ◌<◌, ◌≤◌, ◌∙◌, List, length, get_or, ap, arith, slice_index, length-map, cases_lt, inl, inr, AreBorders, part_count}
+use Rattle.std.proofs.Common.{map, sym, take, [], ◌++◌, ◌∷◌}
 use Rattle.std.proofs.lemmas.List.{map-append, take_more}
 use Rattle.std.proofs.lemmas.Map.Keys.{below_from_sorted, sorted_from_strictly_increasing}
-use Rattle.std.proofs.lemmas.Option.{slice_get-map, slice_get_read}
 use Rattle.std.specs.List.Sorted.{IsStrictlyIncreasing}
 use Rattle.vic_log.specs.Order.{entries}
 use Rattle.vic_log.specs.declared.entry.LogLine.{LogLine}
-
-pub entry_at : (lines : List LogLine) (i : ℕ) (l : LogLine) → i < length lines → l ≡ get_or lines i l → slice_get (entries lines) i ≡ Some l.item
-entry_at lines i l h e =
-    slice_get-map (λ (x : LogLine). x.item) lines i ∙ ap (option_map (λ (x : LogLine). x.item)) (slice_get_read lines (length lines) i l refl h e)
 
 pub entries_long : (lines : List LogLine) → length (entries lines) ≡ length lines
 entries_long lines = length-map lines (λ (l : LogLine). l.item)

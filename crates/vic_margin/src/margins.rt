@@ -1,6 +1,6 @@
 //! The margins of UIDs.
 
-ghost use Rattle.std.specs.Prelude.{◌≡◌, ◌<◌, ◌^◌, IfOk, length, map};
+ghost use Rattle.std.specs.Prelude.{◌≡◌, IfOk, length, map};
 ghost use Rattle.std.proofs.Props.{props};
 ghost use Rattle.vic_log.specs.Order.{entries};
 ghost use Rattle.vic_walk.specs.Borders.{AreBorders, part_count};
@@ -12,8 +12,8 @@ use crate::tally::Tally;
 use std::alloc::{AllocError, Global};
 use vic_frame::Uid;
 use vic_frame::low_bits_first::key;
-use vic_log::{Entry, Log, PackedLine, RoundCursor};
-use vic_walk::{Hints, Parts};
+use vic_log::{Log, RoundCursor};
+use vic_walk::{Hints, LogLines, Parts};
 
 /// The parts of the keys, and the margin of the UIDs of each.
 #[derive(Drop)]
@@ -29,7 +29,7 @@ pub(crate) struct PartMargins {
 pub fn overlooked(alloc: Global, log: &Log, uids: &[Uid]) -> Result<Vec<u32>, AllocError>
     ensures { IfOk result (λ v. v.items ≡ map (margin_of (entries log.now.lines)) uids.now) }
 {
-    let parts = Parts::of(alloc, log.lines())?.indexed(alloc)?;
+    let parts = Parts::of(alloc, &LogLines::of(log))?.indexed(alloc)?;
     let margins = part_margins(alloc, log, parts)?;
     let mut found = Vec::with_capacity(alloc, uids.len())?;
     for uid in uids {
@@ -44,29 +44,19 @@ pub(crate) fn part_margins(
     log: &Log,
     parts: Parts,
 ) -> Result<PartMargins, AllocError>
-    requires borders { AreBorders parts }
-    requires cut { AreCut parts (entries log.now.lines) }
+    requires { AreCut parts (entries log.now.lines) }
     ensures { IfOk result (λ m. AreMargins m.parts (entries log.now.lines) m.each.items) }
 {
-    let lines = log.lines();
+    let lines = LogLines::of(log);
     let mut tally = Tally::start(alloc, parts.count())?;
     let mut rounds = RoundCursor::first();
     let mut hints = Hints::first();
-    for line in lines {
-        let entry = entry_of(*line);
+    for index in 0..lines.len() {
+        let entry = lines.entry(index);
         let near = hints.next(parts.hints(), &entry);
         tally.pass(&parts, &rounds, near, &entry);
         rounds.advance(&entry);
     }
     let each = tally.margins();
     Ok(PartMargins { parts, each })
-}
-
-/// The entry of a line. By clause `number` a proof sees that positions fit 32 bits, since the
-/// numbers of lines rise.
-fn entry_of(line: PackedLine) -> Entry
-    ensures value { result ≡ line.item }
-    ensures number { line.number < 2 ^ 32 }
-{
-    line.item()
 }

@@ -117,10 +117,9 @@ impl Tally {
 
     /// Makes the part of the UID Quiet that a request silences, if it silences one.
     fn pass_request(&mut self, parts: &Parts, near: Near, request: &Request)
-        requires borders { AreBorders parts.now }
-        requires room { length self.old.rest.items ≡ part_count parts.now }
+        requires { length self.old.rest.items ≡ part_count parts.now }
         ensures { (es : List EntryValue) (i : ℕ) → slice_get es i ≡ Some (Sent request.now)
-            → AreCut parts.now es → IsTallyAt parts.now es i self.old
+            → AreBorders parts.now → AreCut parts.now es → IsTallyAt parts.now es i self.old
             → IsTallyAt parts.now es (i + 1) self.new }
     {
         match *request {
@@ -136,7 +135,6 @@ impl Tally {
 
     /// Takes the tally past an entry.
     pub(crate) fn pass(&mut self, parts: &Parts, rounds: &RoundCursor, near: Near, entry: &Entry)
-        requires borders { AreBorders parts.now }
         requires room { length self.old.rest.items ≡ part_count parts.now }
         requires few { self.old.counts.raised + 1 < 2 ^ 32 }
         ensures { (es : List EntryValue) (i : ℕ) → IsPlace parts.now es i entry.now rounds.now

@@ -3,7 +3,6 @@
 ghost use Rattle.std.specs.Prelude.{IfOk, MatchOption};
 ghost use Rattle.vic_log.specs.Order.{entries};
 ghost use Rattle.vic_tree.specs.Ranges.{is_open_in};
-ghost use Rattle.vic_walk.specs.Borders.{AreBorders};
 ghost use Rattle.vic_walk.specs.Cuts.{AreCut};
 ghost use Rattle.vic_verdict.specs.Facts.{IsTold};
 ghost use Rattle.vic_verdict.specs.Possible.{IsPossible};
@@ -27,15 +26,14 @@ pub fn margin(alloc: Global, log: &Log) -> Result<Margin, AllocError>
         (IsPossible (entries log.now.lines) → ⊥)
         (λ w. IsPossible (entries log.now.lines) × IsWeakest (entries log.now.lines) w)) }
 {
-    let lines = log.lines();
-    match facts_and_parts_of::<RangeSet>(alloc, lines)? {
+    match facts_and_parts_of::<RangeSet>(alloc, log)? {
         Ok((facts, parts)) => {
             let Facts {
                 open,
                 met: _,
                 certain,
             } = facts;
-            let verdict = first_finding(alloc, open, &certain, lines)?;
+            let verdict = first_finding(alloc, open, &certain, log)?;
             let weakest = weakest_by(alloc, log, parts, &verdict)?;
             Ok(Margin {
                 verdict,
@@ -57,7 +55,6 @@ fn weakest_by(
     parts: Parts,
     verdict: &Verdict,
 ) -> Result<Weakest, AllocError>
-    requires borders { AreBorders parts }
     requires cut { AreCut parts (entries log.now.lines) }
     requires verdict { IsVerdict log.now.lines verdict.now }
     ensures { IfOk result (IsWeakest (entries log.now.lines)) }
@@ -78,8 +75,7 @@ fn weakest_by(
 
 /// The margin of the lines of a log, and the first mask of UIDs that have it.
 fn weakest_of(alloc: Global, log: &Log, parts: Parts) -> Result<Weakest, AllocError>
-    requires borders { AreBorders parts }
-    requires cut { AreCut parts (entries log.now.lines) }
+    requires { AreCut parts (entries log.now.lines) }
     ensures { IfOk result (IsWeakest (entries log.now.lines)) }
 {
     let margins = part_margins(alloc, log, parts)?;

@@ -36,7 +36,7 @@ pub use Rattle.vic_verdict.proofs.Failing.{head_least, list_as, member_at, none_
 pub use Rattle.vic_verdict.proofs.Masks.{IsUid-in, lies_in-uid_in, mask_of, mask_of-alone, mask_of-value, uid_in}
 pub use Rattle.vic_verdict.proofs.Populations.{MustHave-cases, MustHave-iff, population_without}
 pub use Rattle.vic_verdict.proofs.Possibility.{IsCertainUid-slots, IsPossible-slots}
-pub use Rattle.vic_verdict.proofs.Verdicts.{first_lines, possible_to}
+pub use Rattle.vic_verdict.proofs.Verdicts.{possible_to}
 pub use Rattle.vic_verdict.specs.Differences.{AreDifferences, IsLeftOpen}
 pub use Rattle.vic_verdict.specs.Keys.{AreKeysOf}
 pub use Rattle.vic_verdict.specs.Possible.{IsPossible}

@@ -8,7 +8,6 @@ ghost use Rattle.vic_tree.specs.Ranges.{is_open_in};
 ghost use Rattle.vic_log.specs.Order.{entries, listed};
 ghost use Rattle.vic_log.specs.declared.entry.LogLine.{LogLine as LogLineValue};
 ghost use Rattle.vic_verdict.specs.Facts.{AreFactsOf};
-ghost use Rattle.vic_verdict.specs.LogLines.{AreLogLines};
 ghost use Rattle.vic_verdict.specs.Rising.{IsListOf};
 ghost use Rattle.vic_verdict.specs.Verdict.{IsVerdict};
 ghost use Rattle.vic_verdict.specs.declared.judging.Verdict.TheVariants.{Impossible};
@@ -41,7 +40,7 @@ impl Reconciliation {
         Ok(Ok(Reconciliation {
             alloc,
             expected: listed_uids(alloc, lines)?,
-            count: count_listed(lines),
+            count: count_listed(list),
             certain: BTreeMap::new(alloc),
             left: Vec::new(alloc),
         }))
@@ -85,22 +84,8 @@ impl Reconciliation {
         ensures kept { OnErr result ((expected : List ℕ) (logs : List (List LogLineValue))
             → IsJoined expected logs self.old → IsJoined expected logs self.new) }
     {
-        self.add_lines(log.lines())
-    }
-
-    /// Joins what the lines of a log tell.
-    fn add_lines(&mut self, lines: &[PackedLine]) -> Result<Option<u32>, AllocError>
-        requires { AreLogLines lines.now }
-        ensures joined { IfOk result (λ r. IfNone r ((expected : List ℕ)
-            (logs : List (List LogLineValue)) → IsJoined expected logs self.old
-            → IsJoined expected (logs ++ lines.now ∷ []) self.new)) }
-        ensures impossible { IfOk result (λ r. IfSome r (λ n.
-            IsVerdict lines.now (Impossible n))) }
-        ensures unchanged { IfOk result (λ r. IfSome r (λ _. self.new ≡ self.old)) }
-        ensures kept { OnErr result ((expected : List ℕ) (logs : List (List LogLineValue))
-            → IsJoined expected logs self.old → IsJoined expected logs self.new) }
-    {
-        match facts_of::<RangeSet>(self.alloc, lines)? {
+        let lines = log.lines();
+        match facts_of::<RangeSet>(self.alloc, log)? {
             Ok(facts) => {
                 self.join(&facts, lines)?;
                 Ok(None)

@@ -7,7 +7,6 @@ ghost use Rattle.vic_tree.specs.Ranges.{is_open_in};
 ghost use Rattle.vic_log.specs.Order.{entries};
 ghost use Rattle.vic_log.specs.declared.entry.LogLine.{LogLine as LogLineValue};
 ghost use Rattle.vic_verdict.specs.Facts.{AreFactsOf};
-ghost use Rattle.vic_verdict.specs.LogLines.{AreLogLines};
 ghost use Rattle.vic_verdict.specs.Rising.{SameMembers};
 ghost use Rattle.vic_reconcile.specs.Families.{IsCertainUid, IsPossibleUid};
 ghost use Rattle.vic_reconcile.specs.Findings.{IsWhole};
@@ -15,7 +14,7 @@ ghost use Rattle.vic_reconcile.specs.Surveys.{AreFindingsBy, AreNoneOf, AreOpenI
 
 use std::alloc::{AllocError, Global};
 use vic_frame::{Mask, Uid};
-use vic_log::{Log, PackedLine};
+use vic_log::Log;
 use vic_tree::RangeSet;
 use vic_tree::rising::put_in_order;
 use vic_verdict::{Facts, Verdict, compare, facts_of, first_finding, keys_in_order, missing_from};
@@ -36,7 +35,14 @@ impl Survey {
     pub fn of_log(alloc: Global, log: &Log) -> Result<Survey, AllocError>
         ensures { IfOk result (IsSurvey log.now.lines) }
     {
-        survey_lines(alloc, log.lines())
+        match facts_of::<RangeSet>(alloc, log)? {
+            Ok(facts) => survey_facts(alloc, facts, log),
+            Err(line) => Ok(Survey {
+                verdict: Verdict::Impossible { line },
+                certain: Vec::new(alloc),
+                left: RangeSet::of_masks(alloc, &[])?,
+            }),
+        }
     }
 
     /// All open masks of the log: by length, then by value.
@@ -48,31 +54,11 @@ impl Survey {
     }
 }
 
-/// The survey of the lines of a log.
-fn survey_lines(alloc: Global, lines: &[PackedLine]) -> Result<Survey, AllocError>
-    requires { AreLogLines lines.now }
-    ensures { IfOk result (IsSurvey lines.now) }
-{
-    match facts_of::<RangeSet>(alloc, lines)? {
-        Ok(facts) => survey_facts(alloc, facts, lines),
-        Err(line) => Ok(Survey {
-            verdict: Verdict::Impossible { line },
-            certain: Vec::new(alloc),
-            left: RangeSet::of_masks(alloc, &[])?,
-        }),
-    }
-}
-
 /// The survey of a possible log, by what it tells.
-fn survey_facts(
-    alloc: Global,
-    facts: Facts<RangeSet>,
-    lines: &[PackedLine],
-) -> Result<Survey, AllocError>
-    requires lines { AreLogLines lines.now }
-    requires facts { AreFactsOf (entries lines.now) (is_open_in facts.«open») facts.met
+fn survey_facts(alloc: Global, facts: Facts<RangeSet>, log: &Log) -> Result<Survey, AllocError>
+    requires { AreFactsOf (entries log.now.lines) (is_open_in facts.«open») facts.met
         facts.certain.items }
-    ensures { IfOk result (IsSurvey lines.now) }
+    ensures { IfOk result (IsSurvey log.now.lines) }
 {
     let Facts {
         open,
@@ -81,7 +67,7 @@ fn survey_facts(
     } = facts;
     let keys = keys_in_order(alloc, &certain)?;
     let left = open.besides(alloc, &keys)?;
-    let verdict = first_finding(alloc, open, &certain, lines)?;
+    let verdict = first_finding(alloc, open, &certain, log)?;
     Ok(Survey {
         verdict,
         certain,

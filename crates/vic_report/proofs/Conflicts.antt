@@ -1,8 +1,5 @@
 -- Slot lines that no population fits together: all up to the first impossible line; or one reply of a UID that is Quiet there.
-use Rattle.vic_report.proofs.Words.{◌≡◌, ℕ, zero, suc, ◌<◌, ◌≤◌, ◌+◌, ◌-◌, List, [], ◌∷◌, ◌++◌, length, get_or, take, drop, Bool, true, false, cond, Some, refl, sym, ap, ◌∙◌, subst, arith, ⊎_elim, slice_get, nat_le, leb, None, Option, MatchOption, option_map, filter, cases_Bool, leb-true, leb-false, map-append, take-append-drop, All-get_or, filter_passes, slice_get-map, slice_get_within, get_or_from_slice_get, has, Entry, Sent, Heard, Captured, Unknown, hears, tells, eqb-true, Listed, FieldCycle, LogLine, entries, IsRisingFrom, answerers_at, Fits, CouldHaveGiven, is_quiet, FitsLines, IsConflictAt, IsNoQuietReply, IsSilencedBefore, IsSilencedBy, IsSlotLine, IsPossible, entries_to, IsVerdict, place_of, member_at, IsStrictlyIncreasing, agree_upto, answerers_agree, CouldHaveGiven-front, slice_get-append, Impossible, rising_order, cases_eq, true_from_ne_false, get_or_default, slice_get_read, cases_lt, inl, inr, IsNonDecreasingBy, IsPartitionPoint, All, AllPairs, AllPairs-filter, Equal, Greater, HoldsAt, Less, Lone, and_from, and_parts, answers_at, cond_both, false≢true, get_or-map, has_cases, has_here, has_there, le-leb, length-map, map, nat_cmp, nat_tests, not-true, ordering_index, outcome_of, ranked, silenced-quiet, silences, AreSlotLinesTo, ◌&&◌}
-use Rattle.vic_log.proofs.Order.{IsInOrder-front}
-use Rattle.vic_log.specs.Order.{IsInOrder}
-use Rattle.vic_verdict.specs.LogLines.{AreLogLines}
+use Rattle.vic_report.proofs.Words.{◌≡◌, ℕ, zero, suc, ◌<◌, ◌≤◌, ◌+◌, ◌-◌, List, [], ◌∷◌, ◌++◌, length, get_or, Bool, true, false, cond, Some, refl, sym, ap, ◌∙◌, subst, arith, ⊎_elim, slice_get, nat_le, leb, None, Option, MatchOption, option_map, filter, cases_Bool, leb-true, leb-false, map-append, All-get_or, filter_passes, slice_get-map, slice_get_within, get_or_from_slice_get, has, Entry, Sent, Heard, Captured, Unknown, hears, tells, eqb-true, Listed, FieldCycle, LogLine, entries, IsRisingFrom, answerers_at, Fits, CouldHaveGiven, is_quiet, FitsLines, IsConflictAt, IsNoQuietReply, IsSilencedBefore, IsSilencedBy, IsSlotLine, IsPossible, entries_to, IsVerdict, place_of, member_at, IsStrictlyIncreasing, agree_upto, answerers_agree, CouldHaveGiven-front, slice_get-append, Impossible, rising_order, cases_eq, true_from_ne_false, get_or_default, slice_get_read, cases_lt, inl, inr, IsNonDecreasingBy, IsPartitionPoint, All, AllPairs, AllPairs-filter, Equal, Greater, HoldsAt, Less, Lone, and_from, and_parts, answers_at, cond_both, false≢true, get_or-map, has_cases, has_here, has_there, le-leb, length-map, map, nat_cmp, nat_tests, not-true, ordering_index, outcome_of, ranked, silenced-quiet, silences, AreSlotLinesTo, ◌&&◌}
 
 -- ---- the lines 1 to n
 
@@ -108,29 +105,6 @@ last_is_slot lines (suc n) xs r least upto all = true_from_ne_false (has xs (suc
     ) in
     let too_small = least.1 n (λ q. least.0 (possible_stays q)) in
     omega arith)
-
--- ---- the first lines of a log
-
-rising_front : (n k : ℕ) (lines : List LogLine) → IsRisingFrom k lines → IsRisingFrom k (take n lines)
-rising_front zero k lines r = tt
-rising_front (suc n) k [] r = tt
-rising_front (suc n) k (l ∷ lines) r = (r.0, rising_front n l.number lines r.1)
-
--- are those of a log
-pub log_front : (n : ℕ) (lines : List LogLine) → AreLogLines lines → AreLogLines (take n lines)
-log_front n lines log = record {
-  order = IsInOrder-front front rest (subst IsInOrder both log.order);
-  valid = λ i q k. log.valid i q (subst (λ es. slice_get es i ≡ Some (Sent q)) (sym both) (sym (slice_get-append front rest i (slice_get_within front i (Sent q) k)) ∙ k));
-  rising = rising_front n 0 lines log.rising;
-} where
-  front : List Entry
-  front = entries (take n lines)
-
-  rest : List Entry
-  rest = entries (drop n lines)
-
-  both : entries lines ≡ front ++ rest
-  both = ap entries (sym (take-append-drop n lines)) ∙ map-append (λ (l : LogLine). l.item) (take n lines) (drop n lines)
 
 -- ---- the numbers of the slot lines up to n
 

@@ -40,7 +40,7 @@ pub use Rattle.vic_verdict.proofs.Differing.{AreFacts, AreListed, all_findings, 
 pub use Rattle.vic_verdict.proofs.Entries.{entry_allows, forces_one_iff, forces_two_iff, needs_two_or_one, open_step}
 pub use Rattle.vic_verdict.proofs.Failing.{head_least, member_at, none_of, place_of, rising_order}
 pub use Rattle.vic_verdict.proofs.Listing.{entry_at}
-pub use Rattle.vic_verdict.proofs.Verdicts.{first_lines}
+pub use Rattle.vic_walk.proofs.LineLaws.{first_lines}
 pub use Rattle.vic_verdict.specs.Needs.{IsFound}
 pub use Rattle.vic_verdict.specs.Differences.{IsLeftOpen, IsUndecided, MayBeMissing}
 pub use Rattle.vic_verdict.specs.Places.{answering}

@@ -12,7 +12,7 @@ use std::alloc::{AllocError, Global};
 use vic_frame::Uid;
 use vic_frame::low_bits_first::key;
 use vic_log::Log;
-use vic_walk::{LogWalk, walk_log};
+use vic_walk::{LogLines, LogWalk, walk_log};
 
 /// For each of some UIDs that a possible log doesn't leave open, the first line that rules it out.
 pub(crate) fn lines_of_absent(
@@ -31,7 +31,7 @@ pub(crate) fn lines_of_absent(
         return Ok(shown);
     }
     let lines = log.lines();
-    let walked = indexed(alloc, walk_log(alloc, lines)?)?;
+    let walked = indexed(alloc, walk_log(alloc, &LogLines::of(log))?)?;
     for uid in absent {
         // not 0, since the UID isn't open
         let end = walked.walk.ends[walked.parts.at(key(*uid))] as usize;

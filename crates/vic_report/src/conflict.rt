@@ -14,6 +14,7 @@ use std::alloc::{AllocError, Global};
 use vic_guess::guess_conflict;
 use vic_log::{Log, PackedLine};
 use vic_verdict::is_possible;
+use vic_walk::LogLines;
 
 /// The first line up to which no population could have produced a log, and slot lines up to it that
 /// no population fits.
@@ -57,7 +58,7 @@ fn numbers_of_conflict(alloc: Global, log: &Log, last: u32) -> Result<Vec<u32>, 
 {
     let lines = log.lines();
     let count = lines.partition_point(|line| line.number() <= last);
-    let mut guess = guess_conflict(alloc, &lines[..count])?;
+    let mut guess = guess_conflict(alloc, &LogLines::of(log).first(count))?;
     put_numbers_in_order(&mut guess);
     if is_conflict_at(alloc, log, &guess, last)? {
         return Ok(guess);
@@ -87,7 +88,7 @@ fn is_conflict_at(alloc: Global, log: &Log, numbers: &[u32], last: u32) -> Resul
         return Ok(false);
     }
     let kept = kept_lines(alloc, log, numbers)?;
-    Ok(!is_possible(alloc, &kept)?)
+    Ok(!is_possible(alloc, &LogLines::new(&kept))?)
 }
 
 /// Whether each of some numbers is that of a slot line.

@@ -10,7 +10,7 @@ ghost use Rattle.vic_log.specs.Order.{entries, listed, refusal};
 ghost use Rattle.vic_log.specs.Populations.{CouldHaveGiven};
 ghost use Rattle.vic_log.specs.Rounds.{is_slot, mask_at};
 ghost use Rattle.vic_report.specs.Conflicts.{FitsLines};
-ghost use Rattle.vic_verdict.specs.LogLines.{AreLogLines};
+ghost use Rattle.vic_walk.specs.LogLines.{AreLogLines};
 ghost use Rattle.vic_report.specs.inner.KeptLogs.{IsKeptLog, KeepsLine};
 
 use std::alloc::{AllocError, Global};

@@ -44,7 +44,7 @@ impl LogReport {
 pub fn report(alloc: Global, log: &Log) -> Result<LogReport, AllocError>
     ensures { IfOk result (IsReport log.now.lines) }
 {
-    match facts_of::<RangeSet>(alloc, log.lines())? {
+    match facts_of::<RangeSet>(alloc, log)? {
         Ok(facts) => report_facts(alloc, facts, log),
         Err(line) => Ok(LogReport::Impossible(find_conflict(alloc, log, line)?)),
     }
@@ -60,6 +60,6 @@ fn report_facts(alloc: Global, facts: Facts<RangeSet>, log: &Log) -> Result<LogR
     if !findings.is_empty() {
         return Ok(LogReport::NotWhole(findings));
     }
-    let count = count_listed(log.lines());
+    let count = count_listed(log);
     Ok(LogReport::Complete { count })
 }

@@ -1,5 +1,5 @@
 -- Each log has exactly one verdict.
-use Rattle.vic_verdict.proofs.Words.{◌≡◌, ℕ, suc, ◌<◌, ◌≤◌, ◌+◌, ◌^◌, ◌*◌, ◌%◌, ◌/◌, IsAtMost, take, zero, Some, slice_get, sum_by-cons, nat_tests, pow-le-pow_right, List, [], ◌∷◌, length, true, false, refl, sym, ap, subst, arith, inl, inr, ⊎_elim, ◌⊎◌, ◌↔◌, nat_le, filter, le_refl, sum_by, BitMask, Entry, LogLine, Impossible, Complete, lies_in, has, is_uid, IsUid, IsFirstImpossible, IsPossible, IsPossibleUid, IsCertainUid, entries, IsRisingFrom, listed, IsAbsent, IsUnlisted, IsUnsettled, IsDoubtful, IsLeast, IsFirstMask, NoSuch, IsVerdict, is_uid_from, IsUid-from, IsUid-member, entries_to, IsWhole, IsReached, sum_by_more_le, Version, IsLog, AreLogLines, Absent, Unlisted, Unsettled, Doubtful}
+use Rattle.vic_verdict.proofs.Words.{◌≡◌, ℕ, suc, ◌<◌, ◌≤◌, ◌+◌, ◌^◌, ◌*◌, ◌%◌, ◌/◌, IsAtMost, take, zero, Some, slice_get, sum_by-cons, nat_tests, pow-le-pow_right, List, [], ◌∷◌, length, true, false, refl, sym, ap, subst, arith, inl, inr, ⊎_elim, ◌⊎◌, ◌↔◌, nat_le, filter, le_refl, sum_by, BitMask, Entry, LogLine, Impossible, Complete, lies_in, has, is_uid, IsUid, IsFirstImpossible, IsPossible, IsPossibleUid, IsCertainUid, entries, IsRisingFrom, listed, IsAbsent, IsUnlisted, IsUnsettled, IsDoubtful, IsLeast, IsFirstMask, NoSuch, IsVerdict, is_uid_from, IsUid-from, IsUid-member, entries_to, IsWhole, IsReached, sum_by_more_le, Absent, Unlisted, Unsettled, Doubtful}
 use Rattle.vic_verdict.proofs.Failing.{place_of}
 use Rattle.vic_verdict.specs.declared.judging.Verdict.{Verdict}
 use Rattle.vic_verdict.proofs.FirstLines.{first_entries, possible_first, possible_shorter}
@@ -53,15 +53,6 @@ first_impossible lines k low l r g le p n =
 -- so that of the first position up to which they are impossible is
 pub first_line : (lines : List LogLine) (i : ℕ) (l : LogLine) → IsRisingFrom 0 lines → slice_get lines i ≡ Some l → IsFirstImpossible (entries lines) i → IsVerdict lines (Impossible l.number)
 first_line lines i l r g first = first_impossible lines i i l r g (omega arith) (rw first_entries first.before) (λ possible. first.impossible.impossible (rw first_entries at possible))
-
--- numbers that rise above 1 rise above 0
-pub rising_lower : (lines : List LogLine) → IsRisingFrom 1 lines → IsRisingFrom 0 lines
-rising_lower [] r = tt
-rising_lower (l ∷ lines) r = let a = r.0 in (omega arith, r.1)
-
--- the lines of a log are first lines of it
-pub first_lines : (version : Version) (lines : List LogLine) → IsLog version lines → AreLogLines lines
-first_lines version lines log = record { order = log.order; valid = log.valid; rising = rising_lower lines log.rising }
 
 -- ---- at most one verdict
 

@@ -51,7 +51,7 @@ pub use Rattle.vic_verdict.specs.Needs.{AreFound, HasHeard, IsFound, IsFoundAt, 
 pub use Rattle.vic_verdict.specs.Explained.{IsPopulationBehind, IsSmallPopulation}
 pub use Rattle.vic_verdict.specs.Facts.{IsTold}
 pub use Rattle.vic_verdict.specs.Keys.{AreKeysOf}
-pub use Rattle.vic_verdict.specs.LogLines.{AreLogLines}
+pub use Rattle.vic_walk.specs.LogLines.{AreLogLines}
 pub use Rattle.vic_verdict.specs.Places.{answering}
 pub use Rattle.vic_verdict.specs.Possible.{IsCertainUid, IsFirstImpossible, IsPossible, IsPossibleUid}
 pub use Rattle.vic_verdict.specs.Rising.{IsFailing, IsListOf, SameMembers}

@@ -1,4 +1,3 @@
-pub mod LogLines
 pub mod Possible
 pub mod Verdict
 pub mod Versions

@@ -3,7 +3,6 @@
 ghost use Rattle.std.specs.Prelude.{◌≡◌, ◌++◌, ◌∷◌, [], IfOk, OnOk};
 ghost use Rattle.std.specs.List.Sorted.{IsStrictlyIncreasing};
 ghost use Rattle.vic_log.specs.Order.{entries};
-ghost use Rattle.vic_verdict.specs.LogLines.{AreLogLines};
 ghost use Rattle.vic_verdict.specs.Facts.{AreFactsOf};
 ghost use Rattle.vic_verdict.specs.Explained.{IsExplanation};
 ghost use Rattle.vic_verdict.specs.inner.Chosen.{is_other, chosen, chosen_population};
@@ -13,7 +12,7 @@ use crate::facts::{Facts, Met, facts_of};
 use crate::judging::{Verdict, first_finding};
 use std::alloc::{AllocError, Global};
 use vic_frame::Uid;
-use vic_log::{Log, PackedLine};
+use vic_log::Log;
 use vic_tree::rising::put_in_order;
 use vic_tree::{OpenSet, RangeSet};
 use vic_walk::Answering;
@@ -41,16 +40,8 @@ pub fn explain(alloc: Global, log: &Log) -> Result<Explanation, AllocError>
 pub fn explain_with<S: OpenSet>(alloc: Global, log: &Log) -> Result<Explanation, AllocError>
     ensures { IfOk result (IsExplanation log.now.lines) }
 {
-    explain_lines::<S>(alloc, log.lines())
-}
-
-/// The verdict on the lines of a log with a population that shows it.
-fn explain_lines<S: OpenSet>(alloc: Global, lines: &[PackedLine]) -> Result<Explanation, AllocError>
-    requires { AreLogLines lines.now }
-    ensures { IfOk result (IsExplanation lines.now) }
-{
-    match facts_of::<S>(alloc, lines)? {
-        Ok(facts) => explain_facts(alloc, facts, lines),
+    match facts_of::<S>(alloc, log)? {
+        Ok(facts) => explain_facts(alloc, facts, log),
         Err(line) => Ok(Explanation {
             verdict: Verdict::Impossible { line },
             population: None,
@@ -62,15 +53,14 @@ fn explain_lines<S: OpenSet>(alloc: Global, lines: &[PackedLine]) -> Result<Expl
 fn explain_facts<S: OpenSet>(
     alloc: Global,
     facts: Facts<S>,
-    lines: &[PackedLine],
+    log: &Log,
 ) -> Result<Explanation, AllocError>
-    requires lines { AreLogLines lines.now }
-    requires facts { AreFactsOf (entries lines.now) (S.is_open facts.«open») facts.met
+    requires { AreFactsOf (entries log.now.lines) (S.is_open facts.«open») facts.met
         facts.certain.items }
-    ensures { IfOk result (IsExplanation lines.now) }
+    ensures { IfOk result (IsExplanation log.now.lines) }
 {
     let Facts { open, met, certain } = facts;
-    let verdict = first_finding(alloc, open, &certain, lines)?;
+    let verdict = first_finding(alloc, open, &certain, log)?;
     let population = match verdict {
         Verdict::Impossible { .. } | Verdict::Complete { .. } => None,
         Verdict::Absent(_) | Verdict::Unlisted(_) => Some(choose(met, &None)?),

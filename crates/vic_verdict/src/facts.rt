@@ -5,14 +5,14 @@ ghost use Rattle.std.specs.Prelude.{IfOk, MatchResult, ◌≡◌, ◌↔◌, ℕ
 ghost use Rattle.std.specs.List.Sorted.{IsStrictlyIncreasing};
 ghost use Rattle.std.specs.List.{All, Any};
 ghost use Rattle.vic_frame.specs.Uids.{has};
-ghost use Rattle.vic_log.specs.Order.{IsInOrder, entries};
+ghost use Rattle.vic_log.specs.Order.{entries};
 ghost use Rattle.vic_log.specs.declared.entry.Entry.{Entry as EntryValue};
 ghost use Rattle.vic_log.specs.Slots.{slots_of, is_open, IsForcedBy};
 ghost use Rattle.vic_tree.specs.OpenSet.{SameUids};
 ghost use Rattle.vic_walk.specs.Borders.{AreBorders};
 ghost use Rattle.vic_walk.specs.Cuts.{AreCut};
+ghost use Rattle.vic_walk.specs.LogLines.{AreLogLines};
 ghost use Rattle.vic_verdict.specs.Facts.{AreFactsOf};
-ghost use Rattle.vic_verdict.specs.LogLines.{AreLogLines};
 ghost use Rattle.vic_verdict.specs.Possible.{IsFirstImpossible, IsPossible};
 ghost use Rattle.vic_verdict.specs.Needs.{IsMet, IsMetFor, HasHeard};
 ghost use Rattle.vic_verdict.specs.Rising.{Adds, IsListOf};
@@ -24,11 +24,12 @@ ghost use Rattle.vic_verdict.specs.inner.Enough.{HasEnough, LacksSome};
 use std::alloc::{AllocError, Global};
 use vic_frame::Uid;
 use vic_frame::low_bits_first::key;
-use vic_log::{Entry, PackedLine};
+use vic_log::Log;
 use vic_tree::OpenSet;
 use vic_tree::rising::put_in_order;
 use vic_walk::{
-    Answering, LogWalk, Parts, closed_keys, first_lack, list_start, open_answers, walk_log,
+    Answering, LogLines, LogWalk, Parts, closed_keys, first_lack, list_start, open_answers,
+    walk_log,
 };
 
 /// What a possible log tells of the tags: which may be there, and which must.
@@ -52,17 +53,14 @@ pub struct Met {
 }
 
 /// What the lines of a log tell, if some population could have produced them; else the number of
-/// the first line up to which none could.
-pub fn facts_of<S: OpenSet>(
-    alloc: Global,
-    lines: &[PackedLine],
-) -> Result<Result<Facts<S>, u32>, AllocError>
-    requires { AreLogLines lines.now }
-    ensures { IfOk result (λ r. MatchResult r
-        (λ f. AreFactsOf (entries lines.now) (S.is_open f.«open») f.met f.certain.items)
-        (λ n. IsVerdict lines.now (Impossible n))) }
+/// the first line up to which none could. Clause `log` tells a proof what is so of any `Log`.
+pub fn facts_of<S: OpenSet>(alloc: Global, log: &Log) -> Result<Result<Facts<S>, u32>, AllocError>
+    ensures facts { IfOk result (λ r. MatchResult r
+        (λ f. AreFactsOf (entries log.now.lines) (S.is_open f.«open») f.met f.certain.items)
+        (λ n. IsVerdict log.now.lines (Impossible n))) }
+    ensures log { AreLogLines log.now.lines }
 {
-    match facts_and_parts_of::<S>(alloc, lines)? {
+    match facts_and_parts_of::<S>(alloc, log)? {
         Ok((facts, _)) => Ok(Ok(facts)),
         Err(line) => Ok(Err(line)),
     }
@@ -71,22 +69,25 @@ pub fn facts_of<S: OpenSet>(
 /// The same, and the parts by which it was judged.
 pub fn facts_and_parts_of<S: OpenSet>(
     alloc: Global,
-    lines: &[PackedLine],
+    log: &Log,
 ) -> Result<Result<(Facts<S>, Parts), u32>, AllocError>
-    requires { AreLogLines lines.now }
     ensures facts { IfOk result (λ r. MatchResult r
-        (λ p. AreFactsOf (entries lines.now) (S.is_open p.0.«open») p.0.met p.0.certain.items)
-        (λ n. IsVerdict lines.now (Impossible n))) }
+        (λ p. AreFactsOf (entries log.now.lines) (S.is_open p.0.«open») p.0.met p.0.certain.items)
+        (λ n. IsVerdict log.now.lines (Impossible n))) }
     ensures borders { IfOk result (λ r. MatchResult r (λ p. AreBorders p.1) (λ _. ⊤)) }
     ensures cut { IfOk result (λ r. MatchResult r
-        (λ p. AreCut p.1 (entries lines.now)) (λ _. ⊤)) }
+        (λ p. AreCut p.1 (entries log.now.lines)) (λ _. ⊤)) }
+    ensures log { AreLogLines log.now.lines }
 {
-    match open_and_met::<S>(alloc, lines)? {
+    match open_and_met::<S>(alloc, &LogLines::of(log))? {
         Ok((open, met, parts)) => {
             let certain = certain_uids(alloc, &met)?;
             Ok(Ok((Facts { open, met, certain }, parts)))
         }
-        Err(at) => Ok(Err(lines[at].number())),
+        Err(at) => {
+            let lines = log.lines();
+            Ok(Err(lines[at].number()))
+        }
     }
 }
 
@@ -121,9 +122,8 @@ fn add_if_exactly(certain: &mut Vec<Uid>, uids: &[Uid], count: usize) -> Result<
 /// could have produced it; else the position of the first line up to which none could.
 fn open_and_met<S: OpenSet>(
     alloc: Global,
-    lines: &[PackedLine],
+    lines: &LogLines,
 ) -> Result<Result<(S, Met, Parts), usize>, AllocError>
-    requires { AreLogLines lines.now }
     ensures found { IfOk result (λ r. MatchResult r
         (λ p. IsPossible (entries lines.now)
         × SameUids (S.is_open p.0) (is_open (slots_of (entries lines.now)))
@@ -153,8 +153,7 @@ fn open_and_met<S: OpenSet>(
 }
 
 /// Whether some population could have produced a log.
-pub fn is_possible(alloc: Global, lines: &[PackedLine]) -> Result<bool, AllocError>
-    requires { AreLogLines lines.now }
+pub fn is_possible(alloc: Global, lines: &LogLines) -> Result<bool, AllocError>
     ensures { IfOk result (λ b. (b ≡ true) ↔ IsPossible (entries lines.now)) }
 {
     let LogWalk {
@@ -183,13 +182,12 @@ fn are_met(found: &[Answering]) -> bool
 }
 
 /// The UIDs that the slots of a log heard.
-fn heard_uids(alloc: Global, lines: &[PackedLine]) -> Result<Vec<Uid>, AllocError>
-    requires { IsInOrder (entries lines.now) }
+fn heard_uids(alloc: Global, lines: &LogLines) -> Result<Vec<Uid>, AllocError>
     ensures { IfOk result (λ v. HasHeard (entries lines.now) (length lines.now) v.items) }
 {
     let mut heard = Vec::new(alloc);
     for index in 0..list_start(lines) {
-        if let Some(uid) = lines[index].item().heard() {
+        if let Some(uid) = lines.entry(index).heard() {
             heard.push(uid)?;
         }
     }

@@ -4,7 +4,7 @@
 ghost use Rattle.std.specs.Prelude.{◌<◌, ◌^◌, ◌≡◌, ◌++◌, ℕ, false, IfOk, List, ◌≤◌, [], ◌∷◌, if◌then◌else◌, OnOk, length, true};
 ghost use Rattle.std.specs.List.Sorted.{IsNonDecreasing, IsStrictlyIncreasing};
 ghost use Rattle.vic_frame.specs.Uids.{has, IsUid};
-ghost use Rattle.vic_log.specs.Order.{entries, listed, IsRisingFrom};
+ghost use Rattle.vic_log.specs.Order.{entries, listed};
 ghost use Rattle.vic_tree.specs.OpenSet.{AreKeys};
 ghost use Rattle.vic_verdict.specs.Differences.{AreDifferences};
 ghost use Rattle.vic_verdict.specs.Keys.{AreKeysOf};
@@ -14,7 +14,7 @@ ghost use Rattle.vic_verdict.specs.inner.Merging.{AreBelow, IsIndexOf};
 use crate::facts::keys_in_order;
 use std::alloc::{AllocError, Global};
 use vic_frame::{Mask, Uid};
-use vic_log::{Entry, PackedLine};
+use vic_log::{Entry, Log, PackedLine};
 use vic_tree::OpenSet;
 use vic_tree::outside::uids_outside;
 use vic_tree::rising::put_in_order;
@@ -158,10 +158,10 @@ pub fn listed_uids(alloc: Global, lines: &[PackedLine]) -> Result<Vec<Uid>, Allo
 
 /// How many lines of a log list a UID. None is listed twice; they are counted line by line, so that
 /// a proof sees by the numbers of lines that the count fits 32 bits.
-pub fn count_listed(lines: &[PackedLine]) -> u32
-    requires { IsRisingFrom 0 lines.now }
-    ensures { result ≡ length (listed (entries lines.now)) }
+pub fn count_listed(log: &Log) -> u32
+    ensures { result ≡ length (listed (entries log.now.lines)) }
 {
+    let lines = log.lines();
     let mut count = 0;
     for &line in lines {
         count += count_one(line);

@@ -3,7 +3,7 @@
 ghost use Rattle.std.specs.Prelude.{◌≡◌, ℕ, IfOk, length, slice_get};
 ghost use Rattle.vic_log.specs.Order.{entries, listed};
 ghost use Rattle.vic_log.specs.SecondVersion.{AreOfSecondVersion};
-ghost use Rattle.vic_verdict.specs.LogLines.{AreLogLines};
+ghost use Rattle.vic_walk.specs.LogLines.{AreLogLines};
 ghost use Rattle.vic_verdict.specs.Facts.{IsTold};
 ghost use Rattle.vic_verdict.specs.Verdict.{IsVerdict, IsWhole, IsReached};
 ghost use Rattle.vic_verdict.specs.Versions.{IsWholeSecond, IsWholeThird};
@@ -13,7 +13,7 @@ use crate::facts::{Facts, facts_of, keys_in_order};
 use crate::findings::{absent_from, count_listed, listed_uids, missing_from};
 use std::alloc::{AllocError, Global};
 use vic_frame::{Mask, Uid};
-use vic_log::{Log, PackedLine};
+use vic_log::Log;
 use vic_tree::{OpenSet, RangeSet};
 
 /// What a log proves about its list of tags (profile): the first answer that applies. Each answer
@@ -73,22 +73,22 @@ pub fn judge_with<S: OpenSet>(alloc: Global, log: &Log) -> Result<Verdict, Alloc
     ensures reached { IfOk result (λ v. IsReached (entries log.now.lines)
         → v ≡ Complete (length (listed (entries log.now.lines)))) }
 {
-    judge_lines::<S>(alloc, log.lines())
+    judge_lines::<S>(alloc, log)
 }
 
 /// The verdict on the lines of a log.
-fn judge_lines<S: OpenSet>(alloc: Global, lines: &[PackedLine]) -> Result<Verdict, AllocError>
-    requires { AreLogLines lines.now }
-    ensures { IfOk result (λ v. IsVerdict lines.now v) }
+fn judge_lines<S: OpenSet>(alloc: Global, log: &Log) -> Result<Verdict, AllocError>
+    ensures verdict { IfOk result (λ v. IsVerdict log.now.lines v) }
+    ensures log { AreLogLines log.now.lines }
 {
-    match facts_of::<S>(alloc, lines)? {
+    match facts_of::<S>(alloc, log)? {
         Ok(
             Facts {
                 open,
                 met: _,
                 certain,
             },
-        ) => first_finding(alloc, open, &certain, lines),
+        ) => first_finding(alloc, open, &certain, log),
         Err(line) => Ok(Verdict::Impossible { line }),
     }
 }
@@ -99,13 +99,12 @@ pub fn first_finding<S: OpenSet>(
     alloc: Global,
     set: S,
     certain: &[Uid],
-    lines: &[PackedLine],
+    log: &Log,
 ) -> Result<Verdict, AllocError>
-    requires lines { AreLogLines lines.now }
-    requires told { IsTold (entries lines.now) (S.is_open set) certain.now }
-    ensures { IfOk result (λ v. IsVerdict lines.now v) }
+    requires { IsTold (entries log.now.lines) (S.is_open set) certain.now }
+    ensures { IfOk result (λ v. IsVerdict log.now.lines v) }
 {
-    let listed = listed_uids(alloc, lines)?;
+    let listed = listed_uids(alloc, log.lines())?;
     let keys = keys_in_order(alloc, &listed)?;
     let absent = absent_from(alloc, &keys, &set, certain)?;
     if let Some(uid) = first_of(&absent) {
@@ -125,7 +124,7 @@ pub fn first_finding<S: OpenSet>(
     if let Some(uid) = first_of(&doubtful) {
         return Ok(Verdict::Doubtful(uid));
     }
-    let count = count_listed(lines);
+    let count = count_listed(log);
     Ok(Verdict::Complete { count })
 }
 

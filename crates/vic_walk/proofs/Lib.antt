@@ -8,7 +8,7 @@ pub mod Alike
 mod Ruling
 mod Steps
 pub mod ListLaws
-mod Lines
+pub mod LineLaws
 mod PartUids
 mod OpenAnswers
 pub mod Ending

@@ -1,15 +1,16 @@
 -- Keys, and the parts that have them.
-use Rattle.std.proofs.Common.{◌≡◌, ℕ, zero, suc, ◌+◌, ◌-◌, ◌^◌, ◌<◌, ◌≤◌, Bool, true, false, ◌&&◌, List, length, refl, sym, subst, ◌∙◌, arith, ⊎_elim, leb-true, ltb-true, nat_le, nat_lt, slice_index}
+use Rattle.std.proofs.Common.{◌≡◌, ℕ, zero, suc, ◌+◌, ◌-◌, ◌^◌, ◌<◌, ◌≤◌, ◌++◌, ◌∷◌, [], Bool, true, false, ◌&&◌, List, length, refl, sym, subst, ◌∙◌, arith, ⊎_elim, leb-true, ltb-true, nat_le, nat_lt, slice_index}
 use Rattle.std.proofs.lemmas.Bool.{and_parts, cases_lt}
 use Rattle.std.proofs.lemmas.Bool.Decides.{nat_tests}
 use Rattle.std.proofs.lemmas.List.{get_or_default}
+use Rattle.std.proofs.lemmas.List.Elements.{All-nil, All-push, Contains-append_left, Contains-push}
 use Rattle.std.proofs.lemmas.Map.Keys.{below_from_sorted, sorted_from_strictly_increasing}
 use Rattle.std.proofs.lemmas.Nat.{pow_pos}
 use Rattle.std.specs.List.{All, Contains}
 use Rattle.std.specs.List.Sorted.{IsStrictlyIncreasing}
 use Rattle.vic_frame.specs.LowBitsFirst.{IsBlock, IsKey, is_in_block}
 use Rattle.vic_walk.specs.Borders.{AreBorders, IsByParts, IsPartOf, part_count}
-use Rattle.vic_walk.specs.inner.Gathered.{HasAll, IsBorder}
+use Rattle.vic_walk.specs.inner.Gathered.{AreGathered, HasAll, IsBorder}
 use Rattle.vic_walk.specs.inner.Searching.{IsBetween}
 
 -- ---- borders rise
@@ -177,15 +178,29 @@ between_all bs k borders key =
 
 -- ---- borders that were gathered
 
-pub are_borders : (old new : List ℕ) → IsStrictlyIncreasing new → HasAll old new → All IsBorder old → Contains old 0 → Contains old (2 ^ 56) → AreBorders new
-are_borders old new rising more all first end =
-    let start = more.kept 0 first in
-    let stop = more.kept (2 ^ 56) end in
+pub gathered_first : AreGathered (0 ∷ 2 ^ 56 ∷ [])
+gathered_first = record {
+  borders = All-push IsBorder (0 ∷ []) (2 ^ 56) (All-push IsBorder [] 0 (All-nil IsBorder) (omega arith)) (omega arith);
+  first = Contains-append_left (0 ∷ []) (2 ^ 56 ∷ []) 0 (Contains-push [] 0);
+  end = Contains-push (0 ∷ []) (2 ^ 56);
+}
+
+pub gathered_more : (bs : List ℕ) (b : ℕ) → IsBorder b → AreGathered bs → AreGathered (bs ++ b ∷ [])
+gathered_more bs b is h = record {
+  borders = All-push IsBorder bs b h.borders is;
+  first = Contains-append_left bs (b ∷ []) 0 h.first;
+  end = Contains-append_left bs (b ∷ []) (2 ^ 56) h.end;
+}
+
+pub are_borders : (old new : List ℕ) → IsStrictlyIncreasing new → HasAll old new → AreGathered old → AreBorders new
+are_borders old new rising more gathered =
+    let start = more.kept 0 gathered.first in
+    let stop = more.kept (2 ^ 56) gathered.end in
     let start_at : slice_index new start.0 ≡ 0 = start.2 in
     let stop_at : slice_index new stop.0 ≡ 2 ^ 56 = get_or_default new stop.0 0 (2 ^ 56) stop.1 ∙ stop.2 in
     let low = up_to new 0 start.0 rising (omega arith) start.1 in
     let high = up_to new stop.0 (length new - 1) rising (let h = stop.1 in omega (arith, h)) (let h = stop.1 in omega (arith, h)) in
-    let most = more.borders all (length new - 1) 0 (let h = stop.1 in omega (arith, h)) in
+    let most = more.borders gathered.borders (length new - 1) 0 (let h = stop.1 in omega (arith, h)) in
     record { rising = rising; first = omega (arith, low, start_at); last = omega (arith, high, stop_at, most) }
 
 pub all_borders : (bs : List ℕ) → AreBorders bs → All IsBorder bs

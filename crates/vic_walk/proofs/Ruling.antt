@@ -14,10 +14,10 @@ abbrev pub HasLostBefore : Walk → Span → ℕ → Type 0
 HasLostBefore old s from = (p : ℕ) × (is_before s from p ≡ true) × (is_marked old.lasting p ≡ true) × (is_marked old.heard p ≡ true)
 
 -- those that lasted are ruled out
-pub record IsRuledOutTo (old now : Walk) (s : Span) (from at : ℕ) (lost : Bool) : Type 0 where
+pub record IsRuledOutTo (old now : Walk) (s : Span) (from end : ℕ) (lost : Bool) : Type 0 where
   pub low : s.from ≤ from
   pub lasting : (p : ℕ) → is_marked now.lasting p ≡ (is_marked old.lasting p && not (is_before s from p))
-  pub ends : (p : ℕ) → slice_index now.ends.items p ≡ (if is_marked old.lasting p && is_before s from p then at + 1 else slice_index old.ends.items p)
+  pub ends : (p : ℕ) → slice_index now.ends.items p ≡ (if is_marked old.lasting p && is_before s from p then end else slice_index old.ends.items p)
   pub room : length now.lasting ≡ length old.lasting
   pub places : length now.ends.items ≡ length old.ends.items
   pub quiet : now.quiet.items ≡ old.quiet.items
@@ -27,8 +27,8 @@ pub record IsRuledOutTo (old now : Walk) (s : Span) (from at : ℕ) (lost : Bool
 none_before : (s : Span) (p : ℕ) → is_before s s.from p ≡ false
 none_before s p = grind (arith, nat_tests)
 
-pub none_ruled_out : (old : Walk) (s : Span) (at : ℕ) → IsRuledOutTo old old s s.from at false
-none_ruled_out old s at = record {
+pub none_ruled_out : (old : Walk) (s : Span) (end : ℕ) → IsRuledOutTo old old s s.from end false
+none_ruled_out old s end = record {
   low = omega arith;
   lasting = λ p. rw (none_before s p) (grind (arith, nat_tests));
   ends = λ p. rw (none_before s p) (grind (arith, nat_tests));
@@ -57,8 +57,8 @@ ruled_end old now s from p here none low = elim (cases_lt p from) [
   ]
 ]
 
-pub all_ruled_out : (old now : Walk) (s : Span) (from at : ℕ) (lost : Bool) → NoneBetween (is_marked now.lasting) from s.to → IsRuledOutTo old now s from at lost → IsRuledOut old now (is_within s) at
-all_ruled_out old now s from at lost none h = record {
+pub all_ruled_out : (old now : Walk) (s : Span) (from end : ℕ) (lost : Bool) → NoneBetween (is_marked now.lasting) from s.to → IsRuledOutTo old now s from end lost → IsRuledOut old now (is_within s) end
+all_ruled_out old now s from end lost none h = record {
   lasting = λ p. marked_end old.lasting now.lasting s from p (h.lasting p) none h.low;
   ends = λ p. rw (← ruled_end old.lasting now.lasting s from p (h.lasting p) none h.low) (h.ends p);
   room = h.room;
@@ -66,8 +66,8 @@ all_ruled_out old now s from at lost none h = record {
   quiet = h.quiet;
 }
 
-pub all_lost : (old now : Walk) (s : Span) (from at : ℕ) (lost : Bool) → NoneBetween (is_marked now.lasting) from s.to → IsRuledOutTo old now s from at lost → (lost ≡ true) ↔ HasLost old (is_within s)
-all_lost old now s from at lost none h = (
+pub all_lost : (old now : Walk) (s : Span) (from end : ℕ) (lost : Bool) → NoneBetween (is_marked now.lasting) from s.to → IsRuledOutTo old now s from end lost → (lost ≡ true) ↔ HasLost old (is_within s)
+all_lost old now s from end lost none h = (
   (λ yes. let w = h.loses.0 yes in (w.0, (and_parts _ _ w.1).0, w.2, w.3)),
   (λ w.
       let same = ruled_end old.lasting now.lasting s from w.0 (h.lasting w.0) none h.low in
@@ -99,8 +99,8 @@ found_old old now s from part first within low here =
     let yes = first.passes in let a = first.from in (grind (arith, nat_tests, and_parts), grind (arith, nat_tests, and_from))
 
 -- the first part from `from` on that is marked is ruled out too
-pub ruled_out_next : (old now new : Walk) (s : Span) (from at part : ℕ) (lost : Bool) → IsFirst (is_marked now.lasting) from part → part < s.to → part < length now.lasting → length now.ends.items ≡ length now.lasting → new.lasting ≡ slice_set now.lasting part false → new.ends.items ≡ slice_set now.ends.items part (at + 1) → new.quiet.items ≡ now.quiet.items → new.heard ≡ now.heard → IsRuledOutTo old now s from at lost → IsRuledOutTo old new s (part + 1) at (lost || is_marked now.heard part)
-ruled_out_next old now new s from at part lost first within room same lasting ends quiet heard h =
+pub ruled_out_next : (old now new : Walk) (s : Span) (from end part : ℕ) (lost : Bool) → IsFirst (is_marked now.lasting) from part → part < s.to → part < length now.lasting → length now.ends.items ≡ length now.lasting → new.lasting ≡ slice_set now.lasting part false → new.ends.items ≡ slice_set now.ends.items part end → new.quiet.items ≡ now.quiet.items → new.heard ≡ now.heard → IsRuledOutTo old now s from end lost → IsRuledOutTo old new s (part + 1) end (lost || is_marked now.heard part)
+ruled_out_next old now new s from end part lost first within room same lasting ends quiet heard h =
     let mine = found_old old.lasting now.lasting s from part first within h.low (h.lasting part) in
     let others : (p : ℕ) → p ≢ part → _ = λ p other. skipped old.lasting now.lasting s from part p first within h.low other (h.lasting p) in
     record {
@@ -110,11 +110,11 @@ ruled_out_next old now new s from at part lost first within room same lasting en
         | inr other ↦ rw (lasting, marked_else now.lasting part p false other) (others p other).0
       ];
       ends = λ p. elim (cases_eq p part) [
-        | inl here ↦ rw (ends, here, get_or-set_same now.ends.items part (at + 1) 0 (omega (arith, room, same)), mine.0, mine.1) refl
-        | inr other ↦ rw (ends, get_or-set_other now.ends.items part p (at + 1) 0 other, ← (others p other).1) (h.ends p)
+        | inl here ↦ rw (ends, here, get_or-set_same now.ends.items part end 0 (omega (arith, room, same)), mine.0, mine.1) refl
+        | inr other ↦ rw (ends, get_or-set_other now.ends.items part p end 0 other, ← (others p other).1) (h.ends p)
       ];
       room = rw lasting (length-set now.lasting part false ∙ h.room);
-      places = rw ends (length-set now.ends.items part (at + 1) ∙ h.places);
+      places = rw ends (length-set now.ends.items part end ∙ h.places);
       quiet = quiet ∙ h.quiet;
       heard = heard ∙ h.heard;
       loses = (

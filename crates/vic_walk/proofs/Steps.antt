@@ -239,7 +239,7 @@ end_read es i u n m o q r before after is h = elim (cases_Bool ((o && not q) && 
   | inr kept ↦ rw (is, kept) (end_kept es i u n (after ∙ (read_kept o q r kept ∙ before)) h)
 ]
 
-pub walk_read : (bs : List ℕ) (es : List Entry) (i : ℕ) (out : ℕ → Bool) (old new : Walk) → RulesOut bs es i out → IsRuledOut old new out i → ((u p : ℕ) → IsUid u → IsPartOf bs (mirror u) p → is_marked new.heard p ≡ (hears (slice_get es i) u || is_marked old.heard p)) → length new.heard ≡ length old.heard → IsWalkAt bs es i old → IsWalkAt bs es (i + 1) new
+pub walk_read : (bs : List ℕ) (es : List Entry) (i : ℕ) (out : ℕ → Bool) (old new : Walk) → RulesOut bs es i out → IsRuledOut old new out (i + 1) → ((u p : ℕ) → IsUid u → IsPartOf bs (mirror u) p → is_marked new.heard p ≡ (hears (slice_get es i) u || is_marked old.heard p)) → length new.heard ≡ length old.heard → IsWalkAt bs es i old → IsWalkAt bs es (i + 1) new
 walk_read bs es i out old new rules ruled heard heard_room h = rw add-one (record {
   room = record {
     lasting = ruled.room ∙ h.room.lasting;
@@ -303,14 +303,14 @@ none_out : (marked : Bool) → marked ≡ (marked && not false)
 none_out true = refl
 none_out false = refl
 
-none_ended : (marked : Bool) (at n : ℕ) → n ≡ (if marked && false then at + 1 else n)
-none_ended true at n = refl
-none_ended false at n = refl
+none_ended : (marked : Bool) (end n : ℕ) → n ≡ (if marked && false then end else n)
+none_ended true end n = refl
+none_ended false end n = refl
 
-pub nothing_ruled_out : (old new : Walk) (at : ℕ) → new.lasting ≡ old.lasting → new.ends.items ≡ old.ends.items → new.quiet.items ≡ old.quiet.items → IsRuledOut old new (λ p. false) at
-nothing_ruled_out old new at lasting ends quiet = record {
+pub nothing_ruled_out : (old new : Walk) (end : ℕ) → new.lasting ≡ old.lasting → new.ends.items ≡ old.ends.items → new.quiet.items ≡ old.quiet.items → IsRuledOut old new (λ p. false) end
+nothing_ruled_out old new end lasting ends quiet = record {
   lasting = λ p. rw lasting (none_out (is_marked old.lasting p));
-  ends = λ p. rw ends (none_ended (is_marked old.lasting p) at (slice_index old.ends.items p));
+  ends = λ p. rw ends (none_ended (is_marked old.lasting p) end (slice_index old.ends.items p));
   room = rw lasting refl;
   places = rw ends refl;
   quiet = quiet;

@@ -1,3 +1,4 @@
+pub mod LogLines
 pub mod Marked
 pub mod Borders
 pub mod Cuts

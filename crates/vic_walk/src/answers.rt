@@ -4,10 +4,10 @@
 ghost use Rattle.std.specs.Prelude.{◌≡◌, ◌+◌, ◌<◌, ◌≤◌, ℕ, Bool, Some, true, false, List, IfOk, OnOk, length, slice_get};
 ghost use Rattle.vic_frame.specs.Uids.{has};
 ghost use Rattle.vic_log.specs.declared.entry.Entry.{Entry as EntryValue};
-ghost use Rattle.vic_log.specs.Order.{AreValid, IsInOrder, entries};
+ghost use Rattle.vic_log.specs.Order.{entries};
 ghost use Rattle.vic_log.specs.Slots.{slots_of, is_open};
 ghost use Rattle.vic_walk.specs.Answers.{AreAnswering, is_unread};
-ghost use Rattle.vic_walk.specs.Borders.{AreBorders, part_count};
+ghost use Rattle.vic_walk.specs.Borders.{part_count};
 ghost use Rattle.vic_walk.specs.Cuts.{AreCut};
 ghost use Rattle.vic_walk.specs.Needs.{needs};
 ghost use Rattle.vic_walk.specs.Walk.{AreOpenParts, HasRoom, IsWalkAt};
@@ -15,6 +15,7 @@ ghost use Rattle.vic_walk.specs.inner.Ready.{IsReadyAt};
 ghost use Rattle.vic_walk.specs.Spans.{IsPlace};
 
 use crate::hints::{Hints, Near};
+use crate::lines::LogLines;
 use crate::listing::list_start;
 use crate::parts::Parts;
 use crate::three::up_to_three;
@@ -22,7 +23,7 @@ use crate::walk::{Walk, span_of};
 use arrayvec::ArrayVec;
 use std::alloc::{AllocError, Global};
 use vic_frame::Uid;
-use vic_log::{Entry, PackedLine, RoundCursor};
+use vic_log::{Entry, RoundCursor};
 
 /// Open UIDs that answer in an unread slot: all of them if there are fewer than three, otherwise
 /// three.
@@ -64,7 +65,6 @@ fn pass_again(
     at: usize,
     entry: &Entry,
 ) -> Result<(), AllocError>
-    requires borders { AreBorders parts.now }
     requires room { length walk.old.lasting ≡ part_count parts.now }
     requires listed { (p : ℕ) → has walk.old.quiet.items p ≡ true → p < part_count parts.now }
     ensures ready { OnOk result ((es : List EntryValue) (set : ℕ → Bool)
@@ -118,14 +118,13 @@ fn is_unread(entry: &Entry) -> bool
 }
 
 /// The position after the last unread slot, 0 if there is none: from there on no slot is unread.
-fn after_unread(lines: &[PackedLine]) -> usize
-    requires { IsInOrder (entries lines.now) }
+fn after_unread(lines: &LogLines) -> usize
     ensures within { result ≤ length lines.now }
     ensures read { (i : ℕ) → result ≤ i → is_unread (slice_get (entries lines.now) i) ≡ false }
 {
     let mut after = list_start(lines);
     while after > 0 {
-        let entry = lines[after - 1].item();
+        let entry = lines.entry(after - 1);
         if is_unread(&entry) {
             return after;
         }
@@ -139,13 +138,10 @@ fn after_unread(lines: &[PackedLine]) -> usize
 /// Quiet ones too, none is listed in `quiet`, and `ends` and `heard` stay as they were.
 pub fn open_answers(
     alloc: Global,
-    lines: &[PackedLine],
+    lines: &LogLines,
     parts: &Parts,
     walk: &mut Walk,
 ) -> Result<Vec<Answering>, AllocError>
-    requires order { IsInOrder (entries lines.now) }
-    requires valid { AreValid (entries lines.now) }
-    requires borders { AreBorders parts.now }
     requires cut { AreCut parts.now (entries lines.now) }
     requires walk { IsWalkAt parts.now (entries lines.now) (length (entries lines.now)) walk.old }
     ensures found { IfOk result (λ found.
@@ -163,7 +159,7 @@ pub fn open_answers(
     let mut hints = Hints::first();
     let after = after_unread(lines);
     for index in 0..after {
-        let entry = lines[index].item();
+        let entry = lines.entry(index);
         let near = hints.next(parts.hints(), &entry);
         pass_again(walk, &mut found, parts, &rounds, near, index, &entry)?;
         rounds.advance(&entry);

@@ -6,7 +6,7 @@ ghost use Rattle.vic_log.specs.declared.entry.Entry.{Entry as EntryValue};
 ghost use Rattle.vic_log.specs.Slots.{is_open, slots_before};
 ghost use Rattle.vic_tree.specs.OpenSet.{SameUids};
 ghost use Rattle.vic_tree.specs.Ranges.{AreRanges, in_ranges, is_outside};
-ghost use Rattle.vic_walk.specs.Borders.{AreBorders, part_count};
+ghost use Rattle.vic_walk.specs.Borders.{part_count};
 ghost use Rattle.vic_walk.specs.Walk.{HasRoom, IsWalkAt};
 ghost use Rattle.vic_walk.specs.inner.RangesTo.{AreRangesTo};
 
@@ -20,8 +20,7 @@ use vic_tree::KeyRange;
 /// any two: the UIDs outside of them are those that the entries so far leave open. To be called
 /// before `open_answers`, which changes the walk.
 pub fn closed_keys(alloc: Global, parts: &Parts, walk: &Walk) -> Result<Vec<KeyRange>, AllocError>
-    requires borders { AreBorders parts.now }
-    requires room { HasRoom (part_count parts.now) walk.now }
+    requires { HasRoom (part_count parts.now) walk.now }
     ensures ranges { IfOk result (λ closed. AreRanges closed.items) }
     ensures outside { IfOk result (λ closed. (es : List EntryValue) (i : ℕ)
         → IsWalkAt parts.now es i walk.now

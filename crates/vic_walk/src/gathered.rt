@@ -1,10 +1,9 @@
 //! Borders that are gathered in any order. A log names most of its borders several times, and near
 //! to each other; so what was added lately isn't added again, which makes sorting shorter.
 
-ghost use Rattle.std.specs.Prelude.{◌≡◌, ◌^◌, ℕ, true, IfOk, IfSome, OnOk};
-ghost use Rattle.std.specs.List.{All, Contains};
+ghost use Rattle.std.specs.Prelude.{◌≡◌, ℕ, true, IfOk, IfSome, OnOk};
+ghost use Rattle.std.specs.List.{Contains};
 ghost use Rattle.std.specs.List.Sorted.{IsStrictlyIncreasing};
-ghost use Rattle.vic_frame.specs.declared.uid.TheConstants.{UID_BITS};
 ghost use Rattle.vic_walk.specs.Borders.{AreBorders};
 ghost use Rattle.vic_walk.specs.inner.Gathered.{HasAll, IsBorder};
 
@@ -36,31 +35,29 @@ pub(crate) struct Gathered {
 
 impl Model for Gathered {
     ghost use Rattle.std.specs.Prelude.{ℕ, List};
+    ghost use Rattle.vic_walk.specs.inner.Gathered.{AreGathered};
 
     ghost Value = { List ℕ };
 
     ghost view = { λ g. g.borders.items };
+
+    ghost invariant = { λ g. AreGathered g.borders.items };
 }
 
 impl Gathered {
     /// The border before all keys, and the one after them; with room for so many that a walk looks
     /// up.
-    pub(crate) fn new(alloc: Global, asked: usize) -> Result<Gathered, AllocError>
-        ensures borders { IfOk result (All IsBorder) }
-        ensures first { IfOk result (λ bs. Contains bs 0) }
-        ensures end { IfOk result (λ bs. Contains bs (2 ^ UID_BITS)) }
-    {
+    pub(crate) fn new(alloc: Global, asked: usize) -> Result<Gathered, AllocError> {
         let lately = vec![in alloc; 0; 1usize << LATELY_BITS]?;
-        let borders = Vec::new(alloc);
         let asked = Vec::with_capacity(alloc, asked)?;
-        let mut gathered = Gathered {
+        let mut borders = Vec::new(alloc);
+        borders.push(0)?;
+        borders.push(1 << UID_BITS)?;
+        Ok(Gathered {
             borders,
             lately,
             asked,
-        };
-        gathered.push(0)?;
-        gathered.push(1 << UID_BITS)?;
-        Ok(gathered)
+        })
     }
 
     /// Where a border stands, if it was added and is remembered.
@@ -121,9 +118,6 @@ impl Gathered {
     /// The borders in rising order, each once; and of those that were asked for, in turn, hints of
     /// where they are among these.
     pub(crate) fn in_order(self, alloc: Global) -> Result<(Vec<u64>, Vec<u32>), AllocError>
-        requires borders { All IsBorder self }
-        requires first { Contains self 0 }
-        requires end { Contains self (2 ^ UID_BITS) }
         ensures borders { IfOk result (λ r. AreBorders r.0.items) }
         ensures same { IfOk result (λ r. HasAll self r.0.items) }
     {

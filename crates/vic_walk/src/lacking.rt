@@ -4,7 +4,7 @@ ghost use Rattle.std.specs.Prelude.{◌≡◌, ◌+◌, ◌<◌, ◌≤◌, ◌&
 ghost use Rattle.std.specs.List.Sorted.{IsNonDecreasingBy};
 ghost use Rattle.vic_frame.specs.Uids.{has};
 ghost use Rattle.vic_log.specs.declared.entry.Entry.{Entry as EntryValue};
-ghost use Rattle.vic_log.specs.Order.{AreValid, IsInOrder, entries};
+ghost use Rattle.vic_log.specs.Order.{entries};
 ghost use Rattle.vic_walk.specs.Borders.{AreBorders, part_count};
 ghost use Rattle.vic_walk.specs.Cuts.{AreCut};
 ghost use Rattle.vic_walk.specs.Marked.{is_marked};
@@ -14,12 +14,13 @@ ghost use Rattle.vic_walk.specs.inner.Reach.{AreEndsUpTo, AreRuled, HasReach, Is
 ghost use Rattle.vic_walk.specs.Spans.{IsPlace, IsSpanAt};
 
 use crate::hints::{Hints, Near};
+use crate::lines::LogLines;
 use crate::marks::Marks;
 use crate::parts::{Parts, Span};
 use crate::three::up_to_three;
 use crate::walk::{Walk, span_of};
 use std::alloc::{AllocError, Global};
-use vic_log::{Entry, PackedLine, RoundCursor};
+use vic_log::{Entry, RoundCursor};
 
 /// How far a log is possible, by the entries that were passed.
 #[derive(Drop)]
@@ -65,7 +66,6 @@ impl Reach {
         at: usize,
         entry: &Entry,
     ) -> Result<(), AllocError>
-        requires borders { AreBorders parts.now }
         requires count { part_count parts.now ≡ length ends.now }
         requires reach { HasReach ends.now self.old }
         ensures ruled { OnOk result (AreRuled ends.now self.new.upto self.new.ordered
@@ -115,13 +115,13 @@ impl Reach {
         at: usize,
         need: usize,
     ) -> Result<(), AllocError>
-        requires borders { AreBorders parts.now }
         requires within { span.to ≤ part_count parts.now }
         requires count { part_count parts.now ≡ length ends.now }
         requires reach { HasReach ends.now self.old }
         ensures reach { OnOk result (HasReach ends.now self.new) }
-        ensures back { OnOk result ((es : List EntryValue) → IsSpanAt parts.now es at span
-            → needs_at es at ≡ need → IsReachAt parts.now es ends.now at self.old
+        ensures back { OnOk result ((es : List EntryValue) → AreBorders parts.now
+            → IsSpanAt parts.now es at span → needs_at es at ≡ need
+            → IsReachAt parts.now es ends.now at self.old
             → IsBackTo es at self.old.upto self.new.upto) }
         ensures ready { OnOk result ((es : List EntryValue) (i : ℕ)
             → IsReachAt parts.now es ends.now i self.old
@@ -189,14 +189,11 @@ impl Reach {
 /// after it this isn't so. The walk has passed all entries before `upto`.
 pub fn first_lack(
     alloc: Global,
-    lines: &[PackedLine],
+    lines: &LogLines,
     parts: &Parts,
     walk: &Walk,
     upto: usize,
 ) -> Result<usize, AllocError>
-    requires order { IsInOrder (entries lines.now) }
-    requires valid { AreValid (entries lines.now) }
-    requires borders { AreBorders parts.now }
     requires cut { AreCut parts.now (entries lines.now) }
     requires walk { HasEndsPast parts.now (entries lines.now) upto walk.now }
     ensures upto { IfOk result (λ m. m ≤ upto) }
@@ -210,7 +207,7 @@ pub fn first_lack(
         if reach.upto <= index {
             return Ok(reach.upto);
         }
-        let entry = lines[index].item();
+        let entry = lines.entry(index);
         let near = hints.next(parts.hints(), &entry);
         reach.pass(parts, &walk.ends, &rounds, near, index, &entry)?;
         rounds.advance(&entry);

@@ -2,15 +2,15 @@
 //! there.
 
 ghost use Rattle.std.specs.Prelude.{◌≡◌, ◌≤◌, true, false, length};
-ghost use Rattle.vic_log.specs.Order.{IsInOrder, entries};
+ghost use Rattle.vic_log.specs.Order.{entries};
 ghost use Rattle.vic_walk.specs.Listing.{IsBeforeList, IsListFrom, IsListing};
 
-use vic_log::{Entry, PackedLine};
+use crate::lines::LogLines;
+use vic_log::Entry;
 
 /// The position of the first UID that a log lists, which is the number of its lines if it lists
 /// none. All entries from there on list UIDs, so it is searched by halving.
-pub fn list_start(lines: &[PackedLine]) -> usize
-    requires { IsInOrder (entries lines.now) }
+pub fn list_start(lines: &LogLines) -> usize
     ensures within { result ≤ length lines.now }
     ensures before { IsBeforeList (entries lines.now) result }
     ensures list { IsListFrom (entries lines.now) result }
@@ -19,7 +19,7 @@ pub fn list_start(lines: &[PackedLine]) -> usize
     let mut high = lines.len();
     while low < high {
         let middle = low + (high - low) / 2;
-        let entry = lines[middle].item();
+        let entry = lines.entry(middle);
         if is_listing(&entry) {
             high = middle;
         } else {

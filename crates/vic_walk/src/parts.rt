@@ -1,14 +1,13 @@
 //! Parts: the keys, divided at borders, so that a log treats all UIDs of a part alike.
 
-ghost use Rattle.std.specs.Prelude.{◌≡◌, ℕ, ◌+◌, ◌-◌, ◌^◌, ◌<◌, ◌≤◌, ◌&&◌, true, Some, List, IfOk, IfSome, OnOk, length, nat_le, nat_lt, slice_index};
-ghost use Rattle.std.specs.List.{All, Contains};
+ghost use Rattle.std.specs.Prelude.{◌≡◌, ℕ, ◌+◌, ◌-◌, ◌<◌, ◌≤◌, ◌&&◌, true, Some, List, IfOk, IfSome, OnOk, length, nat_le, nat_lt, slice_index};
+ghost use Rattle.std.specs.List.{Contains};
 ghost use Rattle.std.specs.List.Sorted.{IsStrictlyIncreasing};
 ghost use Rattle.vic_frame.specs.Uids.{IsUid};
 ghost use Rattle.vic_frame.specs.LowBitsFirst.{IsBlock, IsKey, is_in_block};
-ghost use Rattle.vic_frame.specs.declared.uid.TheConstants.{UID_BITS};
 ghost use Rattle.vic_log.specs.declared.entry.Entry.{Entry as EntryValue};
 ghost use Rattle.vic_log.specs.OpenRounds.{IsCursorAt};
-ghost use Rattle.vic_log.specs.Order.{AreValid, IsInOrder, entries};
+ghost use Rattle.vic_log.specs.Order.{AreValid, entries};
 ghost use Rattle.vic_log.specs.Rounds.{is_slot};
 ghost use Rattle.vic_walk.specs.Borders.{AreBorders, IsByParts, IsPartOf, part_count};
 ghost use Rattle.vic_walk.specs.Cuts.{AreCut, names};
@@ -18,12 +17,13 @@ ghost use Rattle.vic_walk.specs.inner.Searching.{IsBetween};
 use crate::gathered::Gathered;
 use crate::hints::{asks_for_end, asks_for_own, has_sixteen};
 use crate::index::{Index, up_to};
+use crate::lines::LogLines;
 use crate::listing::list_start;
 use std::alloc::{AllocError, Global};
 use std::marker::Model;
 use vic_frame::low_bits_first::{KeyBlock, key};
 use vic_frame::{Request, Uid};
-use vic_log::{Entry, PackedLine, RoundCursor};
+use vic_log::{Entry, RoundCursor};
 
 /// The keys, divided into parts. A part has the keys from one border on and below the next.
 #[derive(Drop)]
@@ -59,9 +59,7 @@ pub struct Span {
 impl Parts {
     /// Parts, so that a log treats all UIDs of a part alike: cut at the borders of each slot's
     /// mask, and around each UID that a line silences or hears.
-    pub fn of(alloc: Global, lines: &[PackedLine]) -> Result<Parts, AllocError>
-        requires order { IsInOrder (entries lines.now) }
-        requires valid { AreValid (entries lines.now) }
+    pub fn of(alloc: Global, lines: &LogLines) -> Result<Parts, AllocError>
         ensures borders { IfOk result AreBorders }
         ensures cut { IfOk result (λ parts. AreCut parts (entries lines.now)) }
     {
@@ -91,7 +89,8 @@ impl Parts {
         })
     }
 
-    /// How many there are. Clause `borders` tells a proof what is so of any `Parts`.
+    /// How many there are. Clause `borders`, here and of other calls, tells a proof what is so of any
+    /// `Parts`.
     pub fn count(&self) -> usize
         ensures count { result ≡ part_count self.now }
         ensures borders { AreBorders self.now }
@@ -102,7 +101,8 @@ impl Parts {
     /// The first key of a part.
     pub fn first(&self, part: usize) -> u64
         requires { part < part_count self.now }
-        ensures { result ≡ slice_index self.now part }
+        ensures first { result ≡ slice_index self.now part }
+        ensures borders { AreBorders self.now }
     {
         self.borders[part]
     }
@@ -160,7 +160,9 @@ impl Parts {
     }
 
     /// Hints for the walks over the log, in the order in which they ask.
-    pub fn hints(&self) -> &[u32] {
+    pub fn hints(&self) -> &[u32]
+        ensures borders { AreBorders self.now }
+    {
         &self.hints
     }
 
@@ -220,21 +222,16 @@ impl Parts {
 }
 
 /// The borders that the lines of a log need, in no order.
-fn gather(alloc: Global, lines: &[PackedLine]) -> Result<Gathered, AllocError>
-    requires order { IsInOrder (entries lines.now) }
-    requires valid { AreValid (entries lines.now) }
-    ensures cut { IfOk result (λ bs. (i : ℕ) → i < length (entries lines.now)
+fn gather(alloc: Global, lines: &LogLines) -> Result<Gathered, AllocError>
+    ensures { IfOk result (λ bs. (i : ℕ) → i < length (entries lines.now)
         → HasCuts (entries lines.now) bs i) }
-    ensures borders { IfOk result (λ bs. All IsBorder bs) }
-    ensures first { IfOk result (λ bs. Contains bs 0) }
-    ensures end { IfOk result (λ bs. Contains bs (2 ^ UID_BITS)) }
 {
     let end = list_start(lines);
     let mut borders = Gathered::new(alloc, end.saturating_add(end))?;
     let mut cursor = RoundCursor::first();
     let mut sixteen = false;
     for index in 0..end {
-        let entry = lines[index].item();
+        let entry = lines.entry(index);
         push_mask(&mut borders, &cursor, &entry, asks_for_end(&entry, sixteen))?;
         push_named(&mut borders, &entry, asks_for_own(&entry, sixteen))?;
         sixteen = has_sixteen(sixteen, &entry);

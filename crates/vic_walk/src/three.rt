@@ -16,9 +16,8 @@ use vic_tree::gather::gather_one;
 
 /// UIDs of the marked parts of a span: all of them if there are fewer than three, otherwise three.
 pub(crate) fn up_to_three(parts: &Parts, marks: &Marks, span: Span) -> ArrayVec<Uid, 3>
-    requires borders { AreBorders parts.now }
-    requires within { span.to ≤ part_count parts.now }
-    ensures { (test : ℕ → Bool) → AreUidsOf parts.now marks.now span test
+    requires { span.to ≤ part_count parts.now }
+    ensures { (test : ℕ → Bool) → AreBorders parts.now → AreUidsOf parts.now marks.now span test
         → UpToThree test result.items }
 {
     let mut found = ArrayVec::new();

@@ -1,29 +1,30 @@
 //! The walk over the entries of a log: what becomes of each part.
 
-ghost use Rattle.std.specs.Prelude.{◌≡◌, ◌↔◌, ◌+◌, ◌^◌, ℕ, ◌<◌, ◌≤◌, ◌==◌, ◌&&◌, ◌||◌, not, true, false, Bool, IfOk, OnOk, List, Some, length, nat_le, nat_lt, slice_get, slice_index, if◌then◌else◌};
+ghost use Rattle.std.specs.Prelude.{◌≡◌, ◌↔◌, ◌+◌, ℕ, ◌<◌, ◌≤◌, ◌==◌, ◌&&◌, ◌||◌, not, true, false, Bool, IfOk, OnOk, List, Some, length, nat_le, nat_lt, slice_get, slice_index, if◌then◌else◌};
 ghost use Rattle.vic_frame.specs.LowBitsFirst.{mirror};
 ghost use Rattle.vic_frame.specs.Uids.{IsUid, has};
 ghost use Rattle.vic_log.specs.declared.entry.Entry.{Entry as EntryValue};
 ghost use Rattle.vic_log.specs.OpenRounds.{IsCursorAt};
-ghost use Rattle.vic_log.specs.Order.{IsRisingFrom, IsInOrder, AreValid, entries};
+ghost use Rattle.vic_log.specs.Order.{entries};
 ghost use Rattle.vic_log.specs.Rounds.{is_slot};
 ghost use Rattle.vic_log.specs.declared.entry.Entry.TheVariants.{Sent};
 ghost use Rattle.vic_walk.specs.Borders.{AreBorders, part_count};
 ghost use Rattle.vic_walk.specs.Cuts.{AreCut};
 ghost use Rattle.vic_walk.specs.Marked.{is_marked};
-ghost use Rattle.vic_walk.specs.Walk.{HasRoom, IsWalkAt, IsEndOfWalk, IsWalkOver, AreBorneOut};
+ghost use Rattle.vic_walk.specs.Walk.{HasRoom, IsWalkAt, IsWalkOver, AreBorneOut};
 ghost use Rattle.vic_walk.specs.inner.Ready.{IsReadyAt};
 ghost use Rattle.vic_walk.specs.Spans.{is_within, IsSpanAt, IsPlace};
 ghost use Rattle.vic_walk.specs.inner.Ruled.{is_other, HasLost, IsRuledOut};
 
 use crate::hints::{Hints, Near};
+use crate::lines::LogLines;
 use crate::listing::list_start;
 use crate::marks::Marks;
 use crate::parts::{Parts, Span};
 use std::alloc::{AllocError, Global};
 use vic_frame::low_bits_first::key;
 use vic_frame::{Request, Uid};
-use vic_log::{Entry, PackedLine, RoundCursor};
+use vic_log::{Entry, RoundCursor};
 
 /// What a walk over the first entries of a log knows of its parts.
 #[derive(Drop)]
@@ -97,13 +98,12 @@ impl Walk {
         self.quiet.clear();
     }
 
-    /// Rules out the parts of a span that last, by the entry at a position. Returns whether one of
-    /// them was heard.
-    fn rule_out(&mut self, span: Span, at: u32) -> bool
+    /// Rules out the parts of a span that last, with this end. Returns whether one of them was
+    /// heard.
+    fn rule_out(&mut self, span: Span, end: u32) -> bool
         requires within { span.to ≤ length self.old.lasting }
         requires ends { length self.old.ends.items ≡ length self.old.lasting }
-        requires at { at + 1 < 2 ^ 32 }
-        ensures ruled_out { IsRuledOut self.old self.new (is_within span) at }
+        ensures ruled_out { IsRuledOut self.old self.new (is_within span) end }
         ensures heard { self.new.heard ≡ self.old.heard }
         ensures lost { (result ≡ true) ↔ HasLost self.old (is_within span) }
     {
@@ -111,7 +111,7 @@ impl Walk {
         let mut from = span.from;
         while let Some(part) = self.lasting.first(from, span.to) {
             self.lasting.take(part);
-            self.ends[part] = at + 1;
+            self.ends[part] = end;
             lost |= self.heard.has(part);
             from = part + 1;
         }
@@ -119,15 +119,14 @@ impl Walk {
     }
 
     /// Hears the UID of part `own` in a slot whose mask has the UIDs of a span: rules out the other
-    /// parts of the span that last. Returns whether the replies are still borne out: `own` is in
-    /// the span and lasts, and none of the parts now ruled out was heard.
-    fn hear(&mut self, span: Span, own: usize, at: u32) -> bool
+    /// parts of the span that last, with this end. Returns whether the replies are still borne out:
+    /// `own` is in the span and lasts, and none of the parts now ruled out was heard.
+    fn hear(&mut self, span: Span, own: usize, end: u32) -> bool
         requires within { span.to ≤ length self.old.lasting }
         requires own { own < length self.old.lasting }
         requires heard { length self.old.heard ≡ length self.old.lasting }
         requires ends { length self.old.ends.items ≡ length self.old.lasting }
-        requires at { at + 1 < 2 ^ 32 }
-        ensures ruled_out { IsRuledOut self.old self.new (is_other span own) at }
+        ensures ruled_out { IsRuledOut self.old self.new (is_other span own) end }
         ensures heard { (p : ℕ) → is_marked self.new.heard p
             ≡ (p == own || is_marked self.old.heard p) }
         ensures room { length self.new.heard ≡ length self.old.heard }
@@ -138,7 +137,7 @@ impl Walk {
         let lasts = self.lasting.has(own);
         // so that `rule_out` passes it over
         self.lasting.take(own);
-        let lost = self.rule_out(span, at);
+        let lost = self.rule_out(span, end);
         if lasts {
             self.lasting.put(own);
         }
@@ -195,24 +194,24 @@ impl Walk {
         }
     }
 
-    /// Takes the walk past an entry. Returns whether the replies are still borne out.
+    /// Takes the walk past an entry; a part that it rules out gets this end. Returns whether the
+    /// replies are still borne out.
     fn pass(
         &mut self,
         parts: &Parts,
         rounds: &RoundCursor,
         near: Near,
-        at: u32,
+        end: u32,
         entry: &Entry,
     ) -> Result<bool, AllocError>
-        requires room { HasRoom (part_count parts.now) self.old }
-        requires at { at + 1 < 2 ^ 32 }
-        ensures walk { OnOk result ((es : List EntryValue)
-            → IsPlace parts.now es at entry.now rounds.now
-            → IsWalkAt parts.now es at self.old → IsWalkAt parts.now es (at + 1) self.new) }
-        ensures fine { IfOk result (λ fine. (es : List EntryValue)
-            → IsPlace parts.now es at entry.now rounds.now
-            → IsWalkAt parts.now es at self.old → AreBorneOut es at
-            → (fine ≡ true) ↔ AreBorneOut es (at + 1)) }
+        requires { HasRoom (part_count parts.now) self.old }
+        ensures walk { OnOk result ((es : List EntryValue) (i : ℕ) → end ≡ i + 1
+            → IsPlace parts.now es i entry.now rounds.now
+            → IsWalkAt parts.now es i self.old → IsWalkAt parts.now es (i + 1) self.new) }
+        ensures fine { IfOk result (λ fine. (es : List EntryValue) (i : ℕ)
+            → IsPlace parts.now es i entry.now rounds.now
+            → IsWalkAt parts.now es i self.old → AreBorneOut es i
+            → (fine ≡ true) ↔ AreBorneOut es (i + 1)) }
     {
         match *entry {
             Entry::Sent(request) => {
@@ -223,11 +222,11 @@ impl Walk {
                 self.wake();
                 Ok(true)
             }
-            Entry::Silent => Ok(!self.rule_out(span_of(parts, rounds, near), at)),
+            Entry::Silent => Ok(!self.rule_out(span_of(parts, rounds, near), end)),
             Entry::Heard(response) => {
                 let span = span_of(parts, rounds, near);
                 let own = parts.at_or_after(near.own, key(response.uid()));
-                Ok(self.hear(span, own, at))
+                Ok(self.hear(span, own, end))
             }
             Entry::Captured(response) => {
                 let span = span_of(parts, rounds, near);
@@ -253,43 +252,6 @@ pub fn span_of(parts: &Parts, rounds: &RoundCursor, near: Near) -> Span
     }
 }
 
-/// The entry of a line. By clause `number` a proof sees that positions fit 32 bits, since the
-/// numbers of lines rise.
-fn entry_of(line: PackedLine) -> Entry
-    ensures value { result ≡ line.item }
-    ensures number { line.number < 2 ^ 32 }
-{
-    line.item()
-}
-
-/// The walk over the entries of a log, whose parts are given: up to its end, or past the first
-/// entry with which the replies aren't borne out, whose position is returned.
-fn walk_over(
-    alloc: Global,
-    lines: &[PackedLine],
-    parts: &Parts,
-) -> Result<(Walk, Option<usize>), AllocError>
-    requires order { IsInOrder (entries lines.now) }
-    requires valid { AreValid (entries lines.now) }
-    requires rising { IsRisingFrom 0 lines.now }
-    requires borders { AreBorders parts.now }
-    requires cut { AreCut parts.now (entries lines.now) }
-    ensures { IfOk result (λ r. IsEndOfWalk parts.now (entries lines.now) r.1 r.0) }
-{
-    let mut walk = Walk::start(alloc, parts.count())?;
-    let mut rounds = RoundCursor::first();
-    let mut hints = Hints::first();
-    for index in 0..list_start(lines) {
-        let entry = entry_of(lines[index]);
-        let near = hints.next(parts.hints(), &entry);
-        if !walk.pass(parts, &rounds, near, index as u32, &entry)? {
-            return Ok((walk, Some(index)));
-        }
-        rounds.advance(&entry);
-    }
-    Ok((walk, None))
-}
-
 /// The parts of a log, and what a walk over it knows of them.
 #[derive(Drop)]
 pub struct LogWalk {
@@ -305,17 +267,28 @@ pub struct LogWalk {
 }
 
 /// The walk over a log: to its end, or past the first entry with which a reply isn't borne out.
-pub fn walk_log(alloc: Global, lines: &[PackedLine]) -> Result<LogWalk, AllocError>
-    requires order { IsInOrder (entries lines.now) }
-    requires valid { AreValid (entries lines.now) }
-    requires rising { IsRisingFrom 0 lines.now }
+pub fn walk_log(alloc: Global, lines: &LogLines) -> Result<LogWalk, AllocError>
     ensures { IfOk result (IsWalkOver (entries lines.now)) }
 {
     let parts = Parts::of(alloc, lines)?;
-    let (walk, broken) = walk_over(alloc, lines, &parts)?;
+    let mut walk = Walk::start(alloc, parts.count())?;
+    let mut rounds = RoundCursor::first();
+    let mut hints = Hints::first();
+    for index in 0..list_start(lines) {
+        let entry = lines.entry(index);
+        let near = hints.next(parts.hints(), &entry);
+        if !walk.pass(&parts, &rounds, near, (index + 1) as u32, &entry)? {
+            return Ok(LogWalk {
+                parts,
+                walk,
+                broken: Some(index),
+            });
+        }
+        rounds.advance(&entry);
+    }
     Ok(LogWalk {
         parts,
         walk,
-        broken,
+        broken: None,
     })
 }

@@ -6,7 +6,7 @@ use Rattle.vic_log.specs.Log.{last_from}
 use Rattle.vic_log.specs.Order.{entries, listed}
 use Rattle.vic_log.specs.Populations.{answerers_at, Fits, CouldHaveGiven}
 use Rattle.vic_log.specs.Quiet.{is_quiet}
-use Rattle.vic_verdict.specs.LogLines.{AreLogLines}
+use Rattle.vic_walk.specs.LogLines.{AreLogLines}
 
 -- at the end of the first entries the same tags are Quiet as at position i of the second
 abbrev pub SameQuiet : List Entry → List Entry → ℕ → Type 0

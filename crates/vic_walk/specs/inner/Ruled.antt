@@ -1,5 +1,5 @@
 -- What it is that some parts are ruled out.
-use Rattle.std.specs.Prelude.{◌≡◌, ◌==◌, ℕ, ◌+◌, Bool, true, not, ◌&&◌, length, slice_index, if◌then◌else◌}
+use Rattle.std.specs.Prelude.{◌≡◌, ◌==◌, ℕ, Bool, true, not, ◌&&◌, length, slice_index, if◌then◌else◌}
 use Rattle.vic_walk.specs.declared.parts.Span.{Span}
 use Rattle.vic_walk.specs.declared.walk.Walk.{Walk}
 use Rattle.vic_walk.specs.Marked.{is_marked}
@@ -9,11 +9,11 @@ use Rattle.vic_walk.specs.Spans.{is_within}
 abbrev pub is_other : Span → ℕ → ℕ → Bool
 is_other s own p = is_within s p && not (p == own)
 
--- of the parts for which a test holds, those that last are ruled out by the entry at a position
-pub record IsRuledOut (old new : Walk) (out : ℕ → Bool) (at : ℕ) : Type 0 where
+-- of the parts for which a test holds, those that last are ruled out, with this end
+pub record IsRuledOut (old new : Walk) (out : ℕ → Bool) (end : ℕ) : Type 0 where
   pub lasting : (p : ℕ) → is_marked new.lasting p ≡ (is_marked old.lasting p && not (out p))
   pub ends : (p : ℕ) → slice_index new.ends.items p
-      ≡ (if is_marked old.lasting p && out p then at + 1 else slice_index old.ends.items p)
+      ≡ (if is_marked old.lasting p && out p then end else slice_index old.ends.items p)
   pub room : length new.lasting ≡ length old.lasting
   pub places : length new.ends.items ≡ length old.ends.items
   pub quiet : new.quiet.items ≡ old.quiet.items

@@ -4,8 +4,8 @@ use Rattle.vic_log.specs.Order.{entries}
 use Rattle.vic_margin.proofs.Places.{map_taken}
 use Rattle.vic_margin.proofs.margins.overlooked.Goals as goal
 
-pub part_margins-requires-clause-cut : goal.part_margins-requires-clause-cut
-part_margins-requires-clause-cut c = rw (← c.in_ok-parts.ensures, c.lines.ensures.value) at c.in_ok-of.ensures.cut
+pub part_margins-requires : goal.part_margins-requires
+part_margins-requires c = rw (← c.in_ok-parts.ensures, c.of.ensures.value) at c.in_ok-of.ensures.cut
 
 pub loop-uid-preserved : goal.loop-uid-preserved
 loop-uid-preserved c =

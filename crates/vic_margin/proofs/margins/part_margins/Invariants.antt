@@ -3,8 +3,8 @@ use Rattle.vic_log.specs.OpenRounds.{IsCursorAt}
 use Rattle.vic_log.specs.Order.{entries}
 use Rattle.vic_margin.proofs.margins.part_margins.Given as goal
 
-abbrev pub invariant-loop-line : goal.invariant-loop-line
-invariant-loop-line l = record {
-  tally : IsTallyAt l.parts (entries l.lines) l.line-index l.tally;
-  rounds : IsCursorAt (entries l.lines) l.line-index l.rounds;
+abbrev pub invariant-loop-index : goal.invariant-loop-index
+invariant-loop-index l = record {
+  tally : IsTallyAt l.parts (entries l.lines) l.index l.tally;
+  rounds : IsCursorAt (entries l.lines) l.index l.rounds;
 }

@@ -11,7 +11,7 @@ push_keys-requires c =
     let end = end_of_part c.args.margins.now.parts c.loop-part.part c.args.margins.now.borders lt in
     let low = end.0 in
     let high = end.1 in
-    omega (arith, low, high, c.first.ensures)
+    omega (arith, low, high, c.first.ensures.first)
 
 pub loop-part-preserved : goal.loop-part-preserved
 loop-part-preserved c =
@@ -22,7 +22,7 @@ loop-part-preserved c =
     elim c.if-index-margin.branch [
       | then-index-margin+in_ok-push_keys w ↦
           let isnt : not (slice_index ms c.loop-part.part == c.args.margin) ≡ false = grind (arith, nat_tests, read, w.if-index-margin.true) in
-          rw (w.others-is, w.from-is) (one_fails bs (λ p. not (slice_index ms p == c.args.margin)) c.loop-part.part c.loop-part.from w.first.result w.end-from.result _ _ c.args.margins.now.borders lt isnt w.first.ensures w.end-from.ensures w.in_ok-push_keys.ensures c.loop-part.invariant)
+          rw (w.others-is, w.from-is) (one_fails bs (λ p. not (slice_index ms p == c.args.margin)) c.loop-part.part c.loop-part.from w.first.result w.end-from.result _ _ c.args.margins.now.borders lt isnt w.first.ensures.first w.end-from.ensures w.in_ok-push_keys.ensures c.loop-part.invariant)
       | else-index-margin w ↦
           let is : not (slice_index ms c.loop-part.part == c.args.margin) ≡ true = grind (arith, nat_tests, read, w.if-index-margin.false) in
           rw (w.others-is, w.from-is) (one_passes bs (λ p. not (slice_index ms p == c.args.margin)) c.loop-part.part c.loop-part.from _ c.args.margins.now.borders lt is c.loop-part.invariant)

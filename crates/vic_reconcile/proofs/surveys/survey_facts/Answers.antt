@@ -4,16 +4,16 @@ use Rattle.vic_reconcile.proofs.surveys.survey_facts.Goals as goal
 
 pub returns : goal.returns
 returns c =
-    let es = entries c.args.lines.now in
+    let es = entries c.args.log.now.lines in
     let set = c.args.facts.open in
     let certain = c.args.facts.certain.items in
-    let told = c.requires.facts.told in
+    let told = c.requires.told in
     let facts = log_facts es (is_open_in set) certain told in
     record {
       verdict = c.in_ok-verdict.ensures;
       certain = ((λ p. facts.must), (λ n. absurd (n told.possible)));
       left = (
-        (λ p. left_by c.args.lines.now set c.in_ok-left.left certain c.in_ok-keys.keys.items facts
+        (λ p. left_by c.args.log.now.lines set c.in_ok-left.left certain c.in_ok-keys.keys.items facts
             (subst (AreKeysOf c.in_ok-keys.keys.items) c.deref.ensures.value c.in_ok-keys.ensures)
             (subst (λ ks. SameUids (is_open_in c.in_ok-left.left) (without_keys (is_open_in set) ks)) c.deref-2.ensures.value c.in_ok-left.ensures)),
         (λ n. absurd (n told.possible)),

@@ -1,9 +1,6 @@
-use Rattle.vic_report.proofs.Words.{ap, first_lines, subst, MatchOption, entries, uids_of, IsLeftOpen, MayBeMissing, IsUnsettledWith, IsListOf, IsAbsent, IsUnlisted, NoSuch}
+use Rattle.vic_report.proofs.Words.{ap, subst, MatchOption, entries, uids_of, IsLeftOpen, MayBeMissing, IsUnsettledWith, IsListOf, IsAbsent, IsUnlisted, NoSuch}
 use Rattle.vic_report.proofs.AllFindings.{none_is_complete}
 use Rattle.vic_report.proofs.reporting.report_facts.Goals as goal
-
-pub count_listed-count-requires : goal.count_listed-count-requires
-count_listed-count-requires c = (first_lines _ _ c.lines.ensures.log).rising
 
 pub returns : goal.returns
 returns c =
@@ -15,4 +12,4 @@ returns c =
     (subst (IsListOf (IsUnlisted es)) (ap uids_of none.unlisted) all.unlisted)
     (subst (λ o. MatchOption o (NoSuch (IsLeftOpen es)) (IsUnsettledWith es)) none.unsettled all.unsettled)
     (subst (IsListOf (MayBeMissing es)) none.doubtful all.doubtful)
-    (rw c.lines.ensures.value at c.count_listed-count.ensures)
+    c.count_listed-count.ensures

@@ -5,9 +5,9 @@ use Rattle.vic_verdict.proofs.explanation.explain_facts.Goals.{in-Impossible, in
 
 pub returns : goal.returns
 returns g c =
-    let lines = c.args.lines.now in
+    let lines = c.args.log.now.lines in
     let verdict = c.in_ok-verdict.ensures in
-    let met = c.requires.facts.is_met in
+    let met = c.requires.is_met in
     elim c.match-verdict.branch [
       | in-Impossible w ↦ rw (w.verdict-is, w.population-is) record { verdict = verdict; population = ⊎_elim (λ h. rw h.1 tt) (λ h. rw h.1 tt) w.in-Impossible.is }
       | in-Absent+in_ok-choose-in-Absent w ↦

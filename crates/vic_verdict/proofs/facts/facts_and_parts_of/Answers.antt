@@ -1,16 +1,17 @@
-use Rattle.vic_verdict.proofs.Words.{length, sym, subst, arith, refl, entries, length-map, LogLine, IsVerdict, IsFirstImpossible, Impossible, slice_get_read}
+use Rattle.vic_verdict.proofs.Words.{ap, length, sym, subst, arith, refl, entries, length-map, LogLine, IsVerdict, IsFirstImpossible, Impossible, slice_get_read}
 use Rattle.vic_verdict.proofs.Verdicts.{first_line}
 use Rattle.vic_verdict.proofs.facts.facts_and_parts_of.Goals as goal
 
 pub bounds-lines-at : goal.bounds-lines-at
 bounds-lines-at g c =
-    let first : IsFirstImpossible (entries c.args.lines.now) c.in-Err.at = rw c.in-Err.is at c.in_ok-open.ensures.found in
-    omega (arith, first.impossible.within, length-map c.args.lines.now (λ (l : LogLine). l.item))
+    let lines = c.args.log.now.lines in
+    let first : IsFirstImpossible (entries lines) c.in-Err.at = rw (c.in-Err.is, c.of.ensures.value) at c.in_ok-open.ensures.found in
+    omega (arith, first.impossible.within, length-map lines (λ (l : LogLine). l.item), ap length c.lines-lines.ensures.value)
 
 pub returns-in-Err-clause-facts : goal.returns-in-Err-clause-facts
 returns-in-Err-clause-facts g c =
-    let lines = c.args.lines.now in
-    let first : IsFirstImpossible (entries lines) c.in-Err.at = rw c.in-Err.is at c.in_ok-open.ensures.found in
+    let lines = c.args.log.now.lines in
+    let first : IsFirstImpossible (entries lines) c.in-Err.at = rw (c.in-Err.is, c.of.ensures.value) at c.in_ok-open.ensures.found in
     let short = first.impossible.within in
     subst (λ n. IsVerdict lines (Impossible n)) (sym c.number.ensures)
-    (first_line lines c.in-Err.at c.index-lines-at.result c.requires.rising (slice_get_read lines (length lines) c.in-Err.at c.index-lines-at.result refl (omega (arith, short, length-map lines (λ (l : LogLine). l.item))) c.index-lines-at.is) first)
+    (first_line lines c.in-Err.at c.index-lines-at.result c.of.ensures.log.rising (slice_get_read lines (length lines) c.in-Err.at c.index-lines-at.result refl (omega (arith, short, length-map lines (λ (l : LogLine). l.item))) (rw c.lines-lines.ensures.value at c.index-lines-at.is)) first)

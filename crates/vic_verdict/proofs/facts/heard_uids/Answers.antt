@@ -1,5 +1,4 @@
-use Rattle.vic_verdict.proofs.Words.{◌≡◌, ◌∙◌, ap, arith, sym, Some, Entry, entries}
-use Rattle.vic_verdict.proofs.Listing.{entry_at}
+use Rattle.vic_verdict.proofs.Words.{◌≡◌, arith, entries}
 use Rattle.vic_verdict.proofs.Meeting.{heard_at_list, heard_kept, heard_pushed}
 use Rattle.vic_verdict.proofs.facts.heard_uids.Goals as goal
 use Rattle.vic_verdict.proofs.facts.heard_uids.Goals.{in-Some+in_ok-push, in_default}
@@ -8,10 +7,10 @@ pub loop-index-preserved : goal.loop-index-preserved
 loop-index-preserved c =
     let es = entries c.args.lines.now in
     let i = c.loop-index.index in
-    let here = entry_at c.args.lines.now i c.index-lines-index.result (omega (arith, c.loop-index-test.true, c.list_start-index-end.ensures.within)) c.index-lines-index.is ∙ ap (λ (e : Entry). Some e) (sym c.item.ensures) in
+    let here = c.entry.ensures.here in
     elim c.match-heard.branch [
-      | in-Some+in_ok-push w ↦ rw (w.heard-is, w.in_ok-push.ensures.items) (heard_pushed es i c.loop-index.heard.items c.item.result _ here (rw w.in-Some.is at c.heard.ensures.some) c.loop-index.invariant)
-      | in_default w ↦ rw w.heard-is (heard_kept es i c.loop-index.heard.items c.item.result here w.in_default.ensures.none c.loop-index.invariant)
+      | in-Some+in_ok-push w ↦ rw (w.heard-is, w.in_ok-push.ensures.items) (heard_pushed es i c.loop-index.heard.items c.entry.result _ here (rw w.in-Some.is at c.heard.ensures.some) c.loop-index.invariant)
+      | in_default w ↦ rw w.heard-is (heard_kept es i c.loop-index.heard.items c.entry.result here w.in_default.ensures.none c.loop-index.invariant)
     ]
 
 pub returns : goal.returns

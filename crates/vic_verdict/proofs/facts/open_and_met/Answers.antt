@@ -1,4 +1,4 @@
-use Rattle.vic_verdict.proofs.Words.{◌≡◌, ◌∙◌, Some, arith, refl, suc, length, length-map, LogLine, entries}
+use Rattle.vic_verdict.proofs.Words.{◌≡◌, ◌∙◌, Some, arith, refl, suc, sym, length, length-map, LogLine, entries}
 use Rattle.vic_walk.specs.Walk.{IsEndOfWalk}
 use Rattle.vic_verdict.proofs.Meeting.{met_all}
 use Rattle.vic_verdict.proofs.Walking.{ends_past, enough_found, first_broken, first_unmet, found_met, lacks_unmet, walked}
@@ -19,7 +19,7 @@ first_lack-requires-then-not-are_met-clause-walk g c =
     let told = c.in_ok-parts.broken-is in
     let end = walked c.in_ok-parts.field-0.parts es c.in_ok-parts.field-0.broken c.in_ok-parts.field-0.walk c.in_ok-parts.ensures.walk (λ i is. c.in_default.not-Some i (cc)) in
     let long = length-map c.args.lines.now (λ (l : LogLine). l.item) in
-    ends_past c.in_ok-parts.field-0.parts es (length c.args.lines.now) (length es) c.in_ok-parts.field-0.walk _ (omega (arith, long)) (omega arith) c.in_ok-found.ensures.ends end.0
+    ends_past c.in_ok-parts.field-0.parts es c.len.result (length es) c.in_ok-parts.field-0.walk _ (omega (arith, long, c.len.ensures)) (omega arith) c.in_ok-found.ensures.ends end.0
 
 pub returns-in-Some-clause-found : goal.returns-in-Some-clause-found
 returns-in-Some-clause-found g c =
@@ -38,7 +38,7 @@ returns-then-not-are_met-clause-found g c =
     let end = walked c.in_ok-parts.field-0.parts es c.in_ok-parts.field-0.broken c.in_ok-parts.field-0.walk c.in_ok-parts.ensures.walk (λ i is. c.in_default.not-Some i (cc)) in
     let lack = c.in_ok-first_lack-2.ensures in
     let unmet = lacks_unmet es c.in_ok-found.found.items c.in_ok-found.ensures.found (rw c.deref.ensures.value at (c.are_met.ensures.unmet c.if-not-are_met.true)) in
-    first_unmet es (length c.args.lines.now) c.in_ok-first_lack-2.field-0 (length-map c.args.lines.now (λ (l : LogLine). l.item)) end.1 unmet lack.upto lack.met lack.lack
+    first_unmet es c.len.result c.in_ok-first_lack-2.field-0 (length-map c.args.lines.now (λ (l : LogLine). l.item) ∙ sym c.len.ensures) end.1 unmet lack.upto lack.met lack.lack
 
 pub returns-clause-found : goal.returns-clause-found
 returns-clause-found g c =

@@ -1,5 +1,4 @@
-use Rattle.vic_walk.proofs.Words.{◌≡◌, ◌-◌, ◌∙◌, Entry, Some, ap, arith, cases_lt, inl, inr, sym}
-use Rattle.vic_walk.proofs.Lines.{entry_at}
+use Rattle.vic_walk.proofs.Words.{◌≡◌, ◌-◌, ◌∙◌, arith, cases_lt, inl, inr, sym}
 use Rattle.vic_walk.proofs.ListLaws.{unread_past}
 use Rattle.vic_walk.proofs.answers.after_unread.Goals as goal
 
@@ -11,7 +10,7 @@ loop-after-preserved c =
     let l = c.loop-after in
     let within = l.invariant.within in
     let lines = c.args.lines.now in
-    let here = entry_at lines (l.after - 1) c.index-lines-after.result (omega (arith, c.loop-after-test.true, within)) c.index-lines-after.is ∙ ap (λ (e : Entry). Some e) (sym c.item-entry.ensures) in
+    let here = c.entry-entry.ensures.here in
     record {
       within = omega (arith, within);
       read = λ i from. elim (cases_lt i l.after) [

@@ -1,10 +1,9 @@
-use Rattle.vic_walk.proofs.Words.{◌≡◌, ◌∙◌, Some, Entry, ap, arith, length, length-map, refl, sym, and-true, is_open}
+use Rattle.vic_walk.proofs.Words.{◌≡◌, ◌∙◌, arith, length, length-map, refl, and-true, is_open}
 use Rattle.vic_log.specs.declared.entry.LogLine.{LogLine}
 use Rattle.vic_log.specs.Order.{entries}
 use Rattle.vic_log.specs.Slots.{slots_of}
 use Rattle.vic_walk.specs.Spans.{IsPlace}
 use Rattle.vic_walk.proofs.OpenAnswers.{answering_none, answering_rest}
-use Rattle.vic_walk.proofs.Lines.{entry_at}
 use Rattle.vic_walk.proofs.Steps.{ready_of, ready_woken}
 use Rattle.vic_walk.proofs.answers.open_answers.Goals as goal
 
@@ -24,13 +23,13 @@ pub loop-index-preserved : goal.loop-index-preserved
 loop-index-preserved c =
     let es = entries c.args.lines.now in
     let l = c.loop-index in
-    let here = entry_at c.args.lines.now l.index c.index-lines-index.result (omega (arith, c.loop-index-test.true, c.after_unread-after.ensures.within)) c.index-lines-index.is ∙ ap (λ (e : Entry). Some e) (sym c.item-entry.ensures) in
-    let place : IsPlace c.args.parts.now es l.index c.item-entry.result l.rounds = record { here = here; valid = c.requires.valid; rounds_here = l.invariant.rounds; borders = c.requires.borders; cut = c.requires.cut } in
+    let here = c.entry-entry.ensures.here in
+    let place : IsPlace c.args.parts.now es l.index c.entry-entry.result l.rounds = record { here = here; valid = c.entry-entry.ensures.log.valid; rounds_here = l.invariant.rounds; borders = c.hints.ensures.borders; cut = c.requires.cut } in
     record {
       ready = c.in_ok-pass_again.ensures.ready es (is_open (slots_of es)) place l.invariant.ready;
       heard = c.in_ok-pass_again.ensures.heard ∙ l.invariant.heard;
       ends = c.in_ok-pass_again.ensures.ends ∙ l.invariant.ends;
-      rounds = c.advance.ensures es l.index c.requires.order here l.invariant.rounds;
+      rounds = c.advance.ensures es l.index c.entry-entry.ensures.log.order here l.invariant.rounds;
       found = c.in_ok-pass_again.ensures.found es place l.invariant.ready l.invariant.found;
     }
 

@@ -28,7 +28,7 @@ returns-in_ok-push-in-Collision-clause-found c es place h found =
     let slot : is_slot c.args.entry.now ≡ true = elim c.in-Collision.is [ inl e ↦ rw e refl | inr e ↦ rw e refl ] in
     let unread : is_unread (Some c.args.entry.now) ≡ true = elim c.in-Collision.is [ inl e ↦ rw e refl | inr e ↦ rw e refl ] in
     let span = c.span_of.ensures.inside es c.args.at _ place slot in
-    answering_more es c.args.at _ _ _ c.in_ok-push-in-Collision.ensures.items (answering_here _ es c.args.at c.span_of.result c.args.walk.now _ refl (rw place.here unread) (ap needs_of place.here ∙ sym c.needs.ensures) span h c.up_to_three-uids.ensures) found
+    answering_more es c.args.at _ _ _ c.in_ok-push-in-Collision.ensures.items (answering_here _ es c.args.at c.span_of.result c.args.walk.now _ refl (rw place.here unread) (ap needs_of place.here ∙ sym c.needs.ensures) span h (λ t. c.up_to_three-uids.ensures t place.borders)) found
 
 pub returns-in-Silent-clause-found : goal.returns-in-Silent-clause-found
 returns-in-Silent-clause-found c es place h found =

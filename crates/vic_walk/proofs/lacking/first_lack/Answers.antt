@@ -1,11 +1,10 @@
-use Rattle.vic_walk.proofs.Words.{◌∙◌, Some, Entry, ap, arith, length-map, slice_index, sym}
+use Rattle.vic_walk.proofs.Words.{arith, length-map, slice_index, sym}
 use Rattle.vic_log.specs.declared.entry.LogLine.{LogLine}
 use Rattle.vic_log.specs.Order.{entries}
 use Rattle.vic_walk.specs.Spans.{IsPlace}
 use Rattle.vic_walk.specs.inner.Reach.{AreEndsUpTo, IsBackTo}
 use Rattle.vic_walk.proofs.Ending.{open_to_end}
 use Rattle.vic_walk.proofs.GoingBack.{has_reach, lack_next, met_next}
-use Rattle.vic_walk.proofs.Lines.{entry_at}
 use Rattle.vic_walk.proofs.lacking.first_lack.Goals as goal
 
 pub loop-index-init : goal.loop-index-init
@@ -33,14 +32,14 @@ pub loop-index-preserved : goal.loop-index-preserved
 loop-index-preserved c =
     let es = entries c.args.lines.now in
     let l = c.loop-index in
-    let here = entry_at c.args.lines.now l.index c.index-lines-index.result c.loop-index-test.true c.index-lines-index.is ∙ ap (λ (e : Entry). Some e) (sym c.item-entry.ensures) in
-    let place : IsPlace c.args.parts.now es l.index c.item-entry.result l.rounds = record { here = here; valid = c.requires.valid; rounds_here = l.invariant.rounds; borders = c.requires.borders; cut = c.requires.cut } in
+    let here = c.entry-entry.ensures.here in
+    let place : IsPlace c.args.parts.now es l.index c.entry-entry.result l.rounds = record { here = here; valid = c.entry-entry.ensures.log.valid; rounds_here = l.invariant.rounds; borders = c.hints.ensures.borders; cut = c.requires.cut } in
     let ready = rw (← c.deref-in-loop-index.ensures.value) at l.invariant.ready in
     let back : IsBackTo es l.index l.reach.upto c.pass.new.self.upto = c.in_ok-pass.ensures.back es place ready in
     record {
       ruled = rw c.deref-in-loop-index.ensures.value at c.in_ok-pass.ensures.ruled;
       ready = rw c.deref-in-loop-index.ensures.value at (c.in_ok-pass.ensures.ready es place ready);
-      rounds = c.advance.ensures es l.index c.requires.order here l.invariant.rounds;
+      rounds = c.advance.ensures es l.index c.entry-entry.ensures.log.order here l.invariant.rounds;
       back = let le = back.back in omega (arith, le, l.invariant.back);
       met = met_next es l.index l.reach.upto c.pass.new.self.upto back l.invariant.met;
       lack = lack_next es l.index l.reach.upto c.pass.new.self.upto c.args.upto back l.invariant.lack;

@@ -1,7 +1,6 @@
 use Rattle.std.proofs.Common.{◌/◌}
-use Rattle.vic_walk.proofs.Words.{◌+◌, ◌-◌, ◌∙◌, Some, Entry, ap, arith, sym}
+use Rattle.vic_walk.proofs.Words.{◌+◌, ◌-◌, arith}
 use Rattle.vic_log.specs.Order.{entries}
-use Rattle.vic_walk.proofs.Lines.{entry_at}
 use Rattle.vic_walk.proofs.ListLaws.{list_from}
 use Rattle.vic_walk.proofs.listing.list_start.Goals as goal
 
@@ -10,12 +9,12 @@ loop-low-preserved-then-is_listing c =
     let lines = c.args.lines.now in
     let l = c.loop-low in
     let middle = l.low + (l.high - l.low) / 2 in
-    let here = entry_at lines middle c.index-lines-middle.result (omega (arith, l.invariant.within)) c.index-lines-middle.is ∙ ap (λ (e : Entry). Some e) (sym c.item-entry.ensures) in
+    let here = c.entry-entry.ensures.here in
     record {
       forward = omega arith;
       within = omega (arith, l.invariant.within);
       before = l.invariant.before;
-      list = list_from (entries lines) middle c.item-entry.result c.requires here (c.is_listing.ensures.listing c.if-is_listing.true);
+      list = list_from (entries lines) middle c.entry-entry.result c.entry-entry.ensures.log.order here (c.is_listing.ensures.listing c.if-is_listing.true);
     }
 
 pub loop-low-preserved : goal.loop-low-preserved
@@ -23,10 +22,10 @@ loop-low-preserved c =
     let lines = c.args.lines.now in
     let l = c.loop-low in
     let middle = l.low + (l.high - l.low) / 2 in
-    let here = entry_at lines middle c.index-lines-middle.result (omega (arith, l.invariant.within)) c.index-lines-middle.is ∙ ap (λ (e : Entry). Some e) (sym c.item-entry.ensures) in
+    let here = c.entry-entry.ensures.here in
     record {
       forward = omega arith;
       within = l.invariant.within;
-      before = λ i e below at is. c.is_listing.ensures.other c.if-is_listing.false (list_from (entries lines) i e c.requires at is middle c.item-entry.result (omega arith) here);
+      before = λ i e below at is. c.is_listing.ensures.other c.if-is_listing.false (list_from (entries lines) i e c.entry-entry.ensures.log.order at is middle c.entry-entry.result (omega arith) here);
       list = l.invariant.list;
     }

@@ -1,15 +1,11 @@
-use Rattle.std.proofs.Common.{◌^◌, ◌<◌, ℕ}
-use Rattle.std.specs.List.{All, Contains}
+use Rattle.std.proofs.Common.{◌<◌, ℕ}
 use Rattle.vic_log.specs.OpenRounds.{IsCursorAt}
 use Rattle.vic_log.specs.Order.{entries}
-use Rattle.vic_walk.specs.inner.Gathered.{HasCuts, IsBorder}
+use Rattle.vic_walk.specs.inner.Gathered.{HasCuts}
 use Rattle.vic_walk.proofs.parts.gather.Given as goal
 
 abbrev pub invariant-loop-index : goal.invariant-loop-index
 invariant-loop-index l = record {
   cursor : IsCursorAt (entries l.lines) l.index l.cursor;
   cut : (i : ℕ) → i < l.index → HasCuts (entries l.lines) l.borders i;
-  borders : All IsBorder l.borders;
-  first : Contains l.borders 0;
-  end : Contains l.borders (2 ^ 56);
 }

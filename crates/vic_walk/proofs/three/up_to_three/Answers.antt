@@ -6,14 +6,14 @@ use Rattle.vic_walk.proofs.three.up_to_three.Goals as goal
 pub loop-part-init : goal.loop-part-init
 loop-part-init c = record {
   low = omega arith;
-  found = λ test of. rw c.new-found.ensures (gathers_none (IsBefore c.args.parts.now test c.args.span.from) [] (λ u h. none_before_span c.args.parts.now c.args.marks.now c.args.span test u c.requires.borders of h));
+  found = λ test borders of. rw c.new-found.ensures (gathers_none (IsBefore c.args.parts.now test c.args.span.from) [] (λ u h. none_before_span c.args.parts.now c.args.marks.now c.args.span test u borders of h));
 }
 
 pub gather_between-requires : goal.gather_between-requires
 gather_between-requires c =
     let high = c.in-Some.ensures.within in
-    let end = end_of_part c.args.parts.now c.in-Some.part c.requires.borders (omega (arith, high, c.requires.within)) in
-    rw (c.first-in-Some.ensures, c.end.ensures) (record { forward = end.0; small = end.1 })
+    let end = end_of_part c.args.parts.now c.in-Some.part c.first-in-Some.ensures.borders (omega (arith, high, c.requires)) in
+    rw (c.first-in-Some.ensures.first, c.end.ensures) (record { forward = end.0; small = end.1 })
 
 pub loop-part-preserved : goal.loop-part-preserved
 loop-part-preserved c =
@@ -21,16 +21,16 @@ loop-part-preserved c =
     let part = c.in-Some.ensures in
     record {
       low = let from = part.first.from in let low = i.low in omega (arith, from, low);
-      found = λ test of. gathers_found c.args.parts.now c.args.marks.now c.args.span test c.loop-part.from c.in-Some.part _ _ _ _ c.requires.borders of i.low part.within c.requires.within part.first c.first-in-Some.ensures c.end.ensures (i.found test of) c.gather_between.ensures;
+      found = λ test borders of. gathers_found c.args.parts.now c.args.marks.now c.args.span test c.loop-part.from c.in-Some.part _ _ _ _ borders of i.low part.within c.requires part.first c.first-in-Some.ensures.first c.end.ensures (i.found test borders of) c.gather_between.ensures;
     }
 
 pub returns-then-is_full : goal.returns-then-is_full
-returns-then-is_full c test of =
+returns-then-is_full c test borders of =
     let i = c.loop-part.invariant in
     let part = c.in-Some.ensures in
     let full = eqb-true _ _ (sym c.if-is_full.ensures.value) in
     three_of test (IsBefore c.args.parts.now test (c.in-Some.part + 1)) _ (λ u h. h.passes) (λ short u h. absurd (omega (arith, full, short)))
-    (gathers_found c.args.parts.now c.args.marks.now c.args.span test c.loop-part.from c.in-Some.part _ _ _ _ c.requires.borders of i.low part.within c.requires.within part.first c.first-in-Some.ensures c.end.ensures (i.found test of) c.gather_between.ensures)
+    (gathers_found c.args.parts.now c.args.marks.now c.args.span test c.loop-part.from c.in-Some.part _ _ _ _ borders of i.low part.within c.requires part.first c.first-in-Some.ensures.first c.end.ensures (i.found test borders of) c.gather_between.ensures)
 
 pub returns : goal.returns
-returns c test of = three_of test (IsBefore c.args.parts.now test c.loop-part.from) _ (λ u h. h.passes) (λ short u h. all_before c.args.parts.now c.args.marks.now c.args.span test c.loop-part.from u c.requires.borders of c.in_default.ensures.none h) (c.loop-part.invariant.found test of)
+returns c test borders of = three_of test (IsBefore c.args.parts.now test c.loop-part.from) _ (λ u h. h.passes) (λ short u h. all_before c.args.parts.now c.args.marks.now c.args.span test c.loop-part.from u borders of c.in_default.ensures.none h) (c.loop-part.invariant.found test borders of)

@@ -3,13 +3,13 @@ use Rattle.vic_margin.proofs.Steps.{tally_idle, tally_silenced}
 use Rattle.vic_margin.proofs.tally.Tally.pass_request.Goals as goal
 
 pub returns-in-Some : goal.returns-in-Some
-returns-in-Some c es i k cut h =
+returns-in-Some c es i k borders cut h =
     let w = c.silence.ensures in
     let same : c.in-Some.uid ≡ c.in-StayQuiet.uid = c.in-Some.ensures.1 in
-    tally_silenced _ es i c.in-StayQuiet.link c.in-Some.uid c.at_or_after.result c.args.self.now _ (rw (c.in-StayQuiet.is, ← same) at k) c.requires.borders cut c.key.ensures.is_uid (rw c.key.ensures.value at c.at_or_after.ensures) w.turned w.quiet h
+    tally_silenced _ es i c.in-StayQuiet.link c.in-Some.uid c.at_or_after.result c.args.self.now _ (rw (c.in-StayQuiet.is, ← same) at k) borders cut c.key.ensures.is_uid (rw c.key.ensures.value at c.at_or_after.ensures) w.turned w.quiet h
 
 pub returns-in_default : goal.returns-in_default
-returns-in_default c es i k cut h =
+returns-in_default c es i k borders cut h =
     let none = c.in_default.ensures in
     tally_idle _ es i (Sent c.args.request.now) _ k (record {
       silences = λ u is. rw c.in-StayQuiet.is (false_from_ne_true _ (λ it. none (subst IsUid (sym (eqb-true _ _ it)) is)));
@@ -18,5 +18,5 @@ returns-in_default c es i k cut h =
     }) h
 
 pub returns-in-Inventory : goal.returns-in-Inventory
-returns-in-Inventory c es i k cut h =
+returns-in-Inventory c es i k borders cut h =
     tally_idle _ es i (Sent c.args.request.now) _ k (record { silences = λ u is. rw c.in-Inventory.is refl; wakes = refl; lacks = λ u. refl }) h

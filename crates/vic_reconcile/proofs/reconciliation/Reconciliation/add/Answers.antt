@@ -1,11 +1,8 @@
-use Rattle.vic_reconcile.proofs.Words.{sym, first_lines}
+use Rattle.vic_reconcile.proofs.Words.{sym}
 use Rattle.vic_reconcile.proofs.reconciliation.Reconciliation.add.Goals as goal
 
-pub add_lines-requires : goal.add_lines-requires
-add_lines-requires c = first_lines _ _ c.lines.ensures.log
+pub join-requires : goal.join-requires
+join-requires c = rw c.lines-lines.ensures.value (rw c.in-Ok.is at c.in_ok-facts.ensures.facts)
 
-pub returns-clause-joined : goal.returns-clause-joined
-returns-clause-joined c = rw (sym c.lines.ensures.value) c.add_lines.ensures.joined
-
-pub returns-clause-impossible : goal.returns-clause-impossible
-returns-clause-impossible c = rw (sym c.lines.ensures.value) c.add_lines.ensures.impossible
+pub returns-in_ok-join-in-Ok-clause-joined : goal.returns-in_ok-join-in-Ok-clause-joined
+returns-in_ok-join-in-Ok-clause-joined c = rw (sym c.lines-lines.ensures.value) c.in_ok-join-in-Ok.ensures.joined

@@ -18,9 +18,9 @@ returns-then-have_ranks-clause-same c =
 pub returns-then-len-gt-MOST_RANKED-clause-borders : goal.returns-then-len-gt-MOST_RANKED-clause-borders
 returns-then-len-gt-MOST_RANKED-clause-borders c =
     let same : HasAll c.args.self c.sorted.result.items = subst (λ (bs : List ℕ). HasAll bs c.sorted.result.items) c.self.view_is c.sorted.ensures.same in
-    are_borders _ _ c.sorted.ensures.rising same c.requires.borders c.requires.first c.requires.end
+    are_borders _ _ c.sorted.ensures.rising same (rw c.self.view_is at c.self.invariant)
 
 pub returns-clause-borders : goal.returns-clause-borders
 returns-clause-borders c =
     let same : HasAll c.args.self c.sorted-2.result.items = subst (λ (bs : List ℕ). HasAll bs c.sorted-2.result.items) c.self.view_is c.sorted-2.ensures.same in
-    are_borders _ _ c.sorted-2.ensures.rising same c.requires.borders c.requires.first c.requires.end
+    are_borders _ _ c.sorted-2.ensures.rising same (rw c.self.view_is at c.self.invariant)

@@ -4,13 +4,13 @@ use Rattle.vic_walk.proofs.GoingBack.{met_by, met_only_by, uids_at}
 use Rattle.vic_walk.proofs.lacking.Reach.meet.Goals as goal
 
 pub returns-then-need-len-clause-back : goal.returns-then-need-len-clause-back
-returns-then-need-len-clause-back c es span need h =
+returns-then-need-len-clause-back c es borders span need h =
     let l = c.loop-self in
-    let three = c.up_to_three.ensures (answers_open es l.self.upto c.args.at) (uids_at c.args.parts.now es c.args.ends.now c.args.at c.args.span l.self span (l.invariant.ready es c.args.at h)) in
+    let three = c.up_to_three.ensures (answers_open es l.self.upto c.args.at) borders (uids_at c.args.parts.now es c.args.ends.now c.args.at c.args.span l.self span (l.invariant.ready es c.args.at h)) in
     record {
       back = l.invariant.back;
       met = λ below. met_by es l.self.upto c.args.at _ three (omega (arith, need, c.if-need-len.true, c.len.ensures.value));
-      lack = l.invariant.lack es span need h;
+      lack = l.invariant.lack es borders span need h;
     }
 
 pub loop-self-preserved : goal.loop-self-preserved
@@ -22,10 +22,10 @@ loop-self-preserved c =
       reach = w.reach;
       ready = λ es i h. w.ready c.args.parts.now es i c.requires.count (l.invariant.ready es i h);
       back = omega (arith, one, l.invariant.back);
-      lack = λ es span need h less. (
+      lack = λ es borders span need h less. (
         omega (arith, one, c.loop-self-test.true),
         λ met.
-            let three = c.up_to_three.ensures (answers_open es l.self.upto c.args.at) (uids_at c.args.parts.now es c.args.ends.now c.args.at c.args.span l.self span (l.invariant.ready es c.args.at h)) in
+            let three = c.up_to_three.ensures (answers_open es l.self.upto c.args.at) borders (uids_at c.args.parts.now es c.args.ends.now c.args.at c.args.span l.self span (l.invariant.ready es c.args.at h)) in
             let le = met_only_by es l.self.upto c.args.at _ three (rw one at met) in
             absurd (omega (arith, le, need, c.if-need-len.false, c.len.ensures.value)),
       );

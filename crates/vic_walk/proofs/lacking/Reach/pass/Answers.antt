@@ -16,7 +16,7 @@ returns-in_ok-pass_request-in-Sent-2-clause-ready c es place h =
 pub returns-in_ok-meet-in-Collision-clause-back : goal.returns-in_ok-meet-in-Collision-clause-back
 returns-in_ok-meet-in-Collision-clause-back c es place h =
     let span = c.span_of.ensures.inside es c.args.at _ place (rw c.in-Collision.is refl) in
-    c.in_ok-meet-in-Collision.ensures.back es span (ap needs_of (rw c.in-Collision.is at place.here)) h
+    c.in_ok-meet-in-Collision.ensures.back es place.borders span (ap needs_of (rw c.in-Collision.is at place.here)) h
 
 pub returns-in_ok-meet-in-Collision-clause-ready : goal.returns-in_ok-meet-in-Collision-clause-ready
 returns-in_ok-meet-in-Collision-clause-ready c es place h =
@@ -25,7 +25,7 @@ returns-in_ok-meet-in-Collision-clause-ready c es place h =
 pub returns-in_ok-meet-in-Garbled-clause-back : goal.returns-in_ok-meet-in-Garbled-clause-back
 returns-in_ok-meet-in-Garbled-clause-back c es place h =
     let span = c.span_of-in-Garbled.ensures.inside es c.args.at _ place (rw c.in-Garbled.is refl) in
-    c.in_ok-meet-in-Garbled.ensures.back es span (ap needs_of (rw c.in-Garbled.is at place.here)) h
+    c.in_ok-meet-in-Garbled.ensures.back es place.borders span (ap needs_of (rw c.in-Garbled.is at place.here)) h
 
 pub returns-in_ok-meet-in-Garbled-clause-ready : goal.returns-in_ok-meet-in-Garbled-clause-ready
 returns-in_ok-meet-in-Garbled-clause-ready c es place h =
