@@ -1,7 +1,6 @@
 -- Lines that were read, and the next one.
-use Rattle.vic_log.proofs.Words.{◌≡◌, ℕ, zero, suc, ◌<◌, ◌≤◌, Option, Some, None, Result, List, [], ◌∷◌, ◌++◌, length, refl, sym, ap, ◌∙◌, arith, ⊎_elim, append-nil, ◌≢◌, slice_get, nat_tests, cases_eq, cases_lt, cond_both, cond-false, ne_eqb, length_push, Entry, LogLine, Version, LineFault, Header, Memory, AreRead, LogValue, last_from, named_version, version_of, line_fault, entry_line, logged, log_upto, fault_on, IsFirstFault, IsLogOf, next_fault, after_line, RefusesNext, slice_get_past, GiveEntries}
+use Rattle.vic_log.proofs.Words.{◌≡◌, ℕ, zero, suc, ◌<◌, ◌≤◌, Some, None, List, [], ◌∷◌, ◌++◌, length, refl, sym, ap, ◌∙◌, arith, ⊎_elim, ◌≢◌, slice_get, nat_tests, cases_eq, cases_lt, cond-false, ne_eqb, length_push, Entry, Version, LineFault, Header, Memory, AreRead, LogValue, named_version, version_of, line_fault, logged, log_upto, fault_on, IsFirstFault, IsLogOf, next_fault, after_line, RefusesNext, slice_get_past, GiveEntries}
 use Rattle.vic_log.proofs.Places.{slice_get-append, slice_get_seam}
-use Rattle.vic_log.proofs.Push.{last_from-push}
 
 -- ---- a fault is told by the lines up to its own
 
@@ -99,21 +98,3 @@ AreRead-end {ls = ls} {n = n} r some = record {
   all = r.log_is ∙ ap (log_upto ls) (sym r.count);
   version = r.version some;
 }
-
--- the last number of the log lines so far
-last_logged : (ls : List LogLine) (n k : ℕ) → last_from 1 ls ≤ k → k ≤ n → (r : Result (Option Entry) LineFault) → last_from 1 (ls ++ entry_line n r) ≤ n
-last_logged ls n k h g r = grind (arith, nat_tests, last_from-push, append-nil)
-
-logged_last : (version : Version) (ls : List LogLine) (n k : ℕ) (o : Option (List ℕ)) → last_from 1 ls ≤ k → k ≤ n → last_from 1 (ls ++ logged version n o) ≤ n
-logged_last version ls n k o h g = grind (arith, nat_tests, append-nil, cond_both, last_logged)
-
-pub log_upto-last : (lines : List (List ℕ)) (k : ℕ) → last_from 1 (log_upto lines (suc k)) ≤ suc k
-log_upto-last lines zero = logged_last (version_of lines) [] 1 1 (slice_get lines 0) (omega arith) (omega arith)
-log_upto-last lines (suc k) = logged_last (version_of lines) (log_upto lines (suc k)) (suc (suc k)) (suc k) (slice_get lines (suc k)) (log_upto-last lines k) (omega arith)
-
-pub AreRead-above : {ls : List (List ℕ)} {log : LogValue} (n : ℕ) → AreRead ls log n → 0 < n → last_from 1 log.lines ≤ n
-AreRead-above n h k = grind (arith, nat_tests, log_upto-last)
-
--- before the first line nothing is logged
-pub AreRead-none : {ls : List (List ℕ)} {log : LogValue} {n : ℕ} → AreRead ls log n → n ≡ 0 → log.lines ≡ []
-AreRead-none {ls = ls} r none = r.log_is ∙ ap (log_upto ls) none

@@ -47,10 +47,10 @@ spare number line = LINE_ROOM * (MAX_LINES - number) - length line
 
 -- the same about what a reader keeps
 abbrev pub HasTaken : List ℕ → Begun → Type 0
-HasTaken text b = HasJudged text b.log b.number b.line.items
+HasTaken text b = HasJudged text b.read.log b.read.number b.line.items
 
 abbrev pub spare_of : Begun → ℕ
-spare_of b = spare b.number b.line.items
+spare_of b = spare b.read.number b.line.items
 
 -- a reader that was fed this text, which is within the limit, even with all that can still follow
 abbrev pub IsFed : List ℕ → Begun → Type 0

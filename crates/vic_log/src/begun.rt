@@ -1,19 +1,18 @@
 //! A text that is read in pieces: the lines judged so far, and the line begun.
 
-ghost use Rattle.std.specs.Prelude.{◌≡◌, ◌+◌, ◌<◌, ◌≤◌, ◌++◌, ◌∷◌, [], ℕ, List, true, false, None, length, MatchResult, IfErr, OnOk, OnErr, IsTrue, MatchOption};
+ghost use Rattle.std.specs.Prelude.{◌≡◌, ◌+◌, ◌<◌, ◌≤◌, ◌++◌, ◌∷◌, [], ℕ, List, false, None, length, MatchResult, IfErr, OnOk, IsTrue, MatchOption};
 ghost use Rattle.bstr.specs.Find.{IsFirstByte, is_byte};
 ghost use Rattle.vic_frame.specs.Uids.{has};
 ghost use Rattle.vic_log.specs.Begun.{IsShort, IsSplit, HasTaken, spare_of};
 ghost use Rattle.vic_log.specs.Early.{IsLong, IsEarly};
 ghost use Rattle.vic_log.specs.Lines.{lf, cr, without_last, lines_of_text};
-ghost use Rattle.vic_log.specs.Log.{last_from};
 ghost use Rattle.vic_log.specs.Text.{IsLogOf, Refuses};
 ghost use Rattle.vic_log.specs.inner.Text.{RefusesNext, next_fault, after_line};
 
 use crate::entry::{MAX_LINE_LEN, MAX_LINES};
 use crate::fault::{LineFault, LogFault};
 use crate::log::Log;
-use crate::read::take_line;
+use crate::read::{ReadLines, take_line};
 use arrayvec::ArrayVec;
 use bstr::ByteSlice;
 use std::simd::prelude::*;
@@ -26,10 +25,8 @@ const _: () = prove!(LINE_ROOM == MAX_LINE_LEN + 2);
 /// What has been read so far.
 #[derive(Drop)]
 pub(crate) struct Begun {
-    /// The log of the lines judged.
-    pub(crate) log: Log,
-    /// How many lines have been judged.
-    pub(crate) number: u32,
+    /// The lines judged.
+    pub(crate) read: ReadLines,
     /// The bytes of the line begun.
     pub(crate) line: ArrayVec<u8, LINE_ROOM>,
 }
@@ -45,10 +42,9 @@ fn without_cr(line: &[u8]) -> &[u8]
 }
 
 /// Whether a line that has no LF yet is too long, whatever follows.
-fn is_too_long(line: &[u8]) -> bool
-    requires { length line.now ≤ LINE_ROOM }
-    ensures long { IsTrue result → IsLong line.now }
-    ensures short { result ≡ false → IsShort line.now }
+fn is_too_long(line: &ArrayVec<u8, LINE_ROOM>) -> bool
+    ensures long { IsTrue result → IsLong line.now.items }
+    ensures short { result ≡ false → IsShort line.now.items }
 {
     line.len() == LINE_ROOM || (line.len() > MAX_LINE_LEN && line[MAX_LINE_LEN] != b'\r')
 }
@@ -86,56 +82,49 @@ fn split_line(bytes: &[u8]) -> Option<(&[u8], &[u8])>
 
 /// Judges a line whose LF has been read.
 #[inline(always)]
-fn end_line(log: &mut Log, number: &mut u32, line: &[u8]) -> Result<(), LogFault>
-    requires begin { number.old ≡ 0 → log.old.lines ≡ [] }
-    requires above { 0 < number.old → last_from 1 log.old.lines ≤ number.old }
-    requires limit { number.old ≤ MAX_LINES }
+fn end_line(read: &mut ReadLines, line: &[u8]) -> Result<(), LogFault>
     ensures answer { MatchResult result
-        (λ _. next_fault log.old (number.old + 1) (without_last cr line.now) ≡ None)
-        (RefusesNext log.old (number.old + 1) (without_last cr line.now)) }
+        (λ _. next_fault read.old.log (read.old.number + 1) (without_last cr line.now) ≡ None)
+        (RefusesNext read.old.log (read.old.number + 1) (without_last cr line.now)) }
     ensures log { OnOk result
-        (log.new ≡ after_line log.old (number.old + 1) (without_last cr line.now)) }
-    ensures number { OnOk result (number.new ≡ number.old + 1) }
+        (read.new.log ≡ after_line read.old.log (read.old.number + 1) (without_last cr line.now)) }
+    ensures number { OnOk result (read.new.number ≡ read.old.number + 1) }
 {
-    take_line(log, *number + 1, without_cr(line))?;
-    *number += 1;
-    Ok(())
+    take_line(read, without_cr(line))
 }
 
 /// Takes bytes of the line begun, followed by its LF.
 fn take_end(begun: &mut Begun, bytes: &[u8]) -> Result<(), LogFault>
-    requires judged { (text : List ℕ) × HasTaken text begun.old }
-    requires no_lf { has bytes.now lf ≡ false }
+    requires { has bytes.now lf ≡ false }
     ensures ok { OnOk result ((text : List ℕ) → HasTaken text begun.old
         → HasTaken (text ++ (bytes.now ++ lf ∷ [])) begun.new) }
     ensures err { IfErr result (λ e. (text more : List ℕ) → HasTaken text begun.old
         → IsEarly e (text ++ (bytes.now ++ lf ∷ more))) }
     ensures less { OnOk result (spare_of begun.new + length bytes.now + 1 ≤ spare_of begun.old) }
 {
-    if begun.number == MAX_LINES {
+    if begun.read.number == MAX_LINES {
         return Err(LogFault::Line {
             line: MAX_LINES + 1,
             fault: LineFault::TooManyLines,
         });
     }
     if begun.line.is_empty() {
-        return end_line(&mut begun.log, &mut begun.number, bytes);
+        return end_line(&mut begun.read, bytes);
     }
     if begun.line.try_extend_from_slice(bytes).is_err() {
         return Err(LogFault::Line {
-            line: begun.number + 1,
+            line: begun.read.number + 1,
             fault: LineFault::LineTooLong,
         });
     }
-    end_line(&mut begun.log, &mut begun.number, begun.line.as_slice())?;
+    end_line(&mut begun.read, begun.line.as_slice())?;
     begun.line.clear();
     Ok(())
 }
 
 /// Takes bytes of the line begun, whose LF hasn't been read yet.
 fn take_begun(begun: &mut Begun, bytes: &[u8]) -> Result<(), LogFault>
-    requires judged { (text : List ℕ) × HasTaken text begun.old }
-    requires no_lf { has bytes.now lf ≡ false }
+    requires { has bytes.now lf ≡ false }
     ensures ok { OnOk result ((text : List ℕ) → HasTaken text begun.old
         → HasTaken (text ++ bytes.now) begun.new) }
     ensures err { IfErr result (λ e. (text : List ℕ) → HasTaken text begun.old
@@ -145,16 +134,16 @@ fn take_begun(begun: &mut Begun, bytes: &[u8]) -> Result<(), LogFault>
     if bytes.is_empty() {
         return Ok(());
     }
-    if begun.number == MAX_LINES {
+    if begun.read.number == MAX_LINES {
         return Err(LogFault::Line {
             line: MAX_LINES + 1,
             fault: LineFault::TooManyLines,
         });
     }
     let fits = begun.line.try_extend_from_slice(bytes).is_ok();
-    if !fits || is_too_long(begun.line.as_slice()) {
+    if !fits || is_too_long(&begun.line) {
         return Err(LogFault::Line {
-            line: begun.number + 1,
+            line: begun.read.number + 1,
             fault: LineFault::LineTooLong,
         });
     }
@@ -163,7 +152,6 @@ fn take_begun(begun: &mut Begun, bytes: &[u8]) -> Result<(), LogFault>
 
 /// Takes more bytes of the text. A line that is complete in them is judged in place.
 pub(crate) fn take_piece(begun: &mut Begun, bytes: &[u8]) -> Result<(), LogFault>
-    requires judged { (text : List ℕ) × HasTaken text begun.old }
     ensures ok { OnOk result ((text : List ℕ) → HasTaken text begun.old
         → HasTaken (text ++ bytes.now) begun.new) }
     ensures err { IfErr result (λ e. (text : List ℕ) → HasTaken text begun.old
@@ -180,24 +168,19 @@ pub(crate) fn take_piece(begun: &mut Begun, bytes: &[u8]) -> Result<(), LogFault
 
 /// Judges what is left at the end of the text.
 pub(crate) fn end_text(begun: Begun) -> Result<Log, LogFault>
-    requires judged { (text : List ℕ) × HasTaken text begun }
     ensures { (text : List ℕ) → HasTaken text begun →
         MatchResult result (IsLogOf (lines_of_text text)) (Refuses text) }
 {
-    let Begun {
-        mut log,
-        number,
-        line,
-    } = begun;
+    let Begun { mut read, line } = begun;
     if !line.is_empty() {
-        take_line(&mut log, number + 1, line.as_slice())?;
-        return Ok(log);
+        take_line(&mut read, line.as_slice())?;
+        return Ok(read.log);
     }
-    if number == 0 {
+    if read.number == 0 {
         return Err(LogFault::Line {
             line: 1,
             fault: LineFault::Header,
         });
     }
-    Ok(log)
+    Ok(read.log)
 }

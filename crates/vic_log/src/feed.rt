@@ -11,6 +11,7 @@ use crate::entry::MAX_LINES;
 use crate::fault::LogFault;
 use crate::history::History;
 use crate::log::Log;
+use crate::read::ReadLines;
 use arrayvec::ArrayVec;
 use std::alloc::Global;
 use std::marker::Model;
@@ -44,8 +45,10 @@ impl LogFeed {
     {
         LogFeed {
             begun: Begun {
-                log: Log::new(alloc),
-                number: 0,
+                read: ReadLines {
+                    log: Log::new(alloc),
+                    number: 0,
+                },
                 line: ArrayVec::new(),
             },
             fed: History::new(),

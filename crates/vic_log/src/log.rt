@@ -67,12 +67,11 @@ impl Log {
         }
     }
 
-    /// Gives a log without lines this version.
-    pub(crate) fn set_version(&mut self, version: Version)
-        requires { self.old.lines ≡ [] }
+    /// Makes it a log without lines, of this version.
+    pub(crate) fn begin(&mut self, version: Version)
         ensures { self.new ≡ record { lines = []; version = version } }
     {
-        self.version = version;
+        *self = Log::with_version(*self.lines.allocator(), version);
     }
 
     /// Its version.

@@ -1,18 +1,29 @@
-//! One line after those that a log was read from.
+//! The first lines of a text, and one more.
 
-ghost use Rattle.std.specs.Prelude.{◌≡◌, ◌<◌, ◌≤◌, [], ◌∷◌, Some, None, MatchResult, OnOk, if◌then◌else◌};
-ghost use Rattle.vic_log.specs.declared.entry.Version.TheVariants.{V1, V2};
-ghost use Rattle.vic_log.specs.FirstVersion.{IsOfFirstVersion};
-ghost use Rattle.vic_log.specs.SecondVersion.{IsOfSecondVersion};
-ghost use Rattle.vic_log.specs.Order.{entries};
-ghost use Rattle.vic_log.specs.Log.{last_from, with_line, IsValidEntry};
+ghost use Rattle.std.specs.Prelude.{◌≡◌, ◌+◌, ◌<◌, ◌≤◌, List, [], ◌∷◌, Some, None, MatchResult, OnOk, if◌then◌else◌};
+ghost use Rattle.vic_log.specs.declared.entry.TheConstants.{MAX_LINES};
+ghost use Rattle.vic_log.specs.declared.entry.Entry.{Entry as EntryValue};
+ghost use Rattle.vic_log.specs.Log.{RefusesOr, last_from};
+ghost use Rattle.vic_log.specs.Order.{refusal};
 ghost use Rattle.vic_log.specs.Text.{order_fault, is_header, named_version};
 ghost use Rattle.vic_log.specs.inner.Text.{RefusesLine, RefusesNext, next_fault, after_line};
 
-use crate::entry::{Entry, MAX_LINE_LEN, MAX_LINES, Version};
+use crate::entry::{MAX_LINE_LEN, MAX_LINES, Version};
 use crate::fault::{LineFault, LogFault, PushFault};
 use crate::line::line_entry_of;
 use crate::log::Log;
+
+/// The log of the first lines of a text.
+#[derive(Drop)]
+pub(crate) struct ReadLines {
+    /// Their log.
+    pub(crate) log: Log,
+    /// How many they are.
+    pub(crate) number: u32,
+    ghost begin: { number ≡ 0 → log.lines ≡ [] },
+    ghost above: { 0 < number → last_from 1 log.lines ≤ number },
+    ghost limit: { number ≤ MAX_LINES },
+}
 
 /// The version that the first line of a text names; `None` if it isn't a header.
 fn version_named(line: &[u8]) -> Option<Version>
@@ -30,58 +41,58 @@ fn version_named(line: &[u8]) -> Option<Version>
     }
 }
 
-/// Adds an entry at the end of a log.
-#[inline(always)]
-fn take_entry(log: &mut Log, number: u32, entry: Entry) -> Result<(), LogFault>
-    requires above { last_from 1 log.old.lines < number }
-    requires limit { number ≤ MAX_LINES }
-    requires valid { IsValidEntry entry }
-    requires first_version { log.old.version ≡ V1 → IsOfFirstVersion entry }
-    requires second_version { log.old.version ≡ V2 → IsOfSecondVersion entry }
-    ensures answer { MatchResult result
-        (λ _. order_fault (entries log.old.lines) entry ≡ None)
-        (RefusesLine (order_fault (entries log.old.lines) entry)
-        (record { number = number; item = entry } ∷ []) number) }
-    ensures added { OnOk result (log.new ≡ with_line log.old number entry) }
+/// Why a line isn't read whose entry can't be added to the log.
+fn refused(number: u32, fault: PushFault) -> LogFault
+    ensures { (es : List EntryValue) (e : EntryValue) → RefusesOr (refusal es e) fault
+        → RefusesLine (order_fault es e) (record { number = number; item = e } ∷ []) number result }
 {
-    let fault = match log.push(number, entry) {
-        Ok(()) => return Ok(()),
-        Err(PushFault::SlotOutsideRound) => LineFault::SlotOutsideRound,
-        Err(PushFault::EntryAfterList) => LineFault::EntryAfterList,
-        Err(PushFault::DuplicateListed) => LineFault::DuplicateListed,
-        Err(PushFault::Memory) => return Err(LogFault::Memory),
+    let fault = match fault {
+        PushFault::SlotOutsideRound => LineFault::SlotOutsideRound,
+        PushFault::EntryAfterList => LineFault::EntryAfterList,
+        PushFault::DuplicateListed => LineFault::DuplicateListed,
+        PushFault::Memory => return LogFault::Memory,
     };
-    Err(LogFault::Line {
+    LogFault::Line {
         line: number,
         fault,
-    })
+    }
 }
 
-/// Reads one line after those that a log was read from.
+/// Reads one line after those that were read.
 #[inline(always)]
-pub(crate) fn take_line(log: &mut Log, number: u32, line: &[u8]) -> Result<(), LogFault>
-    requires first { 1 ≤ number }
-    requires begin { number ≡ 1 → log.old.lines ≡ [] }
-    requires above { 1 < number → last_from 1 log.old.lines < number }
+pub(crate) fn take_line(read: &mut ReadLines, line: &[u8]) -> Result<(), LogFault>
     ensures answer { MatchResult result
-        (λ _. next_fault log.old number line.now ≡ None)
-        (RefusesNext log.old number line.now) }
-    ensures added { OnOk result (log.new ≡ after_line log.old number line.now) }
+        (λ _. next_fault read.old.log (read.old.number + 1) line.now ≡ None)
+        (RefusesNext read.old.log (read.old.number + 1) line.now) }
+    ensures log { OnOk result
+        (read.new.log ≡ after_line read.old.log (read.old.number + 1) line.now) }
+    ensures number { OnOk result (read.new.number ≡ read.old.number + 1) }
 {
+    let number = read.number + 1;
     let fault = if number > MAX_LINES {
         LineFault::TooManyLines
     } else if line.len() > MAX_LINE_LEN {
         LineFault::LineTooLong
     } else if number == 1 {
         if let Some(version) = version_named(line) {
-            log.set_version(version);
+            read.log.begin(version);
+            read.number = number;
             return Ok(());
         }
         LineFault::Header
     } else {
-        match line_entry_of(log.version(), line) {
-            Ok(Some(entry)) => return take_entry(log, number, entry),
-            Ok(None) => return Ok(()),
+        match line_entry_of(read.log.version(), line) {
+            Ok(Some(entry)) => match read.log.push(number, entry) {
+                Ok(()) => {
+                    read.number = number;
+                    return Ok(());
+                }
+                Err(fault) => return Err(refused(number, fault)),
+            },
+            Ok(None) => {
+                read.number = number;
+                return Ok(());
+            }
             Err(fault) => fault,
         }
     };

@@ -1,13 +1,6 @@
 use Rattle.vic_log.proofs.Words.{rules, add-one, arith, nil_from_length, err_from_is_err_and}
 use Rattle.vic_log.proofs.Judged.{end-empty, end-lines, end-next, end-refused}
-use Rattle.vic_log.proofs.Passing.{AreRead-above, AreRead-none}
 use Rattle.vic_log.proofs.begun.end_text.Goals as goal
-
-pub take_line-requires-clause-begin : goal.take_line-requires-clause-begin
-take_line-requires-clause-begin c = λ first. AreRead-none c.requires.judged.1.begun.read (omega arith)
-
-pub take_line-requires-clause-above : goal.take_line-requires-clause-above
-take_line-requires-clause-above c = λ some. let above = AreRead-above _ c.requires.judged.1.begun.read (omega arith) in omega arith
 
 pub returns-in_err-take_line : goal.returns-in_err-take_line
 returns-in_err-take_line c = λ text j.
@@ -16,10 +9,10 @@ returns-in_err-take_line c = λ text j.
 
 pub returns-then-not-is_empty : goal.returns-then-not-is_empty
 returns-then-not-is_empty c = λ text j.
-    rw (c.in_ok-take_line.ensures.added, c.as_slice.ensures.value, add-one) (end-next j.begun (search rules) (rw (c.as_slice.ensures.value, add-one) at c.in_ok-take_line.ensures.answer))
+    rw (c.in_ok-take_line.ensures.log, c.as_slice.ensures.value, add-one) (end-next j.begun (search rules) (rw (c.as_slice.ensures.value, add-one) at c.in_ok-take_line.ensures.answer))
 
-pub returns-then-number-eq0 : goal.returns-then-number-eq0
-returns-then-number-eq0 c = λ text j. end-empty j.begun (nil_from_length c.args.begun.line.items (search rules)) c.if-number-eq0.true
+pub returns-then-read-eq0 : goal.returns-then-read-eq0
+returns-then-read-eq0 c = λ text j. end-empty j.begun (nil_from_length c.args.begun.line.items (search rules)) c.if-read-eq0.true
 
 pub returns : goal.returns
 returns c = λ text j. end-lines j.begun (nil_from_length c.args.begun.line.items (search rules)) (omega arith)

@@ -1,4 +1,4 @@
-use Rattle.vic_log.proofs.Words.{rules, ◌+◌, ◌++◌, [], append-nil, length, subst, sym, refl, ◌∙◌, add-one, arith, inl, length-append, common_steps, IsLong}
+use Rattle.vic_log.proofs.Words.{rules, ◌+◌, ◌++◌, [], append-nil, length, subst, sym, refl, add-one, arith, inl, length-append, common_steps, IsLong}
 use Rattle.vic_log.proofs.Judged.{HasCut-more, early-long, early-many}
 use Rattle.vic_log.proofs.Place.{over, on_ok}
 use Rattle.vic_log.proofs.begun.take_begun.Goals as goal
@@ -17,9 +17,9 @@ returns-then-not-fits-clause-err c = λ text j.
       | then-not-fits-via-then-not-fits w ↦ let full = over c.try_extend_from_slice.result (length line + length bytes) c.try_extend_from_slice.ensures.variant (sym w.if-not-fits.ensures.value) in inl (omega arith)
       | then-not-fits-via-else-not-fits+then-is_too_long w ↦
           let items = on_ok c.try_extend_from_slice.result _ (sym w.if-not-fits.ensures.value) c.try_extend_from_slice.ensures.ok in
-          subst IsLong (w.as_slice.ensures.value ∙ items) (w.if-is_too_long.ensures.long refl)
+          subst IsLong (items) (w.if-is_too_long.ensures.long refl)
     ] in
-    rw (← append-nil (text ++ bytes), add-one) (early-long (HasCut-more j.begun bytes c.requires.no_lf) (omega arith) long [])
+    rw (← append-nil (text ++ bytes), add-one) (early-long (HasCut-more j.begun bytes c.requires) (omega arith) long [])
 
 pub returns-clause-ok : goal.returns-clause-ok
 returns-clause-ok c = grind (arith, common_steps, rules, HasCut-more)

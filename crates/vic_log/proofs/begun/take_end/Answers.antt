@@ -1,6 +1,5 @@
 use Rattle.vic_log.proofs.Words.{rules, ◌≡◌, false, ◌+◌, ◌++◌, ◌∷◌, [], ℕ, List, None, Result, Ok, Err, MatchResult, IfErr, OnOk, length, refl, sym, ap, append_assoc, add-one, arith, inl, length-append, nil_from_length, err_from_is_err_and, has, LogFault, HasJudged, IsEarly, lf, cr, without_last, LogValue, next_fault, after_line, RefusesNext}
 use Rattle.vic_log.proofs.Judged.{HasCut-more, HasJudged-end, early-refused, early-long, early-many}
-use Rattle.vic_log.proofs.Passing.{AreRead-above, AreRead-none}
 use Rattle.vic_log.proofs.Place.{over}
 use Rattle.vic_log.proofs.begun.take_end.Goals as goal
 
@@ -24,27 +23,15 @@ returns-then-begun-eq-MAX_LINES-clause-err c = λ text more j.
     let bytes = c.args.bytes.now in
     early-many j (bytes ++ lf ∷ more) c.if-begun-eq-MAX_LINES.true (omega (arith, length-append bytes (lf ∷ more)))
 
-pub end_line-requires-clause-begin : goal.end_line-requires-clause-begin
-end_line-requires-clause-begin c = λ first. AreRead-none c.requires.judged.1.begun.read first
-
-pub end_line-requires-2-clause-begin : goal.end_line-requires-2-clause-begin
-end_line-requires-2-clause-begin c = λ first. AreRead-none c.requires.judged.1.begun.read first
-
-pub end_line-requires-clause-above : goal.end_line-requires-clause-above
-end_line-requires-clause-above c = λ some. AreRead-above _ c.requires.judged.1.begun.read some
-
-pub end_line-requires-2-clause-above : goal.end_line-requires-2-clause-above
-end_line-requires-2-clause-above c = λ some. AreRead-above _ c.requires.judged.1.begun.read some
-
 pub returns-then-is_empty-clause-ok : goal.returns-then-is_empty-clause-ok
 returns-then-is_empty-clause-ok c =
     let none = nil_from_length c.args.begun.now.line.items (search rules) in
-    (taken _ _ _ _ _ _ _ _ c.end_line.result c.requires.no_lf (sym (ap (λ xs. xs ++ c.args.bytes.now) none)) c.end_line.ensures.answer c.end_line.ensures.log c.end_line.ensures.number none).0
+    (taken _ _ _ _ _ _ _ _ c.end_line.result c.requires (sym (ap (λ xs. xs ++ c.args.bytes.now) none)) c.end_line.ensures.answer c.end_line.ensures.log c.end_line.ensures.number none).0
 
 pub returns-then-is_empty-clause-err : goal.returns-then-is_empty-clause-err
 returns-then-is_empty-clause-err c =
     let none = nil_from_length c.args.begun.now.line.items (search rules) in
-    (taken _ _ _ _ _ _ _ _ c.end_line.result c.requires.no_lf (sym (ap (λ xs. xs ++ c.args.bytes.now) none)) c.end_line.ensures.answer c.end_line.ensures.log c.end_line.ensures.number none).1
+    (taken _ _ _ _ _ _ _ _ c.end_line.result c.requires (sym (ap (λ xs. xs ++ c.args.bytes.now) none)) c.end_line.ensures.answer c.end_line.ensures.log c.end_line.ensures.number none).1
 
 pub returns-then-is_err-clause-err : goal.returns-then-is_err-clause-err
 returns-then-is_err-clause-err c = λ text more j.
@@ -53,14 +40,14 @@ returns-then-is_err-clause-err c = λ text more j.
     let size = length-append line bytes in
     let full = over c.try_extend_from_slice.result (length line + length bytes) c.try_extend_from_slice.ensures.variant (search rules) in
     let limit = j.limit in
-    rw (← append_assoc text bytes (lf ∷ more), add-one) (early-long (HasCut-more j.begun bytes c.requires.no_lf) (omega arith) (inl (omega arith)) (lf ∷ more))
+    rw (← append_assoc text bytes (lf ∷ more), add-one) (early-long (HasCut-more j.begun bytes c.requires) (omega arith) (inl (omega arith)) (lf ∷ more))
 
 pub returns-in_err-end_line-clause-err : goal.returns-in_err-end_line-clause-err
 returns-in_err-end_line-clause-err c =
     let p = err_from_is_err_and c.from_residual.result c.from_residual.ensures.1 in
     let old = c.args.begun.now in
-    rw (p.1, p.2) (taken {A = Unit {0}} old.log old.log old.number old.number old.line.items [] c.as_slice.result.now c.args.bytes.now (Err c.in_err-end_line.field-0.0) c.requires.no_lf (search rules) c.in_err-end_line.ensures.answer tt tt refl).1
+    rw (p.1, p.2) (taken {A = Unit {0}} old.read.log old.read.log old.read.number old.read.number old.line.items [] c.as_slice.result.now c.args.bytes.now (Err c.in_err-end_line.field-0.0) c.requires (search rules) c.in_err-end_line.ensures.answer tt tt refl).1
 
 pub returns-clause-ok : goal.returns-clause-ok
 returns-clause-ok c =
-    (taken {A = Unit {0}} _ _ _ _ c.args.begun.now.line.items _ c.as_slice.result.now c.args.bytes.now (Ok tt) c.requires.no_lf (search rules) c.in_ok-end_line.ensures.answer c.in_ok-end_line.ensures.log c.in_ok-end_line.ensures.number (search rules)).0
+    (taken {A = Unit {0}} _ _ _ _ c.args.begun.now.line.items _ c.as_slice.result.now c.args.bytes.now (Ok tt) c.requires (search rules) c.in_ok-end_line.ensures.answer c.in_ok-end_line.ensures.log c.in_ok-end_line.ensures.number (search rules)).0

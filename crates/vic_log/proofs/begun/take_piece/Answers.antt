@@ -4,14 +4,8 @@ use Rattle.vic_log.proofs.begun.take_piece.Goals as goal
 pub loop-line-init : goal.loop-line-init
 loop-line-init c = record { judged = λ text j. (text, j, refl); less = omega arith }
 
-pub take_end-requires-clause-judged : goal.take_end-requires-clause-judged
-take_end-requires-clause-judged c = let i = c.loop-line.invariant.judged c.requires.judged.0 c.requires.judged.1 in (i.0, i.1)
-
-pub take_end-requires-clause-no_lf : goal.take_end-requires-clause-no_lf
-take_end-requires-clause-no_lf c = c.in-Some.ensures.no_lf
-
-pub take_begun-requires-clause-judged : goal.take_begun-requires-clause-judged
-take_begun-requires-clause-judged c = let i = c.loop-line.invariant.judged c.requires.judged.0 c.requires.judged.1 in (i.0, i.1)
+pub take_end-requires : goal.take_end-requires
+take_end-requires c = c.in-Some.ensures.no_lf
 
 pub returns-in_err-take_end-clause-err : goal.returns-in_err-take_end-clause-err
 returns-in_err-take_end-clause-err c =

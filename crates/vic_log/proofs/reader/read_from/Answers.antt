@@ -46,7 +46,12 @@ returns-in_err-count-2-clause-returned g c =
     rw (p.1, p.2) (given, c.in_err-count-2.ensures.returned ∙ (append-nil _ ∙ i.returned), waits.0)
 
 pub returns-in_err-count-2-clause-reads : goal.returns-in_err-count-2-clause-reads
-returns-in_err-count-2-clause-reads g c = grind (arith, common_steps, length-append, rules)
+returns-in_err-count-2-clause-reads g c =
+    let i = c.loop-count.invariant in
+    let given = i.text ++ take c.loop-count.count c.loop-count.piece in
+    let waits = c.in_ok-feed.ensures.waits given (c.in_ok-feed.ensures.fed i.text i.fed) in
+    let size = length-append i.text (take c.loop-count.count c.loop-count.piece) in
+    omega (arith, waits.1, c.in_err-count-2.ensures.counts, length-take-le {A = ℕ})
 
 pub loop-count-preserved : goal.loop-count-preserved
 loop-count-preserved g c =
