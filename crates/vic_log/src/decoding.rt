@@ -22,28 +22,20 @@ pub(crate) fn decode<'a>(digits: &[u8], room: &'a mut [u8; 63]) -> Result<&'a [u
         return Err(LineFault::Hex);
     }
     let bytes = &mut room[..digits.len() / 2];
-    if decode_into(digits, bytes) {
+    let spell = if AT_ONCE <= bytes.len() && bytes.len() <= 2 * AT_ONCE {
+        decode_ends(digits, bytes)
+    } else {
+        decode_each(digits, bytes)
+    };
+    if spell {
         Ok(bytes)
     } else {
         Err(LineFault::Hex)
     }
 }
 
-/// Puts in the bytes that hex digits spell, and says whether they spell any.
-#[inline(always)]
-fn decode_into(digits: &[u8], bytes: &mut [u8]) -> bool
-    requires { length digits.now ≡ 2 * length bytes.old }
-    ensures ok { result ≡ true → decode_pairs 0 digits.now ≡ Ok bytes.new }
-    ensures err { result ≡ false → IsErr (decode_pairs 0 digits.now) }
-{
-    if AT_ONCE <= bytes.len() && bytes.len() <= 2 * AT_ONCE {
-        decode_ends(digits, bytes)
-    } else {
-        decode_each(digits, bytes)
-    }
-}
-
-/// The same of 8 to 16 bytes: the first eight and the last eight are all of them.
+/// Puts in the 8 to 16 bytes that hex digits spell, and says whether they spell any: the first eight
+/// and the last eight are all of them.
 #[inline(always)]
 fn decode_ends(digits: &[u8], bytes: &mut [u8]) -> bool
     requires digits { length digits.now ≡ 2 * length bytes.old }
@@ -61,7 +53,7 @@ fn decode_ends(digits: &[u8], bytes: &mut [u8]) -> bool
     begins && ends
 }
 
-/// The same of eight bytes, from a place on.
+/// The same of eight of the bytes, from a place on.
 #[inline(always)]
 fn decode_eight(digits: &[u8], bytes: &mut [u8], at: usize) -> bool
     requires digits { length digits.now ≡ 2 * length bytes.old }
@@ -94,8 +86,7 @@ fn values_of(digits: u8x16) -> u8x16
     number.simd_lt(u8x16::splat(10)).select(number, letters)
 }
 
-/// Puts in the bytes that hex digits spell, however many, one by one, and says whether they spell
-/// any.
+/// The same of any number of bytes, one by one.
 #[inline(always)]
 fn decode_each(digits: &[u8], bytes: &mut [u8]) -> bool
     requires { length digits.now ≡ 2 * length bytes.old }

@@ -1,9 +1,9 @@
 //! A set of UIDs that shows at once whether one more is new.
 
-ghost use Rattle.std.specs.Prelude.{◌≡◌, ℕ, ◌<◌, ◌||◌, not, false, length, nat_eq, ◌==◌, IfOk, OnOk, OnErr, IfSome, IfNone, List, slice_get, Some, ◌++◌, ◌∷◌, []};
+ghost use Rattle.std.specs.Prelude.{◌≡◌, ℕ, ◌<◌, ◌||◌, not, false, length, nat_eq, ◌==◌, IfOk, OnOk, OnErr, IfSome, IfNone, slice_get, Some, ◌∷◌, []};
 ghost use Rattle.vic_frame.specs.Uids.{has};
 ghost use Rattle.vic_log.specs.Order.{entries, listed};
-ghost use Rattle.vic_log.specs.inner.UidSets.{place_of, is_held, IsUidSet, IsSetOf};
+ghost use Rattle.vic_log.specs.inner.UidSets.{place_of, is_held, IsUidSet, IsSetOf, IsIndex};
 
 use crate::entry::{Entry, MAX_LINES};
 use crate::packed::PackedLine;
@@ -121,11 +121,9 @@ impl UidSet {
     /// one more line.
     #[inline(always)]
     pub(crate) fn make_room(&mut self, lines: &[PackedLine]) -> Result<(), AllocError>
-        requires set { 0 < length self.old.rows.items → IsUidSet self.old }
-        requires uids { 0 < length self.old.rows.items
-            → IsSetOf (listed (entries lines.now)) self.old }
-        ensures set { OnOk result (IsUidSet self.new) }
-        ensures uids { OnOk result (IsSetOf (listed (entries lines.now)) self.new) }
+        ensures index { OnOk result ((greatest : ℕ)
+            → IsIndex (listed (entries lines.now)) greatest self.old
+            → IsUidSet self.new × IsSetOf (listed (entries lines.now)) self.new) }
         ensures same { OnErr result (self.new ≡ self.old) }
     {
         if self.is_crowded(lines.len()) {
@@ -194,30 +192,9 @@ pub(crate) fn listed_uids(alloc: Global, lines: &[PackedLine]) -> Result<UidSet,
 {
     let mut set = UidSet::with_rows(alloc, lines)?;
     for line in lines {
-        put_listed(&mut set, &line.item())?;
-    }
-    Ok(set)
-}
-
-/// Adds the UID that an entry lists, if it lists one.
-fn put_listed(set: &mut UidSet, item: &Entry) -> Result<(), AllocError>
-    requires { IsUidSet set.old }
-    ensures set { IsUidSet set.new }
-    ensures more { OnOk result ((us : List ℕ) → IsSetOf us set.old
-        → IsSetOf (us ++ listed (item.now ∷ [])) set.new) }
-{
-    match *item {
-        Entry::Listed(uid) => {
+        if let Entry::Listed(uid) = line.item() {
             set.put(uid)?;
         }
-        Entry::Sent(_)
-        | Entry::Silent
-        | Entry::Collision
-        | Entry::Heard(_)
-        | Entry::Garbled
-        | Entry::FieldCycle
-        | Entry::Captured(_)
-        | Entry::Unknown => {}
     }
-    Ok(())
+    Ok(set)
 }
