@@ -2,7 +2,6 @@
 
 ghost use Rattle.std.specs.Prelude.{◌≡◌, ℕ, false, IfOk, IfSome, IfNone};
 ghost use Rattle.std.specs.List.Sorted.{IsNonDecreasing, IsStrictlyIncreasing};
-ghost use Rattle.vic_frame.specs.LowBitsFirst.{IsKey};
 ghost use Rattle.vic_frame.specs.Uids.{has};
 ghost use Rattle.vic_tree.specs.Gathering.{Gathers};
 ghost use Rattle.vic_tree.specs.OpenSet.{AreKeys, IsWidest, SameUids, without_keys};
@@ -39,27 +38,27 @@ pub(crate) fn ranges_left(
     Ok(runs)
 }
 
-/// Appends the UIDs whose keys are from `first` to `last` and in some ranges, and that aren't
-/// exceptions, until there are three.
+/// Appends the UIDs whose keys are in one range and in some ranges, and that aren't exceptions,
+/// until there are three.
 pub(crate) fn gather_left(
     out: &mut ArrayVec<Uid, 3>,
     except: &[Uid],
     ranges: &[KeyRange],
-    first: u64,
-    last: u64,
+    range: KeyRange,
 )
     requires rising { IsStrictlyIncreasing except.now }
     requires ranges { AreRanges ranges.now }
-    requires small { IsKey last }
-    ensures { Gathers (IsFreeInRanges ranges.now first last (has except.now))
+    ensures { Gathers (IsFreeInRanges ranges.now range.0 range.1 (has except.now))
         out.old.items out.new.items }
 {
+    let first = range.first();
     let mut left = Runs::new(first, from_key(ranges, first), &[]);
     while let Some(run) = left.next_run() {
-        if last < run.first() || out.is_full() {
+        if range.last() < run.first() || out.is_full() {
             return;
         }
-        gather_keys(out, except, run.first(), run.last().min(last));
+        let both = KeyRange::new(run.first(), run.last().min(range.last()));
+        gather_keys(out, except, both);
     }
 }
 
@@ -76,7 +75,7 @@ pub(crate) fn widest_left(ranges: &[KeyRange], removed: &[u64]) -> Option<Mask>
     let mut widest: Option<Mask> = None;
     let mut left = Runs::new(0, ranges, removed);
     while let Some(run) = left.next_run() {
-        widest = Some(widest_with(widest, run.first(), run.last()));
+        widest = Some(widest_with(widest, run));
     }
     widest
 }

@@ -67,7 +67,7 @@ impl<'a> Runs<'a> {
         while let Some((range, others)) = ranges.split_first() {
             (from, removed) = first_free(from.max(range.first()), removed);
             if from <= range.last() {
-                let run = run_from(from, range.last(), removed);
+                let run = run_from(KeyRange::new(from, range.last()), removed);
                 // the key after a run isn't left
                 from = run.last() + 2;
                 *self = Runs {
@@ -127,20 +127,17 @@ fn removed_from(removed: &[u64], from: u64) -> &[u64]
     &removed[below..]
 }
 
-/// The keys from `first` on, up to `last`, or to the one before the first removed key, if that
-/// comes first.
-fn run_from(first: u64, last: u64, removed: &[u64]) -> KeyRange
-    requires forward { first ≤ last }
-    requires small { IsKey last }
-    requires after { (i : ℕ) → i < length removed.now → first < get_or removed.now i 0 }
+/// The keys of a range up to the one before the first removed key.
+fn run_from(range: KeyRange, removed: &[u64]) -> KeyRange
+    requires after { (i : ℕ) → i < length removed.now → range.0 < get_or removed.now i 0 }
     requires order { IsNonDecreasing removed.now }
-    ensures first { result.0 ≡ first }
-    ensures last { result.1 ≤ last }
+    ensures first { result.0 ≡ range.0 }
+    ensures last { result.1 ≤ range.1 }
     ensures free { (k : ℕ) → k ≤ result.1 → has removed.now k ≡ false }
-    ensures end { result.1 < last → has removed.now (result.1 + 1) ≡ true }
+    ensures end { result.1 < range.1 → has removed.now (result.1 + 1) ≡ true }
 {
     match removed.first() {
-        Some(key) => KeyRange::new(first, last.min(*key - 1)),
-        None => KeyRange::new(first, last),
+        Some(key) => KeyRange::new(range.first(), range.last().min(*key - 1)),
+        None => range,
     }
 }

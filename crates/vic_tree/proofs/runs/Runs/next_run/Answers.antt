@@ -7,7 +7,7 @@ pub returns-then-from-last-clause-run : goal.returns-then-from-last-clause-run
 returns-then-from-last-clause-run c p h =
     let inv = c.loop-range.invariant in
     let free = c.first_free.ensures in
-    let run = c.run_from-run.ensures in
+    let run = rw c.new.ensures at c.run_from-run.ensures in
     let is = c.in-Some.ensures.cases.0 in
     let h = rw (← c.self.view_is) at h in
     rw (← c.self.view_is) (is_first_run p _ c.loop-range.from _ _ c.in-Some.range.now c.in-Some.others.now c.loop-range.removed.now c.first_free.result.1.now
@@ -17,6 +17,7 @@ returns-then-from-last-clause-run c p h =
 pub returns-then-from-last-clause-rest : goal.returns-then-from-last-clause-rest
 returns-then-from-last-clause-rest c p h k le =
     let h = rw (← c.self.view_is) at h in
+    let first = rw c.new.ensures at c.run_from-run.ensures.first in
     rw (c.first_free.ensures.same k (omega arith)) (c.loop-range.invariant.same p h k (omega arith))
 
 pub loop-range-preserved : goal.loop-range-preserved
