@@ -6,9 +6,8 @@
 
 ghost use Rattle.std.specs.Prelude.{◌≡◌, ℕ, ◌≤◌, ◌↔◌, Bool, true, IfOk, OnOk, IfSome, Some, length};
 ghost use Rattle.std.specs.List.{Contains};
-ghost use Rattle.std.specs.List.Sorted.{IsNonDecreasing};
 ghost use Rattle.vic_frame.specs.Masks.{BitMask};
-ghost use Rattle.vic_tree.specs.OpenSet.{AreKeys, without_keys};
+ghost use Rattle.vic_tree.specs.OpenSet.{without_keys};
 ghost use Rattle.vic_tree.specs.OpenMasks.{AreAll, AreFirst, IsOpenMask};
 ghost use Rattle.vic_tree.specs.inner.KeptMasks.{Adds, AreKept, IsMaximalAt, IsMaximalIn, Keeps};
 ghost use Rattle.vic_tree.specs.Ranges.{AreRanges, is_open_in};
@@ -16,6 +15,7 @@ ghost use Rattle.vic_tree.specs.Ranges.{AreRanges, is_open_in};
 use crate::blocks::{least_len, size_of_block};
 use crate::key_range::KeyRange;
 use crate::runs::Runs;
+use crate::sorted_keys::SortedKeys;
 use arrayvec::ArrayVec;
 use std::alloc::{AllocError, Global};
 use vic_frame::low_bits_first::mask_of_keys;
@@ -43,9 +43,7 @@ pub struct OpenMasks {
 
 /// The first open masks of what is left of some ranges when some keys are removed, found without
 /// memory from the heap.
-pub(crate) fn open_masks_left(ranges: &[KeyRange], removed: &[u64]) -> OpenMasks
-    requires keys { AreKeys removed.now }
-    requires order { IsNonDecreasing removed.now }
+pub(crate) fn open_masks_left(ranges: &[KeyRange], removed: &SortedKeys) -> OpenMasks
     requires ranges { AreRanges ranges.now }
     ensures first { AreFirst MAX_OPEN_MASKS
         (IsOpenMask (without_keys (is_open_in ranges.now) removed.now)) result.masks.items }
@@ -54,7 +52,7 @@ pub(crate) fn open_masks_left(ranges: &[KeyRange], removed: &[u64]) -> OpenMasks
         × (¬ (Contains result.masks.items m)) }
 {
     let mut kept = ArrayVec::new();
-    let mut left = Runs::new(0, ranges, removed);
+    let mut left = Runs::new(0, ranges, removed.ahead());
     while let Some(run) = left.next_run() {
         keep_in_run(&mut kept, run);
     }
@@ -100,16 +98,14 @@ fn keep_in_run(kept: &mut ArrayVec<Mask, BUFFER>, run: KeyRange)
 pub(crate) fn all_open_masks_left(
     alloc: Global,
     ranges: &[KeyRange],
-    removed: &[u64],
+    removed: &SortedKeys,
 ) -> Result<Vec<Mask>, AllocError>
-    requires keys { AreKeys removed.now }
-    requires order { IsNonDecreasing removed.now }
     requires ranges { AreRanges ranges.now }
     ensures { IfOk result (λ masks. AreAll
         (IsOpenMask (without_keys (is_open_in ranges.now) removed.now)) masks.items) }
 {
     let mut masks = Vec::new(alloc);
-    let mut left = Runs::new(0, ranges, removed);
+    let mut left = Runs::new(0, ranges, removed.ahead());
     while let Some(run) = left.next_run() {
         push_in_run(&mut masks, run)?;
     }

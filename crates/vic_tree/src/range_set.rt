@@ -6,7 +6,7 @@ ghost use Rattle.std.specs.List.Sorted.{IsNonDecreasing};
 ghost use Rattle.vic_frame.specs.Uids.{IsUid, has};
 ghost use Rattle.vic_frame.specs.Masks.{BitMask};
 ghost use Rattle.vic_frame.specs.LowBitsFirst.{IsKey, mirror};
-ghost use Rattle.vic_tree.specs.OpenSet.{AreKeys, SameUids, without_keys};
+ghost use Rattle.vic_tree.specs.OpenSet.{SameUids, without_keys};
 ghost use Rattle.vic_tree.specs.OpenMasks.{AreAll, AreFirst, IsOpenMask};
 ghost use Rattle.vic_tree.specs.Ranges.{AreRanges, in_ranges, is_between, is_open_in};
 
@@ -14,6 +14,7 @@ use crate::besides::{gather_left, ranges_left, widest_left};
 use crate::key_range::KeyRange;
 use crate::open_masks::{MAX_OPEN_MASKS, OpenMasks, all_open_masks_left, open_masks_left};
 use crate::open_set::OpenSet;
+use crate::sorted_keys::SortedKeys;
 use crate::ranges::{complement, complement_in_order, is_in, is_in_first, skip_to};
 use arrayvec::ArrayVec;
 use std::alloc::{AllocError, Global};
@@ -85,10 +86,11 @@ impl OpenSet for RangeSet {
     }
 
     fn widest(&self) -> Option<Mask> {
-        widest_left(&self.ranges, &[])
+        widest_left(&self.ranges, &SortedKeys::none(self.alloc))
     }
 
-    fn has_each(&self, alloc: Global, keys: &[u64]) -> Result<Vec<bool>, AllocError> {
+    fn has_each(&self, alloc: Global, keys: &SortedKeys) -> Result<Vec<bool>, AllocError> {
+        let keys = keys.as_slice();
         let mut each = Vec::with_capacity(alloc, keys.len())?;
         let mut ahead = self.ranges.as_slice();
         for key in keys {
@@ -98,16 +100,14 @@ impl OpenSet for RangeSet {
         Ok(each)
     }
 
-    fn widest_besides(self, keys: &[u64]) -> Result<Option<Mask>, AllocError> {
+    fn widest_besides(self, keys: &SortedKeys) -> Result<Option<Mask>, AllocError> {
         Ok(widest_left(&self.ranges, keys))
     }
 }
 
 impl RangeSet {
-    /// The set without the UIDs with some keys, which come in order.
-    pub fn besides(&self, alloc: Global, keys: &[u64]) -> Result<RangeSet, AllocError>
-        requires order { IsNonDecreasing keys.now }
-        requires keys { AreKeys keys.now }
+    /// The set without the UIDs with some keys.
+    pub fn besides(&self, alloc: Global, keys: &SortedKeys) -> Result<RangeSet, AllocError>
         ensures { IfOk result (λ set. SameUids (is_open_in set)
             (without_keys (is_open_in self.now) keys.now)) }
     {
@@ -115,11 +115,9 @@ impl RangeSet {
         Ok(RangeSet { ranges, alloc })
     }
 
-    /// The first open masks (see `OpenMasks`) of the set without the UIDs with some keys, which
-    /// come in order; and whether there are more.
-    pub fn open_masks_besides(&self, keys: &[u64]) -> OpenMasks
-        requires order { IsNonDecreasing keys.now }
-        requires keys { AreKeys keys.now }
+    /// The first open masks (see `OpenMasks`) of the set without the UIDs with some keys, and
+    /// whether there are more.
+    pub fn open_masks_besides(&self, keys: &SortedKeys) -> OpenMasks
         ensures first { AreFirst MAX_OPEN_MASKS
             (IsOpenMask (without_keys (is_open_in self.now) keys.now)) result.masks.items }
         ensures more { result.more ≡ true ↔ (m : BitMask)
@@ -129,15 +127,12 @@ impl RangeSet {
         open_masks_left(&self.ranges, keys)
     }
 
-    /// All open masks of the set without the UIDs with some keys, which come in order. The masks
-    /// are sorted by length, then by value.
+    /// All open masks of the set without the UIDs with some keys, by length, then by value.
     pub fn all_open_masks_besides(
         &self,
         alloc: Global,
-        keys: &[u64],
+        keys: &SortedKeys,
     ) -> Result<Vec<Mask>, AllocError>
-        requires order { IsNonDecreasing keys.now }
-        requires keys { AreKeys keys.now }
         ensures { IfOk result (λ masks. AreAll
             (IsOpenMask (without_keys (is_open_in self.now) keys.now)) masks.items) }
     {

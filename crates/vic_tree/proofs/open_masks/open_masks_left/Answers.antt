@@ -5,7 +5,7 @@ use Rattle.vic_tree.proofs.open_masks.open_masks_left.Goals as goal
 
 pub loop-run-init : goal.loop-run-init
 loop-run-init c = record {
-  pass = rw c.new-left.ensures (λ k h. refl);
+  pass = rw (c.new-left.ensures, c.ahead.ensures) (λ k h. refl);
   cut = rw c.new-left.ensures (λ k h. absurd (omega arith));
   kept = rw c.new-kept.ensures (λ i j d lt within. absurd (omega arith), omega arith);
   first = rw (c.new-left.ensures, c.new-kept.ensures) (record { rising = λ i j d lt within. absurd (omega arith); wanted = All-nil (IsOpenBelow (is_left c.args.ranges.now c.args.removed.now) 0); others = λ m w. absurd (omega (arith, w.1)) });
