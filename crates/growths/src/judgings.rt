@@ -7,7 +7,7 @@ use std::alloc::{AllocError, Global};
 use std::io;
 use std::io::ErrorKind;
 use vic_frame::{Mask, Uid};
-use vic_tree::{OpenSet, RangeSet};
+use vic_tree::{OpenSet, RangeSet, SortedKeys};
 use vic_verdict::{Verdict, judge_with};
 
 /// The size of that block in bytes; nothing else allocates exactly as many.
@@ -45,11 +45,11 @@ impl OpenSet for Telling {
         self.set.widest()
     }
 
-    fn has_each(&self, alloc: Global, keys: &[u64]) -> Result<Vec<bool>, AllocError> {
+    fn has_each(&self, alloc: Global, keys: &SortedKeys) -> Result<Vec<bool>, AllocError> {
         self.set.has_each(alloc, keys)
     }
 
-    fn widest_besides(self, keys: &[u64]) -> Result<Option<Mask>, AllocError> {
+    fn widest_besides(self, keys: &SortedKeys) -> Result<Option<Mask>, AllocError> {
         let Telling { set, block: _ } = self;
         set.widest_besides(keys)
     }

@@ -4,9 +4,9 @@ use Rattle.std.proofs.Common.{map}
 use Rattle.std.proofs.lemmas.Map.Steps.{le-length_from_below}
 use Rattle.vic_frame.specs.Masks.{BitMask}
 use Rattle.vic_log.specs.Order.{listed}
+use Rattle.vic_tree.specs.Keys.{AreKeysOf}
 use Rattle.vic_tree.specs.OpenSet.{IsWidest, SameUids, has_key, without_keys}
 use Rattle.vic_tree.specs.Ranges.{in_ranges, is_outside}
-use Rattle.vic_verdict.specs.Keys.{AreKeysOf}
 use Rattle.vic_verdict.specs.Rising.{SameMembers}
 use Rattle.vic_verdict.specs.Verdict.{IsFirstMask}
 use Rattle.vic_walk.proofs.PartLaws.{part_of_key}

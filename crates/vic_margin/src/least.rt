@@ -1,24 +1,21 @@
 //! The least margin of the UIDs that a log doesn't list.
 
 ghost use Rattle.std.specs.Prelude.{◌≡◌, ◌^◌, ◌<◌, ◌≤◌, ◌&&◌, ◌||◌, ℕ, Bool, true, false, not};
-ghost use Rattle.std.specs.List.Sorted.{IsNonDecreasing};
 ghost use Rattle.vic_frame.specs.LowBitsFirst.{IsKey};
 ghost use Rattle.vic_frame.specs.Uids.{has};
-ghost use Rattle.vic_tree.specs.OpenSet.{AreKeys};
 ghost use Rattle.vic_margin.specs.inner.Least.{IsLeastOf, is_free, lesser};
 ghost use Rattle.vic_margin.specs.inner.Trees.{within};
 
 use crate::margins::PartMargins;
 use vic_frame::UID_BITS;
+use vic_tree::SortedKeys;
 
-/// The least margin of the UIDs without those with some keys, which come in order; `None` if there
-/// is no other key.
-pub(crate) fn least_besides(margins: &PartMargins, keys: &[u64]) -> Option<u32>
-    requires order { IsNonDecreasing keys.now }
-    requires keys { AreKeys keys.now }
+/// The least margin of the UIDs without those with some keys; `None` if there is no other key.
+pub(crate) fn least_besides(margins: &PartMargins, keys: &SortedKeys) -> Option<u32>
     ensures { IsLeastOf margins.now.parts margins.now.each.items
         (is_free keys.now (2 ^ UID_BITS)) result }
 {
+    let keys = keys.as_slice();
     let mut least = None;
     let mut from = 0;
     for key in keys {

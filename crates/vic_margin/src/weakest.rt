@@ -15,8 +15,8 @@ use crate::margins::part_margins;
 use crate::others::other_keys;
 use std::alloc::{AllocError, Global};
 use vic_log::Log;
-use vic_tree::{OpenSet, RangeSet};
-use vic_verdict::{Facts, Verdict, facts_and_parts_of, first_finding, keys_in_order, listed_uids};
+use vic_tree::{OpenSet, RangeSet, SortedKeys};
+use vic_verdict::{Facts, Verdict, facts_and_parts_of, first_finding, listed_uids};
 use vic_walk::Parts;
 
 /// The verdict on a log, and its margin, if it is possible. It fails only if memory is refused.
@@ -80,7 +80,7 @@ fn weakest_of(alloc: Global, log: &Log, parts: Parts) -> Result<Weakest, AllocEr
 {
     let margins = part_margins(alloc, log, parts)?;
     let listed = listed_uids(alloc, log.lines())?;
-    let keys = keys_in_order(alloc, &listed)?;
+    let keys = SortedKeys::of(alloc, &listed)?;
     let Some(least) = least_besides(&margins, &keys) else {
         unreachable!()
     };

@@ -38,7 +38,7 @@ pub use Rattle.vic_verdict.proofs.Populations.{MustHave-cases, MustHave-iff, pop
 pub use Rattle.vic_verdict.proofs.Possibility.{IsCertainUid-slots, IsPossible-slots}
 pub use Rattle.vic_verdict.proofs.Verdicts.{possible_to}
 pub use Rattle.vic_verdict.specs.Differences.{AreDifferences, IsLeftOpen}
-pub use Rattle.vic_verdict.specs.Keys.{AreKeysOf}
+pub use Rattle.vic_tree.specs.Keys.{AreKeysOf}
 pub use Rattle.vic_verdict.specs.Possible.{IsPossible}
 pub use Rattle.vic_verdict.specs.Rising.{IsFailing, IsListOf, SameMembers}
 pub use Rattle.vic_verdict.specs.Verdict.{IsFirstMask, NoSuch}

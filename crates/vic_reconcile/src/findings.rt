@@ -16,8 +16,8 @@ ghost use Rattle.vic_reconcile.specs.inner.Joined.{IsFirstLeft, IsLeftToAsk, is_
 use crate::reconciliation::{Place, Reconciliation};
 use std::alloc::{AllocError, Global};
 use vic_frame::{Mask, Uid};
-use vic_tree::{OpenMasks, OpenSet, RangeSet};
-use vic_verdict::{compare, keys_in_order, missing_from};
+use vic_tree::{OpenMasks, OpenSet, RangeSet, SortedKeys};
+use vic_verdict::{compare, missing_from};
 
 /// What logs tell together against a list of what is expected.
 #[derive(Drop)]
@@ -172,7 +172,7 @@ impl Reconciliation {
     fn open_masks(&self, mask: Mask, certain: &[Uid]) -> Result<Unsettled, AllocError>
         ensures { IfOk result (IsLeftToAsk certain.now self.now.left.items mask) }
     {
-        let keys = keys_in_order(self.alloc, certain)?;
+        let keys = SortedKeys::of(self.alloc, certain)?;
         let mut masks = Vec::with_capacity(self.alloc, self.left.len())?;
         for set in &self.left {
             masks.push(set.open_masks_besides(&keys))?;

@@ -21,8 +21,8 @@ use std::collections::BTreeMap;
 use vic_frame::Uid;
 use vic_log::{Entry, Log, PackedLine};
 use vic_report::{ShownUid, lines_of_certain};
-use vic_tree::RangeSet;
-use vic_verdict::{Facts, count_listed, facts_of, keys_in_order, listed_uids};
+use vic_tree::{RangeSet, SortedKeys};
+use vic_verdict::{Facts, count_listed, facts_of, listed_uids};
 
 impl Reconciliation {
     /// Begins with the list of what is expected: the UIDs that a log lists which has no other
@@ -106,7 +106,7 @@ impl Reconciliation {
     {
         let alloc = self.alloc;
         let told = lines_of_certain(alloc, lines, &facts.met, &facts.certain)?;
-        let keys = keys_in_order(alloc, &facts.certain)?;
+        let keys = SortedKeys::of(alloc, &facts.certain)?;
         let open = facts.open.besides(alloc, &keys)?;
         let log = self.left.len();
         self.left.push(open)?;

@@ -15,9 +15,9 @@ ghost use Rattle.vic_reconcile.specs.Surveys.{AreFindingsBy, AreNoneOf, AreOpenI
 use std::alloc::{AllocError, Global};
 use vic_frame::{Mask, Uid};
 use vic_log::Log;
-use vic_tree::RangeSet;
 use vic_tree::rising::put_in_order;
-use vic_verdict::{Facts, Verdict, compare, facts_of, first_finding, keys_in_order, missing_from};
+use vic_tree::{RangeSet, SortedKeys};
+use vic_verdict::{Facts, Verdict, compare, facts_of, first_finding, missing_from};
 
 /// What is left of a log without its lines.
 #[derive(Drop)]
@@ -50,7 +50,8 @@ impl Survey {
         ensures { IfOk result (λ masks. (lines : List LogLineValue)
             → IsSurvey lines self.now → AreOpenIn lines masks.items) }
     {
-        self.left.all_open_masks_besides(alloc, &[])
+        let without = SortedKeys::none(alloc);
+        self.left.all_open_masks_besides(alloc, &without)
     }
 }
 
@@ -65,7 +66,7 @@ fn survey_facts(alloc: Global, facts: Facts<RangeSet>, log: &Log) -> Result<Surv
         met: _,
         certain,
     } = facts;
-    let keys = keys_in_order(alloc, &certain)?;
+    let keys = SortedKeys::of(alloc, &certain)?;
     let left = open.besides(alloc, &keys)?;
     let verdict = first_finding(alloc, open, &certain, log)?;
     Ok(Survey {

@@ -13,8 +13,8 @@ use crate::shown::ShownUid;
 use std::alloc::{AllocError, Global};
 use vic_frame::{Mask, Uid};
 use vic_log::Log;
-use vic_tree::{OpenMasks, RangeSet};
-use vic_verdict::{Facts, Verdict, compare, keys_in_order, listed_uids, missing_from};
+use vic_tree::{OpenMasks, RangeSet, SortedKeys};
+use vic_verdict::{Facts, Verdict, compare, listed_uids, missing_from};
 
 /// The findings of a possible log: where it contradicts its list, or leaves it undecided.
 #[derive(Drop)]
@@ -88,7 +88,7 @@ pub(crate) fn find_findings(
     let lines = log.lines();
     let Facts { open, met, certain } = facts;
     let listed = listed_uids(alloc, lines)?;
-    let keys = keys_in_order(alloc, &certain)?;
+    let keys = SortedKeys::of(alloc, &certain)?;
     // made before it is known whether a mask is unsettled, since `compare` consumes the set; they
     // take one walk over its ranges, and no memory
     let masks = open.open_masks_besides(&keys);

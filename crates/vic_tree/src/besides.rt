@@ -1,11 +1,10 @@
 //! Ranges of keys without some keys: as ranges, what is gathered from them, and their widest mask.
 
 ghost use Rattle.std.specs.Prelude.{◌≡◌, ℕ, false, IfOk, IfSome, IfNone};
-ghost use Rattle.std.specs.List.Sorted.{IsNonDecreasing, IsStrictlyIncreasing};
-ghost use Rattle.vic_frame.specs.LowBitsFirst.{IsKey};
+ghost use Rattle.std.specs.List.Sorted.{IsStrictlyIncreasing};
 ghost use Rattle.vic_frame.specs.Uids.{has};
 ghost use Rattle.vic_tree.specs.Gathering.{Gathers};
-ghost use Rattle.vic_tree.specs.OpenSet.{AreKeys, IsWidest, SameUids, without_keys};
+ghost use Rattle.vic_tree.specs.OpenSet.{IsWidest, SameUids, without_keys};
 ghost use Rattle.vic_tree.specs.Ranges.{AreRanges, in_ranges, is_open_in};
 ghost use Rattle.vic_tree.specs.inner.Ranges.{IsFreeInRanges, is_left};
 
@@ -14,6 +13,7 @@ use crate::gather_keys::gather_keys;
 use crate::key_range::KeyRange;
 use crate::ranges::from_key;
 use crate::runs::Runs;
+use crate::sorted_keys::{KeysAhead, SortedKeys};
 use arrayvec::ArrayVec;
 use std::alloc::{AllocError, Global};
 use vic_frame::{Mask, Uid};
@@ -22,51 +22,47 @@ use vic_frame::{Mask, Uid};
 pub(crate) fn ranges_left(
     alloc: Global,
     ranges: &[KeyRange],
-    removed: &[u64],
+    removed: &SortedKeys,
 ) -> Result<Vec<KeyRange>, AllocError>
     requires ranges { AreRanges ranges.now }
-    requires keys { AreKeys removed.now }
-    requires order { IsNonDecreasing removed.now }
     ensures ranges { IfOk result (λ runs. AreRanges runs.items) }
     ensures keys { IfOk result (λ runs. (k : ℕ)
         → in_ranges runs.items k ≡ is_left ranges.now removed.now k) }
 {
     let mut runs = Vec::new(alloc);
-    let mut left = Runs::new(0, ranges, removed);
+    let mut left = Runs::new(0, ranges, removed.ahead());
     while let Some(run) = left.next_run() {
         runs.push(run)?;
     }
     Ok(runs)
 }
 
-/// Appends the UIDs whose keys are from `first` to `last` and in some ranges, and that aren't
-/// exceptions, until there are three.
+/// Appends the UIDs whose keys are in one range and in some ranges, and that aren't exceptions,
+/// until there are three.
 pub(crate) fn gather_left(
     out: &mut ArrayVec<Uid, 3>,
     except: &[Uid],
     ranges: &[KeyRange],
-    first: u64,
-    last: u64,
+    range: KeyRange,
 )
     requires rising { IsStrictlyIncreasing except.now }
     requires ranges { AreRanges ranges.now }
-    requires small { IsKey last }
-    ensures { Gathers (IsFreeInRanges ranges.now first last (has except.now))
+    ensures { Gathers (IsFreeInRanges ranges.now range.0 range.1 (has except.now))
         out.old.items out.new.items }
 {
-    let mut left = Runs::new(first, from_key(ranges, first), &[]);
+    let first = range.first();
+    let mut left = Runs::new(first, from_key(ranges, first), KeysAhead::none());
     while let Some(run) = left.next_run() {
-        if last < run.first() || out.is_full() {
+        if range.last() < run.first() || out.is_full() {
             return;
         }
-        gather_keys(out, except, run.first(), run.last().min(last));
+        let both = KeyRange::new(run.first(), run.last().min(range.last()));
+        gather_keys(out, except, both);
     }
 }
 
 /// The widest mask in what is left of some ranges when some keys are removed.
-pub(crate) fn widest_left(ranges: &[KeyRange], removed: &[u64]) -> Option<Mask>
-    requires keys { AreKeys removed.now }
-    requires order { IsNonDecreasing removed.now }
+pub(crate) fn widest_left(ranges: &[KeyRange], removed: &SortedKeys) -> Option<Mask>
     requires ranges { AreRanges ranges.now }
     ensures found { IfSome result
         (IsWidest (without_keys (is_open_in ranges.now) removed.now)) }
@@ -74,9 +70,9 @@ pub(crate) fn widest_left(ranges: &[KeyRange], removed: &[u64]) -> Option<Mask>
         (SameUids (without_keys (is_open_in ranges.now) removed.now) (λ _. false)) }
 {
     let mut widest: Option<Mask> = None;
-    let mut left = Runs::new(0, ranges, removed);
+    let mut left = Runs::new(0, ranges, removed.ahead());
     while let Some(run) = left.next_run() {
-        widest = Some(widest_with(widest, run.first(), run.last()));
+        widest = Some(widest_with(widest, run));
     }
     widest
 }

@@ -6,10 +6,8 @@
 
 ghost use Rattle.std.specs.Prelude.{◌≡◌, ℕ, ◌≤◌, ◌↔◌, Bool, true, IfOk, OnOk, IfSome, Some, length};
 ghost use Rattle.std.specs.List.{Contains};
-ghost use Rattle.std.specs.List.Sorted.{IsNonDecreasing};
 ghost use Rattle.vic_frame.specs.Masks.{BitMask};
-ghost use Rattle.vic_frame.specs.LowBitsFirst.{IsKey};
-ghost use Rattle.vic_tree.specs.OpenSet.{AreKeys, without_keys};
+ghost use Rattle.vic_tree.specs.OpenSet.{without_keys};
 ghost use Rattle.vic_tree.specs.OpenMasks.{AreAll, AreFirst, IsOpenMask};
 ghost use Rattle.vic_tree.specs.inner.KeptMasks.{Adds, AreKept, IsMaximalAt, IsMaximalIn, Keeps};
 ghost use Rattle.vic_tree.specs.Ranges.{AreRanges, is_open_in};
@@ -17,6 +15,7 @@ ghost use Rattle.vic_tree.specs.Ranges.{AreRanges, is_open_in};
 use crate::blocks::{least_len, size_of_block};
 use crate::key_range::KeyRange;
 use crate::runs::Runs;
+use crate::sorted_keys::SortedKeys;
 use arrayvec::ArrayVec;
 use std::alloc::{AllocError, Global};
 use vic_frame::low_bits_first::mask_of_keys;
@@ -44,9 +43,7 @@ pub struct OpenMasks {
 
 /// The first open masks of what is left of some ranges when some keys are removed, found without
 /// memory from the heap.
-pub(crate) fn open_masks_left(ranges: &[KeyRange], removed: &[u64]) -> OpenMasks
-    requires keys { AreKeys removed.now }
-    requires order { IsNonDecreasing removed.now }
+pub(crate) fn open_masks_left(ranges: &[KeyRange], removed: &SortedKeys) -> OpenMasks
     requires ranges { AreRanges ranges.now }
     ensures first { AreFirst MAX_OPEN_MASKS
         (IsOpenMask (without_keys (is_open_in ranges.now) removed.now)) result.masks.items }
@@ -55,9 +52,9 @@ pub(crate) fn open_masks_left(ranges: &[KeyRange], removed: &[u64]) -> OpenMasks
         × (¬ (Contains result.masks.items m)) }
 {
     let mut kept = ArrayVec::new();
-    let mut left = Runs::new(0, ranges, removed);
+    let mut left = Runs::new(0, ranges, removed.ahead());
     while let Some(run) = left.next_run() {
-        keep_in_run(&mut kept, run.first(), run.last());
+        keep_in_run(&mut kept, run);
     }
     first_of_kept(&kept)
 }
@@ -83,19 +80,17 @@ fn first_of_kept(kept: &ArrayVec<Mask, BUFFER>) -> OpenMasks
 
 /// Keeps the open masks of a run. Once the list of kept masks is full, and all are shorter than
 /// those to come, no others are looked at.
-fn keep_in_run(kept: &mut ArrayVec<Mask, BUFFER>, first: u64, last: u64)
-    requires forward { first ≤ last }
-    requires small { IsKey last }
+fn keep_in_run(kept: &mut ArrayVec<Mask, BUFFER>, run: KeyRange)
     requires kept { AreKept kept.old.items }
-    ensures keeps { Keeps (IsMaximalIn first last) kept.old.items kept.new.items }
+    ensures keeps { Keeps (IsMaximalIn run.0 run.1) kept.old.items kept.new.items }
     ensures kept { AreKept kept.new.items }
 {
-    for len in least_len(first, last)..UID_BITS + 1 {
+    for len in least_len(run)..UID_BITS + 1 {
         if kept.len() == KEPT && kept[KEPT - 1].len() < len {
             return;
         }
-        keep(kept, maximal_at_start(first, last, len));
-        keep(kept, maximal_at_end(first, last, len));
+        keep(kept, maximal_at_start(run, len));
+        keep(kept, maximal_at_end(run, len));
     }
 }
 
@@ -103,18 +98,16 @@ fn keep_in_run(kept: &mut ArrayVec<Mask, BUFFER>, first: u64, last: u64)
 pub(crate) fn all_open_masks_left(
     alloc: Global,
     ranges: &[KeyRange],
-    removed: &[u64],
+    removed: &SortedKeys,
 ) -> Result<Vec<Mask>, AllocError>
-    requires keys { AreKeys removed.now }
-    requires order { IsNonDecreasing removed.now }
     requires ranges { AreRanges ranges.now }
     ensures { IfOk result (λ masks. AreAll
         (IsOpenMask (without_keys (is_open_in ranges.now) removed.now)) masks.items) }
 {
     let mut masks = Vec::new(alloc);
-    let mut left = Runs::new(0, ranges, removed);
+    let mut left = Runs::new(0, ranges, removed.ahead());
     while let Some(run) = left.next_run() {
-        push_in_run(&mut masks, run.first(), run.last())?;
+        push_in_run(&mut masks, run)?;
     }
     masks.sort_unstable();
     // no mask is found twice: this only spares the proof of that
@@ -123,30 +116,26 @@ pub(crate) fn all_open_masks_left(
 }
 
 /// Appends the open masks of a run.
-fn push_in_run(masks: &mut Vec<Mask>, first: u64, last: u64) -> Result<(), AllocError>
-    requires forward { first ≤ last }
-    requires small { IsKey last }
-    ensures { OnOk result (Adds (IsMaximalIn first last) masks.old.items masks.new.items) }
+fn push_in_run(masks: &mut Vec<Mask>, run: KeyRange) -> Result<(), AllocError>
+    ensures { OnOk result (Adds (IsMaximalIn run.0 run.1) masks.old.items masks.new.items) }
 {
-    for len in least_len(first, last)..UID_BITS + 1 {
-        push_found(masks, maximal_at_start(first, last, len))?;
-        push_found(masks, maximal_at_end(first, last, len))?;
+    for len in least_len(run)..UID_BITS + 1 {
+        push_found(masks, maximal_at_start(run, len))?;
+        push_found(masks, maximal_at_end(run, len))?;
     }
     Ok(())
 }
 
 /// The first mask of `len` bits in a run, if it is the upper half of one that begins before the
 /// run.
-fn maximal_at_start(first: u64, last: u64, len: u8) -> Option<Mask>
+fn maximal_at_start(run: KeyRange, len: u8) -> Option<Mask>
     requires short { len ≤ UID_BITS }
-    requires forward { first ≤ last }
-    requires small { IsKey last }
-    ensures found { IfSome result (IsMaximalAt first last len 1) }
-    ensures only { (m : BitMask) → IsMaximalAt first last len 1 m → result ≡ Some m }
+    ensures found { IfSome result (IsMaximalAt run.0 run.1 len 1) }
+    ensures only { (m : BitMask) → IsMaximalAt run.0 run.1 len 1 m → result ≡ Some m }
 {
     let size = size_of_block(len);
-    let number = first.div_ceil(size);
-    if number % 2 == 0 || last + 1 < (number + 1) * size {
+    let number = run.first().div_ceil(size);
+    if number % 2 == 0 || run.last() + 1 < (number + 1) * size {
         return None;
     }
     Some(mask_of_keys(number * size, len))
@@ -154,17 +143,15 @@ fn maximal_at_start(first: u64, last: u64, len: u8) -> Option<Mask>
 
 /// The last mask of `len` bits in a run, if it is the mask of no bits, or the lower half of one
 /// that ends after the run.
-fn maximal_at_end(first: u64, last: u64, len: u8) -> Option<Mask>
+fn maximal_at_end(run: KeyRange, len: u8) -> Option<Mask>
     requires short { len ≤ UID_BITS }
-    requires forward { first ≤ last }
-    requires small { IsKey last }
-    ensures found { IfSome result (IsMaximalAt first last len 0) }
-    ensures only { (m : BitMask) → IsMaximalAt first last len 0 m → result ≡ Some m }
+    ensures found { IfSome result (IsMaximalAt run.0 run.1 len 0) }
+    ensures only { (m : BitMask) → IsMaximalAt run.0 run.1 len 0 m → result ≡ Some m }
 {
     let size = size_of_block(len);
-    // how many blocks of this size, from key 0 on, end by `last`
-    let count = (last + 1) / size;
-    if count % 2 == 0 || (count - 1) * size < first {
+    // how many blocks of this size, from key 0 on, end by the last key
+    let count = (run.last() + 1) / size;
+    if count % 2 == 0 || (count - 1) * size < run.first() {
         return None;
     }
     Some(mask_of_keys((count - 1) * size, len))

@@ -1,27 +1,25 @@
 //! Which of some UIDs aren't in a set.
 
 ghost use Rattle.std.specs.Prelude.{IfOk};
-ghost use Rattle.std.specs.List.Sorted.{IsNonDecreasing};
-ghost use Rattle.vic_tree.specs.OpenSet.{AreKeys, AreOutside};
+ghost use Rattle.vic_tree.specs.OpenSet.{AreOutside};
 
 use crate::open_set::OpenSet;
 use crate::rising::put_in_order;
+use crate::sorted_keys::SortedKeys;
 use std::alloc::{AllocError, Global};
 use vic_frame::Uid;
 use vic_frame::low_bits_first::uid_at;
 
-/// The UIDs with some keys that aren't in a set, from the least to the greatest. The keys come in
-/// order.
+/// The UIDs with some keys that aren't in a set, from the least to the greatest.
 pub fn uids_outside<S: OpenSet>(
     alloc: Global,
     set: &S,
-    keys: &[u64],
+    keys: &SortedKeys,
 ) -> Result<Vec<Uid>, AllocError>
-    requires order { IsNonDecreasing keys.now }
-    requires keys { AreKeys keys.now }
     ensures { IfOk result (λ uids. AreOutside (S.is_open set.now) keys.now uids.items) }
 {
     let is_open = set.has_each(alloc, keys)?;
+    let keys = keys.as_slice();
     let mut outside = Vec::new(alloc);
     for i in 0..keys.len() {
         if !is_open[i] {

@@ -6,7 +6,7 @@ ghost use Rattle.std.specs.List.Sorted.{IsNonDecreasing};
 ghost use Rattle.vic_frame.specs.Uids.{IsUid, has};
 ghost use Rattle.vic_frame.specs.Masks.{BitMask};
 ghost use Rattle.vic_frame.specs.LowBitsFirst.{IsKey, mirror};
-ghost use Rattle.vic_tree.specs.OpenSet.{AreKeys, SameUids, without_keys};
+ghost use Rattle.vic_tree.specs.OpenSet.{SameUids, without_keys};
 ghost use Rattle.vic_tree.specs.OpenMasks.{AreAll, AreFirst, IsOpenMask};
 ghost use Rattle.vic_tree.specs.Ranges.{AreRanges, in_ranges, is_between, is_open_in};
 
@@ -14,6 +14,7 @@ use crate::besides::{gather_left, ranges_left, widest_left};
 use crate::key_range::KeyRange;
 use crate::open_masks::{MAX_OPEN_MASKS, OpenMasks, all_open_masks_left, open_masks_left};
 use crate::open_set::OpenSet;
+use crate::sorted_keys::SortedKeys;
 use crate::ranges::{complement, complement_in_order, is_in, is_in_first, skip_to};
 use arrayvec::ArrayVec;
 use std::alloc::{AllocError, Global};
@@ -53,7 +54,8 @@ impl OpenSet for RangeSet {
         let Some(block) = keys_of(mask) else {
             return Ok(());
         };
-        match ranges_after(self.alloc, &self.ranges, block.first, block.last(), except) {
+        let range = KeyRange::new(block.first, block.last());
+        match ranges_after(self.alloc, &self.ranges, range, except) {
             Ok(left) => {
                 self.ranges = left;
                 Ok(())
@@ -77,16 +79,18 @@ impl OpenSet for RangeSet {
     fn up_to_three(&self, mask: &Mask, except: &[Uid]) -> ArrayVec<Uid, 3> {
         let mut found = ArrayVec::new();
         if let Some(block) = keys_of(mask) {
-            gather_left(&mut found, except, &self.ranges, block.first, block.last());
+            let range = KeyRange::new(block.first, block.last());
+            gather_left(&mut found, except, &self.ranges, range);
         }
         found
     }
 
     fn widest(&self) -> Option<Mask> {
-        widest_left(&self.ranges, &[])
+        widest_left(&self.ranges, &SortedKeys::none(self.alloc))
     }
 
-    fn has_each(&self, alloc: Global, keys: &[u64]) -> Result<Vec<bool>, AllocError> {
+    fn has_each(&self, alloc: Global, keys: &SortedKeys) -> Result<Vec<bool>, AllocError> {
+        let keys = keys.as_slice();
         let mut each = Vec::with_capacity(alloc, keys.len())?;
         let mut ahead = self.ranges.as_slice();
         for key in keys {
@@ -96,16 +100,14 @@ impl OpenSet for RangeSet {
         Ok(each)
     }
 
-    fn widest_besides(self, keys: &[u64]) -> Result<Option<Mask>, AllocError> {
+    fn widest_besides(self, keys: &SortedKeys) -> Result<Option<Mask>, AllocError> {
         Ok(widest_left(&self.ranges, keys))
     }
 }
 
 impl RangeSet {
-    /// The set without the UIDs with some keys, which come in order.
-    pub fn besides(&self, alloc: Global, keys: &[u64]) -> Result<RangeSet, AllocError>
-        requires order { IsNonDecreasing keys.now }
-        requires keys { AreKeys keys.now }
+    /// The set without the UIDs with some keys.
+    pub fn besides(&self, alloc: Global, keys: &SortedKeys) -> Result<RangeSet, AllocError>
         ensures { IfOk result (λ set. SameUids (is_open_in set)
             (without_keys (is_open_in self.now) keys.now)) }
     {
@@ -113,11 +115,9 @@ impl RangeSet {
         Ok(RangeSet { ranges, alloc })
     }
 
-    /// The first open masks (see `OpenMasks`) of the set without the UIDs with some keys, which
-    /// come in order; and whether there are more.
-    pub fn open_masks_besides(&self, keys: &[u64]) -> OpenMasks
-        requires order { IsNonDecreasing keys.now }
-        requires keys { AreKeys keys.now }
+    /// The first open masks (see `OpenMasks`) of the set without the UIDs with some keys, and
+    /// whether there are more.
+    pub fn open_masks_besides(&self, keys: &SortedKeys) -> OpenMasks
         ensures first { AreFirst MAX_OPEN_MASKS
             (IsOpenMask (without_keys (is_open_in self.now) keys.now)) result.masks.items }
         ensures more { result.more ≡ true ↔ (m : BitMask)
@@ -127,15 +127,12 @@ impl RangeSet {
         open_masks_left(&self.ranges, keys)
     }
 
-    /// All open masks of the set without the UIDs with some keys, which come in order. The masks
-    /// are sorted by length, then by value.
+    /// All open masks of the set without the UIDs with some keys, by length, then by value.
     pub fn all_open_masks_besides(
         &self,
         alloc: Global,
-        keys: &[u64],
+        keys: &SortedKeys,
     ) -> Result<Vec<Mask>, AllocError>
-        requires order { IsNonDecreasing keys.now }
-        requires keys { AreKeys keys.now }
         ensures { IfOk result (λ masks. AreAll
             (IsOpenMask (without_keys (is_open_in self.now) keys.now)) masks.items) }
     {
@@ -143,40 +140,36 @@ impl RangeSet {
     }
 }
 
-/// What is left of some ranges after the keys from `first` to `last` are removed, except those of
-/// some UIDs.
+/// What is left of some ranges after the keys of one are removed, except those of some UIDs.
 fn ranges_after(
     alloc: Global,
     ranges: &[KeyRange],
-    first: u64,
-    last: u64,
+    range: KeyRange,
     except: &[Uid],
 ) -> Result<Vec<KeyRange>, AllocError>
-    requires ranges { AreRanges ranges.now }
-    requires forward { first ≤ last }
-    requires small { IsKey last }
+    requires { AreRanges ranges.now }
     ensures ranges { IfOk result (λ left. AreRanges left.items) }
     ensures left { IfOk result (λ left. SameUids (is_open_in left.items) (λ u.
-        is_open_in ranges.now u && (not (is_between first last (mirror u)) || has except.now u))) }
+        is_open_in ranges.now u && (not (is_between range.0 range.1 (mirror u)) || has except.now u))) }
 {
-    let kept = keys_between(alloc, except, first, last)?;
+    let kept = keys_between(alloc, except, range)?;
     let mut closed = complement_in_order(Vec::from_slice(alloc, ranges)?)?;
-    push_others(&mut closed, first, last, &kept)?;
+    push_others(&mut closed, range, &kept)?;
     complement(closed)
 }
 
-/// The keys from `first` to `last` of the UIDs of a list, in order.
-fn keys_between(alloc: Global, uids: &[Uid], first: u64, last: u64) -> Result<Vec<u64>, AllocError>
+/// The keys in a range of the UIDs of a list, in order.
+fn keys_between(alloc: Global, uids: &[Uid], range: KeyRange) -> Result<Vec<u64>, AllocError>
     ensures order { IfOk result (λ keys. IsNonDecreasing keys.items) }
     ensures inside { IfOk result (λ keys. (k : ℕ)
-        → has keys.items k ≡ true → is_between first last k ≡ true) }
+        → has keys.items k ≡ true → is_between range.0 range.1 k ≡ true) }
     ensures members { IfOk result (λ keys. (u : ℕ) → IsUid u
-        → has keys.items (mirror u) ≡ (is_between first last (mirror u) && has uids.now u)) }
+        → has keys.items (mirror u) ≡ (is_between range.0 range.1 (mirror u) && has uids.now u)) }
 {
     let mut keys = Vec::new(alloc);
     for uid in uids {
         let key = key(*uid);
-        if first <= key && key <= last {
+        if range.first() <= key && key <= range.last() {
             keys.push(key)?;
         }
     }
@@ -184,28 +177,26 @@ fn keys_between(alloc: Global, uids: &[Uid], first: u64, last: u64) -> Result<Ve
     Ok(keys)
 }
 
-/// Appends the ranges of the keys from `first` to `last` that aren't in `except`, which comes in
-/// order; `ranges` needn't.
+/// Appends the ranges of the keys in a range that aren't in `except`, which comes in order; `ranges`
+/// needn't.
 fn push_others(
     ranges: &mut Vec<KeyRange>,
-    first: u64,
-    last: u64,
+    range: KeyRange,
     except: &[u64],
 ) -> Result<(), AllocError>
-    requires forward { first ≤ last }
-    requires small { IsKey last }
     requires order { IsNonDecreasing except.now }
-    requires inside { (k : ℕ) → has except.now k ≡ true → is_between first last k ≡ true }
+    requires inside { (k : ℕ) → has except.now k ≡ true → is_between range.0 range.1 k ≡ true }
     ensures { OnOk result ((k : ℕ) → in_ranges ranges.new.items k
-        ≡ (in_ranges ranges.old.items k || (is_between first last k && not (has except.now k)))) }
+        ≡ (in_ranges ranges.old.items k || (is_between range.0 range.1 k && not (has except.now k)))) }
 {
-    let mut from = first;
+    let mut from = range.first();
     for key in except {
         if from < *key {
             ranges.push(KeyRange::new(from, *key - 1))?;
         }
         from = *key + 1;
     }
+    let last = range.last();
     if from <= last {
         ranges.push(KeyRange::new(from, last))?;
     }

@@ -46,11 +46,11 @@ pub use Rattle.vic_log.specs.declared.entry.LogLine.{LogLine}
 pub use Rattle.vic_log.specs.declared.entry.Version.{Version}
 pub use Rattle.vic_tree.proofs.BoolLaws.{and_thrice, or_false, same_tests}
 pub use Rattle.vic_tree.proofs.SetLaws.{widest_same}
+pub use Rattle.vic_tree.specs.Keys.{AreKeysOf}
 pub use Rattle.vic_tree.specs.OpenSet.{AreKeys, AreOutside, IsAtMost, IsWidest, SameUids, UpToThree, has_key, without_keys}
 pub use Rattle.vic_verdict.specs.Needs.{AreFound, HasHeard, IsFound, IsFoundAt, IsMet, IsMetFor, all_needs}
 pub use Rattle.vic_verdict.specs.Explained.{IsPopulationBehind, IsSmallPopulation}
 pub use Rattle.vic_verdict.specs.Facts.{IsTold}
-pub use Rattle.vic_verdict.specs.Keys.{AreKeysOf}
 pub use Rattle.vic_walk.specs.LogLines.{AreLogLines}
 pub use Rattle.vic_verdict.specs.Places.{answering}
 pub use Rattle.vic_verdict.specs.Possible.{IsCertainUid, IsFirstImpossible, IsPossible, IsPossibleUid}

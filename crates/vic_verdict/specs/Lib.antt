@@ -7,5 +7,4 @@ pub mod Differences
 pub mod Needs
 pub mod Facts
 pub mod Explained
-pub mod Keys
 pub mod inner

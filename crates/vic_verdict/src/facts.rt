@@ -16,14 +16,12 @@ ghost use Rattle.vic_verdict.specs.Facts.{AreFactsOf};
 ghost use Rattle.vic_verdict.specs.Possible.{IsFirstImpossible, IsPossible};
 ghost use Rattle.vic_verdict.specs.Needs.{IsMet, IsMetFor, HasHeard};
 ghost use Rattle.vic_verdict.specs.Rising.{Adds, IsListOf};
-ghost use Rattle.vic_verdict.specs.Keys.{AreKeysOf};
 ghost use Rattle.vic_verdict.specs.Verdict.{IsVerdict};
 ghost use Rattle.vic_verdict.specs.declared.judging.Verdict.TheVariants.{Impossible};
 ghost use Rattle.vic_verdict.specs.inner.Enough.{HasEnough, LacksSome};
 
 use std::alloc::{AllocError, Global};
 use vic_frame::Uid;
-use vic_frame::low_bits_first::key;
 use vic_log::Log;
 use vic_tree::OpenSet;
 use vic_tree::rising::put_in_order;
@@ -192,16 +190,4 @@ fn heard_uids(alloc: Global, lines: &LogLines) -> Result<Vec<Uid>, AllocError>
         }
     }
     Ok(heard)
-}
-
-/// The keys of UIDs, in order; those of UIDs that come twice come twice.
-pub fn keys_in_order(alloc: Global, uids: &[Uid]) -> Result<Vec<u64>, AllocError>
-    ensures { IfOk result (λ keys. AreKeysOf keys.items uids.now) }
-{
-    let mut keys = Vec::with_capacity(alloc, uids.len())?;
-    for uid in uids {
-        keys.push(key(*uid))?;
-    }
-    keys.sort_unstable();
-    Ok(keys)
 }

@@ -2,22 +2,20 @@
 //! that a set in that order is walked once.
 
 ghost use Rattle.std.specs.Prelude.{◌<◌, ◌^◌, ◌≡◌, ◌++◌, ℕ, false, IfOk, List, ◌≤◌, [], ◌∷◌, if◌then◌else◌, OnOk, length, true};
-ghost use Rattle.std.specs.List.Sorted.{IsNonDecreasing, IsStrictlyIncreasing};
+ghost use Rattle.std.specs.List.Sorted.{IsStrictlyIncreasing};
 ghost use Rattle.vic_frame.specs.Uids.{has, IsUid};
 ghost use Rattle.vic_log.specs.Order.{entries, listed};
-ghost use Rattle.vic_tree.specs.OpenSet.{AreKeys};
+ghost use Rattle.vic_tree.specs.Keys.{AreKeysOf};
 ghost use Rattle.vic_verdict.specs.Differences.{AreDifferences};
-ghost use Rattle.vic_verdict.specs.Keys.{AreKeysOf};
 ghost use Rattle.vic_verdict.specs.Rising.{IsFailing, IsListOf, SameMembers};
 ghost use Rattle.vic_verdict.specs.inner.Merging.{AreBelow, IsIndexOf};
 
-use crate::facts::keys_in_order;
 use std::alloc::{AllocError, Global};
 use vic_frame::{Mask, Uid};
 use vic_log::{Entry, Log, PackedLine};
-use vic_tree::OpenSet;
 use vic_tree::outside::uids_outside;
 use vic_tree::rising::put_in_order;
+use vic_tree::{OpenSet, SortedKeys};
 
 /// How a list of UIDs differs from what a log says. The doubtful UIDs can't be told from it alone:
 /// they are the listed ones that are neither certain nor absent (`missing_from`, called twice).
@@ -57,18 +55,16 @@ pub fn compare<S: OpenSet>(
     })
 }
 
-/// The UIDs at some keys, which come in order, that can't be there, since they are neither in a set
-/// nor certain; in rising order. The open UIDs of one log contain its certain ones, so these change
+/// The UIDs at some keys that can't be there, since they are neither in a set nor certain; in rising
+/// order. The open UIDs of one log contain its certain ones, so these change
 /// nothing; the set that `vic_reconcile` makes of several logs contains none of them.
 pub(crate) fn absent_from<S: OpenSet>(
     alloc: Global,
-    keys: &[u64],
+    keys: &SortedKeys,
     set: &S,
     certain: &[Uid],
 ) -> Result<Vec<Uid>, AllocError>
     requires certain { IsStrictlyIncreasing certain.now }
-    requires order { IsNonDecreasing keys.now }
-    requires keys { AreKeys keys.now }
     ensures { IfOk result (λ v. (us : List ℕ) → AreKeysOf keys.now us
         → IsListOf (λ u. IsFailing us (S.is_open set.now) u × (has certain.now u ≡ false))
         v.items) }
@@ -77,16 +73,16 @@ pub(crate) fn absent_from<S: OpenSet>(
     missing_from(alloc, &outside, certain)
 }
 
-/// The keys of the UIDs of two lists, in order.
-fn keys_of_both(alloc: Global, uids: &[Uid], others: &[Uid]) -> Result<Vec<u64>, AllocError>
-    ensures { IfOk result (λ keys. AreKeysOf keys.items (uids.now ++ others.now)) }
+/// The keys of the UIDs of two lists.
+fn keys_of_both(alloc: Global, uids: &[Uid], others: &[Uid]) -> Result<SortedKeys, AllocError>
+    ensures { IfOk result (λ keys. AreKeysOf keys (uids.now ++ others.now)) }
 {
     if others.is_empty() {
-        return keys_in_order(alloc, uids);
+        return SortedKeys::of(alloc, uids);
     }
     let mut both = Vec::from_slice(alloc, uids)?;
     both.extend_from_slice(others)?;
-    keys_in_order(alloc, &both)
+    SortedKeys::of(alloc, &both)
 }
 
 /// Those of a rising list that aren't in another, in rising order.

@@ -9,12 +9,12 @@ ghost use Rattle.vic_verdict.specs.Verdict.{IsVerdict, IsWhole, IsReached};
 ghost use Rattle.vic_verdict.specs.Versions.{IsWholeSecond, IsWholeThird};
 ghost use Rattle.vic_verdict.specs.declared.judging.Verdict.TheVariants.{Complete};
 
-use crate::facts::{Facts, facts_of, keys_in_order};
+use crate::facts::{Facts, facts_of};
 use crate::findings::{absent_from, count_listed, listed_uids, missing_from};
 use std::alloc::{AllocError, Global};
 use vic_frame::{Mask, Uid};
 use vic_log::Log;
-use vic_tree::{OpenSet, RangeSet};
+use vic_tree::{OpenSet, RangeSet, SortedKeys};
 
 /// What a log proves about its list of tags (profile): the first answer that applies. Each answer
 /// is about the populations of tags that could have produced the log.
@@ -105,7 +105,7 @@ pub fn first_finding<S: OpenSet>(
     ensures { IfOk result (λ v. IsVerdict log.now.lines v) }
 {
     let listed = listed_uids(alloc, log.lines())?;
-    let keys = keys_in_order(alloc, &listed)?;
+    let keys = SortedKeys::of(alloc, &listed)?;
     let absent = absent_from(alloc, &keys, &set, certain)?;
     if let Some(uid) = first_of(&absent) {
         return Ok(Verdict::Absent(uid));

@@ -14,8 +14,6 @@ mod judging;
 pub mod laws;
 
 pub use explanation::{Explanation, explain, explain_with};
-pub use facts::{
-    Facts, Met, certain_uids, facts_and_parts_of, facts_of, is_possible, keys_in_order,
-};
+pub use facts::{Facts, Met, certain_uids, facts_and_parts_of, facts_of, is_possible};
 pub use findings::{Differences, compare, count_listed, listed_uids, missing_from};
 pub use judging::{Verdict, first_finding, judge, judge_with};

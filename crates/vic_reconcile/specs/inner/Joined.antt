@@ -10,7 +10,7 @@ use Rattle.vic_tree.specs.declared.open_masks.TheConstants.{MAX_OPEN_MASKS}
 use Rattle.vic_tree.specs.OpenMasks.{AreFirst, IsOpenMask}
 use Rattle.vic_tree.specs.OpenSet.{without_keys}
 use Rattle.vic_tree.specs.Ranges.{is_open_in}
-use Rattle.vic_verdict.specs.Keys.{AreKeysOf}
+use Rattle.vic_tree.specs.Keys.{AreKeysOf}
 use Rattle.vic_report.specs.declared.shown.ShownUid.{ShownUid}
 use Rattle.vic_report.specs.Findings.{uids_of}
 use Rattle.vic_reconcile.specs.declared.findings.DoubtfulUid.{DoubtfulUid}

@@ -7,16 +7,16 @@ loop-key-init c = record { past = past_none _; least = none_free _ _ _ }
 
 pub loop-key-preserved : goal.loop-key-preserved
 loop-key-preserved c =
-    let keys = c.args.keys.now in
+    let keys = c.as_slice-keys.result.now in
     let l = c.loop-key in
     let key = slice_index keys l.key-index in
-    let is_key : IsKey key = c.requires.keys l.key-index 0 c.loop-key-test.true in
+    let is_key : IsKey key = c.as_slice-keys.ensures.keys l.key-index 0 c.loop-key-test.true in
     record {
-      past = past_next keys l.key-index l.from key c.requires.order is_key c.loop-key-test.true refl l.invariant.past;
-      least = least_same _ _ _ _ _ (λ k. free_next keys l.key-index l.from key k c.requires.order c.loop-key-test.true refl l.invariant.past) (c.least_between-least.ensures _ l.invariant.least);
+      past = past_next keys l.key-index l.from key c.as_slice-keys.ensures.order is_key c.loop-key-test.true refl l.invariant.past;
+      least = least_same _ _ _ _ _ (λ k. free_next keys l.key-index l.from key k c.as_slice-keys.ensures.order c.loop-key-test.true refl l.invariant.past) (c.least_between-least.ensures _ l.invariant.least);
     }
 
 pub returns : goal.returns
 returns c =
     let inv = c.loop-key.invariant in
-    least_same _ _ _ _ _ (λ k. free_end _ c.loop-key.key-index c.loop-key.from k c.requires.order (omega (arith, c.loop-key-test.false)) inv.past) (c.least_between.ensures _ inv.least)
+    rw (← c.as_slice-keys.ensures.value) (least_same _ _ _ _ _ (λ k. free_end _ c.loop-key.key-index c.loop-key.from k c.as_slice-keys.ensures.order (omega (arith, c.loop-key-test.false)) inv.past) (c.least_between.ensures _ inv.least))

@@ -1,4 +1,4 @@
-use Rattle.vic_reconcile.proofs.Words.{subst, SameUids, without_keys, is_open_in, entries, AreKeysOf, log_facts}
+use Rattle.vic_reconcile.proofs.Words.{subst, is_open_in, entries, AreKeysOf, log_facts}
 use Rattle.vic_reconcile.proofs.Joins.{left_by}
 use Rattle.vic_reconcile.proofs.surveys.survey_facts.Goals as goal
 
@@ -13,9 +13,9 @@ returns c =
       verdict = c.in_ok-verdict.ensures;
       certain = ((λ p. facts.must), (λ n. absurd (n told.possible)));
       left = (
-        (λ p. left_by c.args.log.now.lines set c.in_ok-left.left certain c.in_ok-keys.keys.items facts
-            (subst (AreKeysOf c.in_ok-keys.keys.items) c.deref.ensures.value c.in_ok-keys.ensures)
-            (subst (λ ks. SameUids (is_open_in c.in_ok-left.left) (without_keys (is_open_in set) ks)) c.deref-2.ensures.value c.in_ok-left.ensures)),
+        (λ p. left_by c.args.log.now.lines set c.in_ok-left.left certain c.in_ok-keys.keys facts
+            (subst (AreKeysOf c.in_ok-keys.keys) c.deref.ensures.value c.in_ok-keys.ensures)
+            c.in_ok-left.ensures),
         (λ n. absurd (n told.possible)),
       );
     }

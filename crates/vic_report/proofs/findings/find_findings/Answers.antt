@@ -1,4 +1,4 @@
-use Rattle.vic_report.proofs.Words.{◌≡◌, true, ◌∙◌, sym, ap, subst, MatchOption, has, entries, listed, IsLeftOpen, IsPossibleUid, IsCertainUid, IsListOf, IsAbsent, IsUnlisted, NoSuch, AreOpenMasks, IsUnsettledWith, has_key, without_keys, is_open_in, AreListed, log_facts, all_findings, doubtful_list}
+use Rattle.vic_report.proofs.Words.{◌≡◌, true, ◌∙◌, sym, ap, subst, MatchOption, has, entries, listed, IsLeftOpen, IsPossibleUid, IsCertainUid, IsListOf, IsAbsent, IsUnlisted, NoSuch, AreOpenMasks, IsUnsettledWith, without_keys, is_open_in, AreListed, log_facts, all_findings, doubtful_list}
 use Rattle.vic_report.proofs.AllFindings.{left_to_ask, open_set, shut_all}
 use Rattle.vic_report.proofs.findings.find_findings.Goals as goal
 
@@ -8,16 +8,16 @@ lines_of_absent-requires-clause-not_open c =
     let us = c.in_ok-listed.listed.items in
     let certain = c.args.facts.certain.items in
     let d = c.in_ok-differences.differences in
-    let here = rw (c.deref-3.ensures.value, c.deref-4.ensures.value) at c.in_ok-differences.ensures in
-    rw c.deref-9.ensures.value (shut_all es (is_open_in c.args.facts.open) us certain d.absent.items c.requires.told.uids_open c.in_ok-listed.ensures.uids here.absent)
+    let here = rw (c.deref-2.ensures.value, c.deref-3.ensures.value) at c.in_ok-differences.ensures in
+    rw c.deref-8.ensures.value (shut_all es (is_open_in c.args.facts.open) us certain d.absent.items c.requires.told.uids_open c.in_ok-listed.ensures.uids here.absent)
 
 pub lines_of_certain-requires : goal.lines_of_certain-requires
 lines_of_certain-requires c = record {
   possible = rw c.lines-lines.ensures.value c.requires.told.possible;
   met = rw c.lines-lines.ensures.value c.requires.is_met;
   forced = λ u h.
-      let w = (c.in_ok-differences.ensures.unlisted.members u).0 (subst (λ xs. has xs u ≡ true) c.deref-10.ensures.value h) in
-      c.requires.met_for u (subst (λ xs. has xs u ≡ true) c.deref-3.ensures.value w.0);
+      let w = (c.in_ok-differences.ensures.unlisted.members u).0 (subst (λ xs. has xs u ≡ true) c.deref-9.ensures.value h) in
+      c.requires.met_for u (subst (λ xs. has xs u ≡ true) c.deref-2.ensures.value w.0);
 }
 
 pub returns : goal.returns
@@ -26,27 +26,27 @@ returns c =
     let set = is_open_in c.args.facts.open in
     let us = c.in_ok-listed.listed.items in
     let certain = c.args.facts.certain.items in
-    let keys = c.deref-2.result.now in
+    let keys = c.in_ok-keys.keys in
     let some = c.in_ok-uncertain.uncertain.items in
     let d = c.in_ok-differences.differences in
     let facts = log_facts es set certain c.requires.told in
     let own : AreListed us (listed es) = record { members = rw c.lines-lines.ensures.value at c.in_ok-listed.ensures.members; are_uids = c.in_ok-listed.ensures.uids } in
-    let here = rw (c.deref-3.ensures.value, c.deref-4.ensures.value) at c.in_ok-differences.ensures in
+    let here = rw (c.deref-2.ensures.value, c.deref-3.ensures.value) at c.in_ok-differences.ensures in
     let all = all_findings (IsPossibleUid es) (IsCertainUid es) set certain us (listed es) d facts own here in
     let masks : AreOpenMasks es c.open_masks_besides-masks.result = record {
       set = without_keys set keys;
-      uids = open_set es set certain keys facts (λ u i. ap (λ ks. has_key ks u) c.deref-2.ensures.value ∙ (c.in_ok-keys.ensures.members u i ∙ ap (λ xs. has xs u) c.deref.ensures.value));
+      uids = open_set es set certain keys facts (λ u i. c.in_ok-keys.ensures.members u i ∙ ap (λ xs. has xs u) c.deref.ensures.value);
       first = c.open_masks_besides-masks.ensures.first;
       more = c.open_masks_besides-masks.ensures.more;
     } in
     record {
-      absent = subst (IsListOf (IsAbsent es)) (sym (c.in_ok-lines_of_absent.ensures.uids ∙ c.deref-9.ensures.value)) all.absent;
+      absent = subst (IsListOf (IsAbsent es)) (sym (c.in_ok-lines_of_absent.ensures.uids ∙ c.deref-8.ensures.value)) all.absent;
       absent_shown = c.in_ok-lines_of_absent.ensures.shown;
-      unlisted = subst (IsListOf (IsUnlisted es)) (sym (c.in_ok-lines_of_certain.ensures.uids ∙ c.deref-10.ensures.value)) all.unlisted;
+      unlisted = subst (IsListOf (IsUnlisted es)) (sym (c.in_ok-lines_of_certain.ensures.uids ∙ c.deref-9.ensures.value)) all.unlisted;
       unlisted_shown = rw c.lines-lines.ensures.value at c.in_ok-lines_of_certain.ensures.shown;
       unsettled = subst (λ o. MatchOption o (NoSuch (IsLeftOpen es)) (IsUnsettledWith es)) (sym c.left_to_ask.ensures) (left_to_ask es d.unsettled c.open_masks_besides-masks.result all.unsettled masks);
       doubtful = doubtful_list (IsPossibleUid es) (IsCertainUid es) set certain us (listed es) some d.absent.items c.in_ok-doubtful.doubtful.items facts own
-          (rw (c.deref-5.ensures.value, c.deref-6.ensures.value) at c.in_ok-uncertain.ensures)
+          (rw (c.deref-4.ensures.value, c.deref-5.ensures.value) at c.in_ok-uncertain.ensures)
           here.absent
-          (rw (c.deref-7.ensures.value, c.deref-8.ensures.value) at c.in_ok-doubtful.ensures);
+          (rw (c.deref-6.ensures.value, c.deref-7.ensures.value) at c.in_ok-doubtful.ensures);
     }

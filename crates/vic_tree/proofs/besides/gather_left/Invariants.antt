@@ -3,9 +3,9 @@ use Rattle.vic_tree.proofs.besides.gather_left.Given as goal
 
 abbrev pub invariant-loop-run : goal.invariant-loop-run
 invariant-loop-run l = record {
-  low : l.first ≤ l.left.0;
+  low : l.range.0 ≤ l.left.0;
   pass : PassFrom (is_left l.ranges []) l.left;
-  gathers : Gathers (λ u. IsFreeInRanges l.ranges l.first l.last (has l.except) u × (mirror u < l.left.0)) l.initial.out.items l.out.items;
+  gathers : Gathers (λ u. IsFreeInRanges l.ranges l.range.0 l.range.1 (has l.except) u × (mirror u < l.left.0)) l.initial.out.items l.out.items;
 }
 
 abbrev pub decreases-loop-run : goal.decreases-loop-run

@@ -7,11 +7,9 @@ loop-run-preserved c =
     let p = is_left c.args.ranges.now c.args.removed.now in
     let inv = c.loop-run.invariant in
     let next = c.in-Some.ensures in
-    let one = rw (c.first.ensures.value, c.last.ensures.value) at c.widest_with.ensures.one in
-    let least = rw (c.first.ensures.value, c.last.ensures.value) at c.widest_with.ensures.least in
     record {
       pass = next.rest p inv.pass;
-      found = rw next.from (run_found p c.loop-run.widest c.widest_with.result _ _ _ (next.run p inv.pass) one least c.widest_with.ensures.at_most_found inv.found);
+      found = rw next.from (run_found p c.loop-run.widest c.widest_with.result _ _ _ (next.run p inv.pass) c.widest_with.ensures.one c.widest_with.ensures.least c.widest_with.ensures.at_most_found inv.found);
     }
 
 pub returns : goal.returns

@@ -6,7 +6,7 @@ pub overflow_sub-result : goal.overflow_sub-result
 overflow_sub-result c = few_bits c.ilog2-bits.result (omega (arith, c.ilog2-bits.ensures.power_le))
 
 pub returns-clause-none : goal.returns-clause-none
-returns-clause-none c l n lt w = no_wider c.args.first c.args.last c.ilog2-bits.result l n (few_bits c.ilog2-bits.result (omega (arith, c.ilog2-bits.ensures.power_le))) c.requires.forward (omega (arith, c.ilog2-bits.ensures.next_power_gt)) lt w
+returns-clause-none c l n lt w = no_wider c.args.range.0 c.args.range.1 c.ilog2-bits.result l n (few_bits c.ilog2-bits.result (omega (arith, c.ilog2-bits.ensures.power_le))) c.first.ensures.is_range.0 (omega (arith, c.ilog2-bits.ensures.next_power_gt)) lt w
 
 pub returns-clause-greatest : goal.returns-clause-greatest
 returns-clause-greatest c =

@@ -5,7 +5,7 @@ use Rattle.vic_tree.proofs.blocks.mask_from.Goals as goal
 pub loop-len-preserved : goal.loop-len-preserved
 loop-len-preserved c =
     let l = c.loop-len.len in
-    let first = c.args.first in
+    let first = c.first-first.result in
     elim (cases_lt l 56) [
       | inl lt ↦ let back : l + 1 - 1 ≡ l = omega arith in let half = rw back at (twice (l + 1) (omega arith) (omega arith)) in record { short = omega arith; fits = omega (arith, half, c.loop-len.invariant.fits) }
       | inr whole ↦

@@ -12,11 +12,10 @@ loop-run-preserved c =
     let inv = c.loop-run.invariant in
     let next = c.in-Some.ensures in
     let run = next.run p inv.pass in
-    let adds = rw (c.first.ensures.value, c.last.ensures.value) at c.in_ok-push_in_run.ensures in
     record {
       pass = next.rest p inv.pass;
       cut = λ k e. ap p (let at : k ≡ r.1 + 1 = omega arith in at) ∙ run.ends;
-      members = rw next.from (members_both (IsOpenBelow p from) (IsMaximalIn r.0 r.1) (IsOpenBelow p (r.1 + 2)) _ _ (run_opened p from r.0 r.1 inv.cut (omega arith) run) inv.members adds);
+      members = rw next.from (members_both (IsOpenBelow p from) (IsMaximalIn r.0 r.1) (IsOpenBelow p (r.1 + 2)) _ _ (run_opened p from r.0 r.1 inv.cut (omega arith) run) inv.members c.in_ok-push_in_run.ensures);
     }
 
 pub returns : goal.returns

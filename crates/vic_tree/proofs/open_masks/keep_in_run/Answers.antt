@@ -6,8 +6,8 @@ use Rattle.vic_tree.proofs.open_masks.keep_in_run.Goals as goal
 
 pub loop-len-init : goal.loop-len-init
 loop-len-init c = record {
-  keeps = none_kept (λ m. IsMaximalIn c.args.first c.args.last m × (m.len < c.least_len-len.result)) c.args.kept.now.items c.requires.kept
-      (λ m w. absurd (c.least_len-len.ensures.none m.len (mirror_bits m.len m.value) w.1 (mask_block c.args.first c.args.last m w.0.inside.0 w.0.inside.1 w.0.inside.2)));
+  keeps = none_kept (λ m. IsMaximalIn c.args.run.0 c.args.run.1 m × (m.len < c.least_len-len.result)) c.args.kept.now.items c.requires.kept
+      (λ m w. absurd (c.least_len-len.ensures.none m.len (mirror_bits m.len m.value) w.1 (mask_block c.args.run.0 c.args.run.1 m w.0.inside.0 w.0.inside.1 w.0.inside.2)));
   kept = c.requires.kept;
   most = omega (arith, c.least_len-len.ensures.short);
 }
@@ -21,13 +21,13 @@ returns-then-len-clause-keeps c =
     let full : length ms ≡ 17 = sym c.len.ensures.value ∙ c.if-len-eq-KEPT.true in
     let is : last ≡ get_or ms 16 last = c.index-deref.is ∙ ap (λ (xs : List BitMask). get_or xs 16 last) c.deref.ensures.0 in
     let short : last.len < len = omega arith in
-    rest_kept (IsMaximalIn c.args.first c.args.last) len c.args.kept.now.items ms inv.kept inv.keeps
+    rest_kept (IsMaximalIn c.args.run.0 c.args.run.1) len c.args.kept.now.items ms inv.kept inv.keeps
     (λ m g le. past_last ms last m inv.kept.0 full is (omega (arith, le, short), λ e. absurd (omega (arith, le, short))))
 
 pub loop-len-preserved : goal.loop-len-preserved
 loop-len-preserved c =
-    let first = c.args.first in
-    let last = c.args.last in
+    let first = c.args.run.0 in
+    let last = c.args.run.1 in
     let len = c.loop-len.len in
     let a = c.maximal_at_start in
     let b = c.maximal_at_end in
@@ -42,5 +42,5 @@ loop-len-preserved c =
 pub returns-clause-keeps : goal.returns-clause-keeps
 returns-clause-keeps c =
     let inv = c.loop-len.invariant in
-    rest_kept (IsMaximalIn c.args.first c.args.last) c.loop-len.len c.args.kept.now.items c.loop-len.kept.items inv.kept inv.keeps
+    rest_kept (IsMaximalIn c.args.run.0 c.args.run.1) c.loop-len.len c.args.kept.now.items c.loop-len.kept.items inv.kept inv.keeps
     (λ m g le. absurd (omega (arith, g.inside.1, le, c.loop-len-test.false)))

@@ -9,7 +9,7 @@ loop-len-init c = record {
   adds = λ m. (
     λ w. elim w [
       | inl old ↦ old
-      | inr g ↦ absurd (c.least_len-len.ensures.none m.len (mirror_bits m.len m.value) g.1 (mask_block c.args.first c.args.last m g.0.inside.0 g.0.inside.1 g.0.inside.2))
+      | inr g ↦ absurd (c.least_len-len.ensures.none m.len (mirror_bits m.len m.value) g.1 (mask_block c.args.run.0 c.args.run.1 m g.0.inside.0 g.0.inside.1 g.0.inside.2))
     ],
     λ old. inl old,
   );
@@ -18,8 +18,8 @@ loop-len-init c = record {
 
 pub loop-len-preserved : goal.loop-len-preserved
 loop-len-preserved c =
-    let first = c.args.first in
-    let last = c.args.last in
+    let first = c.args.run.0 in
+    let last = c.args.run.1 in
     let len = c.loop-len.len in
     let a = c.maximal_at_start in
     let b = c.maximal_at_end in

@@ -26,17 +26,17 @@ last_turn old now h first last from k low none is = grind (arith, nat_tests)
 
 pub loop-key-init : goal.loop-key-init
 loop-key-init c = record {
-  keys = λ k. none_yet _ _ c.args.first c.args.last k;
+  keys = λ k. rw c.first-from.ensures.value (none_yet _ _ c.args.range.0 c.args.range.1 k);
   low = omega arith;
   passed = λ k le. refl;
-  ahead = λ lt. omega (arith, (except_inside c.args.except.now 0 c.args.first c.args.last lt c.requires.inside).0);
+  ahead = λ lt. omega (arith, (except_inside c.args.except.now 0 c.args.range.0 c.args.range.1 lt c.requires.inside).0);
 }
 
 pub new-requires-clause-small : goal.new-requires-clause-small
-new-requires-clause-small c = omega (arith, (except_inside c.args.except.now c.loop-key.key-index c.args.first c.args.last c.loop-key-test.true c.requires.inside).1, c.requires.small)
+new-requires-clause-small c = omega (arith, (except_inside c.args.except.now c.loop-key.key-index c.args.range.0 c.args.range.1 c.loop-key-test.true c.requires.inside).1, c.first-from.ensures.is_range.1)
 
 pub overflow_add-from : goal.overflow_add-from
-overflow_add-from c = omega (arith, (except_inside c.args.except.now c.loop-key.key-index c.args.first c.args.last c.loop-key-test.true c.requires.inside).1, c.requires.small)
+overflow_add-from c = omega (arith, (except_inside c.args.except.now c.loop-key.key-index c.args.range.0 c.args.range.1 c.loop-key-test.true c.requires.inside).1, c.first-from.ensures.is_range.1)
 
 pub loop-key-preserved : goal.loop-key-preserved
 loop-key-preserved c =
@@ -46,7 +46,7 @@ loop-key-preserved c =
     let from = c.loop-key.from in
     let inv = c.loop-key.invariant in
     let lt : n < length except = c.loop-key-test.true in
-    let i = except_inside except n c.args.first c.args.last lt c.requires.inside in
+    let i = except_inside except n c.args.range.0 c.args.range.1 lt c.requires.inside in
     let near : from ≤ key + 1 = inv.ahead lt in
     let old = c.loop-key.ranges.items in
     let split : drop n except ≡ key ∷ drop (n + 1) except = drop_more except n 0 lt in
@@ -56,7 +56,7 @@ loop-key-preserved c =
       | else-from-key w ↦ rw (w.ranges-is, le-ltb from key w.if-from-key.false) (sym (or-false (in_ranges old k)))
     ] in
     record {
-      keys = λ k. turn _ _ _ (has except k) c.args.first c.args.last from key k near inv.low i.1 (none k) (λ e. ap (has except) e ∙ i.2) (inv.keys k) (step k);
+      keys = λ k. turn _ _ _ (has except k) c.args.range.0 c.args.range.1 from key k near inv.low i.1 (none k) (λ e. ap (has except) e ∙ i.2) (inv.keys k) (step k);
       low = omega (arith, i.0);
       passed = λ k le. sym (is_behind key k (drop (n + 1) except) (omega arith)) ∙ ap (λ (ks : List ℕ). has ks k) (sym split) ∙ inv.passed k (omega (arith, near, le));
       ahead = λ l. let up = c.requires.order n (n + 1) 0 (omega arith) l in omega (arith, up);
@@ -68,4 +68,4 @@ returns-in_ok-push-2 c k =
     let from = c.loop-key.from in
     let inv = c.loop-key.invariant in
     let none : from ≤ k → has except k ≡ false = λ le. sym (inv.passed k le) ∙ ap (λ (ks : List ℕ). has ks k) (drop_all c.loop-key.key-index except (omega (arith, c.loop-key-test.false))) in
-    rw (c.in_ok-push-2.ensures.items, c.new-then-from-last.ensures, in_pushed c.loop-key.ranges.items from c.args.last k) (last_turn _ _ (has except k) c.args.first c.args.last from k inv.low none (inv.keys k))
+    rw (c.in_ok-push-2.ensures.items, c.new-then-from-last.ensures, c.last-last.ensures.value, in_pushed c.loop-key.ranges.items from c.args.range.1 k) (last_turn _ _ (has except k) c.args.range.0 c.args.range.1 from k inv.low none (inv.keys k))

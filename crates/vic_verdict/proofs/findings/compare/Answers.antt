@@ -11,7 +11,7 @@ returns g c =
     let all = λ (u : ℕ). known_has us certain unlisted u c.in_ok-unlisted.ensures in
     let keys = rw c.deref.ensures.value at c.in_ok-keys.ensures in
     record {
-      absent = absent_by set us certain (us ++ unlisted) c.in_ok-absent.absent.items all (c.in_ok-absent.ensures (us ++ unlisted) (rw c.deref-2.ensures.value keys));
+      absent = absent_by set us certain (us ++ unlisted) c.in_ok-absent.absent.items all (c.in_ok-absent.ensures (us ++ unlisted) keys);
       unlisted = c.in_ok-unlisted.ensures;
-      unsettled = unsettled_by set us certain (us ++ unlisted) c.deref-3.result.now c.in_ok-unsettled.unsettled all (rw c.deref-3.ensures.value keys) c.in_ok-unsettled.ensures.found c.in_ok-unsettled.ensures.empty;
+      unsettled = unsettled_by set us certain (us ++ unlisted) c.in_ok-keys.keys c.in_ok-unsettled.unsettled all keys c.in_ok-unsettled.ensures.found c.in_ok-unsettled.ensures.empty;
     }

@@ -10,42 +10,39 @@ least P Q xs ys r o same l e is shown = subst (λ q. MatchOption q (NoSuch Q) (I
 pub returns-in-Some : goal.returns-in-Some
 returns-in-Some g c =
     let f = findings_of _ _ _ _ c.requires (rw c.lines.ensures.value at c.in_ok-listed.ensures.members) c.in_ok-listed.ensures.uids in
-    let keys = rw (c.deref.ensures.value, ← c.deref-2.ensures.value) at c.in_ok-keys.ensures in
-    (c.requires.possible, least _ _ _ _ _ _ f.absent (c.in_ok-absent.ensures _ keys) c.deref-3.ensures.value c.first_of.ensures c.in-Some.is)
+    let keys = rw c.deref.ensures.value at c.in_ok-keys.ensures in
+    (c.requires.possible, least _ _ _ _ _ _ f.absent (c.in_ok-absent.ensures _ keys) c.deref-2.ensures.value c.first_of.ensures c.in-Some.is)
 
 pub returns-in-Some-first_of : goal.returns-in-Some-first_of
 returns-in-Some-first_of g c =
     let f = findings_of _ _ _ _ c.requires (rw c.lines.ensures.value at c.in_ok-listed.ensures.members) c.in_ok-listed.ensures.uids in
-    let keys = rw (c.deref.ensures.value, ← c.deref-2.ensures.value) at c.in_ok-keys.ensures in
-    let absent = least _ _ _ _ _ _ f.absent (c.in_ok-absent.ensures _ keys) c.deref-3.ensures.value c.first_of.ensures c.in_default.is in
-    (c.requires.possible, absent, least _ _ _ _ _ _ f.unlisted (rw c.deref-4.ensures.value at c.in_ok-unlisted.ensures) c.deref-5.ensures.value c.first_of-2.ensures c.in-Some-first_of.is)
+    let keys = rw c.deref.ensures.value at c.in_ok-keys.ensures in
+    let absent = least _ _ _ _ _ _ f.absent (c.in_ok-absent.ensures _ keys) c.deref-2.ensures.value c.first_of.ensures c.in_default.is in
+    (c.requires.possible, absent, least _ _ _ _ _ _ f.unlisted (rw c.deref-3.ensures.value at c.in_ok-unlisted.ensures) c.deref-4.ensures.value c.first_of-2.ensures c.in-Some-first_of.is)
 
 pub returns-in-Some-2 : goal.returns-in-Some-2
 returns-in-Some-2 g c =
     let f = findings_of _ _ _ _ c.requires (rw c.lines.ensures.value at c.in_ok-listed.ensures.members) c.in_ok-listed.ensures.uids in
-    let keys = rw (c.deref.ensures.value, ← c.deref-2.ensures.value) at c.in_ok-keys.ensures in
-    let absent = least _ _ _ _ _ _ f.absent (c.in_ok-absent.ensures _ keys) c.deref-3.ensures.value c.first_of.ensures c.in_default.is in
-    let unlisted = least _ _ _ _ _ _ f.unlisted (rw c.deref-4.ensures.value at c.in_ok-unlisted.ensures) c.deref-5.ensures.value c.first_of-2.ensures c.in_default-first_of.is in
-    let keys_too = rw (c.deref.ensures.value, ← c.deref-6.ensures.value) at c.in_ok-keys.ensures in
-    (c.requires.possible, absent, unlisted, rw c.in-Some-2.is at (f.unsettled _ _ unlisted keys_too c.in_ok-mask.ensures.found c.in_ok-mask.ensures.empty))
+    let keys = rw c.deref.ensures.value at c.in_ok-keys.ensures in
+    let absent = least _ _ _ _ _ _ f.absent (c.in_ok-absent.ensures _ keys) c.deref-2.ensures.value c.first_of.ensures c.in_default.is in
+    let unlisted = least _ _ _ _ _ _ f.unlisted (rw c.deref-3.ensures.value at c.in_ok-unlisted.ensures) c.deref-4.ensures.value c.first_of-2.ensures c.in_default-first_of.is in
+    (c.requires.possible, absent, unlisted, rw c.in-Some-2.is at (f.unsettled _ _ unlisted keys c.in_ok-mask.ensures.found c.in_ok-mask.ensures.empty))
 
 pub returns-in-Some-first_of-2 : goal.returns-in-Some-first_of-2
 returns-in-Some-first_of-2 g c =
     let f = findings_of _ _ _ _ c.requires (rw c.lines.ensures.value at c.in_ok-listed.ensures.members) c.in_ok-listed.ensures.uids in
-    let keys = rw (c.deref.ensures.value, ← c.deref-2.ensures.value) at c.in_ok-keys.ensures in
-    let absent = least _ _ _ _ _ _ f.absent (c.in_ok-absent.ensures _ keys) c.deref-3.ensures.value c.first_of.ensures c.in_default.is in
-    let unlisted = least _ _ _ _ _ _ f.unlisted (rw c.deref-4.ensures.value at c.in_ok-unlisted.ensures) c.deref-5.ensures.value c.first_of-2.ensures c.in_default-first_of.is in
-    let keys_too = rw (c.deref.ensures.value, ← c.deref-6.ensures.value) at c.in_ok-keys.ensures in
-    let mask = rw c.in_default-2.is at (f.unsettled _ _ unlisted keys_too c.in_ok-mask.ensures.found c.in_ok-mask.ensures.empty) in
-    (c.requires.possible, absent, unlisted, mask, least _ _ _ _ _ _ f.doubtful (rw c.deref-7.ensures.value at c.in_ok-doubtful.ensures) c.deref-8.ensures.value c.first_of-3.ensures c.in-Some-first_of-2.is)
+    let keys = rw c.deref.ensures.value at c.in_ok-keys.ensures in
+    let absent = least _ _ _ _ _ _ f.absent (c.in_ok-absent.ensures _ keys) c.deref-2.ensures.value c.first_of.ensures c.in_default.is in
+    let unlisted = least _ _ _ _ _ _ f.unlisted (rw c.deref-3.ensures.value at c.in_ok-unlisted.ensures) c.deref-4.ensures.value c.first_of-2.ensures c.in_default-first_of.is in
+    let mask = rw c.in_default-2.is at (f.unsettled _ _ unlisted keys c.in_ok-mask.ensures.found c.in_ok-mask.ensures.empty) in
+    (c.requires.possible, absent, unlisted, mask, least _ _ _ _ _ _ f.doubtful (rw c.deref-5.ensures.value at c.in_ok-doubtful.ensures) c.deref-6.ensures.value c.first_of-3.ensures c.in-Some-first_of-2.is)
 
 pub returns : goal.returns
 returns g c =
     let f = findings_of _ _ _ _ c.requires (rw c.lines.ensures.value at c.in_ok-listed.ensures.members) c.in_ok-listed.ensures.uids in
-    let keys = rw (c.deref.ensures.value, ← c.deref-2.ensures.value) at c.in_ok-keys.ensures in
-    let absent = least _ _ _ _ _ _ f.absent (c.in_ok-absent.ensures _ keys) c.deref-3.ensures.value c.first_of.ensures c.in_default.is in
-    let unlisted = least _ _ _ _ _ _ f.unlisted (rw c.deref-4.ensures.value at c.in_ok-unlisted.ensures) c.deref-5.ensures.value c.first_of-2.ensures c.in_default-first_of.is in
-    let keys_too = rw (c.deref.ensures.value, ← c.deref-6.ensures.value) at c.in_ok-keys.ensures in
-    let mask = rw c.in_default-2.is at (f.unsettled _ _ unlisted keys_too c.in_ok-mask.ensures.found c.in_ok-mask.ensures.empty) in
-    let doubtful = least _ _ _ _ _ _ f.doubtful (rw c.deref-7.ensures.value at c.in_ok-doubtful.ensures) c.deref-8.ensures.value c.first_of-3.ensures c.in_default-first_of-2.is in
+    let keys = rw c.deref.ensures.value at c.in_ok-keys.ensures in
+    let absent = least _ _ _ _ _ _ f.absent (c.in_ok-absent.ensures _ keys) c.deref-2.ensures.value c.first_of.ensures c.in_default.is in
+    let unlisted = least _ _ _ _ _ _ f.unlisted (rw c.deref-3.ensures.value at c.in_ok-unlisted.ensures) c.deref-4.ensures.value c.first_of-2.ensures c.in_default-first_of.is in
+    let mask = rw c.in_default-2.is at (f.unsettled _ _ unlisted keys c.in_ok-mask.ensures.found c.in_ok-mask.ensures.empty) in
+    let doubtful = least _ _ _ _ _ _ f.doubtful (rw c.deref-5.ensures.value at c.in_ok-doubtful.ensures) c.deref-6.ensures.value c.first_of-3.ensures c.in_default-first_of-2.is in
     (c.requires.possible, absent, unlisted, mask, doubtful, c.count_listed-count.ensures)

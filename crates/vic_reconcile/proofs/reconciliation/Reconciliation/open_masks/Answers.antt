@@ -1,4 +1,4 @@
-use Rattle.vic_reconcile.proofs.Words.{◌<◌, get_or, length, take, ap, sym, subst, ◌∙◌, take_more, all_zipped_more, AreKeysOf, AreOpenBesides}
+use Rattle.vic_reconcile.proofs.Words.{◌<◌, get_or, length, take, ap, subst, ◌∙◌, take_more, all_zipped_more, AreOpenBesides}
 use Rattle.vic_reconcile.proofs.reconciliation.Reconciliation.open_masks.Goals as goal
 
 pub loop-set-preserved : goal.loop-set-preserved
@@ -10,8 +10,8 @@ loop-set-preserved c =
     let lt = subst (λ ss. i < length ss) c.deref-set-items.ensures.value c.loop-set-test.true in
     let is = c.set-item.is ∙ ap (λ ss. get_or ss i s) c.deref-set-items.ensures.value in
     let own : R s c.open_masks_besides.result = record {
-      keys = c.deref.result.now;
-      named = subst (λ ks. AreKeysOf ks c.args.certain.now) (sym c.deref.ensures.value) c.in_ok-keys.ensures;
+      keys = c.in_ok-keys.keys;
+      named = c.in_ok-keys.ensures;
       first = c.open_masks_besides.ensures.first;
       more = c.open_masks_besides.ensures.more;
     } in

@@ -1,8 +1,8 @@
 use Rattle.vic_tree.proofs.Words.{◌<◌, ◌-◌, length}
-use Rattle.vic_tree.proofs.runs.removed_from.Given as goal
+use Rattle.vic_tree.proofs.sorted_keys.keys_from.Given as goal
 
 abbrev pub invariant-loop-bound : goal.invariant-loop-bound
 invariant-loop-bound l = 0 < l.bound
 
 abbrev pub decreases-loop-bound : goal.decreases-loop-bound
-decreases-loop-bound l = length l.removed - l.bound
+decreases-loop-bound l = length l.keys - l.bound

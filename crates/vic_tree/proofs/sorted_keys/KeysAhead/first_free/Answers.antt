@@ -1,13 +1,13 @@
 use Rattle.vic_tree.proofs.Words.{◌≡◌, ◌∙◌, suc, ◌∷◌, inl, inr, sym, arith, cases_lt}
 use Rattle.vic_tree.proofs.RunLaws.{is_behind, is_first}
-use Rattle.vic_tree.proofs.runs.first_free.Goals as goal
+use Rattle.vic_tree.proofs.sorted_keys.KeysAhead.first_free.Goals as goal
 
 pub loop-key-preserved : goal.loop-key-preserved
 loop-key-preserved c =
     let key = c.in-Some.key.now in
     let others = c.in-Some.others.now in
     let inv = c.loop-key.invariant in
-    let is : c.loop-key.rest.now ≡ key ∷ others = c.in-Some.ensures.cases.0 in
+    let is : c.loop-key.self-inside.keys.now ≡ key ∷ others = c.in-Some.ensures.cases.0 in
     let keys = rw is at inv.keys in
     let order = rw is at inv.order in
     let same = rw is at inv.same in

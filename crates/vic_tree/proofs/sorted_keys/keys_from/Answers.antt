@@ -1,10 +1,10 @@
 use Rattle.vic_tree.proofs.Words.{◌∙◌, ◌-◌, drop, take, length, ltb, ltb-true, ap, rules, arith, length-drop, length-take-le, take_all, get_or-take, has, IsNonDecreasingBy-take, IsPartitionPoint-from_clause, IsPartitionedBy-ltb}
 use Rattle.vic_tree.proofs.RunLaws.{keys_dropped}
-use Rattle.vic_tree.proofs.runs.removed_from.Goals as goal
+use Rattle.vic_tree.proofs.sorted_keys.keys_from.Goals as goal
 
 pub returns-clause-same : goal.returns-clause-same
 returns-clause-same c k le =
-    let removed = c.args.removed.now in
+    let removed = c.args.keys.now in
     let from = c.args.from in
     let n = c.partition_point-below.result in
     let bound = c.min.result in

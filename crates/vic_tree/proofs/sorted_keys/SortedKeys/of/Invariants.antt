@@ -1,5 +1,5 @@
-use Rattle.vic_verdict.proofs.Words.{◌≡◌, ℕ, true, take, IsUid, has, has_key, AreKeys}
-use Rattle.vic_verdict.proofs.facts.keys_in_order.Given as goal
+use Rattle.vic_tree.proofs.Words.{◌≡◌, ℕ, true, take, IsUid, has, has_key, AreKeys}
+use Rattle.vic_tree.proofs.sorted_keys.SortedKeys.of.Given as goal
 
 abbrev pub invariant-loop-uid : goal.invariant-loop-uid
 invariant-loop-uid l = record {
