@@ -58,7 +58,7 @@ pub use Rattle.vic_log.specs.Populations.{CouldHaveGiven, Fits, IsPopulation, Lo
 pub use Rattle.vic_log.specs.Quiet.{is_quiet, wakes}
 pub use Rattle.vic_log.specs.Rounds.{IsInRound, ends_round, is_slot, opener, slots_left}
 pub use Rattle.vic_log.specs.Slots.{Asks, ManyReplies, NoReply, OneReply, Reading, ReplyAmong, Slot, SomeReply, Supplies, SuppliesAll, allows, is_open, may_be, slots_before, slots_of, with_entry}
-pub use Rattle.vic_log.specs.Text.{GiveEntries, IsFirstFault, IsLogOf, Refuses, entry_line, fault_on, header, line_fault, log_upto, logged, named_version, reading_fault, version_of}
+pub use Rattle.vic_log.specs.Text.{GiveEntries, IsFirstFault, IsLogOf, Refuses, fault_on, header, line_fault, log_upto, logged, named_version, reading_fault, version_of}
 pub use Rattle.vic_log.specs.Writing.{entry_text, joined, lines_text, listed_text, numbered, text_of}
 pub use Rattle.vic_log.specs.declared.entry.Entry.{Entry}
 pub use Rattle.vic_log.specs.declared.entry.Entry.TheVariants.{Captured, Collision, FieldCycle, Garbled, Heard, Listed, Sent, Silent, Unknown}

@@ -34,8 +34,8 @@ pub(crate) fn decode<'a>(digits: &[u8], room: &'a mut [u8; 63]) -> Result<&'a [u
     }
 }
 
-/// Puts in the 8 to 16 bytes that hex digits spell, and says whether they spell any: the first eight
-/// and the last eight are all of them.
+/// Puts in the 8 to 16 bytes that hex digits spell, and says whether they spell any: the first
+/// eight and the last eight are all of them.
 #[inline(always)]
 fn decode_ends(digits: &[u8], bytes: &mut [u8]) -> bool
     requires digits { length digits.now ≡ 2 * length bytes.old }

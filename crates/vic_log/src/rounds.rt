@@ -95,32 +95,19 @@ impl KeyedRound {
             Request::Inventory { sixteen, mask, .. } => {
                 if sixteen {
                     keys_in_slot(&mask, self.first, self.next)
-                } else if self.next == 0 {
-                    keys_in(&mask, self.first)
-                } else {
+                } else if self.next > 0 {
                     None
+                } else if mask.len() <= UID_BITS {
+                    Some(KeyBlock {
+                        first: self.first,
+                        len: mask.len(),
+                    })
+                } else {
+                    keys_of(&mask)
                 }
             }
             Request::StayQuiet { .. } => None,
         }
-    }
-}
-
-/// The keys of the UIDs in a mask whose first key is known, if any lies in it.
-#[inline(always)]
-fn keys_in(mask: &Mask, first: u64) -> Option<KeyBlock>
-    requires { first ≡ mirror mask.now.value }
-    ensures block { IfSome result (λ b. IsBlock b.first b.len) }
-    ensures inside { (u : ℕ) → IsUid u
-        → is_in_some_block result (mirror u) ≡ lies_in mask.now u }
-{
-    if mask.len() <= UID_BITS {
-        Some(KeyBlock {
-            first,
-            len: mask.len(),
-        })
-    } else {
-        keys_of(mask)
     }
 }
 
