@@ -1,12 +1,12 @@
 -- The words of proofs, from one place: what files name from outside of the crate, and the definitions that several of them name.
-pub use Rattle.std.proofs.Common.{All, AllPairs, Bool, Contains, Err, Greater, IfNone, IfSome, IsPermutation, IsSorted, Less, List, MatchResult, None, Ok, Option, Ordering, Result, Some, [], add-zero, ap, arith, below_more, div-le_self, drop, eq-eqb, eqb-true, false, get_or, get_or-drop, get_or-take, inl, inr, insert, is_eq, is_ok, length, length-drop, length-take, length-take-le, lt_of_mul-lt-mul_right, ltb, ltb-false, ltb-true, map, max, min, mod-eq_of_lt, mul-le-mul_right, nat_cmp, nat_eq, nat_le, nat_lt, ne_eqb, not, pow-add, pow-suc, pow_mono, pow_pos, refl, rules, subst, suc, sym, take, take_all, true, zero, ℕ, ◌%◌, ◌&&◌, ◌*◌, ◌++◌, ◌+◌, ◌-◌, ◌/◌, ◌<◌, ◌==◌, ◌^◌, ◌||◌, ◌↔◌, ◌∙◌, ◌∷◌, ◌≡◌, ◌≤◌, ◌⊎◌}
-pub use Rattle.std.proofs.Math.Bool.{and-true, and_assoc, not-not, or-false}
+pub use Rattle.std.proofs.Common.{All, AllPairs, Bool, Contains, Err, Greater, IfNone, IfSome, IsPermutation, IsSorted, Less, List, MatchResult, None, Ok, Option, Ordering, Result, Some, [], add-zero, ap, append-nil, append_assoc, arith, below_more, div-le_self, drop, eq-eqb, eqb-true, false, get_or, get_or-drop, get_or-take, inl, inr, insert, is_eq, is_ok, length, length-drop, length-take, length-take-le, lt_of_mul-lt-mul_right, ltb, ltb-false, ltb-true, map, max, min, mod-eq_of_lt, mul-le-mul_right, nat_cmp, nat_eq, nat_le, nat_lt, ne_eqb, not, pow-add, pow-suc, pow_mono, pow_pos, refl, rules, subst, suc, sym, take, take_all, true, zero, ℕ, ◌%◌, ◌&&◌, ◌*◌, ◌++◌, ◌+◌, ◌-◌, ◌/◌, ◌<◌, ◌==◌, ◌^◌, ◌||◌, ◌↔◌, ◌∙◌, ◌∷◌, ◌≡◌, ◌≤◌, ◌⊎◌}
+pub use Rattle.std.proofs.Math.Bool.{and_assoc, not-not, or-false}
 pub use Rattle.std.proofs.Math.Nat.{div-eq_of_lt, mod-one, mul-mod_left}
-pub use Rattle.std.proofs.lemmas.Bool.{cases_Bool, cases_eq, cases_lt, le-ltb, not-false, or_cases, or_parts}
+pub use Rattle.std.proofs.lemmas.Bool.{cases_Bool, cases_eq, cases_lt, not-false, or_cases, or_parts}
 pub use Rattle.std.proofs.lemmas.Bool.Decides.{nat_tests}
 pub use Rattle.std.proofs.lemmas.Cmp.{eq_by_cmp_equiv, nat_cmp_total, on_total, then_total}
 pub use Rattle.std.proofs.lemmas.Grind.{div_ceil_times, drop_more_same}
-pub use Rattle.std.proofs.lemmas.List.{drop-set-lt, drop_all, drop_more, get_or-map, get_or_default, length-set, map_more, nil_from_length, take_min, take_more_set, take_rest}
+pub use Rattle.std.proofs.lemmas.List.{drop-set-lt, drop_more, get_or-map, get_or_default, length-set, map_more, nil_from_length, take_min, take_more_set, take_rest}
 pub use Rattle.std.proofs.lemmas.List.Edits.{length-insert}
 pub use Rattle.std.proofs.lemmas.List.Elements.{All-cons, All-contains, All-from_get_or, All-from_recursion, All-head, All-nil, All-push, All-tail, All-take, All-weaker, Contains-append_cases, Contains-append_right, Contains-get_or, Contains-push_cases}
 pub use Rattle.std.proofs.lemmas.List.Filters.{All-dedup, dedup_is}

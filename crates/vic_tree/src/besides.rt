@@ -1,6 +1,6 @@
 //! Ranges of keys without some keys: as ranges, what is gathered from them, and their widest mask.
 
-ghost use Rattle.std.specs.Prelude.{◌≡◌, ℕ, false, IfOk, IfSome, IfNone};
+ghost use Rattle.std.specs.Prelude.{◌≡◌, ℕ, false, List, ◌++◌, OnOk, IfSome, IfNone};
 ghost use Rattle.std.specs.List.Sorted.{IsStrictlyIncreasing};
 ghost use Rattle.vic_frame.specs.Uids.{has};
 ghost use Rattle.vic_tree.specs.Gathering.{Gathers};
@@ -15,26 +15,24 @@ use crate::ranges::from_key;
 use crate::runs::Runs;
 use crate::sorted_keys::{KeysAhead, SortedKeys};
 use arrayvec::ArrayVec;
-use std::alloc::{AllocError, Global};
+use std::alloc::AllocError;
 use vic_frame::{Mask, Uid};
 
-/// What is left of some ranges when some keys are removed, as ranges.
-pub(crate) fn ranges_left(
-    alloc: Global,
+/// Appends what is left of some ranges when some keys are removed, as ranges.
+pub(crate) fn push_left(
+    out: &mut Vec<KeyRange>,
     ranges: &[KeyRange],
     removed: &SortedKeys,
-) -> Result<Vec<KeyRange>, AllocError>
-    requires ranges { AreRanges ranges.now }
-    ensures ranges { IfOk result (λ runs. AreRanges runs.items) }
-    ensures keys { IfOk result (λ runs. (k : ℕ)
-        → in_ranges runs.items k ≡ is_left ranges.now removed.now k) }
+) -> Result<(), AllocError>
+    requires { AreRanges ranges.now }
+    ensures { OnOk result ((left : List (ℕ × ℕ)) × (out.new.items ≡ out.old.items ++ left)
+        × AreRanges left × ((k : ℕ) → in_ranges left k ≡ is_left ranges.now removed.now k)) }
 {
-    let mut runs = Vec::new(alloc);
     let mut left = Runs::new(0, ranges, removed.ahead());
     while let Some(run) = left.next_run() {
-        runs.push(run)?;
+        out.push(run)?;
     }
-    Ok(runs)
+    Ok(())
 }
 
 /// Appends the UIDs whose keys are in one range and in some ranges, and that aren't exceptions,

@@ -1,10 +1,11 @@
 //! Consecutive keys.
 
-ghost use Rattle.std.specs.Prelude.{◌≡◌, ◌≤◌};
+ghost use Rattle.std.specs.Prelude.{◌≡◌, ◌≤◌, ◌∷◌, []};
 ghost use Rattle.vic_frame.specs.LowBitsFirst.{IsKey};
 ghost use Rattle.vic_tree.specs.Ranges.{IsKeyRange};
 
 use std::marker::Model;
+use std::slice;
 
 /// The keys from a first one to a last one, inclusive. A key is a UID's number in the order of low
 /// bits first, below `2^56`.
@@ -51,5 +52,14 @@ impl KeyRange {
         ensures is_range { IsKeyRange self.now }
     {
         self.last
+    }
+
+    /// The range as a list.
+    pub(crate) fn as_slice(&self) -> &[KeyRange]
+        ensures value { result.now ≡ self.now ∷ [] }
+        ensures is_range { IsKeyRange self.now }
+    {
+        let _ = &self.first;
+        slice::from_ref(self)
     }
 }

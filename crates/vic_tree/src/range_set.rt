@@ -1,21 +1,20 @@
 //! A set of UIDs as ranges of their keys, in the order of low bits first.
 
-ghost use Rattle.std.specs.Prelude.{◌≡◌, ℕ, ◌≤◌, ◌&&◌, ◌||◌, ◌↔◌, not, true, IfOk, OnOk};
+ghost use Rattle.std.specs.Prelude.{◌≡◌, ℕ, ◌&&◌, ◌||◌, ◌↔◌, not, true, IfOk};
 ghost use Rattle.std.specs.List.{Contains};
-ghost use Rattle.std.specs.List.Sorted.{IsNonDecreasing};
-ghost use Rattle.vic_frame.specs.Uids.{IsUid, has};
+ghost use Rattle.vic_frame.specs.Uids.{has};
 ghost use Rattle.vic_frame.specs.Masks.{BitMask};
-ghost use Rattle.vic_frame.specs.LowBitsFirst.{IsKey, mirror};
+ghost use Rattle.vic_frame.specs.LowBitsFirst.{mirror};
 ghost use Rattle.vic_tree.specs.OpenSet.{SameUids, without_keys};
 ghost use Rattle.vic_tree.specs.OpenMasks.{AreAll, AreFirst, IsOpenMask};
-ghost use Rattle.vic_tree.specs.Ranges.{AreRanges, in_ranges, is_between, is_open_in};
+ghost use Rattle.vic_tree.specs.Ranges.{AreRanges, is_between, is_open_in};
 
-use crate::besides::{gather_left, ranges_left, widest_left};
+use crate::besides::{gather_left, push_left, widest_left};
 use crate::key_range::KeyRange;
 use crate::open_masks::{MAX_OPEN_MASKS, OpenMasks, all_open_masks_left, open_masks_left};
 use crate::open_set::OpenSet;
-use crate::sorted_keys::SortedKeys;
 use crate::ranges::{complement, complement_in_order, is_in, is_in_first, skip_to};
+use crate::sorted_keys::SortedKeys;
 use arrayvec::ArrayVec;
 use std::alloc::{AllocError, Global};
 use std::marker::Model;
@@ -111,7 +110,8 @@ impl RangeSet {
         ensures { IfOk result (λ set. SameUids (is_open_in set)
             (without_keys (is_open_in self.now) keys.now)) }
     {
-        let ranges = ranges_left(alloc, &self.ranges, keys)?;
+        let mut ranges = Vec::new(alloc);
+        push_left(&mut ranges, &self.ranges, keys)?;
         Ok(RangeSet { ranges, alloc })
     }
 
@@ -150,55 +150,11 @@ fn ranges_after(
     requires { AreRanges ranges.now }
     ensures ranges { IfOk result (λ left. AreRanges left.items) }
     ensures left { IfOk result (λ left. SameUids (is_open_in left.items) (λ u.
-        is_open_in ranges.now u && (not (is_between range.0 range.1 (mirror u)) || has except.now u))) }
+        is_open_in ranges.now u
+        && (not (is_between range.0 range.1 (mirror u)) || has except.now u))) }
 {
-    let kept = keys_between(alloc, except, range)?;
+    let except = SortedKeys::of(alloc, except)?;
     let mut closed = complement_in_order(Vec::from_slice(alloc, ranges)?)?;
-    push_others(&mut closed, range, &kept)?;
+    push_left(&mut closed, range.as_slice(), &except)?;
     complement(closed)
-}
-
-/// The keys in a range of the UIDs of a list, in order.
-fn keys_between(alloc: Global, uids: &[Uid], range: KeyRange) -> Result<Vec<u64>, AllocError>
-    ensures order { IfOk result (λ keys. IsNonDecreasing keys.items) }
-    ensures inside { IfOk result (λ keys. (k : ℕ)
-        → has keys.items k ≡ true → is_between range.0 range.1 k ≡ true) }
-    ensures members { IfOk result (λ keys. (u : ℕ) → IsUid u
-        → has keys.items (mirror u) ≡ (is_between range.0 range.1 (mirror u) && has uids.now u)) }
-{
-    let mut keys = Vec::new(alloc);
-    for uid in uids {
-        let key = key(*uid);
-        if range.first() <= key && key <= range.last() {
-            keys.push(key)?;
-        }
-    }
-    keys.sort_unstable();
-    Ok(keys)
-}
-
-/// Appends the ranges of the keys in a range that aren't in `except`, which comes in order; `ranges`
-/// needn't.
-fn push_others(
-    ranges: &mut Vec<KeyRange>,
-    range: KeyRange,
-    except: &[u64],
-) -> Result<(), AllocError>
-    requires order { IsNonDecreasing except.now }
-    requires inside { (k : ℕ) → has except.now k ≡ true → is_between range.0 range.1 k ≡ true }
-    ensures { OnOk result ((k : ℕ) → in_ranges ranges.new.items k
-        ≡ (in_ranges ranges.old.items k || (is_between range.0 range.1 k && not (has except.now k)))) }
-{
-    let mut from = range.first();
-    for key in except {
-        if from < *key {
-            ranges.push(KeyRange::new(from, *key - 1))?;
-        }
-        from = *key + 1;
-    }
-    let last = range.last();
-    if from <= last {
-        ranges.push(KeyRange::new(from, last))?;
-    }
-    Ok(())
 }

@@ -56,7 +56,9 @@ impl<'a> Runs<'a> {
         while let Some((range, others)) = self.ranges.split_first() {
             self.from = self.removed.first_free(self.from.max(range.first()));
             if self.from <= range.last() {
-                let run = self.removed.run_from(KeyRange::new(self.from, range.last()));
+                let run = self
+                    .removed
+                    .run_from(KeyRange::new(self.from, range.last()));
                 // the key after a run isn't left
                 self.from = run.last() + 2;
                 return Some(run);
