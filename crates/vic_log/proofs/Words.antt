@@ -19,7 +19,7 @@ pub use Rattle.std.proofs.lemmas.Simd.{bitmask_splat, get_or-chunk, get_or-put_c
 pub use Rattle.std.specs.BTreeMap.{is_at}
 pub use Rattle.std.specs.Int.{to_be_bytes, w64}
 pub use Rattle.std.specs.Io.KnownBytes.{Appends, Consumes, IsAtEnd}
-pub use Rattle.std.specs.List.{AllByRecursion, filter, list_all, list_any, prefix_len, range_with_len}
+pub use Rattle.std.specs.List.{AllByRecursion, filter, list_all, prefix_len, range_with_len}
 pub use Rattle.std.specs.Option.{is_some, option_map, unwrap_or}
 pub use Rattle.std.specs.Ordering.{nat_cmp}
 pub use Rattle.std.specs.Prelude.{⊤}
@@ -54,7 +54,7 @@ pub use Rattle.vic_log.specs.Lines.{all_but_last, content, cr, cut, ends_with, l
 pub use Rattle.vic_log.specs.Log.{AreTyped, IsTyped, IsValidEntry, LogValue, last_from}
 pub use Rattle.vic_log.specs.OpenRounds.{IsCursorAt, round_at}
 pub use Rattle.vic_log.specs.Order.{AreValid, IsInOrder, IsRisingFrom, entries, first_reason, is_after_list, is_duplicate, is_empty, is_outside_round, listed, refusal}
-pub use Rattle.vic_log.specs.Populations.{CouldHaveGiven, Fits, IsPopulation, Lone, Nobody, Outcome, Several, answerers_at, answers_at, outcome_of}
+pub use Rattle.vic_log.specs.Populations.{CouldHaveGiven, Fits, IsPopulation, Lone, Nobody, Several, answerers_at, answers_at, outcome_of}
 pub use Rattle.vic_log.specs.Quiet.{is_quiet, wakes}
 pub use Rattle.vic_log.specs.Rounds.{IsInRound, ends_round, is_slot, opener, slots_left}
 pub use Rattle.vic_log.specs.Slots.{Asks, ManyReplies, NoReply, OneReply, Reading, ReplyAmong, Slot, SomeReply, Supplies, SuppliesAll, allows, is_open, may_be, slots_before, slots_of, with_entry}

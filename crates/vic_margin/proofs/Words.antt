@@ -5,7 +5,7 @@ pub use Rattle.std.proofs.lemmas.Bool.Decides.{nat_tests}
 pub use Rattle.std.proofs.lemmas.List.{length-map, length-replicate, get_or-replicate, get_or_past, get_or-set_other, get_or-set_same}
 pub use Rattle.std.proofs.Math.ListN.{length-set}
 pub use Rattle.vic_frame.proofs.MirrorLaws.{mirror_below, mirror_of_uid}
-pub use Rattle.vic_frame.specs.LowBitsFirst.{IsKey, is_in_block, is_in_some_block, mirror, uid_of}
+pub use Rattle.vic_frame.specs.LowBitsFirst.{IsKey, mirror, uid_of}
 pub use Rattle.vic_frame.specs.Uids.{IsUid, has}
 pub use Rattle.vic_frame.specs.Replies.{Reply}
 pub use Rattle.vic_frame.specs.declared.request.Request.TheVariants.{StayQuiet}

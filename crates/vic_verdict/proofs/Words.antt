@@ -7,10 +7,9 @@ pub use Rattle.std.proofs.lemmas.Bool.Decides.{nat_tests}
 pub use Rattle.std.proofs.lemmas.Cmp.{nat_eq_equiv}
 pub use Rattle.std.proofs.lemmas.Grind.{common_steps}
 pub use Rattle.std.proofs.lemmas.List.{drop_more, get_or_default, length-map, map-append, take-map}
-pub use Rattle.std.proofs.lemmas.List.Elements.{All-push, filter_more}
+pub use Rattle.std.proofs.lemmas.List.Elements.{filter_more}
 pub use Rattle.std.proofs.lemmas.List.Folds.{Any-from_list_any, list_all_at, list_any-append, list_any-from_Any, list_any_at, list_any_more, list_any_none}
 pub use Rattle.std.proofs.lemmas.List.Kept.{AllPairs-from_increasing, IsStrictlyIncreasing-filter}
-pub use Rattle.std.proofs.lemmas.List.Sorted.{All-permutation, IsNonDecreasingBy-from_sort, list_any-IsPermutation}
 pub use Rattle.std.proofs.lemmas.List.Sums.{sum_by-cons, sum_by_more_le}
 pub use Rattle.std.proofs.lemmas.Map.Keys.{IsDistinct-cons, IsDistinct-from_apart}
 pub use Rattle.std.proofs.lemmas.Map.Made.{length-le_from_is_member}
@@ -20,8 +19,6 @@ pub use Rattle.std.specs.List.{AllByRecursion, IsDistinct, list_all, list_any}
 pub use Rattle.std.specs.List.Sorted.{IsStrictlyIncreasing}
 pub use Rattle.std.specs.Prelude.{⊤}
 pub use Rattle.vic_frame.proofs.MaskLaws.{least_inside, least_is_uid}
-pub use Rattle.vic_frame.proofs.MirrorLaws.{mirror_of_uid, same_test, uid_of_mirror}
-pub use Rattle.vic_frame.specs.LowBitsFirst.{mirror, uid_of}
 pub use Rattle.vic_frame.specs.Masks.{BitMask, least_uid_in, lies_in}
 pub use Rattle.vic_frame.specs.Replies.{Reply}
 pub use Rattle.vic_frame.specs.Uids.{AreDifferent, IsUid, has, is_uid}
@@ -35,7 +32,6 @@ pub use Rattle.vic_log.proofs.Sets.{AreDifferent-filter, AreDifferent-population
 pub use Rattle.vic_log.proofs.Supply.{IsUid-from, MeetsAll-iff, SuppliesAll-within, asks_within, fits_asks, is_uid_from}
 pub use Rattle.vic_log.specs.FirstVersion.{AreOfFirstVersion, CouldHaveGivenFirst, IsOfFirstVersion}
 pub use Rattle.vic_log.specs.SecondVersion.{AreOfSecondVersion, IsOfSecondVersion}
-pub use Rattle.vic_log.specs.Log.{IsLog}
 pub use Rattle.vic_log.specs.Order.{IsRisingFrom, entries, listed}
 pub use Rattle.vic_log.specs.Populations.{CouldHaveGiven, Fits, IsPopulation, Lone, Nobody, Outcome, Several, answerers_at, answers_at, outcome_of}
 pub use Rattle.vic_log.specs.Quiet.{is_quiet}
@@ -43,15 +39,13 @@ pub use Rattle.vic_log.specs.Slots.{Asks, Forces, IsForcedBy, ManyReplies, NoRep
 pub use Rattle.vic_log.specs.declared.entry.Entry.{Entry}
 pub use Rattle.vic_log.specs.declared.entry.Entry.TheVariants.{Captured, Collision, Garbled, Heard, Listed}
 pub use Rattle.vic_log.specs.declared.entry.LogLine.{LogLine}
-pub use Rattle.vic_log.specs.declared.entry.Version.{Version}
 pub use Rattle.vic_tree.proofs.BoolLaws.{and_thrice, or_false, same_tests}
 pub use Rattle.vic_tree.proofs.SetLaws.{widest_same}
 pub use Rattle.vic_tree.specs.Keys.{AreKeysOf}
-pub use Rattle.vic_tree.specs.OpenSet.{AreKeys, AreOutside, IsAtMost, IsWidest, SameUids, UpToThree, has_key, without_keys}
+pub use Rattle.vic_tree.specs.OpenSet.{AreOutside, IsAtMost, IsWidest, SameUids, UpToThree, has_key, without_keys}
 pub use Rattle.vic_verdict.specs.Needs.{AreFound, HasHeard, IsFound, IsFoundAt, IsMet, IsMetFor, all_needs}
 pub use Rattle.vic_verdict.specs.Explained.{IsPopulationBehind, IsSmallPopulation}
 pub use Rattle.vic_verdict.specs.Facts.{IsTold}
-pub use Rattle.vic_walk.specs.LogLines.{AreLogLines}
 pub use Rattle.vic_verdict.specs.Places.{answering}
 pub use Rattle.vic_verdict.specs.Possible.{IsCertainUid, IsFirstImpossible, IsPossible, IsPossibleUid}
 pub use Rattle.vic_verdict.specs.Rising.{IsFailing, IsListOf, SameMembers}

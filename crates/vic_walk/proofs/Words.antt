@@ -1,7 +1,7 @@
 -- The words of proofs, from one place: what files name from outside of the crate, and the definitions that several of them name.
-pub use Rattle.std.proofs.Common.{Bool, List, None, Option, Some, [], add-one, ap, arith, eqb-true, ltb-true, replicate, false, get_or, if◌then◌else◌, inl, inr, length, nat_eq, nat_le, nat_lt, not, refl, set, slice_get, slice_index, slice_set, subst, suc, sym, true, zero, ℕ, ◌&&◌, ◌++◌, ◌+◌, ◌-◌, ◌<◌, ◌==◌, ◌||◌, ◌↔◌, ◌∙◌, ◌∷◌, ◌≡◌, ◌≢◌, ◌≤◌, ◌⊎◌}
+pub use Rattle.std.proofs.Common.{Bool, List, None, Option, Some, [], add-one, ap, arith, eqb-true, ltb-true, replicate, false, get_or, if◌then◌else◌, inl, inr, length, nat_eq, nat_le, nat_lt, not, refl, slice_get, slice_index, slice_set, subst, suc, sym, true, zero, ℕ, ◌&&◌, ◌++◌, ◌+◌, ◌-◌, ◌<◌, ◌==◌, ◌||◌, ◌↔◌, ◌∙◌, ◌∷◌, ◌≡◌, ◌≢◌, ◌≤◌}
 pub use Rattle.std.specs.Cmp.{both_ways}
-pub use Rattle.std.proofs.lemmas.Bool.{and_from, and_parts, and_right, cases_Bool, cases_eq, cases_lt, false_from_ne_true, false≢true, not_from_false, or_cases, or_left, or_parts, or_right, true_from_ne_false}
+pub use Rattle.std.proofs.lemmas.Bool.{and_from, and_parts, cases_Bool, cases_eq, cases_lt, false_from_ne_true, false≢true, or_cases, or_left, or_right}
 pub use Rattle.std.proofs.lemmas.Bool.Decides.{nat_tests}
 pub use Rattle.std.proofs.lemmas.List.{length-map, length-replicate, get_or-replicate, get_or-set_other, get_or-set_same}
 pub use Rattle.std.proofs.lemmas.List.Folds.{list_any_at, list_any_more}
@@ -11,7 +11,7 @@ pub use Rattle.std.proofs.Math.Bool.{and-false, and-true}
 pub use Rattle.std.proofs.Math.ListN.{length-set}
 pub use Rattle.vic_frame.proofs.MirrorLaws.{mirror_below, mirror_of_uid, uid_of_mirror}
 pub use Rattle.vic_frame.proofs.KeyLaws.{is_uid}
-pub use Rattle.vic_frame.specs.LowBitsFirst.{IsBlock, IsKey, is_in_block, is_in_some_block, mirror, uid_of}
+pub use Rattle.vic_frame.specs.LowBitsFirst.{IsKey, is_in_block, is_in_some_block, mirror, uid_of}
 pub use Rattle.vic_frame.specs.Uids.{IsUid, has}
 pub use Rattle.vic_frame.specs.Replies.{Reply}
 pub use Rattle.vic_frame.specs.declared.request.Request.{Request}
@@ -27,5 +27,5 @@ pub use Rattle.vic_log.specs.declared.entry.Entry.TheVariants.{Captured, Collisi
 pub use Rattle.vic_walk.specs.Borders.{AreBorders, IsByParts, IsPartOf, part_count}
 pub use Rattle.vic_walk.specs.Cuts.{AreAlikeAt, AreCut, AreTogether, names}
 pub use Rattle.vic_walk.specs.Marked.{IsFirst, NoneBetween, is_marked}
-pub use Rattle.vic_walk.specs.Walk.{AreBorneOut, HasRoom, IsEnd, IsEndOfWalk, IsKnown, IsWalkAt, was_heard}
+pub use Rattle.vic_walk.specs.Walk.{AreBorneOut, IsEnd, IsWalkAt, was_heard}
 pub use Rattle.vic_walk.specs.inner.Ready.{IsReadyAt}
