@@ -1,7 +1,7 @@
 //! A row of counts, of which all in a span are raised by one at once: a complete binary tree, in
 //! which a count is the sum of the numbers from its leaf up to the root.
 
-ghost use Rattle.std.specs.Prelude.{◌≡◌, ◌+◌, ◌*◌, ◌^◌, ◌/◌, ◌<◌, ◌≤◌, ◌&&◌, ℕ, IfOk, length, nat_le, nat_lt, slice_index};
+ghost use Rattle.std.specs.Prelude.{◌≡◌, ◌+◌, ◌*◌, ◌^◌, ◌/◌, ◌<◌, ◌≤◌, ◌&&◌, ℕ, IfOk, length, slice_index};
 ghost use Rattle.vic_margin.specs.UidMargins.{one_if};
 ghost use Rattle.vic_margin.specs.inner.Trees.{Adds, AreAtMost, count_in, ends, sum_up, within};
 

@@ -1,8 +1,6 @@
 //! The least margin of the UIDs that a log doesn't list.
 
-ghost use Rattle.std.specs.Prelude.{◌≡◌, ◌^◌, ◌<◌, ◌≤◌, ◌&&◌, ◌||◌, ℕ, Bool, true, false, not};
-ghost use Rattle.vic_frame.specs.LowBitsFirst.{IsKey};
-ghost use Rattle.vic_frame.specs.Uids.{has};
+ghost use Rattle.std.specs.Prelude.{◌≡◌, ◌^◌, ◌<◌, ◌≤◌, ◌&&◌, ◌||◌, ℕ, Bool};
 ghost use Rattle.vic_margin.specs.inner.Least.{IsLeastOf, is_free, lesser};
 ghost use Rattle.vic_margin.specs.inner.Trees.{within};
 

@@ -1,14 +1,11 @@
 //! In how many slots the UIDs of each part were overlooked.
 
-ghost use Rattle.std.specs.Prelude.{◌≡◌, ◌==◌, ◌+◌, ◌-◌, ◌^◌, ◌<◌, ◌≤◌, ◌&&◌, ◌||◌, not, true, false, ℕ, List, IfOk, Some, length, nat_lt, slice_get, slice_index, slice_set};
+ghost use Rattle.std.specs.Prelude.{◌≡◌, ◌==◌, ◌+◌, ◌-◌, ◌^◌, ◌<◌, ◌≤◌, ◌&&◌, ◌||◌, not, false, ℕ, List, IfOk, Some, length, slice_get, slice_index, slice_set};
 ghost use Rattle.vic_log.specs.declared.entry.Entry.{Entry as EntryValue};
 ghost use Rattle.vic_log.specs.declared.entry.Entry.TheVariants.{Sent};
-ghost use Rattle.vic_log.specs.Rounds.{is_slot};
-ghost use Rattle.vic_frame.specs.LowBitsFirst.{IsKey};
-ghost use Rattle.vic_walk.specs.Borders.{AreBorders, IsPartOf, part_count};
+ghost use Rattle.vic_walk.specs.Borders.{AreBorders, part_count};
 ghost use Rattle.vic_walk.specs.Cuts.{AreCut};
 ghost use Rattle.vic_walk.specs.Marked.{is_marked};
-ghost use Rattle.vic_margin.specs.UidMargins.{one_if};
 ghost use Rattle.vic_margin.specs.inner.Counts.{count_at};
 ghost use Rattle.vic_margin.specs.inner.Trees.{within};
 ghost use Rattle.vic_walk.specs.Spans.{IsPlace};

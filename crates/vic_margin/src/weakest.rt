@@ -2,9 +2,7 @@
 
 ghost use Rattle.std.specs.Prelude.{IfOk, MatchOption};
 ghost use Rattle.vic_log.specs.Order.{entries};
-ghost use Rattle.vic_tree.specs.Ranges.{is_open_in};
 ghost use Rattle.vic_walk.specs.Cuts.{AreCut};
-ghost use Rattle.vic_verdict.specs.Facts.{IsTold};
 ghost use Rattle.vic_verdict.specs.Possible.{IsPossible};
 ghost use Rattle.vic_verdict.specs.Verdict.{IsVerdict};
 ghost use Rattle.vic_margin.specs.Margins.{IsWeakest};

@@ -1,13 +1,11 @@
 //! What the logs tell together against the list of what is expected.
 
 ghost use Rattle.std.specs.BTreeMap.{IsOrdered, get, keys};
-ghost use Rattle.std.specs.List.{All, AllPass, list_any};
-ghost use Rattle.std.specs.List.Sorted.{IsStrictlyIncreasing};
+ghost use Rattle.std.specs.List.{All, AllPass};
 ghost use Rattle.std.specs.Ordering.{eq_by_cmp, nat_cmp};
 ghost use Rattle.std.specs.Set.{is_member};
 ghost use Rattle.std.specs.Prelude.{◌≡◌, ◌↔◌, ℕ, false, IfNone, IfOk, IfSome, IsTrue, List, MatchOption, None, Some, is_some, map};
 ghost use Rattle.vic_frame.specs.Uids.{has};
-ghost use Rattle.vic_tree.specs.Ranges.{is_open_in};
 ghost use Rattle.vic_log.specs.declared.entry.LogLine.{LogLine as LogLineValue};
 ghost use Rattle.vic_reconcile.specs.Findings.{AreFindings, AreNone};
 ghost use Rattle.vic_reconcile.specs.Joined.{IsJoined};

@@ -1,5 +1,6 @@
 -- Slot lines that no population fits together: all up to the first impossible line; or one reply of a UID that is Quiet there.
 use Rattle.vic_report.proofs.Words.{◌≡◌, ℕ, zero, suc, ◌<◌, ◌≤◌, ◌+◌, ◌-◌, List, [], ◌∷◌, ◌++◌, length, get_or, Bool, true, false, cond, Some, refl, sym, ap, ◌∙◌, subst, arith, ⊎_elim, slice_get, nat_le, leb, None, Option, MatchOption, option_map, filter, cases_Bool, leb-true, leb-false, map-append, All-get_or, filter_passes, slice_get-map, slice_get_within, get_or_from_slice_get, has, Entry, Sent, Heard, Captured, Unknown, hears, tells, eqb-true, Listed, FieldCycle, LogLine, entries, IsRisingFrom, answerers_at, Fits, CouldHaveGiven, is_quiet, FitsLines, IsConflictAt, IsNoQuietReply, IsSilencedBefore, IsSilencedBy, IsSlotLine, IsPossible, entries_to, IsVerdict, place_of, member_at, IsStrictlyIncreasing, agree_upto, answerers_agree, CouldHaveGiven-front, slice_get-append, Impossible, rising_order, cases_eq, true_from_ne_false, get_or_default, slice_get_read, cases_lt, inl, inr, IsNonDecreasingBy, IsPartitionPoint, All, AllPairs, AllPairs-filter, Equal, Greater, HoldsAt, Less, Lone, and_from, and_parts, answers_at, cond_both, false≢true, get_or-map, has_cases, has_here, has_there, le-leb, length-map, map, nat_cmp, nat_tests, not-true, ordering_index, outcome_of, ranked, silenced-quiet, silences, AreSlotLinesTo, ◌&&◌}
+use Rattle.vic_verdict.proofs.Listing.{number_above}
 
 -- ---- the lines 1 to n
 
@@ -12,11 +13,6 @@ lines_kept n l lines b = cond b (l ∷ lines_to n lines) (lines_to n lines)
 none_before : (n k : ℕ) (lines : List LogLine) → n ≤ k → IsRisingFrom k lines → lines_to n lines ≡ []
 none_before n k [] h r = refl
 none_before n k (l ∷ lines) h r = grind (arith, r.0, none_before n l.number lines (let above = r.0 in omega arith) r.1)
-
-number_above : (i k : ℕ) (lines : List LogLine) (l : LogLine) → IsRisingFrom k lines → slice_get lines i ≡ Some l → k < l.number
-number_above i k [] l r g = cc
-number_above zero k (x ∷ lines) l r g = let same : x ≡ l = cc in subst (λ (y : LogLine). k < y.number) same r.0
-number_above (suc i) k (x ∷ lines) l r g = let above = number_above i x.number lines l r.1 g in let first = r.0 in omega arith
 
 -- they stand before all others
 lines_front : (n k : ℕ) (lines : List LogLine) → IsRisingFrom k lines → (rest : List LogLine) × (lines_to n lines ++ rest ≡ lines)
@@ -49,7 +45,7 @@ line_of (x ∷ lines) (suc i) e k = line_of lines i e k
 front_there : (n k : ℕ) (lines : List LogLine) (i : ℕ) (l : LogLine) → IsRisingFrom k lines → slice_get lines i ≡ Some l → l.number ≤ n → slice_get (lines_to n lines) i ≡ Some l
 front_there n k [] i l r g small = cc
 front_there n k (x ∷ lines) zero l r g small = grind arith
-front_there n k (x ∷ lines) (suc i) l r g small = grind (arith, number_above i x.number lines l r.1 g, front_there n x.number lines i l r.1 g small)
+front_there n k (x ∷ lines) (suc i) l r g small = grind (arith, number_above x.number lines i l r.1 g, front_there n x.number lines i l r.1 g small)
 
 number_within : (n : ℕ) (lines : List LogLine) (i : ℕ) (x : LogLine) → slice_get (lines_to n lines) i ≡ Some x → x.number ≤ n
 number_within n lines i x k =
@@ -113,7 +109,7 @@ numbers_rise k [] r i j d lt below = absurd (omega arith)
 numbers_rise k (x ∷ lines) r i zero d lt below = absurd (omega arith)
 numbers_rise k (x ∷ lines) r zero (suc j) d lt below =
     let within : j < length lines = omega arith in
-    number_above j x.number lines (get_or lines j d) r.1 (slice_get_read lines (length lines) j (get_or lines j d) refl within (get_or_default lines j d (get_or lines j d) within))
+    omega (arith, number_above x.number lines j (get_or lines j d) r.1 (slice_get_read lines (length lines) j (get_or lines j d) refl within (get_or_default lines j d (get_or lines j d) within)))
 numbers_rise k (x ∷ lines) r (suc i) (suc j) d lt below = numbers_rise x.number lines r.1 i j d (omega arith) (omega arith)
 
 abbrev pub is_slot_to : ℕ → LogLine → Bool
@@ -212,8 +208,8 @@ kept_conflict lines n numbers kept rising some last slots given impossible = rec
 same_place : (k : ℕ) (lines : List LogLine) (i j : ℕ) (l x : LogLine) → IsRisingFrom k lines → slice_get lines i ≡ Some l → slice_get lines j ≡ Some x → l.number ≡ x.number → i ≡ j
 same_place k [] i j l x r g h e = cc
 same_place k (y ∷ lines) zero zero l x r g h e = refl
-same_place k (y ∷ lines) zero (suc j) l x r g h e = grind (arith, number_above j y.number lines x r.1 h)
-same_place k (y ∷ lines) (suc i) zero l x r g h e = grind (arith, number_above i y.number lines l r.1 g)
+same_place k (y ∷ lines) zero (suc j) l x r g h e = grind (arith, number_above y.number lines j x r.1 h)
+same_place k (y ∷ lines) (suc i) zero l x r g h e = grind (arith, number_above y.number lines i l r.1 g)
 same_place k (y ∷ lines) (suc i) (suc j) l x r g h e = ap suc (same_place y.number lines i j l x r.1 g h e)
 
 rising_lines : (lines : List LogLine) → IsRisingFrom 0 lines → IsNonDecreasingBy (λ (l : LogLine). l.number) lines

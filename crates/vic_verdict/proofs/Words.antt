@@ -1,6 +1,6 @@
 -- The words of proofs, from one place: what files name from outside of the crate, and the definitions that several of them name.
 pub use mathlib.Core.Logic.Iff.{trans}
-pub use Rattle.std.proofs.Common.{All, Any, Bool, IfNone, IfSome, List, MatchOption, None, Option, Some, [], add-one, ap, append-nil, append_assoc, arith, drop, eq-eqb, eqb-true, false, filter, get_or, inl, inr, le_of_lt, le_refl, length, length-append, length-take, length-take-le, nat_eq, nat_le, ne_eqb, not, option_map, refl, rules, slice_get, subst, suc, sum_by, sym, take, take-append-drop, take-take, take_all, true, zero, ℕ, ⊎_elim, ◌%◌, ◌&&◌, ◌*◌, ◌++◌, ◌+◌, ◌-◌, ◌/◌, ◌<◌, ◌==◌, ◌^◌, ◌||◌, ◌↔◌, ◌∙◌, ◌∷◌, ◌≡◌, ◌≢◌, ◌≤◌, ◌⊎◌}
+pub use Rattle.std.proofs.Common.{All, Any, Bool, IfNone, IfSome, List, MatchOption, None, Option, Some, [], add-one, ap, append-nil, append_assoc, arith, drop, eq-eqb, eqb-true, false, filter, get_or, inl, inr, le_of_lt, le_refl, length, length-append, length-take, length-take-le, nat_eq, nat_le, ne_eqb, not, refl, rules, slice_get, subst, suc, sum_by, sym, take, take-append-drop, take-take, take_all, true, zero, ℕ, ⊎_elim, ◌%◌, ◌&&◌, ◌*◌, ◌++◌, ◌+◌, ◌-◌, ◌/◌, ◌<◌, ◌==◌, ◌^◌, ◌||◌, ◌↔◌, ◌∙◌, ◌∷◌, ◌≡◌, ◌≢◌, ◌≤◌, ◌⊎◌}
 pub use Rattle.std.proofs.Math.Nat.{pow-le-pow_right}
 pub use Rattle.std.proofs.lemmas.Bool.{and_from, and_parts, both_ways, cases_Bool, cases_eq, cases_lt, false_from_ne_true, false≢true, or_cases, or_left, or_parts, or_right, true_from_ne_false}
 pub use Rattle.std.proofs.lemmas.Bool.Decides.{nat_tests}
@@ -13,7 +13,7 @@ pub use Rattle.std.proofs.lemmas.List.Kept.{AllPairs-from_increasing, IsStrictly
 pub use Rattle.std.proofs.lemmas.List.Sums.{sum_by-cons, sum_by_more_le}
 pub use Rattle.std.proofs.lemmas.Map.Keys.{IsDistinct-cons, IsDistinct-from_apart}
 pub use Rattle.std.proofs.lemmas.Map.Made.{length-le_from_is_member}
-pub use Rattle.std.proofs.lemmas.Option.{gets, slice_get-map, slice_get_past, slice_get_read, slice_get_within}
+pub use Rattle.std.proofs.lemmas.Option.{gets, slice_get_past, slice_get_read, slice_get_within}
 pub use Rattle.std.proofs.lemmas.Result.{IfOk-weaker}
 pub use Rattle.std.specs.List.{AllByRecursion, IsDistinct, list_all, list_any}
 pub use Rattle.std.specs.List.Sorted.{IsStrictlyIncreasing}
