@@ -55,9 +55,9 @@ pub fn compare<S: OpenSet>(
     })
 }
 
-/// The UIDs at some keys that can't be there, since they are neither in a set nor certain; in rising
-/// order. The open UIDs of one log contain its certain ones, so these change
-/// nothing; the set that `vic_reconcile` makes of several logs contains none of them.
+/// The UIDs at some keys that can't be there, since they are neither in a set nor certain; in
+/// rising order. The open UIDs of one log contain its certain ones, so these change nothing; the
+/// set that `vic_reconcile` makes of several logs contains none of them.
 pub(crate) fn absent_from<S: OpenSet>(
     alloc: Global,
     keys: &SortedKeys,

@@ -89,8 +89,8 @@ impl Parts {
         })
     }
 
-    /// How many there are. Clause `borders`, here and of other calls, tells a proof what is so of any
-    /// `Parts`.
+    /// How many there are. Clause `borders`, here and of other calls, tells a proof what is so of
+    /// any `Parts`.
     pub fn count(&self) -> usize
         ensures count { result ≡ part_count self.now }
         ensures borders { AreBorders self.now }
