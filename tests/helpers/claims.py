@@ -1,5 +1,6 @@
 """What the page says of a log where it goes beyond the library's answer (tests/wasm/told.mjs), and
-by brute force whether it may say so."""
+by brute force whether it may say so. Of logs without first lines no populations are known, so for
+these 'others are too' and 'incomplete' aren't looked at."""
 from helpers.air import SILENT, Ask, Listed, Reply, divided, is_slot, lies_in, slots_of
 from helpers.oracle import Case, captured
 
