@@ -5,9 +5,11 @@ import functools
 import hashlib
 import os
 import platform
+import pty
 import re
 import subprocess
 import sys
+import tty
 
 import pytest
 
@@ -98,6 +100,23 @@ def test_an_example_shows_why(program, example, language, by, log):
     shown = program.run("explain", log).out.splitlines()[2:]
     shown += program.run("margin", log).out.splitlines()[1:]
     assert example(language, by).run(log).err.splitlines() == shown
+
+
+@pytest.mark.parametrize("language", ["c", "cpp", "go", "rust", "python"])
+def test_an_example_that_cannot_read_has_no_answer(example, language):
+    for file in TOP, TOP / "nowhere":
+        assert example(language, LIBRARIES[0]).run(file)[::2] == (b"", 4)
+
+
+@pytest.mark.parametrize("language", ["c", "cpp", "go", "rust"])
+def test_an_example_of_which_standard_input_breaks_off_has_no_answer(example, language):
+    """What came before the error is a log whose list is complete."""
+    given, terminal = pty.openpty()
+    tty.setraw(terminal)
+    os.write(terminal, (TOP / "examples/whole-shelf.log").read_bytes())
+    os.close(terminal)
+    with open(given, "rb") as broken:
+        assert example(language, LIBRARIES[0]).run(stdin=broken)[::2] == (b"", 4)
 
 
 @pytest.mark.parametrize("by", LIBRARIES)

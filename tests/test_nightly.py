@@ -37,6 +37,20 @@ def test_the_worst_status(check, tmp_path, logs, status):
     assert (found, len(lines)) == (status, sum(log != COMPLETE for log in logs))
 
 
+def test_a_log_is_found_by_its_ending_in_any_case_and_by_links(check, tmp_path):
+    (tmp_path / "here").mkdir()
+    (tmp_path / "there").mkdir()
+    (tmp_path / "there/A.LOG").write_bytes(OPEN)
+    (tmp_path / "here/link").symlink_to(tmp_path / "there")
+    status, lines = check(written(tmp_path / "here", COMPLETE))
+    assert (status, len(lines)) == (1, 1)
+
+
+def test_a_link_to_no_log_is_not_passed_over(check, tmp_path):
+    (tmp_path / "old.log").symlink_to(tmp_path / "nowhere")
+    assert check(written(tmp_path, COMPLETE))[0] == NO_ANSWER
+
+
 def test_a_folder_is_no_log(check, tmp_path):
     (tmp_path / "old.log").mkdir()
     assert check(written(tmp_path, COMPLETE)) == (0, [])

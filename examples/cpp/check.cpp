@@ -3,13 +3,24 @@
 // check [FILE [LOG ..]]
 #include "vicinity.hpp"
 
-#include <fstream>
+#include <cstdio>
 #include <iostream>
-#include <iterator>
+#include <memory>
+#include <stdexcept>
 
-static std::string read(std::istream &input)
+// An error of reading must not look like the end of the text, as it does to a stream.
+static std::string read(const std::string &name, std::FILE *opened)
 {
-    return {std::istreambuf_iterator<char>(input), std::istreambuf_iterator<char>()};
+    if (!opened)
+        throw std::runtime_error("cannot open " + name);
+    const std::unique_ptr<std::FILE, int (*)(std::FILE *)> file(opened, std::fclose);
+    std::string text;
+    char piece[4096];
+    while (const std::size_t count = std::fread(piece, 1, sizeof piece, opened))
+        text.append(piece, count);
+    if (std::ferror(opened))
+        throw std::runtime_error("cannot read " + name);
+    return text;
 }
 
 static int show(const vicinity::Answer &answer)
@@ -61,17 +72,11 @@ int main(int argc, char **argv)
     std::vector<std::string> texts;
     if (!vicinity::fits())
         return 4;
-    for (int i = 1; i < argc; i++) {
-        std::ifstream file(argv[i], std::ios::binary);
-        if (!file) {
-            std::cerr << "cannot open " << argv[i] << '\n';
-            return 4;
-        }
-        texts.push_back(read(file));
-    }
-    if (texts.empty())
-        texts.push_back(read(std::cin));
     try {
+        for (int i = 1; i < argc; i++)
+            texts.push_back(read(argv[i], std::fopen(argv[i], "rb")));
+        if (texts.empty())
+            texts.push_back(read("standard input", stdin));
         return run(texts);
     } catch (const std::exception &error) {
         std::cerr << error.what() << '\n';

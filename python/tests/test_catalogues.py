@@ -14,6 +14,9 @@ from vicinity.collections.tables import Wrong
 
 
 class Catalogues(Command):
+    def both(self):
+        return self.write("both.log", log(SIXTEEN + b"S\n" + HEARD_A + HEARD_B + b"S\n" * 13))
+
     def test_a_list(self):
         for lines, text in ((b"", "complete 0"),
                             (b"# text\n\nU E0040100000000A1\r\n", "absent E0040100000000A1"),
@@ -121,6 +124,18 @@ class Catalogues(Command):
                              f"E0040100000000A1,worn,there,{self.names[1]},\n")
             self.catalogue(said)
 
+    def test_an_unexpected_tag_stays_so_however_columns_are_named_and_moved(self):
+        for own in ("", ",state", ",state,State (found)", ",May be in (found),state"):
+            cells = ",worn" * own.count(",")
+            name = self.catalogue(f"uid{own}\nE0040100000000A1{cells}\n")
+            rows = [*csv.reader(io.StringIO(here("csv", name, self.both())[0]))]
+            for first in range(len(rows[0])):
+                name = self.catalogue("".join(f"{','.join(row[first:] + row[:first])}\n"
+                                              for row in rows))
+                said, _, status = here("lines", name, self.both())
+                self.assertEqual((said.splitlines()[0], status),
+                                 ("unlisted E0040100000000B2", 1), (own, first))
+
     def test_rows_without_a_tag(self):
         name = self.catalogue("title,uid\na,\nb,E0040100000000A1\nc, \n")
         self.assertEqual(here("lines", name, self.names[1]),
@@ -142,6 +157,23 @@ class Catalogues(Command):
         said = here("csv", self.catalogue("uid\nE0040100000000A1\n"), one, other)[0]
         cell = next(csv.reader(io.StringIO(said.splitlines()[1])))[2]
         self.assertEqual([it.replace("\\x3b", ";") for it in cell.split("; ")], [one, other])
+
+    def test_a_quote_that_swallows_rows(self):
+        is_missing = "a cell in quotes has {} and a line end in it: is a quote missing?"
+        for content in ('uid\ttitle\nE0040100000000A1\t"Surely\n{}\tRuler 12"\n',
+                        'uid,title\rE0040100000000A1,"Surely\r{},b\rx,Ruler 12"\r'):
+            name = self.catalogue(content.format("e0:04:01:00:00:00:00:b2"))
+            self.assertEqual(here("lines", name, self.names[1]),
+                             ("", f"{name}, row 2: {is_missing.format('a UID')}", 3))
+        name = self.catalogue('uid,x\nE0040100000000A1,"not E0040100000000B2,\nwhich is lost"\n')
+        self.assertEqual(here("lines", name, self.names[1]), ("complete 1\n", "", 0))
+        name = self.catalogue('code,x\n17,"Surely\n18,Ruler 12"\n')
+        for rows, what in ((b'E0040100000000A1,"17\nE0040100000000B2,18"\n', "a UID"),
+                           (b"E0040100000000A1,17\nE0040100000000B2,18\n", "a key of {}")):
+            tags = self.write("tags.csv", b"uid,code\n" + rows)
+            where = name if "key" in what else tags
+            self.assertEqual(here("lines", name, self.names[1], options=["--tags", tags]),
+                             ("", f"{where}, row 2: {is_missing.format(what.format(tags))}", 3))
 
     def test_wrong_tags(self):
         catalogue = self.catalogue("barcode,title\n17,a\n18,b\n")
@@ -167,7 +199,7 @@ class Catalogues(Command):
         catalogue = self.catalogue("Barcode;title\nx17;a\nx18;b\n;c\n")
         tags = self.write("tags.csv",
                           b"uid,BARCODE\nE0040100000000A1,X17\nE0040100000000B2,x19\n,x18\n")
-        both = self.write("both.log", log(SIXTEEN + b"S\n" + HEARD_A + HEARD_B + b"S\n" * 13))
+        both = self.both()
         said, _, status = here("csv", catalogue, both, options=["--tags", tags])
         self.assertEqual((said, status), (
             "Barcode;title;uid;state;certain in;may be in\n"
@@ -176,6 +208,10 @@ class Catalogues(Command):
         tags = self.write("tags.csv", b"uid,code\nE0040100000000A1,x17\nE0040100000000B2,x17\n")
         said = here("csv", catalogue, both, options=["--tags", tags, "--column", "Barcode"])
         self.assertEqual((said[0].count(";there;"), said[2]), (2, 0))
+        # what was written is a catalogue again, of one row for both tags
+        again = here("csv", self.catalogue(said[0]), both,
+                     options=["--tags", tags, "--column", "Barcode"])
+        self.assertEqual(again, said)
 
     def test_places(self):
         catalogue = self.catalogue("uid,shelf\nE0040100000000A1,North\nE0040100000000B2,South\n")
@@ -214,6 +250,12 @@ class Catalogues(Command):
         self.assertEqual((said.splitlines()[1:], status), (
             [f"E0040100000000A1,a,there,{there}; {both},",
              f"E0040100000000B2,b,misplaced,{both},{broken}"], 2))
+
+    def test_places_without_a_column_of_places(self):
+        catalogue = self.catalogue("uid\n")
+        said, errors, status = self.ask("--expected", catalogue, "--places", "y", "x")
+        self.assertEqual((said, status), (b"", 4))
+        self.assertIn(b"--places needs --place NAME", errors)
 
     def test_wrong_places(self):
         catalogue = self.catalogue("uid,shelf\nE0040100000000A1,a\n")

@@ -2,7 +2,8 @@
 or a CSV file with a column of UIDs, or of something by which another file has the UIDs."""
 from __future__ import annotations
 
-from typing import NamedTuple, Optional, Sequence
+from contextlib import suppress
+from typing import Callable, NamedTuple, Optional, Sequence
 
 from .._answers import ListFault
 from .._calls import listed
@@ -13,10 +14,11 @@ from .tables import Form, Table, Wrong, read_table
 
 #: The column of the UIDs, if none is named.
 COLUMN = "uid"
-#: The columns that are written behind those of a catalogue,
-#: with TWIN where it has one of that name itself.
+#: The columns that are written behind those of a catalogue, with TWIN where it has one of that
+#: name itself, once more often than that one.
 #: Where an earlier run has written them they are replaced, and its unexpected tags left out.
 ADDED, TWIN, UNEXPECTED = ("state", "certain in", "may be in"), " (found)", "unexpected"
+SWALLOWED = "a cell in quotes has {} and a line end in it: is a quote missing?"
 NAMES_IT = "name the one with the UIDs uid, or say by --column NAME which it is"
 NAMES_KEY = "--column NAME names the one by which --tags has the UIDs"
 
@@ -77,6 +79,7 @@ def catalogue(name: str, text: bytes, how: How = How()) -> Catalogue:
             raise Wrong(refusal(name, fault.answer), is_list=True) from None
         return Catalogue(name, Form(), [COLUMN], [Entry(0, uid, [uid_text(uid)]) for uid in uids])
     table, is_ours = _without_added(read_table(name, text, how.encoding))
+    _refuse_swallowed(table, "a UID", _is_uid)
     if how.tags is not None:
         found = _tagged(table, is_ours, how, read_table(*how.tags, how.encoding))
     else:
@@ -94,14 +97,28 @@ def catalogue(name: str, text: bytes, how: How = How()) -> Catalogue:
                                    for entry in found.entries])
 
 
+def twins(head: str, name: str) -> int:
+    """How often TWIN stands behind a name in a head; -1 if the head has another name."""
+    head = head.casefold()
+    times = (len(head) - len(name)) // len(TWIN)
+    return times if head == name + TWIN * times else -1
+
+
 def _without_added(table: Table) -> tuple[Table, bool]:
     """A table without what an earlier run has added, wherever it is now, and whether it had."""
-    names = [head.casefold().removesuffix(TWIN) for head in table.heads]
-    if not set(ADDED) <= set(names):
+    if not all(any(twins(head, name) >= 0 for head in table.heads) for name in ADDED):
         return table, False
-    added = [len(names) - 1 - names[::-1].index(name) for name in ADDED]  # ours come last
+    added = [max(range(len(table.heads)), key=lambda at: (twins(table.heads[at], name), at))
+             for name in ADDED]
     rows = [row for row in table.rows if row[1][added[0]].strip() != UNEXPECTED]
     return _without(table._replace(rows=rows), added), True
+
+
+def _refuse_swallowed(table: Table, what: str, test: Callable[[str], bool]) -> None:
+    """Refuses a table of which a cell has what begins a row on one of several lines."""
+    for row, cells in table.rows:
+        if any(test(it) for cell in cells for it in table.within(cell)):
+            table.wrong(row, SWALLOWED.format(what))
 
 
 def _without(table: Table, columns: Sequence[int]) -> Table:
@@ -111,13 +128,24 @@ def _without(table: Table, columns: Sequence[int]) -> Table:
     return table._replace(heads=[table.heads[at] for at in left], rows=rows)
 
 
+def _untagged(table: Table, uid_at: int) -> Table:
+    """A table without the UIDs that an earlier run has added: rows that had several, each once."""
+    rows = dict[tuple[str, ...], tuple[int, list[str]]]()
+    for row, cells in table.rows:
+        # those without a UID are rows of the catalogue, even if they are equal
+        others = tuple(cells[:uid_at] + cells[uid_at + 1:])
+        rows.setdefault(others if cells[uid_at].strip() else (str(row),), (row, cells))
+    return _without(table._replace(rows=list(rows.values())), [uid_at])
+
+
 def _tagged(table: Table, is_ours: bool, how: How, tags: Table) -> Catalogue:
     """The catalogue of a table whose UIDs are in another one, found by a column that both have.
     A row may have several."""
+    _refuse_swallowed(tags, "a UID", _is_uid)
     uid_at = tags.column(COLUMN, "that of the UIDs has to be uid")
     head = tags.heads[uid_at]
     if is_ours and head in table.heads:
-        table = _without(table, [table.heads.index(head)])
+        table = _untagged(table, table.heads.index(head))
     if head.casefold() in (it.casefold() for it in table.heads):
         table.wrong(1, f"it has a column {shown(head)} itself, as {shown(tags.name)} has")
     others = [it for at, it in enumerate(tags.heads) if at != uid_at and it]
@@ -138,11 +166,19 @@ def _tagged(table: Table, is_ours: bool, how: How, tags: Table) -> Catalogue:
             tags.wrong(row, f"{uid_text(uid)} is also the tag of {shown(keys[uid])}")
         keys[uid] = cells[theirs].strip()
         by_key.setdefault(keys[uid].casefold(), []).append(uid)
+    _refuse_swallowed(table, f"a key of {shown(tags.name)}", lambda it: it.casefold() in by_key)
     entries = [Entry(row, uid, [*cells, "" if uid is None else uid_text(uid)])
                for row, cells in table.rows
                for uid in by_key.get(cells[key_at].strip().casefold(), [None])]
     return Catalogue(table.name, table.form, [*table.heads, head], entries, len(table.heads),
                      key_at, keys=keys)
+
+
+def _is_uid(text: str) -> bool:
+    with suppress(ValueError):
+        parse_uid(text)
+        return True
+    return False
 
 
 def _uid(table: Table, row: int, cell: str) -> Optional[int]:

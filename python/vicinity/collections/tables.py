@@ -65,6 +65,13 @@ class Table(NamedTuple):
     def wrong(self, row: int, why: str) -> NoReturn:
         raise Wrong(f"{shown(self.name)}, row {row}: {why}")
 
+    def within(self, cell: str) -> list[str]:
+        """The cells of the lines in a cell, if it has several: those of rows that were swallowed,
+        where a quote isn't closed."""
+        lines = cell.splitlines()
+        return [it.strip() for line in lines for it in line.split(self.form.separator)
+                if len(lines) > 1]
+
     def column(self, name: str, what: str, is_exact: bool = False) -> int:
         """The place of the only column with a name, in any case,
         or if it may be exact of the one with exactly this name."""

@@ -12,7 +12,7 @@ from .._answers import Answer, Finding, FindingKind
 from .._fields import (SCHEMA, fields, margin_fields, mask_fields, refusal, small,
                        small_fields)
 from .._process import shown
-from ..collections.catalogue import ADDED, TWIN
+from ..collections.catalogue import ADDED, TWIN, twins
 from ..collections.collection import Collection, Item, State
 from ..collections.surveys import ADVICE, Log
 from ..frames import uid_text
@@ -96,8 +96,8 @@ def as_csv(found: Collection) -> Iterator[bytes]:
     rows = ([*item.cells, item.state.value, *(f"{BETWEEN} ".join(names[log] for log in logs)
                                               for logs in (item.certain_in, item.may_be_in))]
             for item in found.items)
-    taken = {head.casefold() for head in found.expected.heads}
-    head = [*found.expected.heads, *(name + TWIN * (name in taken) for name in ADDED)]
+    heads = found.expected.heads
+    head = [*heads, *(name + TWIN * (1 + max(twins(it, name) for it in heads)) for name in ADDED)]
     return found.expected.form.written(row for part in ([head], rows) for row in part)
 
 

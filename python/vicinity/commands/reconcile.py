@@ -20,6 +20,8 @@ from .forms import FORMS, notes, set_aside, small_margin
 def reconcile(asked: argparse.Namespace) -> int:
     """Writes what logs say of a catalogue, and returns the status."""
     library()
+    if asked.places is not None and asked.place is None:
+        raise NoAnswer("--places needs --place NAME, the column that says where each item belongs")
     names = names_of(asked, not asked.surveys)
     try:
         said = [(name, read(name)) for name in asked.surveys]
