@@ -54,8 +54,9 @@ pub(crate) fn find_conflict(alloc: Global, log: &Log, line: u32) -> Result<Confl
     })
 }
 
-/// The numbers of the lines of a conflict, the last one being `last`, as they are guessed; `None`
-/// if the guess isn't a conflict.
+/// The numbers of the lines of a conflict, as they are guessed; `None` if the guess isn't one: if
+/// the lines aren't slot lines, the last one `last`, or the log that keeps only these slot lines is
+/// possible.
 fn guessed_numbers(alloc: Global, log: &Log, last: u32) -> Result<Option<LineNumbers>, AllocError>
     ensures { IfOk result (λ guess. IfSome guess (IsConflictAt log.now.lines last)) }
 {
@@ -63,30 +64,15 @@ fn guessed_numbers(alloc: Global, log: &Log, last: u32) -> Result<Option<LineNum
     let count = lines.partition_point(|line| line.number() <= last);
     let guess = guess_conflict(alloc, &LogLines::of(log).first(count))?;
     let numbers = LineNumbers::of(guess);
-    if is_conflict_at(alloc, log, &numbers, last)? {
-        return Ok(Some(numbers));
+    if numbers.last() != Some(last) || !are_slot_lines(lines, numbers.as_slice()) {
+        return Ok(None);
     }
-    Ok(None)
-}
-
-/// Whether numbers are those of slot lines, the last one a given line, and the log that keeps only
-/// these slot lines is impossible.
-fn is_conflict_at(
-    alloc: Global,
-    log: &Log,
-    numbers: &LineNumbers,
-    last: u32,
-) -> Result<bool, AllocError>
-    ensures { IfOk result (λ b. b ≡ true → IsConflictAt log.now.lines last numbers.now) }
-{
-    let Some(end) = numbers.last() else {
-        return Ok(false);
-    };
-    if end != last || !are_slot_lines(log.lines(), numbers.as_slice()) {
-        return Ok(false);
+    let kept = KeptLog::of(alloc, log, &numbers)?;
+    let possible = is_possible(alloc, &kept.lines())?;
+    if possible {
+        return Ok(None);
     }
-    let kept = KeptLog::of(alloc, log, numbers)?;
-    Ok(!is_possible(alloc, &kept.lines())?)
+    Ok(Some(numbers))
 }
 
 /// Whether each of some numbers is that of a slot line.

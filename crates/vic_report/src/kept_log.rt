@@ -49,7 +49,9 @@ impl KeptLog {
             → FitsLines log.now.lines numbers.now p → CouldHaveGiven p kept) }
     {
         let lines = log.lines();
-        let mut kept = KeptLog::new(alloc);
+        let mut kept = KeptLog {
+            lines: Vec::new(alloc),
+        };
         let mut cursor = RoundCursor::first();
         for line in lines {
             let number = line.number();
@@ -64,15 +66,6 @@ impl KeptLog {
             cursor.advance(&entry);
         }
         Ok(kept)
-    }
-
-    /// No entries.
-    fn new(alloc: Global) -> KeptLog
-        ensures { result ≡ [] }
-    {
-        KeptLog {
-            lines: Vec::new(alloc),
-        }
     }
 
     /// The lines.

@@ -1,9 +1,13 @@
 use Rattle.vic_report.proofs.Words.{Some, first_lines, rising_long, ap, sym, subst, length, refl, arith, ◌∙◌, slice_get_read, has, Entry, entries, CouldHaveGiven, Fits, answerers_at, is_quiet, entry_at}
+use Rattle.vic_report.proofs.KeptLogs.{none_numbered}
 use Rattle.vic_report.proofs.kept_log.KeptLog.of.Goals as goal
+
+pub invariant_of-kept : goal.invariant_of-kept
+invariant_of-kept c = rw c.new.ensures.items none_numbered
 
 pub loop-line-init : goal.loop-line-init
 loop-line-init c =
-    let none = c.new-kept.ensures in
+    let none = ap entries c.new.ensures.items in
     record {
       round = c.first-cursor.ensures (entries c.lines-lines.result.now);
       limit = rw none (omega arith);
