@@ -1,5 +1,5 @@
 -- Slot lines that no population fits together: all up to the first impossible line; or one reply of a UID that is Quiet there.
-use Rattle.vic_report.proofs.Words.{◌≡◌, ℕ, zero, suc, ◌<◌, ◌≤◌, ◌+◌, ◌-◌, List, [], ◌∷◌, ◌++◌, length, get_or, Bool, true, false, cond, Some, refl, sym, ap, ◌∙◌, subst, arith, ⊎_elim, slice_get, nat_le, leb, None, Option, MatchOption, option_map, filter, cases_Bool, leb-true, leb-false, map-append, All-get_or, filter_passes, slice_get-map, slice_get_within, get_or_from_slice_get, has, Entry, Sent, Heard, Captured, Unknown, hears, tells, eqb-true, Listed, FieldCycle, LogLine, entries, IsRisingFrom, answerers_at, Fits, CouldHaveGiven, is_quiet, FitsLines, IsConflictAt, IsNoQuietReply, IsSilencedBefore, IsSilencedBy, IsSlotLine, IsPossible, entries_to, IsVerdict, place_of, member_at, IsStrictlyIncreasing, agree_upto, answerers_agree, CouldHaveGiven-front, slice_get-append, Impossible, rising_order, cases_eq, true_from_ne_false, get_or_default, slice_get_read, cases_lt, inl, inr, IsNonDecreasingBy, IsPartitionPoint, All, AllPairs, AllPairs-filter, Equal, Greater, HoldsAt, Less, Lone, and_from, and_parts, answers_at, cond_both, false≢true, get_or-map, has_cases, has_here, has_there, le-leb, length-map, map, nat_cmp, nat_tests, not-true, ordering_index, outcome_of, ranked, silenced-quiet, silences, AreSlotLinesTo, ◌&&◌}
+use Rattle.vic_report.proofs.Words.{◌≡◌, ℕ, zero, suc, ◌<◌, ◌≤◌, ◌+◌, List, [], ◌∷◌, ◌++◌, length, get_or, Bool, true, false, cond, Some, refl, sym, ap, ◌∙◌, subst, arith, ⊎_elim, slice_get, nat_le, leb, None, Option, MatchOption, option_map, filter, cases_Bool, leb-true, leb-false, map-append, All-get_or, filter_passes, slice_get-map, slice_get_within, get_or_from_slice_get, has, Entry, Sent, Heard, Captured, Unknown, hears, tells, eqb-true, Listed, FieldCycle, LogLine, entries, IsRisingFrom, answerers_at, Fits, CouldHaveGiven, is_quiet, FitsLines, IsConflictAt, IsNoQuietReply, IsSilencedBefore, IsSilencedBy, IsSlotLine, IsPossible, entries_to, IsVerdict, IsStrictlyIncreasing, agree_upto, answerers_agree, CouldHaveGiven-front, slice_get-append, Impossible, cases_eq, true_from_ne_false, get_or_default, slice_get_read, cases_lt, inl, inr, IsNonDecreasingBy, IsPartitionPoint, All, AllPairs, AllPairs-filter, Equal, Greater, HoldsAt, Less, Lone, and_from, and_parts, answers_at, cond_both, false≢true, get_or-map, has_cases, has_here, has_there, le-leb, length-map, map, nat_cmp, nat_tests, not-true, ordering_index, outcome_of, ranked, silenced-quiet, silences, AreSlotLinesTo, ◌&&◌}
 use Rattle.vic_verdict.proofs.Listing.{number_above}
 
 -- ---- the lines 1 to n
@@ -180,27 +180,6 @@ slots_conflict lines n numbers r least slots =
       slots = λ m h. ((slots.members m).0 h).1;
       unfit = λ p population fits. least.0 (p, population, given_to lines n numbers p r all fits);
     }
-
--- ---- rising numbers that end with one, whose lines no population fits
-
-upto_last : (numbers : List ℕ) (n : ℕ) → IsStrictlyIncreasing numbers → get_or numbers (length numbers - 1) 0 ≡ n → (m : ℕ) → has numbers m ≡ true → m ≤ n
-upto_last numbers n rising last m h =
-    let p = place_of numbers m 0 h in
-    let lt = p.1 in
-    let o = rising_order numbers rising p.0 (length numbers - 1) (omega arith) (omega arith) in
-    let here = p.2 in
-    omega arith
-
--- what the kept lines tell
-pub kept_conflict : (lines : List LogLine) (n : ℕ) (numbers : List ℕ) (kept : List LogLine) → IsStrictlyIncreasing numbers → 0 < length numbers → get_or numbers (length numbers - 1) 0 ≡ n → ((m : ℕ) → has numbers m ≡ true → IsSlotLine lines m)
-    → ((p : List ℕ) → FitsLines lines numbers p → CouldHaveGiven p (entries kept)) → (IsPossible (entries kept) → ⊥) → IsConflictAt lines n numbers
-kept_conflict lines n numbers kept rising some last slots given impossible = record {
-  rising = rising;
-  ends = member_at numbers (length numbers - 1) n 0 (omega arith) last;
-  upto = upto_last numbers n rising last;
-  slots = slots;
-  unfit = λ p population fits. impossible (p, population, given p fits);
-}
 
 -- ---- the line with a number
 

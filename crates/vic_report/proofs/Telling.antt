@@ -1,5 +1,5 @@
 -- Lines that tell of UIDs.
-use Rattle.vic_report.proofs.Words.{has, length, ◌≡◌, ℕ, List, true, Some, refl, sym, ap, ◌∙◌, subst, ⊎_elim, slice_get, and_parts, and_from, Entry, Collision, Garbled, Heard, Captured, hears, eqb-true, false≢true, LogLine, entries, answers_at, slots_of, is_open, Forces, ManyReplies, SomeReply, IsFound, MayAnswer, TellsOf, ShowsCertain, IsPossible, Answering, answering, IsPossibleUid-iff, needs_two_or_one, forces_two_iff, forces_one_iff}
+use Rattle.vic_report.proofs.Words.{has, arith, length, length-map, slice_get_within, ◌<◌, ◌≡◌, ℕ, List, true, Some, refl, sym, ap, ◌∙◌, subst, ⊎_elim, slice_get, and_parts, and_from, Entry, Collision, Garbled, Heard, Captured, hears, eqb-true, false≢true, LogLine, entries, answers_at, slots_of, is_open, Forces, ManyReplies, SomeReply, IsFound, MayAnswer, TellsOf, ShowsCertain, IsPossible, Answering, answering, IsPossibleUid-iff, needs_two_or_one, forces_two_iff, forces_one_iff}
 use Rattle.vic_report.proofs.Conflicts.{line_of}
 
 -- ---- what a line tells
@@ -33,6 +33,15 @@ tells_one es i u p f = (may es i u p f.0, λ w m. f.1 w (answers_back es i w p m
 -- so many of a list's members
 abbrev pub Exactly : ℕ → List ℕ → ℕ → Type 0
 Exactly n us u = (length us ≡ n) × (has us u ≡ true)
+
+-- the slot is among the lines
+pub found_within : (lines : List LogLine) (f : Answering) → IsFound (entries lines) f → f.at < length lines
+found_within lines f found =
+    let es = entries lines in
+    let i = found.0 in
+    let at = found.1 in
+    let below : (e : Entry) → slice_get es i ≡ Some e → f.at < length lines = λ e g. omega (arith, slice_get_within es i e g, at.place, length-map lines (λ (l : LogLine). l.item)) in
+    ⊎_elim (λ w. below Collision w.0) (λ w. below Garbled w.0) (needs_two_or_one (slice_get es i) f.need at.need at.needed)
 
 -- found where exactly as many are open, the slot tells of each
 pub found_shows : (lines : List LogLine) (f : Answering) (l : LogLine) (u : ℕ) → IsPossible (entries lines) → IsFound (entries lines) f → slice_get lines f.at ≡ Some l → Exactly f.need f.uids.items u → ShowsCertain lines l.number u

@@ -15,17 +15,17 @@ pub use Rattle.std.specs.List.Sorted.{IsNonDecreasingBy, IsPartitionPoint, IsStr
 pub use Rattle.std.specs.Ordering.{ordering_index}
 pub use Rattle.vic_frame.specs.Masks.{BitMask}
 pub use Rattle.vic_frame.specs.Uids.{IsUid, has}
-pub use Rattle.vic_frame.specs.declared.request.Request.TheVariants.{Inventory}
+pub use Rattle.vic_frame.specs.declared.request.Request.TheVariants.{StayQuiet}
 pub use Rattle.vic_log.proofs.Places.{CouldHaveGiven-front, CouldHaveGiven-push, agree_upto, answerers_agree, quiet_agrees, slice_get-append, slice_get_last}
 pub use Rattle.vic_log.proofs.Push.{IsInOrder-push, entries-push, last_from-push, listed-append, rising-push, rising_long, slots_left-push, valid-push}
 pub use Rattle.vic_log.proofs.Quiet.{silenced-quiet}
 pub use Rattle.vic_log.proofs.Sets.{has_cases, has_here, has_there}
 pub use Rattle.vic_log.specs.Log.{IsValidEntry}
 pub use Rattle.vic_log.specs.OpenRounds.{IsCursorAt}
-pub use Rattle.vic_log.specs.Order.{AreValid, IsRisingFrom, entries, listed, refusal}
+pub use Rattle.vic_log.specs.Order.{IsRisingFrom, entries, is_outside_round, listed, refusal}
 pub use Rattle.vic_log.specs.Populations.{CouldHaveGiven, Fits, Lone, answerers_at, answers_at, outcome_of}
 pub use Rattle.vic_log.specs.Quiet.{is_quiet, silences, wakes}
-pub use Rattle.vic_log.specs.Rounds.{ends_round, is_slot, mask_at, mask_of_slot, mask_since, opener, slots_left}
+pub use Rattle.vic_log.specs.Rounds.{ends_round, mask_at, mask_of_slot, mask_since, opener, slots_left}
 pub use Rattle.vic_log.specs.Slots.{Forces, ManyReplies, SomeReply, is_open, reading_of, slots_before, slots_of, hears, tells}
 pub use Rattle.vic_log.specs.declared.entry.Entry.{Entry}
 pub use Rattle.vic_log.specs.declared.entry.Entry.TheVariants.{Captured, Collision, FieldCycle, Garbled, Heard, Listed, Sent, Unknown}
@@ -53,5 +53,5 @@ pub use Rattle.vic_report.specs.Findings.{IsRuledOut, IsToldOf, MayAnswer, Rules
 pub use Rattle.vic_log.specs.Overlooked.{denies_reply_of}
 pub use Rattle.vic_report.specs.Reports.{AreFindings, AreOpenMasks, IsReport, IsUnsettledWith, verdict_by, unsettled_with, verdict_of}
 pub use Rattle.vic_report.specs.declared.shown.ShownUid.{ShownUid}
-pub use Rattle.vic_report.specs.inner.KeptLogs.{IsKeptLog, KeepsLine, SameQuiet}
+pub use Rattle.vic_report.specs.inner.KeptLogs.{IsKeptLog, KeepsLine, SameQuiet, one_slot, with_slot}
 pub use Rattle.vic_report.specs.inner.SlotLines.{AreSlotLinesTo}

@@ -12,7 +12,7 @@ ghost use Rattle.vic_log.specs.Slots.{hears};
 ghost use Rattle.vic_verdict.specs.Verdict.{IsHeard};
 ghost use Rattle.vic_verdict.specs.Needs.{IsExactFor, IsFound, IsMet, IsMetFor};
 ghost use Rattle.vic_report.specs.Findings.{IsToldOf, ShowsCertain, uids_of};
-ghost use Rattle.vic_report.specs.inner.NotedLines.{HasNoted, IsExactAt};
+ghost use Rattle.vic_report.specs.inner.NotedLines.{HasNoted};
 ghost use Rattle.vic_verdict.specs.Possible.{IsPossible};
 
 use crate::shown::ShownUid;
@@ -90,7 +90,8 @@ fn note_reply(noted: &mut BTreeMap<Uid, u32>, line: &PackedLine) -> Result<(), A
     Ok(())
 }
 
-/// Notes a line of each UID that some unread slot needs.
+/// Notes a line of each UID that some unread slot needs: of those that answer there, if no more do
+/// than have to be there.
 fn note_unread(
     noted: &mut BTreeMap<Uid, u32>,
     lines: &[PackedLine],
@@ -101,28 +102,14 @@ fn note_unread(
     ensures { OnOk result (HasNoted lines.now noted.old noted.new (IsExactFor found.now)) }
 {
     for slot in found {
-        note_exact(noted, lines, slot)?;
+        if slot.uids.len() != slot.need {
+            continue;
+        }
+        let Some(line) = lines.get(slot.at) else {
+            unreachable!()
+        };
+        note_all(noted, &slot.uids, line.number())?;
     }
-    Ok(())
-}
-
-/// Notes a line of each UID that answers in a slot, if no more do than have to be there.
-fn note_exact(
-    noted: &mut BTreeMap<Uid, u32>,
-    lines: &[PackedLine],
-    slot: &Answering,
-) -> Result<(), AllocError>
-    requires possible { IsPossible (entries lines.now) }
-    requires found { IsFound (entries lines.now) slot.now }
-    ensures { OnOk result (HasNoted lines.now noted.old noted.new (IsExactAt slot.now)) }
-{
-    if slot.uids.len() != slot.need {
-        return Ok(());
-    }
-    let Some(line) = lines.get(slot.at) else {
-        unreachable!()
-    };
-    note_all(noted, &slot.uids, line.number())?;
     Ok(())
 }
 

@@ -1,14 +1,15 @@
 //! Why a log became impossible: slot lines that no population fits.
 
-ghost use Rattle.std.specs.Prelude.{◌≡◌, ℕ, IfOk, true};
-ghost use Rattle.std.specs.List.Sorted.{IsStrictlyIncreasing};
+ghost use Rattle.std.specs.Prelude.{◌≡◌, ℕ, IfOk, IfSome, true};
 ghost use Rattle.vic_frame.specs.Uids.{has};
 ghost use Rattle.vic_report.specs.Conflicts.{IsConflict, IsConflictAt, IsSlotLine};
 ghost use Rattle.vic_report.specs.inner.SlotLines.{AreSlotLinesTo};
 ghost use Rattle.vic_verdict.specs.Verdict.{IsVerdict};
 ghost use Rattle.vic_verdict.specs.declared.judging.Verdict.TheVariants.{Impossible};
+ghost use Rattle.vic_walk.specs.LogLines.{AreLogLines};
 
-use crate::kept_log::kept_lines;
+use crate::kept_log::KeptLog;
+use crate::line_numbers::LineNumbers;
 use crate::silencer::silencer_of_line;
 use std::alloc::{AllocError, Global};
 use vic_guess::guess_conflict;
@@ -41,7 +42,10 @@ pub(crate) fn find_conflict(alloc: Global, log: &Log, line: u32) -> Result<Confl
     let numbers = match silenced_by {
         // no population fits a reply of a Quiet tag: that line alone is the conflict
         Some(_) => vec![in alloc; line]?,
-        None => numbers_of_conflict(alloc, log, line)?,
+        None => match guessed_numbers(alloc, log, line)? {
+            Some(guess) => guess.into_vec(),
+            None => slot_numbers_to(alloc, log, line)?,
+        },
     };
     Ok(Conflict {
         line,
@@ -50,45 +54,25 @@ pub(crate) fn find_conflict(alloc: Global, log: &Log, line: u32) -> Result<Confl
     })
 }
 
-/// The numbers of the lines of a conflict, `last` being that of the first impossible line: the
-/// guess if it is one, otherwise those of all slot lines up to that line.
-fn numbers_of_conflict(alloc: Global, log: &Log, last: u32) -> Result<Vec<u32>, AllocError>
-    requires { IsVerdict log.now.lines (Impossible last) }
-    ensures { IfOk result (λ numbers. IsConflictAt log.now.lines last numbers.items) }
+/// The numbers of the lines of a conflict, as they are guessed; `None` if the guess isn't one: if
+/// the lines aren't slot lines, the last one `last`, or the log that keeps only these slot lines is
+/// possible.
+fn guessed_numbers(alloc: Global, log: &Log, last: u32) -> Result<Option<LineNumbers>, AllocError>
+    ensures { IfOk result (λ guess. IfSome guess (IsConflictAt log.now.lines last)) }
 {
     let lines = log.lines();
     let count = lines.partition_point(|line| line.number() <= last);
-    let mut guess = guess_conflict(alloc, &LogLines::of(log).first(count))?;
-    put_numbers_in_order(&mut guess);
-    if is_conflict_at(alloc, log, &guess, last)? {
-        return Ok(guess);
+    let guess = guess_conflict(alloc, &LogLines::of(log).first(count))?;
+    let numbers = LineNumbers::of(guess);
+    if numbers.last() != Some(last) || !are_slot_lines(lines, numbers.as_slice()) {
+        return Ok(None);
     }
-    slot_numbers_to(alloc, log, last)
-}
-
-/// Puts numbers in rising order, each once.
-fn put_numbers_in_order(numbers: &mut Vec<u32>)
-    ensures rising { IsStrictlyIncreasing numbers.new.items }
-    ensures members { (n : ℕ) → has numbers.new.items n ≡ has numbers.old.items n }
-{
-    numbers.sort_unstable();
-    numbers.dedup();
-}
-
-/// Whether rising numbers are those of slot lines, the last one a given line, and the log that
-/// keeps only these slot lines (`kept_lines`) is impossible.
-fn is_conflict_at(alloc: Global, log: &Log, numbers: &[u32], last: u32) -> Result<bool, AllocError>
-    requires { IsStrictlyIncreasing numbers.now }
-    ensures { IfOk result (λ b. b ≡ true → IsConflictAt log.now.lines last numbers.now) }
-{
-    let Some(end) = numbers.last() else {
-        return Ok(false);
-    };
-    if *end != last || !are_slot_lines(log.lines(), numbers) {
-        return Ok(false);
+    let kept = KeptLog::of(alloc, log, &numbers)?;
+    let possible = is_possible(alloc, &kept.lines())?;
+    if possible {
+        return Ok(None);
     }
-    let kept = kept_lines(alloc, log, numbers)?;
-    Ok(!is_possible(alloc, &LogLines::new(&kept))?)
+    Ok(Some(numbers))
 }
 
 /// Whether each of some numbers is that of a slot line.
@@ -114,9 +98,10 @@ fn is_slot_line(lines: &[PackedLine], number: u32) -> bool
 }
 
 /// The numbers of the slot lines up to the line with number `last` that tell something. They rise,
-/// as those of all lines do.
+/// as those of all lines do. Clause `log` tells a proof what is so of any `Log`.
 fn slot_numbers_to(alloc: Global, log: &Log, last: u32) -> Result<Vec<u32>, AllocError>
-    ensures { IfOk result (λ numbers. AreSlotLinesTo log.now.lines last numbers.items) }
+    ensures numbers { IfOk result (λ numbers. AreSlotLinesTo log.now.lines last numbers.items) }
+    ensures log { AreLogLines log.now.lines }
 {
     log.lines()
         .iter()

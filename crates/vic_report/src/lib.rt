@@ -14,6 +14,7 @@ mod conflict;
 mod findings;
 mod kept_log;
 pub mod laws;
+mod line_numbers;
 mod reporting;
 mod shown;
 mod silencer;

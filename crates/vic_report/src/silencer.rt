@@ -1,6 +1,6 @@
 //! Which line silenced a tag whose reply was heard while it was Quiet.
 
-ghost use Rattle.std.specs.Prelude.{◌≡◌, ℕ, ◌+◌, ◌<◌, MatchOption, Some, List, length, slice_get, false, true};
+ghost use Rattle.std.specs.Prelude.{◌≡◌, ℕ, ◌+◌, ◌<◌, MatchOption, Some, List, slice_get, false, true};
 ghost use Rattle.vic_log.specs.Order.{entries};
 ghost use Rattle.vic_log.specs.Quiet.{is_quiet};
 ghost use Rattle.vic_log.specs.Slots.{hears};
@@ -26,25 +26,13 @@ pub(crate) fn silencer_of_line(log: &Log, number: u32) -> Option<u32>
 /// If the line at a position is a reply of a UID that is Quiet there, the number of the last Stay
 /// Quiet line with that UID before it.
 fn silencer_of_reply(lines: &[PackedLine], place: usize) -> Option<u32>
-    requires { place < length lines.now }
     ensures { MatchOption result
         ((u : ℕ) → hears (slice_get (entries lines.now) place) u ≡ true
         → is_quiet (entries lines.now) place u ≡ false)
         (λ n. (u : ℕ) × (hears (slice_get (entries lines.now) place) u ≡ true)
         × IsSilencedBefore lines.now place u n) }
 {
-    match lines[place].item().heard() {
-        Some(uid) => silencer_before(lines, place, uid),
-        None => None,
-    }
-}
-
-/// The number of the last Stay Quiet line with a UID before a position, if it is Quiet there.
-fn silencer_before(lines: &[PackedLine], place: usize, uid: Uid) -> Option<u32>
-    requires { place < length lines.now }
-    ensures { MatchOption result (is_quiet (entries lines.now) place uid ≡ false)
-        (IsSilencedBefore lines.now place uid) }
-{
+    let uid = lines.get(place)?.item().heard()?;
     let mut silencer = None;
     for index in 0..place {
         silencer = next_silencer(silencer, &lines[index], uid);

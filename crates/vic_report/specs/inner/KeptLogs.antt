@@ -1,11 +1,15 @@
 -- Lines of some slots of a log.
-use Rattle.std.specs.Prelude.{◌≡◌, ℕ, ◌+◌, Bool, true, List, [], length}
+use Rattle.std.specs.Prelude.{◌≡◌, ℕ, ◌+◌, ◌++◌, ◌∷◌, Bool, true, false, List, [], length}
+use Rattle.vic_frame.specs.Masks.{BitMask}
+use Rattle.vic_frame.specs.declared.request.Request.TheVariants.{Inventory}
 use Rattle.vic_log.specs.declared.entry.Entry.{Entry}
+use Rattle.vic_log.specs.declared.entry.Entry.TheVariants.{Sent}
 use Rattle.vic_log.specs.declared.entry.LogLine.{LogLine}
 use Rattle.vic_log.specs.Log.{last_from}
 use Rattle.vic_log.specs.Order.{entries, listed}
 use Rattle.vic_log.specs.Populations.{answerers_at, Fits, CouldHaveGiven}
 use Rattle.vic_log.specs.Quiet.{is_quiet}
+use Rattle.vic_report.specs.declared.kept_log.TheConstants.{LINK}
 use Rattle.vic_walk.specs.LogLines.{AreLogLines}
 
 -- at the end of the first entries the same tags are Quiet as at position i of the second
@@ -17,6 +21,14 @@ pub record IsKeptLog (lines : List LogLine) : Type 0 where
   pub log : AreLogLines lines
   pub unlisted : listed (entries lines) ≡ []
   pub last : last_from 0 lines ≡ length lines
+
+-- a request of one slot with this mask
+abbrev pub one_slot : BitMask → Entry
+one_slot m = Sent (Inventory LINK false m)
+
+-- the entries with this one more, behind a request of one slot with this mask
+abbrev pub with_slot : List Entry → BitMask → Entry → List Entry
+with_slot es m e = (es ++ one_slot m ∷ []) ++ e ∷ []
 
 -- the kept entries before and after position i is passed: the same tags stay Quiet, and a
 -- population that could have produced those before could have produced those after, if it fits

@@ -1,0 +1,66 @@
+//! Numbers of lines in rising order.
+
+ghost use Rattle.std.specs.Prelude.{◌≡◌, ℕ, ◌≤◌, IfSome, true};
+ghost use Rattle.std.specs.List.Sorted.{IsStrictlyIncreasing};
+ghost use Rattle.vic_frame.specs.Uids.{has};
+
+use std::marker::Model;
+
+/// Numbers of lines in rising order, each once.
+#[derive(Drop)]
+pub(crate) struct LineNumbers {
+    numbers: Vec<u32>,
+}
+
+impl Model for LineNumbers {
+    ghost use Rattle.std.specs.Prelude.{ℕ, List};
+    ghost use Rattle.std.specs.List.Sorted.{IsStrictlyIncreasing};
+
+    ghost Value = { List ℕ };
+
+    ghost view = { λ n. n.numbers.items };
+
+    ghost invariant = { λ n. IsStrictlyIncreasing n.numbers.items };
+}
+
+impl LineNumbers {
+    /// Some numbers, put in order.
+    pub(crate) fn of(numbers: Vec<u32>) -> LineNumbers
+        ensures { (n : ℕ) → has result n ≡ has numbers.items n }
+    {
+        let mut numbers = numbers;
+        numbers.sort_unstable();
+        numbers.dedup();
+        LineNumbers { numbers }
+    }
+
+    /// Whether a number is among them.
+    pub(crate) fn has(&self, number: u32) -> bool
+        ensures { result ≡ has self.now number }
+    {
+        self.numbers.binary_search(&number).is_ok()
+    }
+
+    /// The last one.
+    pub(crate) fn last(&self) -> Option<u32>
+        ensures member { IfSome result (λ last. has self.now last ≡ true) }
+        ensures above { IfSome result (λ last. (n : ℕ) → has self.now n ≡ true → n ≤ last) }
+    {
+        self.numbers.last().copied()
+    }
+
+    /// The numbers, from the least to the greatest.
+    pub(crate) fn as_slice(&self) -> &[u32]
+        ensures value { result.now ≡ self.now }
+        ensures rising { IsStrictlyIncreasing result.now }
+    {
+        &self.numbers
+    }
+
+    /// The same as a vector.
+    pub(crate) fn into_vec(self) -> Vec<u32>
+        ensures { result.items ≡ self }
+    {
+        self.numbers
+    }
+}
