@@ -165,6 +165,11 @@ class Catalogues(Command):
             name = self.catalogue(content.format("e0:04:01:00:00:00:00:b2"))
             self.assertEqual(here("lines", name, self.names[1]),
                              ("", f"{name}, row 2: {is_missing.format('a UID')}", 3))
+        name = self.catalogue('uid,"x\nE0040100000000A1,1\nE0040100000000B2,2"\n')
+        self.assertIn("row 1: a cell in quotes", here("lines", name, self.names[1])[1])
+        name = self.catalogue('uid,x,state,certain in,may be in\n,"1,unexpected,,\n'
+                              'E0040100000000B2,2",unexpected,,\nE0040100000000A1,,there,,\n')
+        self.assertIn("row 2: a cell in quotes", here("lines", name, self.names[1])[1])
         name = self.catalogue('uid,x\nE0040100000000A1,"not E0040100000000B2,\nwhich is lost"\n')
         self.assertEqual(here("lines", name, self.names[1]), ("complete 1\n", "", 0))
         name = self.catalogue('code,x\n17,"Surely\n18,Ruler 12"\n')

@@ -78,10 +78,9 @@ def catalogue(name: str, text: bytes, how: How = How()) -> Catalogue:
         except ListFault as fault:
             raise Wrong(refusal(name, fault.answer), is_list=True) from None
         return Catalogue(name, Form(), [COLUMN], [Entry(0, uid, [uid_text(uid)]) for uid in uids])
-    table, is_ours = _without_added(read_table(name, text, how.encoding))
-    _refuse_swallowed(table, "a UID", _is_uid)
+    table, is_ours = _without_added(_table(name, text, how.encoding))
     if how.tags is not None:
-        found = _tagged(table, is_ours, how, read_table(*how.tags, how.encoding))
+        found = _tagged(table, is_ours, how, _table(*how.tags, how.encoding))
     else:
         at = table.column(how.column or COLUMN, NAMES_IT, bool(how.column))
         entries = [Entry(row, _uid(table, row, cells[at]), cells) for row, cells in table.rows]
@@ -114,9 +113,16 @@ def _without_added(table: Table) -> tuple[Table, bool]:
     return _without(table._replace(rows=rows), added), True
 
 
+def _table(name: str, text: bytes, encoding: Optional[str]) -> Table:
+    """The table in a file, with all its rows."""
+    table = read_table(name, text, encoding)
+    _refuse_swallowed(table, "a UID", _is_uid)
+    return table
+
+
 def _refuse_swallowed(table: Table, what: str, test: Callable[[str], bool]) -> None:
-    """Refuses a table of which a cell has what begins a row on one of several lines."""
-    for row, cells in table.rows:
+    """Refuses a table of which a cell has several lines, and on one what tells of another row."""
+    for row, cells in ((1, table.heads), *table.rows):
         if any(test(it) for cell in cells for it in table.within(cell)):
             table.wrong(row, SWALLOWED.format(what))
 
@@ -141,7 +147,6 @@ def _untagged(table: Table, uid_at: int) -> Table:
 def _tagged(table: Table, is_ours: bool, how: How, tags: Table) -> Catalogue:
     """The catalogue of a table whose UIDs are in another one, found by a column that both have.
     A row may have several."""
-    _refuse_swallowed(tags, "a UID", _is_uid)
     uid_at = tags.column(COLUMN, "that of the UIDs has to be uid")
     head = tags.heads[uid_at]
     if is_ours and head in table.heads:
