@@ -2,12 +2,13 @@
 
 ghost use Rattle.vic_sets.specs.Cells.{in_cells};
 
+use crate::cell::Cell;
 use crate::cells::{Cells, gather_cells, is_in, least, settled};
 use arrayvec::ArrayVec;
 use std::alloc::{AllocError, Global};
 use std::marker::Model;
 use std::mem;
-use vic_frame::{Mask, Uid, without_top_byte};
+use vic_frame::{Mask, Uid};
 use vic_tree::OpenSet;
 
 /// A set of UIDs as a list of masks, the simple and slow way to keep one: the masks have at most 56
@@ -32,7 +33,7 @@ impl OpenSet for CellList {
 
     fn everything(alloc: Global) -> Result<CellList, AllocError> {
         let mut list = Vec::new(alloc);
-        list.push(Mask::default())?;
+        list.push(Cell::everything())?;
         Ok(CellList {
             cells: Cells { list },
             alloc,
@@ -40,7 +41,7 @@ impl OpenSet for CellList {
     }
 
     fn settle(&mut self, mask: &Mask, except: &[Uid]) -> Result<(), AllocError> {
-        let Some(mask) = without_top_byte(mask) else {
+        let Some(mask) = Cell::of_mask(mask) else {
             return Ok(());
         };
         // if memory is refused, no UID is left
@@ -58,13 +59,14 @@ impl OpenSet for CellList {
 
     fn up_to_three(&self, mask: &Mask, except: &[Uid]) -> ArrayVec<Uid, 3> {
         let mut out = ArrayVec::new();
-        if let Some(mask) = without_top_byte(mask) {
+        if let Some(mask) = Cell::of_mask(mask) {
             gather_cells(&mut out, except, &self.cells, &mask);
         }
         out
     }
 
     fn widest(&self) -> Option<Mask> {
-        least(&self.cells)
+        let cell = least(&self.cells)?;
+        Some(cell.mask())
     }
 }

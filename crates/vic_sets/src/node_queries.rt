@@ -7,31 +7,27 @@ ghost use Rattle.vic_tree.specs.Gathering.{Gathers};
 ghost use Rattle.vic_sets.specs.inner.Free.{IsFreeUnder};
 ghost use Rattle.vic_sets.specs.inner.Widest.{IsWidestOf, with_low_bit};
 
+use crate::cell::Cell;
 use crate::gather::gather_all;
 use crate::node::Node;
 use arrayvec::ArrayVec;
 use vic_frame::{Mask, UID_BITS, Uid};
 
-/// Appends the UIDs that are open below a node and aren't exceptions.
-pub(crate) fn gather_open(
-    out: &mut ArrayVec<Uid, 3>,
-    except: &[Uid],
-    node: &Node,
-    depth: u8,
-    low: u64,
-)
+/// Appends the UIDs of a mask that are open below a node, where its bits lead, and aren't
+/// exceptions.
+pub(crate) fn gather_open(out: &mut ArrayVec<Uid, 3>, except: &[Uid], node: &Node, mask: &Cell)
     requires rising { IsStrictlyIncreasing except.now }
-    requires depth_fits { depth + height node.now ≤ UID_BITS }
-    requires low_fits { low < 2 ^ depth }
-    ensures { Gathers (IsFreeUnder node.now depth low except.now) out.old.items out.new.items }
+    requires fits { mask.now.len + height node.now ≤ UID_BITS }
+    ensures { Gathers (IsFreeUnder node.now mask.now except.now) out.old.items out.new.items }
 {
     match node {
-        Node::Clear => gather_all(out, except, depth, low),
+        Node::Clear => gather_all(out, except, mask),
         Node::Shut => {}
         Node::Fork(halves) => {
-            gather_open(out, except, &halves.zero, depth + 1, low);
+            let (zero, one) = mask.halves();
+            gather_open(out, except, &halves.zero, &zero);
             if !out.is_full() {
-                gather_open(out, except, &halves.one, depth + 1, low + (1 << depth));
+                gather_open(out, except, &halves.one, &one);
             }
         }
     }

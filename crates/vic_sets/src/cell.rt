@@ -1,0 +1,156 @@
+//! Masks of at most 56 bits, and what is cut from them.
+
+ghost use Rattle.std.specs.Prelude.{◌≡◌, ℕ, ◌-◌, ◌<◌, ◌≤◌, ◌==◌, ◌&&◌, false, IfSome, IfNone};
+ghost use Rattle.vic_frame.specs.Uids.{IsUid};
+ghost use Rattle.vic_frame.specs.Masks.{lies_in};
+ghost use Rattle.vic_frame.specs.MaskLaws.{lower_half, upper_half};
+ghost use Rattle.vic_sets.specs.Cells.{IsCell, holds, cut_at, beside};
+
+use std::marker::Model;
+use vic_frame::{Mask, UID_BITS, Uid, without_top_byte};
+
+/// A mask of at most 56 bits.
+#[derive(Clone, Copy, PartialEq, Eq, PartialOrd, Ord)]
+pub(crate) struct Cell {
+    mask: Mask,
+}
+
+impl Model for Cell {
+    ghost use Rattle.vic_frame.specs.Masks.{BitMask};
+    ghost use Rattle.vic_sets.specs.Cells.{IsCell};
+
+    ghost Value = { BitMask };
+
+    ghost view = { λ c. c.mask };
+
+    ghost invariant = { λ c. IsCell c.mask };
+
+    ghost inverse = { λ m. record { mask = m } };
+}
+
+impl Cell {
+    /// The mask of no bits, in which every UID lies.
+    pub(crate) fn everything() -> Cell
+        ensures { result ≡ record { len = 0; value = 0 } }
+    {
+        Cell {
+            mask: Mask::default(),
+        }
+    }
+
+    /// The mask of 56 bits that holds this UID and no other.
+    pub(crate) fn of_uid(uid: Uid) -> Cell
+        ensures { (u : ℕ) → IsUid u → lies_in result u ≡ (u == uid) }
+    {
+        Cell {
+            mask: Mask::of_uid(uid),
+        }
+    }
+
+    /// The mask of at most 56 bits that holds the same UIDs as a mask; `None` if that holds none.
+    pub(crate) fn of_mask(mask: &Mask) -> Option<Cell>
+        ensures same { IfSome result (λ m. (u : ℕ) → IsUid u
+            → lies_in m u ≡ lies_in mask.now u) }
+        ensures none { IfNone result ((u : ℕ) → IsUid u → lies_in mask.now u ≡ false) }
+    {
+        let mask = without_top_byte(mask)?;
+        Some(Cell { mask })
+    }
+
+    /// It as a mask.
+    pub(crate) fn mask(&self) -> Mask
+        ensures value { result ≡ self.now }
+        ensures cell { IsCell self.now }
+    {
+        self.mask
+    }
+
+    /// How many bits it fixes, from 0 to 56.
+    pub(crate) fn len(&self) -> u8
+        ensures value { result ≡ self.now.len }
+        ensures cell { IsCell self.now }
+    {
+        self.mask.len()
+    }
+
+    /// The value of those bits, below `2^len`.
+    pub(crate) fn value(&self) -> u64
+        ensures value { result ≡ self.now.value }
+        ensures cell { IsCell self.now }
+    {
+        self.mask.value()
+    }
+
+    /// Whether the UID lies in it.
+    pub(crate) fn matches(&self, uid: Uid) -> bool
+        ensures value { result ≡ lies_in self.now uid }
+        ensures is_uid { IsUid uid }
+    {
+        self.mask.matches(uid)
+    }
+
+    /// Whether it holds all of another.
+    fn holds(&self, inner: &Cell) -> bool
+        ensures value { result ≡ holds self.now inner.now }
+        ensures cell { IsCell self.now }
+    {
+        self.len() <= inner.len() && inner.value() % (1 << self.len()) == self.value()
+    }
+
+    /// What it has in common with another, if anything.
+    pub(crate) fn shared(&self, other: &Cell) -> Option<Cell>
+        ensures within { IfSome result (λ m.
+            (self.now.len ≤ m.len) × (cut_at self.now.len m ≡ self.now)) }
+        ensures both { IfSome result (λ m. (u : ℕ)
+            → lies_in m u ≡ (lies_in self.now u && lies_in other.now u)) }
+        ensures none { IfNone result ((u : ℕ)
+            → (lies_in self.now u && lies_in other.now u) ≡ false) }
+    {
+        if self.holds(other) {
+            Some(*other)
+        } else if other.holds(self) {
+            Some(*self)
+        } else {
+            None
+        }
+    }
+
+    /// The mask that fixes its low `len` bits, and the next one otherwise.
+    pub(crate) fn flipped(&self, len: u8) -> Cell
+        requires { len < self.now.len }
+        ensures { result ≡ beside len self.now }
+    {
+        let low = self.value() % (1 << len);
+        let value = if (self.value() >> len) % 2 == 0 {
+            low + (1 << len)
+        } else {
+            low
+        };
+        Cell {
+            mask: Mask::of_bits(len + 1, value),
+        }
+    }
+
+    /// The mask that fixes one bit less, if it fixes any.
+    pub(crate) fn widened(&self) -> Cell
+        ensures { result ≡ cut_at (self.now.len - 1) self.now }
+    {
+        let len = self.len().saturating_sub(1);
+        Cell {
+            mask: Mask::of_bits(len, self.value() % (1 << len)),
+        }
+    }
+
+    /// Its halves, which fix one more bit: where that is 0, and where it is 1.
+    pub(crate) fn halves(&self) -> (Cell, Cell)
+        requires { self.now.len < UID_BITS }
+        ensures zero { result.0 ≡ lower_half self.now }
+        ensures one { result.1 ≡ upper_half self.now }
+        ensures cell { IsCell self.now }
+    {
+        let len = self.len() + 1;
+        let zero = Mask::of_bits(len, self.value());
+        let one = Mask::of_bits(len, self.value() + (1 << self.len()));
+        (Cell { mask: zero }, Cell { mask: one })
+    }
+}
