@@ -1,18 +1,17 @@
 //! Masks of at most 56 bits, and what is cut from them.
 
-ghost use Rattle.std.specs.Prelude.{◌≡◌, ℕ, ◌-◌, ◌<◌, ◌≤◌, ◌==◌, ◌&&◌, false, IfSome, IfNone};
-ghost use Rattle.vic_frame.specs.Uids.{IsUid};
+ghost use Rattle.std.specs.Prelude.{◌≡◌, ℕ, ◌-◌, ◌<◌, ◌≤◌, ◌&&◌, false, IfSome, IfNone};
 ghost use Rattle.vic_frame.specs.Masks.{lies_in};
 ghost use Rattle.vic_frame.specs.MaskLaws.{lower_half, upper_half};
 ghost use Rattle.vic_sets.specs.Cells.{IsCell, holds, cut_at, beside};
 
 use std::marker::Model;
-use vic_frame::{Mask, UID_BITS, Uid, without_top_byte};
+use vic_frame::{Mask, UID_BITS};
 
 /// A mask of at most 56 bits.
 #[derive(Clone, Copy, PartialEq, Eq, PartialOrd, Ord)]
 pub(crate) struct Cell {
-    mask: Mask,
+    pub mask: Mask,
 }
 
 impl Model for Cell {
@@ -29,42 +28,6 @@ impl Model for Cell {
 }
 
 impl Cell {
-    /// The mask of no bits, in which every UID lies.
-    pub(crate) fn everything() -> Cell
-        ensures { result ≡ record { len = 0; value = 0 } }
-    {
-        Cell {
-            mask: Mask::default(),
-        }
-    }
-
-    /// The mask of 56 bits that holds this UID and no other.
-    pub(crate) fn of_uid(uid: Uid) -> Cell
-        ensures { (u : ℕ) → IsUid u → lies_in result u ≡ (u == uid) }
-    {
-        Cell {
-            mask: Mask::of_uid(uid),
-        }
-    }
-
-    /// The mask of at most 56 bits that holds the same UIDs as a mask; `None` if that holds none.
-    pub(crate) fn of_mask(mask: &Mask) -> Option<Cell>
-        ensures same { IfSome result (λ m. (u : ℕ) → IsUid u
-            → lies_in m u ≡ lies_in mask.now u) }
-        ensures none { IfNone result ((u : ℕ) → IsUid u → lies_in mask.now u ≡ false) }
-    {
-        let mask = without_top_byte(mask)?;
-        Some(Cell { mask })
-    }
-
-    /// It as a mask.
-    pub(crate) fn mask(&self) -> Mask
-        ensures value { result ≡ self.now }
-        ensures cell { IsCell self.now }
-    {
-        self.mask
-    }
-
     /// How many bits it fixes, from 0 to 56.
     pub(crate) fn len(&self) -> u8
         ensures value { result ≡ self.now.len }
@@ -79,14 +42,6 @@ impl Cell {
         ensures cell { IsCell self.now }
     {
         self.mask.value()
-    }
-
-    /// Whether the UID lies in it.
-    pub(crate) fn matches(&self, uid: Uid) -> bool
-        ensures value { result ≡ lies_in self.now uid }
-        ensures is_uid { IsUid uid }
-    {
-        self.mask.matches(uid)
     }
 
     /// Whether it holds all of another.
@@ -120,12 +75,9 @@ impl Cell {
         requires { len < self.now.len }
         ensures { result ≡ beside len self.now }
     {
+        let bit = (self.value() >> len) % 2;
         let low = self.value() % (1 << len);
-        let value = if (self.value() >> len) % 2 == 0 {
-            low + (1 << len)
-        } else {
-            low
-        };
+        let value = if bit == 0 { low + (1 << len) } else { low };
         Cell {
             mask: Mask::of_bits(len + 1, value),
         }

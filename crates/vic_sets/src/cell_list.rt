@@ -3,12 +3,12 @@
 ghost use Rattle.vic_sets.specs.Cells.{in_cells};
 
 use crate::cell::Cell;
-use crate::cells::{Cells, gather_cells, is_in, least, settled};
+use crate::cells::{Cells, gather_cells, is_in, settled};
 use arrayvec::ArrayVec;
 use std::alloc::{AllocError, Global};
 use std::marker::Model;
 use std::mem;
-use vic_frame::{Mask, Uid};
+use vic_frame::{Mask, Uid, without_top_byte};
 use vic_tree::OpenSet;
 
 /// A set of UIDs as a list of masks, the simple and slow way to keep one: the masks have at most 56
@@ -33,7 +33,9 @@ impl OpenSet for CellList {
 
     fn everything(alloc: Global) -> Result<CellList, AllocError> {
         let mut list = Vec::new(alloc);
-        list.push(Cell::everything())?;
+        list.push(Cell {
+            mask: Mask::default(),
+        })?;
         Ok(CellList {
             cells: Cells { list },
             alloc,
@@ -41,7 +43,7 @@ impl OpenSet for CellList {
     }
 
     fn settle(&mut self, mask: &Mask, except: &[Uid]) -> Result<(), AllocError> {
-        let Some(mask) = Cell::of_mask(mask) else {
+        let Some(mask) = without_top_byte(mask) else {
             return Ok(());
         };
         // if memory is refused, no UID is left
@@ -49,7 +51,7 @@ impl OpenSet for CellList {
             list: Vec::new(self.alloc),
         };
         let cells = mem::replace(&mut self.cells, none);
-        self.cells = settled(self.alloc, &cells, &mask, except)?;
+        self.cells = settled(self.alloc, &cells, &Cell { mask }, except)?;
         Ok(())
     }
 
@@ -59,14 +61,14 @@ impl OpenSet for CellList {
 
     fn up_to_three(&self, mask: &Mask, except: &[Uid]) -> ArrayVec<Uid, 3> {
         let mut out = ArrayVec::new();
-        if let Some(mask) = Cell::of_mask(mask) {
-            gather_cells(&mut out, except, &self.cells, &mask);
+        if let Some(mask) = without_top_byte(mask) {
+            gather_cells(&mut out, except, &self.cells, &Cell { mask });
         }
         out
     }
 
     fn widest(&self) -> Option<Mask> {
-        let cell = least(&self.cells)?;
-        Some(cell.mask())
+        let cell = self.cells.list.iter().min()?;
+        Some(cell.mask)
     }
 }

@@ -1,20 +1,20 @@
 //! Lists of disjoint masks of at most 56 bits, of which no two are the halves of one mask.
 
-ghost use Rattle.std.specs.Prelude.{◌≡◌, ◌&&◌, ◌||◌, not, IfOk, OnOk, IfSome, IfNone, All, Contains, []};
+ghost use Rattle.std.specs.Prelude.{◌≡◌, ◌&&◌, ◌||◌, not, IfOk, OnOk};
 ghost use Rattle.std.specs.List.Sorted.{IsStrictlyIncreasing};
 ghost use Rattle.vic_frame.specs.Uids.{has};
 ghost use Rattle.vic_frame.specs.Masks.{lies_in};
-ghost use Rattle.vic_tree.specs.OpenSet.{SameUids, settled, IsAtMost};
+ghost use Rattle.vic_tree.specs.OpenSet.{SameUids, settled};
 ghost use Rattle.vic_tree.specs.Gathering.{Gathers};
 ghost use Rattle.vic_sets.specs.inner.Free.{IsFreeIn};
-ghost use Rattle.vic_sets.specs.Cells.{in_cells, IsApart, AreCells};
+ghost use Rattle.vic_sets.specs.Cells.{in_cells, IsApart};
 
 use crate::cell::Cell;
 use crate::gather::gather_all;
 use arrayvec::ArrayVec;
 use std::alloc::{AllocError, Global};
 use std::marker::Model;
-use vic_frame::Uid;
+use vic_frame::{Mask, Uid};
 
 /// Masks of at most 56 bits: no UID lies in two of them, and no two are the halves of one mask.
 #[derive(Drop)]
@@ -38,7 +38,7 @@ impl Model for Cells {
 pub(crate) fn is_in(cells: &Cells, uid: Uid) -> bool
     ensures { result ≡ in_cells cells.now uid }
 {
-    cells.list.iter().any(|cell| cell.matches(uid))
+    cells.list.iter().any(|cell| cell.mask.matches(uid))
 }
 
 /// What is left of some cells after a mask is removed, except some UIDs.
@@ -93,27 +93,28 @@ fn add_back(left: &mut Cells, cells: &Cells, uids: &[Uid]) -> Result<(), AllocEr
 {
     for uid in uids {
         if is_in(cells, *uid) && !is_in(left, *uid) {
-            add(left, Cell::of_uid(*uid))?;
+            let mask = Mask::of_uid(*uid);
+            add(left, Cell { mask })?;
         }
     }
     Ok(())
 }
 
 /// Adds a mask. If the other half of a mask one bit shorter is there, the two become that mask.
-fn add(cells: &mut Cells, mask: Cell) -> Result<(), AllocError>
-    requires { IsApart mask cells.old }
+fn add(cells: &mut Cells, cell: Cell) -> Result<(), AllocError>
+    requires { IsApart cell cells.old }
     ensures { OnOk result (SameUids (in_cells cells.new)
-        (λ u. in_cells cells.old u || lies_in mask u)) }
+        (λ u. in_cells cells.old u || lies_in cell u)) }
 {
-    if mask.len() > 0 {
-        let other = mask.flipped(mask.len() - 1);
+    if cell.len() > 0 {
+        let other = cell.flipped(cell.len() - 1);
         if cells.list.as_slice().contains(&other) {
-            cells.list.retain(|cell| *cell != other);
-            add(cells, mask.widened())?;
+            cells.list.retain(|kept| *kept != other);
+            add(cells, cell.widened())?;
             return Ok(());
         }
     }
-    cells.list.push(mask)?;
+    cells.list.push(cell)?;
     Ok(())
 }
 
@@ -128,13 +129,4 @@ pub(crate) fn gather_cells(out: &mut ArrayVec<Uid, 3>, except: &[Uid], cells: &C
             gather_all(out, except, &both);
         }
     }
-}
-
-/// The shortest of the cells, and of those the one of least value.
-pub(crate) fn least(cells: &Cells) -> Option<Cell>
-    ensures cells { AreCells cells.now }
-    ensures found { IfSome result (λ m. Contains cells.now m × All (IsAtMost m) cells.now) }
-    ensures none { IfNone result (cells.now ≡ []) }
-{
-    cells.list.iter().min().copied()
 }

@@ -10,20 +10,17 @@ use vic_frame::{UID_BITS, Uid};
 use vic_tree::gather::gather_one;
 
 /// Appends the UIDs of a mask that aren't exceptions.
-pub(crate) fn gather_all(out: &mut ArrayVec<Uid, 3>, except: &[Uid], mask: &Cell)
+pub(crate) fn gather_all(out: &mut ArrayVec<Uid, 3>, except: &[Uid], cell: &Cell)
     requires rising { IsStrictlyIncreasing except.now }
-    ensures { Gathers (IsFree mask.now except.now) out.old.items out.new.items }
+    ensures { Gathers (IsFree cell.now except.now) out.old.items out.new.items }
 {
-    let len = mask.len();
+    let len = cell.len();
     let count = 1u64 << (UID_BITS - len);
     for high in 0..count {
         if out.is_full() {
             return;
         }
-        gather_one(
-            out,
-            except,
-            Uid::from_low_bits((high << len) + mask.value()),
-        );
+        let uid = Uid::from_low_bits((high << len) + cell.value());
+        gather_one(out, except, uid);
     }
 }

@@ -71,9 +71,9 @@ impl OpenSet for MaskTree {
 
     fn up_to_three(&self, mask: &Mask, except: &[Uid]) -> ArrayVec<Uid, 3> {
         let mut found = ArrayVec::new();
-        if let Some(mask) = Cell::of_mask(mask) {
+        if let Some(mask) = without_top_byte(mask) {
             let node = below(&self.root, mask.len(), mask.value());
-            gather_open(&mut found, except, node, &mask);
+            gather_open(&mut found, except, node, &Cell { mask });
         }
         found
     }

@@ -4,29 +4,29 @@ use Rattle.vic_sets.proofs.gather.gather_all.Goals as goal
 
 pub overflow_add-high : goal.overflow_add-high
 overflow_add-high c =
-    let m = c.args.mask.now in
+    let m = c.args.cell.now in
     let cell = c.value.ensures.cell in
     let below : c.loop-high.high < 2 ^ (56 - m.len) = omega (arith, one_shl (56 - m.len) 64 (omega arith), rw c.len-len.ensures.value at c.loop-high-test.true) in
     rw (c.len-len.ensures.value, c.value.ensures.value) (omega (arith, place_small m c.loop-high.high cell below, shifted m c.loop-high.high cell below))
 
-pub from_low_bits-requires : goal.from_low_bits-requires
-from_low_bits-requires c =
-    let m = c.args.mask.now in
+pub from_low_bits-uid-requires : goal.from_low_bits-uid-requires
+from_low_bits-uid-requires c =
+    let m = c.args.cell.now in
     let cell = c.value.ensures.cell in
     let below : c.loop-high.high < 2 ^ (56 - m.len) = omega (arith, one_shl (56 - m.len) 64 (omega arith), rw c.len-len.ensures.value at c.loop-high-test.true) in
     rw (c.len-len.ensures.value, c.value.ensures.value) (omega (arith, place_small m c.loop-high.high cell below, shifted m c.loop-high.high cell below))
 
 pub loop-high-preserved : goal.loop-high-preserved
 loop-high-preserved c =
-    let m = c.args.mask.now in
+    let m = c.args.cell.now in
     let cell = c.value.ensures.cell in
     let i = c.loop-high.high in
     let below : i < 2 ^ (56 - m.len) = omega (arith, one_shl (56 - m.len) 64 (omega arith), rw c.len-len.ensures.value at c.loop-high-test.true) in
     let at = is_uid_of m i cell below in
-    let is : c.from_low_bits.result ≡ uid_of m i = c.from_low_bits.ensures.value ∙ rw (c.len-len.ensures.value, c.value.ensures.value) (ap (λ x. uid_from_low_bits (x + m.value)) (shifted m i cell below)) in
+    let is : c.from_low_bits-uid.result ≡ uid_of m i = c.from_low_bits-uid.ensures.value ∙ rw (c.len-len.ensures.value, c.value.ensures.value) (ap (λ x. uid_from_low_bits (x + m.value)) (shifted m i cell below)) in
     gathers_both
     (λ u. IsFree m c.args.except.now u × (u % 2 ^ 56 / 2 ^ m.len < i))
-    (λ u. (u ≡ c.from_low_bits.result) × (has c.args.except.now u ≡ false))
+    (λ u. (u ≡ c.from_low_bits-uid.result) × (has c.args.except.now u ≡ false))
     (λ u. IsFree m c.args.except.now u × (u % 2 ^ 56 / 2 ^ m.len < i + 1))
     _ _ _
     (λ u h. (h.0, omega (arith, h.1)))
@@ -41,5 +41,5 @@ loop-high-preserved c =
 pub returns : goal.returns
 returns c =
     gathers_like _ _ _ _ (λ u h. h.0)
-    (λ u h. (h, omega (arith, high_below c.args.mask.now u c.len-len.ensures.cell, one_shl (56 - c.args.mask.now.len) 64 (omega arith), rw c.len-len.ensures.value at c.loop-high-test.false)))
+    (λ u h. (h, omega (arith, high_below c.args.cell.now u c.len-len.ensures.cell, one_shl (56 - c.args.cell.now.len) 64 (omega arith), rw c.len-len.ensures.value at c.loop-high-test.false)))
     c.loop-high.invariant
