@@ -1,37 +1,35 @@
 -- A UID by the mask that it lies in and the bits above it.
-use Rattle.vic_sets.proofs.Words.{◌≡◌, ℕ, ◌+◌, ◌-◌, ◌*◌, ◌/◌, ◌^◌, ◌%◌, ◌<◌, inl, inr, cases_eq, List, sym, ap, ◌∙◌, arith, pow-add, pow_pos, shr-shr, mod-mul-add, mod_below, mod_mod_pow, true, false, eqb-true, eq-eqb, BitMask, lies_in, IsCell, lower_half, upper_half, has, Node, open_at, mul-add-lt, div-mul-add, shr_below, shl_whole, shr_split, IsUid, uid_from_low_bits, mod_pow_more, same_from_place, Gathers, gathers_both, IsFree, IsFreeUnder}
+use Rattle.vic_sets.proofs.Words.{◌≡◌, ℕ, ◌+◌, ◌-◌, ◌*◌, ◌/◌, ◌^◌, ◌%◌, ◌<◌, inl, inr, cases_eq, List, sym, ap, ◌∙◌, arith, pow-add, pow_pos, shr-shr, mod-mul-add, mod_below, mod_mod_pow, true, false, eqb-true, eq-eqb, BitMask, lies_in, IsCell, lower_half, upper_half, has, Node, open_at, mul-add-lt, div-mul-add, one_shl, shr_below, shl_whole, shr_split, IsUid, uid_from_low_bits, mod_pow_more, same_from_place, Gathers, gathers_both, IsFree, IsFreeUnder}
 use Rattle.vic_sets.proofs.CellLaws.{longer}
-
-pub place_small : (m : BitMask) (high : ℕ) → IsCell m → high < 2 ^ (56 - m.len) → high * 2 ^ m.len + m.value < 2 ^ 56
-place_small m high h r =
-    let e : m.len + (56 - m.len) ≡ 56 = omega (arith, h.1) in
-    rw (← pow-add 2 m.len (56 - m.len), e) at (mul-add-lt high (2 ^ m.len) m.value (2 ^ (56 - m.len)) r h.0.1)
-
-pub shifted : (m : BitMask) (high : ℕ) → IsCell m → high < 2 ^ (56 - m.len) → high * 2 ^ m.len % 2 ^ 64 ≡ high * 2 ^ m.len
-shifted m high h r = shl_whole high (56 - m.len) m.len 64 r (omega (arith, h.1))
 
 abbrev pub uid_of : BitMask → ℕ → ℕ
 uid_of m high = uid_from_low_bits (high * 2 ^ m.len + m.value)
 
 pub record IsUidOf (m : BitMask) (high : ℕ) : Type 0 where
+  pub shifted : high * 2 ^ m.len % 2 ^ 64 ≡ high * 2 ^ m.len
+  pub small : high * 2 ^ m.len + m.value < 2 ^ 56
   pub free : (except : List ℕ) → has except (uid_of m high) ≡ false → IsFree m except (uid_of m high)
   pub high_is : uid_of m high % 2 ^ 56 / 2 ^ m.len ≡ high
 
-pub is_uid_of : (m : BitMask) (high : ℕ) → IsCell m → high < 2 ^ (56 - m.len) → IsUidOf m high
+pub is_uid_of : (m : BitMask) (high : ℕ) → IsCell m → high < 1 * 2 ^ (56 - m.len) % 2 ^ 64 → IsUidOf m high
 is_uid_of m high h r =
-    let small = place_small m high h r in
-    let e : uid_of m high % 2 ^ 56 ≡ high * 2 ^ m.len + m.value = omega arith in
+    let below : high < 2 ^ (56 - m.len) = omega (arith, one_shl (56 - m.len) 64 (omega arith)) in
+    let e : m.len + (56 - m.len) ≡ 56 = omega (arith, h.1) in
+    let small : high * 2 ^ m.len + m.value < 2 ^ 56 = rw (← pow-add 2 m.len (56 - m.len), e) at (mul-add-lt high (2 ^ m.len) m.value (2 ^ (56 - m.len)) below h.0.1) in
+    let low : uid_of m high % 2 ^ 56 ≡ high * 2 ^ m.len + m.value = omega arith in
     record {
+      shifted = shl_whole high (56 - m.len) m.len 64 below (omega (arith, h.1));
+      small = small;
       free = λ except f. record {
         is_uid = (omega arith, omega arith);
-        inside = eq-eqb _ _ (sym (mod_mod_pow (uid_of m high) m.len 56 h.1) ∙ ap (λ x. x % 2 ^ m.len) e ∙ mod-mul-add high (2 ^ m.len) m.value h.0.1);
+        inside = eq-eqb _ _ (sym (mod_mod_pow (uid_of m high) m.len 56 h.1) ∙ ap (λ x. x % 2 ^ m.len) low ∙ mod-mul-add high (2 ^ m.len) m.value h.0.1);
         free = f;
       };
-      high_is = ap (λ x. x / 2 ^ m.len) e ∙ div-mul-add high (2 ^ m.len) m.value h.0.1;
+      high_is = ap (λ x. x / 2 ^ m.len) low ∙ div-mul-add high (2 ^ m.len) m.value h.0.1;
     }
 
-pub high_below : (m : BitMask) (u : ℕ) → IsCell m → u % 2 ^ 56 / 2 ^ m.len < 2 ^ (56 - m.len)
-high_below m u h = let e : 56 - m.len + m.len ≡ 56 = omega (arith, h.1) in shr_below (u % 2 ^ 56) (56 - m.len) m.len (rw e (mod_below u (2 ^ 56) (omega arith)))
+pub high_below : (m : BitMask) (u : ℕ) → IsCell m → u % 2 ^ 56 / 2 ^ m.len < 1 * 2 ^ (56 - m.len) % 2 ^ 64
+high_below m u h = let e : 56 - m.len + m.len ≡ 56 = omega (arith, h.1) in omega (arith, shr_below (u % 2 ^ 56) (56 - m.len) m.len (rw e (mod_below u (2 ^ 56) (omega arith))), one_shl (56 - m.len) 64 (omega arith))
 
 pub uid_is : (m : BitMask) (u : ℕ) → IsCell m → IsUid u → lies_in m u ≡ true → u ≡ uid_of m (u % 2 ^ 56 / 2 ^ m.len)
 uid_is m u h is_uid inside =

@@ -1,6 +1,6 @@
 //! Masks of at most 56 bits, and what is cut from them.
 
-ghost use Rattle.std.specs.Prelude.{◌≡◌, ℕ, ◌-◌, ◌<◌, ◌≤◌, ◌&&◌, false, IfSome, IfNone};
+ghost use Rattle.std.specs.Prelude.{◌≡◌, ℕ, ◌-◌, ◌<◌, ◌≤◌, ◌&&◌, false, IfSome, IfNone, if◌then◌else◌};
 ghost use Rattle.vic_frame.specs.Masks.{lies_in};
 ghost use Rattle.vic_frame.specs.MaskLaws.{lower_half, upper_half};
 ghost use Rattle.vic_sets.specs.Cells.{IsCell, holds, cut_at, beside};
@@ -36,20 +36,12 @@ impl Cell {
         self.mask.len()
     }
 
-    /// The value of those bits, below `2^len`.
-    pub(crate) fn value(&self) -> u64
-        ensures value { result ≡ self.now.value }
-        ensures cell { IsCell self.now }
-    {
-        self.mask.value()
-    }
-
     /// Whether it holds all of another.
     fn holds(&self, inner: &Cell) -> bool
         ensures value { result ≡ holds self.now inner.now }
         ensures cell { IsCell self.now }
     {
-        self.len() <= inner.len() && inner.value() % (1 << self.len()) == self.value()
+        self.len() <= inner.len() && inner.mask.value() % (1 << self.len()) == self.mask.value()
     }
 
     /// What it has in common with another, if anything.
@@ -75,12 +67,11 @@ impl Cell {
         requires { len < self.now.len }
         ensures { result ≡ beside len self.now }
     {
-        let bit = (self.value() >> len) % 2;
-        let low = self.value() % (1 << len);
+        let bit = (self.mask.value() >> len) % 2;
+        let low = self.mask.value() % (1 << len);
         let value = if bit == 0 { low + (1 << len) } else { low };
-        Cell {
-            mask: Mask::of_bits(len + 1, value),
-        }
+        let mask = Mask::of_bits(len + 1, value);
+        Cell { mask }
     }
 
     /// The mask that fixes one bit less, if it fixes any.
@@ -88,21 +79,18 @@ impl Cell {
         ensures { result ≡ cut_at (self.now.len - 1) self.now }
     {
         let len = self.len().saturating_sub(1);
-        Cell {
-            mask: Mask::of_bits(len, self.value() % (1 << len)),
-        }
+        let mask = Mask::of_bits(len, self.mask.value() % (1 << len));
+        Cell { mask }
     }
 
-    /// Its halves, which fix one more bit: where that is 0, and where it is 1.
-    pub(crate) fn halves(&self) -> (Cell, Cell)
+    /// Its half in which the bit above the others is this one.
+    pub(crate) fn half(&self, bit: bool) -> Cell
         requires { self.now.len < UID_BITS }
-        ensures zero { result.0 ≡ lower_half self.now }
-        ensures one { result.1 ≡ upper_half self.now }
+        ensures value { result ≡ (if bit then upper_half self.now else lower_half self.now) }
         ensures cell { IsCell self.now }
     {
-        let len = self.len() + 1;
-        let zero = Mask::of_bits(len, self.value());
-        let one = Mask::of_bits(len, self.value() + (1 << self.len()));
-        (Cell { mask: zero }, Cell { mask: one })
+        let value = self.mask.value() + (u64::from(bit) << self.len());
+        let mask = Mask::of_bits(self.len() + 1, value);
+        Cell { mask }
     }
 }

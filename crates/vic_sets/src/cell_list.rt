@@ -33,9 +33,8 @@ impl OpenSet for CellList {
 
     fn everything(alloc: Global) -> Result<CellList, AllocError> {
         let mut list = Vec::new(alloc);
-        list.push(Cell {
-            mask: Mask::default(),
-        })?;
+        let mask = Mask::default();
+        list.push(Cell { mask })?;
         Ok(CellList {
             cells: Cells { list },
             alloc,

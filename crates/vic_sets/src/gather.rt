@@ -20,7 +20,7 @@ pub(crate) fn gather_all(out: &mut ArrayVec<Uid, 3>, except: &[Uid], cell: &Cell
         if out.is_full() {
             return;
         }
-        let uid = Uid::from_low_bits((high << len) + cell.value());
+        let uid = Uid::from_low_bits((high << len) + cell.mask.value());
         gather_one(out, except, uid);
     }
 }

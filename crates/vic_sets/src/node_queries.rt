@@ -24,10 +24,9 @@ pub(crate) fn gather_open(out: &mut ArrayVec<Uid, 3>, except: &[Uid], node: &Nod
         Node::Clear => gather_all(out, except, cell),
         Node::Shut => {}
         Node::Fork(halves) => {
-            let (zero, one) = cell.halves();
-            gather_open(out, except, &halves.zero, &zero);
+            gather_open(out, except, &halves.zero, &cell.half(false));
             if !out.is_full() {
-                gather_open(out, except, &halves.one, &one);
+                gather_open(out, except, &halves.one, &cell.half(true));
             }
         }
     }
