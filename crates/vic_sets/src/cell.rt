@@ -44,7 +44,7 @@ impl Cell {
         self.len() <= inner.len() && inner.mask.value() % (1 << self.len()) == self.mask.value()
     }
 
-    /// What it has in common with another, if anything.
+    /// The mask of what it has in common with another, if they have anything.
     pub(crate) fn shared(&self, other: &Cell) -> Option<Cell>
         ensures within { IfSome result (λ m.
             (self.now.len ≤ m.len) × (cut_at self.now.len m ≡ self.now)) }
@@ -62,7 +62,7 @@ impl Cell {
         }
     }
 
-    /// The mask that fixes its low `len` bits, and the next one otherwise.
+    /// The mask that fixes the low `len` bits as this one does, and the next one otherwise.
     pub(crate) fn flipped(&self, len: u8) -> Cell
         requires { len < self.now.len }
         ensures { result ≡ beside len self.now }
@@ -83,7 +83,7 @@ impl Cell {
         Cell { mask }
     }
 
-    /// Its half in which the bit above the others is this one.
+    /// Its upper half, where the next bit is 1, if `bit`; otherwise its lower half.
     pub(crate) fn half(&self, bit: bool) -> Cell
         requires { self.now.len < UID_BITS }
         ensures value { result ≡ (if bit then upper_half self.now else lower_half self.now) }

@@ -13,7 +13,7 @@ use crate::node::Node;
 use arrayvec::ArrayVec;
 use vic_frame::{Mask, UID_BITS, Uid};
 
-/// Appends the UIDs of a mask that are open below a node, where its bits lead, and aren't
+/// Appends the UIDs of a mask that are open below the node to which its bits lead, and aren't
 /// exceptions.
 pub(crate) fn gather_open(out: &mut ArrayVec<Uid, 3>, except: &[Uid], node: &Node, cell: &Cell)
     requires rising { IsStrictlyIncreasing except.now }

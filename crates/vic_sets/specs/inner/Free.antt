@@ -18,8 +18,7 @@ pub record IsFreeIn (set : ℕ → Bool) (m : BitMask) (except : List ℕ) (u : 
   pub inside : lies_in m u ≡ true
   pub free : has except u ≡ false
 
--- a UID of a mask that is open below a node, at the depth of the mask's length, and isn't an
--- exception
+-- a UID of a mask that is open below the node to which the mask's bits lead, and isn't an exception
 pub record IsFreeUnder (node : Node) (m : BitMask) (except : List ℕ) (u : ℕ) : Type 0 where
   pub is_uid : IsUid u
   pub inside : LiesIn m u
