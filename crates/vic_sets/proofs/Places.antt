@@ -1,64 +1,66 @@
--- A UID by its low bits and those above them.
-use Rattle.vic_sets.proofs.Words.{◌≡◌, ℕ, ◌+◌, ◌-◌, ◌*◌, ◌/◌, ◌^◌, ◌%◌, ◌<◌, ◌≤◌, inl, inr, cases_eq, List, sym, ap, ◌∙◌, arith, pow-add, pow_pos, shr-shr, mod-mul-add, mod_below, mod_mod_pow, Node, open_at, mul-add-lt, div-mul-add, shr_below, shl_whole, shr_split, IsUid, uid_from_low_bits, mod_pow_more, same_from_place, Gathers, gathers_both, IsFreeUnder}
+-- A UID by the mask that it lies in and the bits above it.
+use Rattle.vic_sets.proofs.Words.{◌≡◌, ℕ, ◌+◌, ◌-◌, ◌*◌, ◌/◌, ◌^◌, ◌%◌, ◌<◌, inl, inr, cases_eq, List, sym, ap, ◌∙◌, arith, pow-add, pow_pos, shr-shr, mod-mul-add, mod_below, mod_mod_pow, true, false, eqb-true, eq-eqb, BitMask, lies_in, IsCell, lower_half, upper_half, has, Node, open_at, mul-add-lt, div-mul-add, one_shl, shr_below, shl_whole, shr_split, IsUid, uid_from_low_bits, mod_pow_more, same_from_place, Gathers, gathers_both, IsFree, IsFreeUnder}
+use Rattle.vic_sets.proofs.CellLaws.{longer}
 
-pub place_small : (d low high : ℕ) → d ≤ 56 → low < 2 ^ d → high < 2 ^ (56 - d) → high * 2 ^ d + low < 2 ^ 56
-place_small d low high p q r =
-    let e : d + (56 - d) ≡ 56 = omega arith in
-    rw (← pow-add 2 d (56 - d), e) at (mul-add-lt high (2 ^ d) low (2 ^ (56 - d)) r q)
+abbrev pub uid_of : BitMask → ℕ → ℕ
+uid_of m high = uid_from_low_bits (high * 2 ^ m.len + m.value)
 
-pub shifted : (d high : ℕ) → d ≤ 56 → high < 2 ^ (56 - d) → high * 2 ^ d % 2 ^ 64 ≡ high * 2 ^ d
-shifted d high p r = shl_whole high (56 - d) d 64 r (omega arith)
+pub record IsUidOf (m : BitMask) (high : ℕ) : Type 0 where
+  pub shifted : high * 2 ^ m.len % 2 ^ 64 ≡ high * 2 ^ m.len
+  pub small : high * 2 ^ m.len + m.value < 2 ^ 56
+  pub free : (except : List ℕ) → has except (uid_of m high) ≡ false → IsFree m except (uid_of m high)
+  pub high_is : uid_of m high % 2 ^ 56 / 2 ^ m.len ≡ high
 
-abbrev pub uid_of : ℕ → ℕ → ℕ → ℕ
-uid_of d low high = uid_from_low_bits (high * 2 ^ d + low)
-
-pub record IsUidOf (d low high : ℕ) : Type 0 where
-  pub is_uid : IsUid (uid_of d low high)
-  pub low_is : uid_of d low high % 2 ^ d ≡ low
-  pub high_is : uid_of d low high % 2 ^ 56 / 2 ^ d ≡ high
-
-pub is_uid_of : (d low high : ℕ) → d ≤ 56 → low < 2 ^ d → high < 2 ^ (56 - d) → IsUidOf d low high
-is_uid_of d low high p q r =
-    let small = place_small d low high p q r in
-    let e : uid_of d low high % 2 ^ 56 ≡ high * 2 ^ d + low = omega arith in
+pub is_uid_of : (m : BitMask) (high : ℕ) → IsCell m → high < 1 * 2 ^ (56 - m.len) % 2 ^ 64 → IsUidOf m high
+is_uid_of m high h r =
+    let below : high < 2 ^ (56 - m.len) = omega (arith, one_shl (56 - m.len) 64 (omega arith)) in
+    let e : m.len + (56 - m.len) ≡ 56 = omega (arith, h.1) in
+    let small : high * 2 ^ m.len + m.value < 2 ^ 56 = rw (← pow-add 2 m.len (56 - m.len), e) at (mul-add-lt high (2 ^ m.len) m.value (2 ^ (56 - m.len)) below h.0.1) in
+    let low : uid_of m high % 2 ^ 56 ≡ high * 2 ^ m.len + m.value = omega arith in
     record {
-      is_uid = (omega arith, omega arith);
-      low_is = sym (mod_mod_pow (uid_of d low high) d 56 p) ∙ ap (λ x. x % 2 ^ d) e ∙ mod-mul-add high (2 ^ d) low q;
-      high_is = ap (λ x. x / 2 ^ d) e ∙ div-mul-add high (2 ^ d) low q;
+      shifted = shl_whole high (56 - m.len) m.len 64 below (omega (arith, h.1));
+      small = small;
+      free = λ except f. record {
+        is_uid = (omega arith, omega arith);
+        inside = eq-eqb _ _ (sym (mod_mod_pow (uid_of m high) m.len 56 h.1) ∙ ap (λ x. x % 2 ^ m.len) low ∙ mod-mul-add high (2 ^ m.len) m.value h.0.1);
+        free = f;
+      };
+      high_is = ap (λ x. x / 2 ^ m.len) low ∙ div-mul-add high (2 ^ m.len) m.value h.0.1;
     }
 
-pub high_below : (d u : ℕ) → d ≤ 56 → u % 2 ^ 56 / 2 ^ d < 2 ^ (56 - d)
-high_below d u p = let e : 56 - d + d ≡ 56 = omega arith in shr_below (u % 2 ^ 56) (56 - d) d (rw e (mod_below u (2 ^ 56) (omega arith)))
+pub high_below : (m : BitMask) (u : ℕ) → IsCell m → u % 2 ^ 56 / 2 ^ m.len < 1 * 2 ^ (56 - m.len) % 2 ^ 64
+high_below m u h = let e : 56 - m.len + m.len ≡ 56 = omega (arith, h.1) in omega (arith, shr_below (u % 2 ^ 56) (56 - m.len) m.len (rw e (mod_below u (2 ^ 56) (omega arith))), one_shl (56 - m.len) 64 (omega arith))
 
-pub uid_is : (d u : ℕ) → d ≤ 56 → IsUid u → u ≡ uid_of d (u % 2 ^ d) (u % 2 ^ 56 / 2 ^ d)
-uid_is d u p is_uid =
-    let e = shr_split (u % 2 ^ 56) d in
-    let f = mod_mod_pow u d 56 p in
+pub uid_is : (m : BitMask) (u : ℕ) → IsCell m → IsUid u → lies_in m u ≡ true → u ≡ uid_of m (u % 2 ^ 56 / 2 ^ m.len)
+uid_is m u h is_uid inside =
+    let e = shr_split (u % 2 ^ 56) m.len in
+    let f = mod_mod_pow u m.len 56 h.1 in
+    let low = eqb-true _ _ inside in
     omega arith
 
 -- what is wanted below a fork is wanted below one of its halves
 abbrev pub IsHalfOf : Node → ℕ → Node → Type 0
 IsHalfOf n b half = (w : ℕ) → w % 2 ≡ b → open_at n w ≡ open_at half (w / 2)
 
-pub from_half : (n half : Node) (d b low next : ℕ) (except : List ℕ) (u : ℕ) → low < 2 ^ d → next ≡ b * 2 ^ d + low → IsHalfOf n b half → IsFreeUnder half (d + 1) next except u → IsFreeUnder n d low except u
-from_half n half d b low next except u fits is opens w =
-    let at = same_from_place _ _ b low (2 ^ d) (mod_below u (2 ^ d) (pow_pos d)) fits (sym (mod_pow_more u d) ∙ w.inside ∙ is) in
-    record { is_uid = w.is_uid; inside = at.1; is_open = opens (u / 2 ^ d) at.0 ∙ ap (open_at half) (shr-shr u d 1) ∙ w.is_open; free = w.free }
+pub from_half : (n half : Node) (m : BitMask) (b v : ℕ) (except : List ℕ) (u : ℕ) → m.value < 2 ^ m.len → v ≡ b * 2 ^ m.len + m.value → IsHalfOf n b half → IsFreeUnder half (longer m v) except u → IsFreeUnder n m except u
+from_half n half m b v except u fits is opens w =
+    let at = same_from_place _ _ b m.value (2 ^ m.len) (mod_below u (2 ^ m.len) (pow_pos m.len)) fits (sym (mod_pow_more u m.len) ∙ w.inside ∙ is) in
+    record { is_uid = w.is_uid; inside = at.1; is_open = opens (u / 2 ^ m.len) at.0 ∙ ap (open_at half) (shr-shr u m.len 1) ∙ w.is_open; free = w.free }
 
-to_half : (n half : Node) (d b low next : ℕ) (except : List ℕ) (u : ℕ) → next ≡ b * 2 ^ d + low → IsHalfOf n b half → u / 2 ^ d % 2 ≡ b → IsFreeUnder n d low except u → IsFreeUnder half (d + 1) next except u
-to_half n half d b low next except u is opens at w = record {
+to_half : (n half : Node) (m : BitMask) (b v : ℕ) (except : List ℕ) (u : ℕ) → v ≡ b * 2 ^ m.len + m.value → IsHalfOf n b half → u / 2 ^ m.len % 2 ≡ b → IsFreeUnder n m except u → IsFreeUnder half (longer m v) except u
+to_half n half m b v except u is opens at w = record {
   is_uid = w.is_uid;
-  inside = rw (mod_pow_more u d, at, w.inside) (sym is);
-  is_open = sym (opens (u / 2 ^ d) at ∙ ap (open_at half) (shr-shr u d 1)) ∙ w.is_open;
+  inside = rw (mod_pow_more u m.len, at, w.inside) (sym is);
+  is_open = sym (opens (u / 2 ^ m.len) at ∙ ap (open_at half) (shr-shr u m.len 1)) ∙ w.is_open;
   free = w.free;
 }
 
-pub halves_gathered : (n zero one : Node) (d low : ℕ) (except xs ys zs : List ℕ) → low < 2 ^ d → IsHalfOf n 0 zero → IsHalfOf n 1 one → Gathers (IsFreeUnder zero (d + 1) low except) xs ys → Gathers (IsFreeUnder one (d + 1) (low + 2 ^ d) except) ys zs → Gathers (IsFreeUnder n d low except) xs zs
-halves_gathered n zero one d low except xs ys zs fits of_zero of_one =
-    gathers_both (IsFreeUnder zero (d + 1) low except) (IsFreeUnder one (d + 1) (low + 2 ^ d) except) (IsFreeUnder n d low except) xs ys zs
-    (λ u w. from_half n zero d 0 low low except u fits (omega arith) of_zero w)
-    (λ u w. from_half n one d 1 low (low + 2 ^ d) except u fits (omega arith) of_one w)
-    (λ u w. elim (cases_eq (u / 2 ^ d % 2) 0) [
-      | inl e ↦ inl (to_half n zero d 0 low low except u (omega arith) of_zero e w)
-      | inr e ↦ inr (to_half n one d 1 low (low + 2 ^ d) except u (omega arith) of_one (omega arith) w)
+pub halves_gathered : (n zero one : Node) (m : BitMask) (except xs ys zs : List ℕ) → m.value < 2 ^ m.len → IsHalfOf n 0 zero → IsHalfOf n 1 one → Gathers (IsFreeUnder zero (lower_half m) except) xs ys → Gathers (IsFreeUnder one (upper_half m) except) ys zs → Gathers (IsFreeUnder n m except) xs zs
+halves_gathered n zero one m except xs ys zs fits of_zero of_one =
+    gathers_both (IsFreeUnder zero (lower_half m) except) (IsFreeUnder one (upper_half m) except) (IsFreeUnder n m except) xs ys zs
+    (λ u w. from_half n zero m 0 m.value except u fits (omega arith) of_zero w)
+    (λ u w. from_half n one m 1 (m.value + 2 ^ m.len) except u fits (omega arith) of_one w)
+    (λ u w. elim (cases_eq (u / 2 ^ m.len % 2) 0) [
+      | inl e ↦ inl (to_half n zero m 0 m.value except u (omega arith) of_zero e w)
+      | inr e ↦ inr (to_half n one m 1 (m.value + 2 ^ m.len) except u (omega arith) of_one (omega arith) w)
     ])

@@ -2,7 +2,8 @@
 
 ghost use Rattle.vic_sets.specs.Cells.{in_cells};
 
-use crate::cells::{Cells, gather_cells, is_in, least, settled};
+use crate::cell::Cell;
+use crate::cells::{Cells, gather_cells, is_in, settled};
 use arrayvec::ArrayVec;
 use std::alloc::{AllocError, Global};
 use std::marker::Model;
@@ -32,7 +33,8 @@ impl OpenSet for CellList {
 
     fn everything(alloc: Global) -> Result<CellList, AllocError> {
         let mut list = Vec::new(alloc);
-        list.push(Mask::default())?;
+        let mask = Mask::default();
+        list.push(Cell { mask })?;
         Ok(CellList {
             cells: Cells { list },
             alloc,
@@ -48,7 +50,7 @@ impl OpenSet for CellList {
             list: Vec::new(self.alloc),
         };
         let cells = mem::replace(&mut self.cells, none);
-        self.cells = settled(self.alloc, &cells, &mask, except)?;
+        self.cells = settled(self.alloc, &cells, &Cell { mask }, except)?;
         Ok(())
     }
 
@@ -59,12 +61,13 @@ impl OpenSet for CellList {
     fn up_to_three(&self, mask: &Mask, except: &[Uid]) -> ArrayVec<Uid, 3> {
         let mut out = ArrayVec::new();
         if let Some(mask) = without_top_byte(mask) {
-            gather_cells(&mut out, except, &self.cells, &mask);
+            gather_cells(&mut out, except, &self.cells, &Cell { mask });
         }
         out
     }
 
     fn widest(&self) -> Option<Mask> {
-        least(&self.cells)
+        let cell = self.cells.list.iter().min()?;
+        Some(cell.mask)
     }
 }

@@ -1,25 +1,25 @@
 //! Lists of disjoint masks of at most 56 bits, of which no two are the halves of one mask.
 
-ghost use Rattle.std.specs.Prelude.{◌≡◌, ◌≤◌, ◌&&◌, ◌||◌, not, IfOk, OnOk, IfSome, IfNone, All, Contains, []};
+ghost use Rattle.std.specs.Prelude.{◌≡◌, ◌&&◌, ◌||◌, not, IfOk, OnOk};
 ghost use Rattle.std.specs.List.Sorted.{IsStrictlyIncreasing};
 ghost use Rattle.vic_frame.specs.Uids.{has};
 ghost use Rattle.vic_frame.specs.Masks.{lies_in};
-ghost use Rattle.vic_tree.specs.OpenSet.{SameUids, settled, IsAtMost};
+ghost use Rattle.vic_tree.specs.OpenSet.{SameUids, settled};
 ghost use Rattle.vic_tree.specs.Gathering.{Gathers};
 ghost use Rattle.vic_sets.specs.inner.Free.{IsFreeIn};
-ghost use Rattle.vic_sets.specs.Cells.{in_cells, IsCell, IsApart, AreCells};
+ghost use Rattle.vic_sets.specs.Cells.{in_cells, IsApart};
 
-use crate::cut::{flipped, shared, widened};
+use crate::cell::Cell;
 use crate::gather::gather_all;
 use arrayvec::ArrayVec;
 use std::alloc::{AllocError, Global};
 use std::marker::Model;
-use vic_frame::{Mask, UID_BITS, Uid};
+use vic_frame::{Mask, Uid};
 
 /// Masks of at most 56 bits: no UID lies in two of them, and no two are the halves of one mask.
 #[derive(Drop)]
 pub(crate) struct Cells {
-    pub list: Vec<Mask>,
+    pub list: Vec<Cell>,
 }
 
 impl Model for Cells {
@@ -38,17 +38,16 @@ impl Model for Cells {
 pub(crate) fn is_in(cells: &Cells, uid: Uid) -> bool
     ensures { result ≡ in_cells cells.now uid }
 {
-    cells.list.iter().any(|cell| cell.matches(uid))
+    cells.list.iter().any(|cell| cell.mask.matches(uid))
 }
 
 /// What is left of some cells after a mask is removed, except some UIDs.
 pub(crate) fn settled(
     alloc: Global,
     cells: &Cells,
-    mask: &Mask,
+    mask: &Cell,
     except: &[Uid],
 ) -> Result<Cells, AllocError>
-    requires { mask.now.len ≤ UID_BITS }
     ensures { IfOk result (λ left. SameUids (in_cells left)
         (settled (in_cells cells.now) mask.now except.now)) }
 {
@@ -58,8 +57,7 @@ pub(crate) fn settled(
 }
 
 /// What some cells hold outside of a mask.
-fn outside(alloc: Global, cells: &Cells, mask: &Mask) -> Result<Cells, AllocError>
-    requires { mask.now.len ≤ UID_BITS }
+fn outside(alloc: Global, cells: &Cells, mask: &Cell) -> Result<Cells, AllocError>
     ensures { IfOk result (λ left. SameUids (in_cells left)
         (λ u. in_cells cells.now u && not (lies_in mask.now u))) }
 {
@@ -73,19 +71,17 @@ fn outside(alloc: Global, cells: &Cells, mask: &Mask) -> Result<Cells, AllocErro
 }
 
 /// Adds what a cell holds outside of a mask.
-fn add_rest(cells: &mut Cells, cell: &Mask, mask: &Mask) -> Result<(), AllocError>
-    requires cell { IsCell cell.now }
-    requires short { mask.now.len ≤ UID_BITS }
-    requires apart { IsApart cell.now cells.old }
+fn add_rest(cells: &mut Cells, cell: &Cell, mask: &Cell) -> Result<(), AllocError>
+    requires { IsApart cell.now cells.old }
     ensures { OnOk result (SameUids (in_cells cells.new)
         (λ u. in_cells cells.old u || (lies_in cell.now u && not (lies_in mask.now u)))) }
 {
-    let Some(inner) = shared(cell, mask) else {
+    let Some(inner) = cell.shared(mask) else {
         add(cells, *cell)?;
         return Ok(());
     };
     for len in cell.len()..inner.len() {
-        add(cells, flipped(&inner, len))?;
+        add(cells, inner.flipped(len))?;
     }
     Ok(())
 }
@@ -97,50 +93,40 @@ fn add_back(left: &mut Cells, cells: &Cells, uids: &[Uid]) -> Result<(), AllocEr
 {
     for uid in uids {
         if is_in(cells, *uid) && !is_in(left, *uid) {
-            add(left, Mask::of_uid(*uid))?;
+            let mask = Mask::of_uid(*uid);
+            add(left, Cell { mask })?;
         }
     }
     Ok(())
 }
 
 /// Adds a mask. If the other half of a mask one bit shorter is there, the two become that mask.
-fn add(cells: &mut Cells, mask: Mask) -> Result<(), AllocError>
-    requires cell { IsCell mask }
-    requires apart { IsApart mask cells.old }
+fn add(cells: &mut Cells, cell: Cell) -> Result<(), AllocError>
+    requires { IsApart cell cells.old }
     ensures { OnOk result (SameUids (in_cells cells.new)
-        (λ u. in_cells cells.old u || lies_in mask u)) }
+        (λ u. in_cells cells.old u || lies_in cell u)) }
 {
-    if mask.len() > 0 {
-        let other = flipped(&mask, mask.len() - 1);
+    if cell.len() > 0 {
+        let other = cell.flipped(cell.len() - 1);
         if cells.list.as_slice().contains(&other) {
-            cells.list.retain(|cell| *cell != other);
-            add(cells, widened(&mask))?;
+            cells.list.retain(|kept| *kept != other);
+            add(cells, cell.widened())?;
             return Ok(());
         }
     }
-    cells.list.push(mask)?;
+    cells.list.push(cell)?;
     Ok(())
 }
 
 /// Appends the UIDs that lie in a mask and in one of the cells, and aren't exceptions.
-pub(crate) fn gather_cells(out: &mut ArrayVec<Uid, 3>, except: &[Uid], cells: &Cells, mask: &Mask)
+pub(crate) fn gather_cells(out: &mut ArrayVec<Uid, 3>, except: &[Uid], cells: &Cells, mask: &Cell)
     requires rising { IsStrictlyIncreasing except.now }
-    requires short { mask.now.len ≤ UID_BITS }
     ensures { Gathers (IsFreeIn (in_cells cells.now) mask.now except.now)
         out.old.items out.new.items }
 {
     for cell in &cells.list {
-        if let Some(both) = shared(cell, mask) {
-            gather_all(out, except, both.len(), both.value());
+        if let Some(both) = cell.shared(mask) {
+            gather_all(out, except, &both);
         }
     }
-}
-
-/// The shortest of the cells, and of those the one of least value.
-pub(crate) fn least(cells: &Cells) -> Option<Mask>
-    ensures cells { AreCells cells.now }
-    ensures found { IfSome result (λ m. Contains cells.now m × All (IsAtMost m) cells.now) }
-    ensures none { IfNone result (cells.now ≡ []) }
-{
-    cells.list.iter().min().copied()
 }

@@ -1,26 +1,26 @@
-//! Gathering UIDs that share their low bits, at most three.
+//! Gathering the UIDs of a mask, at most three.
 
-ghost use Rattle.std.specs.Prelude.{◌^◌, ◌<◌, ◌≤◌};
 ghost use Rattle.std.specs.List.Sorted.{IsStrictlyIncreasing};
 ghost use Rattle.vic_tree.specs.Gathering.{Gathers};
 ghost use Rattle.vic_sets.specs.inner.Free.{IsFree};
 
+use crate::cell::Cell;
 use arrayvec::ArrayVec;
 use vic_frame::{UID_BITS, Uid};
 use vic_tree::gather::gather_one;
 
-/// Appends the UIDs with these low bits that aren't exceptions.
-pub(crate) fn gather_all(out: &mut ArrayVec<Uid, 3>, except: &[Uid], depth: u8, low: u64)
+/// Appends the UIDs of a mask that aren't exceptions.
+pub(crate) fn gather_all(out: &mut ArrayVec<Uid, 3>, except: &[Uid], cell: &Cell)
     requires rising { IsStrictlyIncreasing except.now }
-    requires depth_fits { depth ≤ UID_BITS }
-    requires low_fits { low < 2 ^ depth }
-    ensures { Gathers (IsFree depth low except.now) out.old.items out.new.items }
+    ensures { Gathers (IsFree cell.now except.now) out.old.items out.new.items }
 {
-    let count = 1u64 << (UID_BITS - depth);
+    let len = cell.len();
+    let count = 1u64 << (UID_BITS - len);
     for high in 0..count {
         if out.is_full() {
             return;
         }
-        gather_one(out, except, Uid::from_low_bits((high << depth) + low));
+        let uid = Uid::from_low_bits((high << len) + cell.mask.value());
+        gather_one(out, except, uid);
     }
 }

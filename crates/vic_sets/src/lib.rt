@@ -2,9 +2,9 @@
 //! and as a tree of bits. The judge is proved over each.
 #![tactic(auto)]
 
+mod cell;
 mod cell_list;
 mod cells;
-mod cut;
 mod gather;
 mod mask_tree;
 mod node;

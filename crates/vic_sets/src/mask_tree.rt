@@ -4,6 +4,7 @@ ghost use Rattle.std.specs.Prelude.{◌≡◌, ◌&&◌, IfOk, filter};
 ghost use Rattle.vic_frame.specs.Masks.{lies_in};
 ghost use Rattle.vic_sets.specs.Nodes.{open_at};
 
+use crate::cell::Cell;
 use crate::node::{Node, below, fill, is_open_at};
 use crate::node_queries::{gather_open, widest_below};
 use arrayvec::ArrayVec;
@@ -58,8 +59,7 @@ impl OpenSet for MaskTree {
         let kept = open_in_mask(self.alloc, &root, &mask, except)?;
         fill(&mut root, self.alloc, mask.len(), mask.value(), false)?;
         for uid in &kept {
-            let low = uid.number() % (1 << UID_BITS);
-            fill(&mut root, self.alloc, UID_BITS, low, true)?;
+            fill(&mut root, self.alloc, UID_BITS, uid.number(), true)?;
         }
         self.root = root;
         Ok(())
@@ -73,7 +73,7 @@ impl OpenSet for MaskTree {
         let mut found = ArrayVec::new();
         if let Some(mask) = without_top_byte(mask) {
             let node = below(&self.root, mask.len(), mask.value());
-            gather_open(&mut found, except, node, mask.len(), mask.value());
+            gather_open(&mut found, except, node, &Cell { mask });
         }
         found
     }

@@ -1,6 +1,6 @@
 //! Trees of bits.
 
-ghost use Rattle.std.specs.Prelude.{◌≡◌, ℕ, ◌+◌, ◌/◌, ◌^◌, ◌%◌, ◌<◌, ◌≤◌, ◌==◌, OnOk, max, if◌then◌else◌};
+ghost use Rattle.std.specs.Prelude.{◌≡◌, ℕ, ◌+◌, ◌/◌, ◌^◌, ◌%◌, ◌≤◌, ◌==◌, OnOk, max, if◌then◌else◌};
 ghost use Rattle.vic_sets.specs.Nodes.{open_at, height, IsFork};
 
 use std::alloc::{AllocError, Global};
@@ -65,7 +65,7 @@ fn split(node: &mut Node, alloc: Global) -> Result<(), AllocError>
     Ok(())
 }
 
-/// Opens every number whose low `len` bits are `value`, if `opens`, or shuts them all.
+/// Opens every number whose low `len` bits are those of `value`, if `opens`, or shuts them all.
 pub(crate) fn fill(
     node: &mut Node,
     alloc: Global,
@@ -73,10 +73,9 @@ pub(crate) fn fill(
     value: u64,
     opens: bool,
 ) -> Result<(), AllocError>
-    requires { value < 2 ^ len }
     ensures height { OnOk result (height node.new ≤ max (height node.old) len) }
     ensures opened { OnOk result ((u : ℕ) → open_at node.new u
-        ≡ (if u % 2 ^ len == value then opens else open_at node.old u)) }
+        ≡ (if u % 2 ^ len == value % 2 ^ len then opens else open_at node.old u)) }
 {
     if len == 0 {
         *node = if opens { Node::Clear } else { Node::Shut };

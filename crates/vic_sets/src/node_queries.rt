@@ -1,49 +1,43 @@
 //! Queries on a tree of bits: at most three UIDs that are open below a node, and the widest mask.
 
-ghost use Rattle.std.specs.Prelude.{◌≡◌, ℕ, ◌+◌, ◌^◌, ◌<◌, ◌≤◌, false, IfSome, IfNone};
+ghost use Rattle.std.specs.Prelude.{◌≡◌, ℕ, ◌+◌, ◌<◌, ◌≤◌, false, IfSome, IfNone, if◌then◌else◌};
 ghost use Rattle.std.specs.List.Sorted.{IsStrictlyIncreasing};
 ghost use Rattle.vic_sets.specs.Nodes.{open_at, height};
 ghost use Rattle.vic_tree.specs.Gathering.{Gathers};
 ghost use Rattle.vic_sets.specs.inner.Free.{IsFreeUnder};
 ghost use Rattle.vic_sets.specs.inner.Widest.{IsWidestOf, with_low_bit};
 
+use crate::cell::Cell;
 use crate::gather::gather_all;
 use crate::node::Node;
 use arrayvec::ArrayVec;
 use vic_frame::{Mask, UID_BITS, Uid};
 
-/// Appends the UIDs that are open below a node and aren't exceptions.
-pub(crate) fn gather_open(
-    out: &mut ArrayVec<Uid, 3>,
-    except: &[Uid],
-    node: &Node,
-    depth: u8,
-    low: u64,
-)
+/// Appends the UIDs of a mask that are open below the node to which its bits lead, and aren't
+/// exceptions.
+pub(crate) fn gather_open(out: &mut ArrayVec<Uid, 3>, except: &[Uid], node: &Node, cell: &Cell)
     requires rising { IsStrictlyIncreasing except.now }
-    requires depth_fits { depth + height node.now ≤ UID_BITS }
-    requires low_fits { low < 2 ^ depth }
-    ensures { Gathers (IsFreeUnder node.now depth low except.now) out.old.items out.new.items }
+    requires fits { cell.now.len + height node.now ≤ UID_BITS }
+    ensures { Gathers (IsFreeUnder node.now cell.now except.now) out.old.items out.new.items }
 {
     match node {
-        Node::Clear => gather_all(out, except, depth, low),
+        Node::Clear => gather_all(out, except, cell),
         Node::Shut => {}
         Node::Fork(halves) => {
-            gather_open(out, except, &halves.zero, depth + 1, low);
+            gather_open(out, except, &halves.zero, &cell.half(false));
             if !out.is_full() {
-                gather_open(out, except, &halves.one, depth + 1, low + (1 << depth));
+                gather_open(out, except, &halves.one, &cell.half(true));
             }
         }
     }
 }
 
 /// The mask that fixes one more bit, below the others.
-fn lengthened(mask: &Mask, bit: u64) -> Mask
-    requires short { mask.now.len < UID_BITS }
-    requires bit { bit ≤ 1 }
-    ensures { result ≡ with_low_bit bit mask.now }
+fn lengthened(mask: &Mask, bit: bool) -> Mask
+    requires { mask.now.len < UID_BITS }
+    ensures { result ≡ with_low_bit (if bit then 1 else 0) mask.now }
 {
-    Mask::of_bits(mask.len() + 1, 2 * mask.value() + bit)
+    Mask::of_bits(mask.len() + 1, 2 * mask.value() + u64::from(bit))
 }
 
 /// The mask of least length, then of least value, all of whose numbers are open below a node; none
@@ -59,13 +53,13 @@ pub(crate) fn widest_below(node: &Node) -> Option<Mask>
         Node::Shut => None,
         Node::Fork(halves) => match (widest_below(&halves.zero), widest_below(&halves.one)) {
             (None, None) => None,
-            (Some(zero), None) => Some(lengthened(&zero, 0)),
-            (None, Some(one)) => Some(lengthened(&one, 1)),
+            (Some(zero), None) => Some(lengthened(&zero, false)),
+            (None, Some(one)) => Some(lengthened(&one, true)),
             (Some(zero), Some(one)) => {
                 if zero.len() == 0 && one.len() == 0 {
                     return Some(zero);
                 }
-                Some(lengthened(&zero, 0).min(lengthened(&one, 1)))
+                Some(lengthened(&zero, false).min(lengthened(&one, true)))
             }
         },
     }

@@ -2,8 +2,8 @@ use Rattle.vic_sets.proofs.Words.{◌≡◌, ◌∙◌, ◌+◌, ◌||◌, sym, 
 use Rattle.vic_sets.proofs.CellLaws.{apart_before, next_outside}
 use Rattle.vic_sets.proofs.cells.outside.Goals as goal
 
-pub add_rest-requires-clause-apart : goal.add_rest-requires-clause-apart
-add_rest-requires-clause-apart c u i h =
+pub add_rest-requires : goal.add_rest-requires
+add_rest-requires c u i h =
     let xs = c.deref-cell-items.result.now in
     c.loop-cell.invariant u i ∙ and_left (in_cells (take c.loop-cell.cell-index xs) u) _ (apart_before xs c.loop-cell.cell-index c.cell-item.result (subst AreApart (sym c.deref-cell-items.ensures.value) c.cells.invariant.apart) c.loop-cell-test.true (sym c.cell-item.is) u i h)
 
