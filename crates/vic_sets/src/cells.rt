@@ -1,7 +1,6 @@
 //! Lists of disjoint masks of at most 56 bits, of which no two are the halves of one mask.
 
 ghost use Rattle.std.specs.Prelude.{◌≡◌, ◌&&◌, ◌||◌, not, IfOk, OnOk};
-ghost use Rattle.std.specs.List.Sorted.{IsStrictlyIncreasing};
 ghost use Rattle.vic_frame.specs.Uids.{has};
 ghost use Rattle.vic_frame.specs.Masks.{lies_in};
 ghost use Rattle.vic_tree.specs.OpenSet.{SameUids, settled};
@@ -120,7 +119,6 @@ fn add(cells: &mut Cells, cell: Cell) -> Result<(), AllocError>
 
 /// Appends the UIDs that lie in a mask and in one of the cells, and aren't exceptions.
 pub(crate) fn gather_cells(out: &mut ArrayVec<Uid, 3>, except: &[Uid], cells: &Cells, mask: &Cell)
-    requires rising { IsStrictlyIncreasing except.now }
     ensures { Gathers (IsFreeIn (in_cells cells.now) mask.now except.now)
         out.old.items out.new.items }
 {

@@ -1,6 +1,5 @@
 //! Gathering the UIDs of a mask, at most three.
 
-ghost use Rattle.std.specs.List.Sorted.{IsStrictlyIncreasing};
 ghost use Rattle.vic_tree.specs.Gathering.{Gathers};
 ghost use Rattle.vic_sets.specs.inner.Free.{IsFree};
 
@@ -11,7 +10,6 @@ use vic_tree::gather::gather_one;
 
 /// Appends the UIDs of a mask that aren't exceptions.
 pub(crate) fn gather_all(out: &mut ArrayVec<Uid, 3>, except: &[Uid], cell: &Cell)
-    requires rising { IsStrictlyIncreasing except.now }
     ensures { Gathers (IsFree cell.now except.now) out.old.items out.new.items }
 {
     let len = cell.len();

@@ -1,7 +1,6 @@
 //! Queries on a tree of bits: at most three UIDs that are open below a node, and the widest mask.
 
 ghost use Rattle.std.specs.Prelude.{◌≡◌, ℕ, ◌+◌, ◌<◌, ◌≤◌, false, IfSome, IfNone, if◌then◌else◌};
-ghost use Rattle.std.specs.List.Sorted.{IsStrictlyIncreasing};
 ghost use Rattle.vic_sets.specs.Nodes.{open_at, height};
 ghost use Rattle.vic_tree.specs.Gathering.{Gathers};
 ghost use Rattle.vic_sets.specs.inner.Free.{IsFreeUnder};
@@ -16,8 +15,7 @@ use vic_frame::{Mask, UID_BITS, Uid};
 /// Appends the UIDs of a mask that are open below the node to which its bits lead, and aren't
 /// exceptions.
 pub(crate) fn gather_open(out: &mut ArrayVec<Uid, 3>, except: &[Uid], node: &Node, cell: &Cell)
-    requires rising { IsStrictlyIncreasing except.now }
-    requires fits { cell.now.len + height node.now ≤ UID_BITS }
+    requires { cell.now.len + height node.now ≤ UID_BITS }
     ensures { Gathers (IsFreeUnder node.now cell.now except.now) out.old.items out.new.items }
 {
     match node {
