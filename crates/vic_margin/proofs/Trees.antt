@@ -1,7 +1,8 @@
 -- A complete binary tree of numbers, in which spans of leaves are raised by one.
-use Rattle.vic_margin.proofs.Words.{◌≡◌, ℕ, zero, suc, ◌+◌, ◌*◌, ◌/◌, ◌%◌, ◌^◌, ◌<◌, ◌≤◌, Bool, true, false, List, length, slice_index, inl, inr, refl, ap, ◌∙◌, arith, nat_tests, cases_lt, get_or, get_or-replicate, get_or_past, length-replicate, replicate, ⊎_elim}
+use Rattle.vic_margin.proofs.Words.{◌≡◌, ℕ, zero, suc, ◌+◌, ◌*◌, ◌/◌, ◌%◌, ◌^◌, ◌<◌, ◌≤◌, ◌==◌, Bool, true, false, List, length, slice_index, slice_set, get_or-set_other, get_or-set_same, get_or_default, inl, inr, refl, ap, ◌∙◌, arith, nat_tests, cases_lt, get_or, get_or-replicate, get_or_past, length-replicate, replicate, ⊎_elim}
 use Rattle.vic_margin.specs.UidMargins.{one_if}
 use Rattle.vic_margin.specs.inner.Trees.{Adds, count_in, ends, sum_up, within}
+use Prim.Native.Nat.{min}
 
 -- ---- sums
 
@@ -28,6 +29,10 @@ below_pow zero = omega arith
 below_pow (suc n) = let h = below_pow n in omega arith
 
 -- ---- one level up
+
+-- a number of which one is added
+pub one_more : (xs : List ℕ) (k v n : ℕ) → k < length xs → v ≡ get_or xs k v → slice_index (slice_set xs k (v + 1)) n ≡ slice_index xs n + one_if (n == k)
+one_more xs k v n lt is = grind (arith, nat_tests, get_or-set_same xs k (v + 1) 0 lt, get_or-set_other xs k n (v + 1) 0, get_or_default xs k v 0 lt)
 
 -- of a row of nodes, all but the ends are those below the parents
 halves : (low high n : ℕ) → low < high → one_if (ends low high n) + one_if (within (low / 2 + low % 2) (high / 2) (n / 2)) ≡ one_if (within low high n)
@@ -140,14 +145,14 @@ way_end d from to low high old now le h = h.rest now (adds_none h.e low high now
 
 -- ---- the leaves
 
-leaf_within : (leaves from to p : ℕ) → within (leaves + from) (leaves + to) (leaves + p) ≡ within from to p
-leaf_within leaves from to p = grind (arith, nat_tests)
+leaf_within : (leaves from to p : ℕ) → within (leaves + min from to) (leaves + to) (leaves + p) ≡ within from to p
+leaf_within leaves from to p = elim (cases_lt from to) [
+  | inl some ↦ let first : min from to ≡ from = omega arith in rw first (grind (arith, nat_tests))
+  | inr none ↦ let first : min from to ≡ to = omega arith in rw first (grind (arith, nat_tests))
+]
 
-pub count_raised : (levels leaves from to p : ℕ) (old new : List ℕ) → leaves * 2 ≡ 2 ^ levels → p < leaves → Adds levels (leaves + from) (leaves + to) old new → count_in new levels leaves p ≡ count_in old levels leaves p + one_if (within from to p)
+pub count_raised : (levels leaves from to p : ℕ) (old new : List ℕ) → leaves * 2 ≡ 2 ^ levels → p < leaves → Adds levels (leaves + min from to) (leaves + to) old new → count_in new levels leaves p ≡ count_in old levels leaves p + one_if (within from to p)
 count_raised levels leaves from to p old new half lt h = h.sums (leaves + p) (omega (arith, half, lt)) (omega (arith, half)) ∙ ap (λ b. sum_up old levels (leaves + p) + one_if b) (leaf_within leaves from to p)
-
-pub count_kept : (levels leaves from to p : ℕ) (xs : List ℕ) → to ≤ from → count_in xs levels leaves p ≡ count_in xs levels leaves p + one_if (within from to p)
-count_kept levels leaves from to p xs le = let no = within_none from to p le in omega arith
 
 -- no count is raised by more than one
 pub few_raised : (n from to p raised : ℕ) (m : ℕ) → m ≡ n + one_if (within from to p) → n ≤ raised → m ≤ raised + 1
