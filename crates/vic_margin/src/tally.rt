@@ -92,15 +92,6 @@ impl<'a> Tally<'a> {
         }
     }
 
-    /// Counts a slot, in whose mask the UIDs of a span lie.
-    fn count(&mut self, span: Span)
-        requires within { span.to ≤ part_count self.old.parts.now }
-        requires few { self.old.counts.raised + 1 < 2 ^ 32 }
-        ensures { IsCounted span (λ p. false) self.old self.new }
-    {
-        self.counts.raise(span);
-    }
-
     /// Counts a slot in which the UID of part `own` was heard alone, but not for that UID.
     fn hear(&mut self, span: Span, own: usize)
         requires within { span.to ≤ part_count self.old.parts.now }
@@ -142,7 +133,7 @@ impl<'a> Tally<'a> {
         match *entry {
             Entry::Sent(request) => self.pass_request(near, &request),
             Entry::FieldCycle => self.wake(),
-            Entry::Silent => self.count(span_of(self.parts, rounds, near)),
+            Entry::Silent => self.counts.raise(span_of(self.parts, rounds, near)),
             Entry::Heard(response) => {
                 let span = span_of(self.parts, rounds, near);
                 let own = self.parts.at_or_after(near.own, key(response.uid()));

@@ -5,7 +5,8 @@ use Rattle.vic_margin.proofs.tally.Tally.pass.Goals as goal
 pub returns-in-Silent : goal.returns-in-Silent
 returns-in-Silent c bs es i place h =
     let span = subst (λ b. IsSpanAt b es i c.span_of.result) h.parts (c.span_of.ensures.inside es i c.args.entry.now (subst (λ b. IsPlace b es i c.args.entry.now c.args.rounds.now) (sym h.parts) place) (rw c.in-Silent.is refl)) in
-    tally_silent bs es i c.span_of.result _ _ (rw c.in-Silent.is at place.here) span c.count.ensures h
+    let raised = c.raise.ensures in
+    tally_silent bs es i c.span_of.result _ _ (rw c.in-Silent.is at place.here) span (record { counts = raised.counts; rest = λ p. omega arith; quiet = refl; leaves = raised.room; raised = raised.raised; parts = refl }) h
 
 pub returns-in-Heard : goal.returns-in-Heard
 returns-in-Heard c bs es i place h =
