@@ -1,5 +1,5 @@
 -- Entries on numbered lines.
-use Rattle.vic_field.proofs.Words.{◌≡◌, ℕ, suc, ◌+◌, List, [], ◌∷◌, ◌++◌, length, refl, sym, ap, ◌∙◌, arith, append_assoc, append-nil, Entry, LogLine, LogValue, last_from, entries, with_entries, map-append, numbered, entries-numbered}
+use Rattle.vic_field.proofs.Words.{◌≡◌, ℕ, suc, ◌+◌, List, [], ◌∷◌, ◌++◌, length, refl, ap, ◌∙◌, arith, append_assoc, Entry, LogLine, LogValue, last_from, entries, with_entries, map-append, numbered, entries-numbered}
 
 last_from-append : (n : ℕ) (ls ms : List LogLine) → last_from n (ls ++ ms) ≡ last_from (last_from n ls) ms
 last_from-append n [] ms = refl
@@ -22,9 +22,6 @@ entries-with log es = map-append (λ (x : LogLine). x.item) log.lines (numbered 
 -- the last number with more
 pub last_from-with : (log : LogValue) (es : List Entry) → last_from 1 (with_entries log es).lines ≡ last_from 1 log.lines + length es
 last_from-with log es = last_from-append 1 log.lines (numbered (suc (last_from 1 log.lines)) es) ∙ last_from-numbered (last_from 1 log.lines) es
-
-pub with_none : (log : LogValue) → log ≡ with_entries log []
-with_none log = ap (λ (ls : List LogLine). record { lines = ls; version = log.version }) (sym (append-nil log.lines))
 
 -- more, and more again
 pub with-append : (log : LogValue) (es fs : List Entry) → with_entries (with_entries log es) fs ≡ with_entries log (es ++ fs)

@@ -17,7 +17,7 @@ pub use Rattle.std.proofs.lemmas.Map.Made.{is_some-lookup, lookup-map_values}
 pub use Rattle.std.proofs.lemmas.Nat.{or_lt, shr_le}
 pub use Rattle.std.proofs.lemmas.Nat.Bits.{bit_at-trailing_ones, bit_at_above, bit_at_ones, bit_at_set_other, bit_at_set_same, same_from_bits_below}
 pub use Rattle.std.proofs.lemmas.Option.{get_or_from_slice_get, slice_get-get_or, slice_get-map, slice_get_read, slice_get_within}
-pub use Rattle.std.proofs.lemmas.Result.{IfOk-weaker, on_ok_weaker}
+pub use Rattle.std.proofs.lemmas.Result.{IfOk-weaker}
 pub use Rattle.std.specs.Int.{bit_at, trailing_ones}
 pub use Rattle.std.specs.List.{AllByRecursion, dedup, list_any, range_with_len}
 pub use Rattle.std.specs.List.Sorted.{IsPartitionPoint, IsStrictlySortedBy}

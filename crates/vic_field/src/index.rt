@@ -33,10 +33,23 @@ impl Index {
     /// An index over tags with these keys: about one number for every two keys, if there are few.
     pub(crate) fn over(alloc: Global, keys: &[u64]) -> Result<Index, AllocError> {
         let bits = (keys.len() / 2 + 1).ilog2().min(MOST_BITS);
-        let shift = u32::from(UID_BITS) - bits;
-        let mut lower = count_by_top(alloc, keys, bits, shift)?;
-        sum_up(&mut lower);
-        Ok(Index { lower, shift })
+        let mut index = Index {
+            lower: vec![in alloc; 0; (1usize << bits) + 2]?,
+            shift: u32::from(UID_BITS) - bits,
+        };
+        index.count(keys);
+        sum_up(&mut index.lower);
+        Ok(index)
+    }
+
+    /// Counts how many keys have each value of their top bits, shifted by one; the first is 0.
+    fn count(&mut self, keys: &[u64]) {
+        for key in keys {
+            let top = (*key >> self.shift) as usize;
+            if let Some(count) = self.lower.get_mut(top.saturating_add(1)) {
+                *count = u32::saturating_add(*count, 1);
+            }
+        }
     }
 
     /// The positions at which the tags with a key's top bits begin and end.
@@ -47,21 +60,6 @@ impl Index {
             _ => (0, 0),
         }
     }
-}
-
-/// How many keys have each value of their top bits, shifted by one; the first is 0.
-fn count_by_top(alloc: Global, keys: &[u64], bits: u32, shift: u32) -> Result<Vec<u32>, AllocError>
-    requires bits { bits ≤ MOST_BITS }
-    requires shift { shift ≤ UID_BITS }
-{
-    let mut counts = vec![in alloc; 0; (1usize << bits) + 2]?;
-    for key in keys {
-        let top = (*key >> shift) as usize;
-        if let Some(count) = counts.get_mut(top.saturating_add(1)) {
-            *count = u32::saturating_add(*count, 1);
-        }
-    }
-    Ok(counts)
 }
 
 /// Replaces each number with the sum of all up to it.

@@ -176,17 +176,16 @@ fn run_in(words: &[Word], stretch: u32, bit: usize) -> usize
     ensures end { result ≡ 0 → is_set stretch words.now bit ≡ false }
     ensures most { result ≤ WORD }
 {
-    ones_from(bits_in(words, stretch, bit / WORD), bit % WORD)
+    ones_from(bits_in(words, stretch, bit / WORD), bit)
 }
 
-/// How many bits from this one on are ones without a gap.
+/// How many bits of its word from this one on are ones without a gap.
 fn ones_from(bits: u64, bit: usize) -> usize
-    requires { bit < WORD }
-    ensures ones { (i : ℕ) → i < result → bit_at bits (bit + i) ≡ 1 }
-    ensures end { result ≡ 0 → bit_at bits bit ≡ 0 }
-    ensures within { bit + result ≤ WORD }
+    ensures ones { (i : ℕ) → i < result → bit_at bits (bit % WORD + i) ≡ 1 }
+    ensures end { result ≡ 0 → bit_at bits (bit % WORD) ≡ 0 }
+    ensures within { bit % WORD + result ≤ WORD }
 {
-    (bits >> bit).trailing_ones() as usize
+    (bits >> (bit % WORD)).trailing_ones() as usize
 }
 
 /// Sets a bit, and returns whether all bits of its word are then set.

@@ -1,8 +1,6 @@
 //! Tags in a row by their keys, each Ready or Quiet.
 
 ghost use Rattle.std.specs.Prelude.{◌≡◌, true, false, None, IfSome, OnOk, OnErr, length};
-ghost use Rattle.std.specs.List.Sorted.{IsStrictlySortedBy};
-ghost use Rattle.std.specs.Ordering.{nat_cmp};
 ghost use Rattle.std.proofs.Props.{props};
 ghost use Rattle.vic_field.specs.Keys.{AreKeys};
 ghost use Rattle.vic_field.specs.Places.{HasRoomFor};
@@ -47,10 +45,10 @@ impl Row {
     }
 
     /// Whether a check shows that at least `from` and at most `to` of the keys are below this one.
-    fn is_between(keys: &[u64], key: u64, from: usize, to: usize) -> bool
-        requires { IsStrictlySortedBy nat_cmp keys.now }
-        ensures { result ≡ true → HasKeyPlaceBetween key keys.now from to }
+    fn is_between(&self, key: u64, from: usize, to: usize) -> bool
+        ensures { result ≡ true → HasKeyPlaceBetween key self.now.keys.items from to }
     {
+        let keys = self.keys.as_slice();
         if to < from || keys.len() < to {
             return false;
         }
@@ -63,7 +61,7 @@ impl Row {
         ensures { HasKeyPlaceBetween key self.now.keys.items result.0 result.1 }
     {
         let (from, to) = self.index.hint(key);
-        if Row::is_between(&self.keys, key, from, to) {
+        if self.is_between(key, from, to) {
             (from, to)
         } else {
             (0, self.keys.len())

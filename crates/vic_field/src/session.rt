@@ -1,14 +1,11 @@
 //! The log of a session with the tags that a log lists.
 
-ghost use Rattle.std.specs.Prelude.{◌≡◌, ◌+◌, ◌<◌, ◌≤◌, ◌++◌, [], ◌∷◌, List, Some, None, IfOk, IfErr, OnOk, MatchOption, nat_le};
+ghost use Rattle.std.specs.Prelude.{◌≡◌, ◌<◌, ◌≤◌, [], ◌∷◌, Some, None, IfOk, IfErr, OnOk, MatchOption, nat_le};
 ghost use Rattle.vic_field.specs.Simulation.{IsSimulation, HasNoSlots, IsFirstSlot, RefusesLines, last_needed};
-ghost use Rattle.vic_field.specs.inner.Steps.{FitsNext, IsAfter, slot_line, slot_lines, slot_lines_to, with_entries};
+ghost use Rattle.vic_field.specs.inner.Steps.{FitsNext, IsAfter, slot_line, slot_lines, with_entries};
 ghost use Rattle.vic_field.specs.Tags.{uids};
-ghost use Rattle.vic_frame.specs.Requests.{IsValid};
 ghost use Rattle.vic_frame.specs.Slots.{slot_count};
 ghost use Rattle.vic_log.specs.declared.entry.Entry.{Entry};
-ghost use Rattle.vic_log.specs.Log.{last_from};
-ghost use Rattle.vic_log.specs.Order.{entries};
 ghost use Rattle.vic_log.specs.Populations.{IsPopulation};
 ghost use Rattle.vic_log.specs.Rounds.{slots_opened};
 
@@ -122,15 +119,14 @@ fn play_entry(filled: &mut Log, field: &mut Field, item: &Entry) -> Result<(), S
         (0 < slots_opened (Some item.now) → IsPopulation (uids field.new)) }
     ensures memory { IfErr result (λ e. e ≡ SimFault.Memory) }
 {
-    push_next(filled, *item)?;
     match *item {
         Entry::Sent(request) => {
             field.send(&request);
-            push_slots(filled, field, &request)
+            push_round(filled, field, &request)
         }
         Entry::FieldCycle => {
             field.power_cycle();
-            Ok(())
+            push_next(filled, *item)
         }
         Entry::Listed(_)
         | Entry::Silent
@@ -138,22 +134,20 @@ fn play_entry(filled: &mut Log, field: &mut Field, item: &Entry) -> Result<(), S
         | Entry::Heard(_)
         | Entry::Garbled
         | Entry::Captured(_)
-        | Entry::Unknown => Ok(()),
+        | Entry::Unknown => push_next(filled, *item),
     }
 }
 
-/// Adds a line for each slot of the request that was sent last.
-fn push_slots(filled: &mut Log, field: &Field, request: &Request) -> Result<(), SimFault>
-    requires sent { (es : List Entry)
-        × (entries filled.old.lines ≡ es ++ Entry.Sent request.now ∷ []) }
-    requires valid { IsValid request.now }
-    requires room { last_from 1 filled.old.lines + slot_count request.now ≤ MAX_LINES }
+/// Adds a request that the tags have received, and a line for each of its slots.
+fn push_round(filled: &mut Log, field: &Field, request: &Request) -> Result<(), SimFault>
+    requires { FitsNext filled.old (Entry.Sent request.now) }
     ensures added { OnOk result (filled.new ≡ with_entries filled.old
-        (slot_lines_to field.now request.now (slot_count request.now))) }
+        (Entry.Sent request.now ∷ slot_lines field.now (Entry.Sent request.now))) }
     ensures population { OnOk result
         (0 < slot_count request.now → IsPopulation (uids field.now)) }
     ensures memory { IfErr result (λ e. e ≡ SimFault.Memory) }
 {
+    push_next(filled, Entry::Sent(*request))?;
     for k in 0..request.slots() {
         let Some(mask) = request.slot_mask(k) else {
             unreachable!()

@@ -1,7 +1,8 @@
 -- A complete binary tree of numbers, in which spans of leaves are raised by one.
-use Rattle.vic_margin.proofs.Words.{◌≡◌, ℕ, zero, suc, ◌+◌, ◌*◌, ◌/◌, ◌%◌, ◌^◌, ◌<◌, ◌≤◌, Bool, true, false, List, length, slice_index, inl, inr, refl, ap, ◌∙◌, arith, nat_tests, cases_lt, get_or, get_or-replicate, get_or_past, length-replicate, replicate, ⊎_elim}
+use Rattle.vic_margin.proofs.Words.{◌≡◌, ℕ, zero, suc, ◌+◌, ◌*◌, ◌/◌, ◌%◌, ◌^◌, ◌<◌, ◌≤◌, ◌==◌, Bool, true, false, List, length, slice_index, slice_set, get_or-set_other, get_or-set_same, get_or_default, inl, inr, refl, ap, ◌∙◌, arith, nat_tests, cases_lt, get_or, get_or-replicate, get_or_past, length-replicate, replicate, ⊎_elim}
 use Rattle.vic_margin.specs.UidMargins.{one_if}
 use Rattle.vic_margin.specs.inner.Trees.{Adds, count_in, ends, sum_up, within}
+use Prim.Native.Nat.{min}
 
 -- ---- sums
 
@@ -28,6 +29,10 @@ below_pow zero = omega arith
 below_pow (suc n) = let h = below_pow n in omega arith
 
 -- ---- one level up
+
+-- a number of which one is added
+pub one_more : (xs : List ℕ) (k v n : ℕ) → k < length xs → v ≡ get_or xs k v → slice_index (slice_set xs k (v + 1)) n ≡ slice_index xs n + one_if (n == k)
+one_more xs k v n lt is = grind (arith, nat_tests, get_or-set_same xs k (v + 1) 0 lt, get_or-set_other xs k n (v + 1) 0, get_or_default xs k v 0 lt)
 
 -- of a row of nodes, all but the ends are those below the parents
 halves : (low high n : ℕ) → low < high → one_if (ends low high n) + one_if (within (low / 2 + low % 2) (high / 2) (n / 2)) ≡ one_if (within low high n)
@@ -81,73 +86,60 @@ adds_step d low high old mid new lt room level raised h = record {
 
 -- ---- on the way up
 
--- nodes before `high` are as they were, and none has more than one more
-pub record IsRaisedTo (low high : ℕ) (old now : List ℕ) : Type 0 where
+-- e levels down there is a row left to raise; with it, the whole span is raised. Nodes before `high`
+-- are as they were, and none has more than one more
+pub record IsOnWay (d from to low high : ℕ) (old now : List ℕ) : Type 0 where
+  pub e : ℕ
+  pub row : high ≤ 2 ^ e
+  pub level : 2 ^ e ≤ low * 2
+  pub rest : (new : List ℕ) → Adds e low high now new → Adds d from to old new
   pub room : length now ≡ length old
   pub high_room : high ≤ length old
-  pub level : high ≤ low * 2
   pub same : (n : ℕ) → n < high → slice_index now n ≡ slice_index old n
   pub most : (n : ℕ) → slice_index now n ≤ slice_index old n + 1
 
-pub raised_start : (low high : ℕ) (xs : List ℕ) → high ≤ length xs → high ≤ low * 2 → IsRaisedTo low high xs xs
-raised_start low high xs room level = record { room = refl; high_room = room; level = level; same = λ n lt. refl; most = λ n. omega arith }
+pub way_start : (d from to : ℕ) (xs : List ℕ) → to ≤ 2 ^ d → 2 ^ d ≤ from * 2 → to ≤ length xs → IsOnWay d from to from to xs xs
+way_start d from to xs row level room = record { e = d; row = row; level = level; rest = λ new h. h; room = refl; high_room = room; same = λ n lt. refl; most = λ n. omega arith }
 
-raised_most : (low high n : ℕ) (old now new : List ℕ) → low < high → slice_index new n ≡ slice_index now n + one_if (ends low high n) → IsRaisedTo low high old now → slice_index new n ≤ slice_index old n + 1
-raised_most low high n old now new lt e h = elim (cases_lt n high) [
+raised_most : (d from to low high n : ℕ) (old now new : List ℕ) → low < high → slice_index new n ≡ slice_index now n + one_if (ends low high n) → IsOnWay d from to low high old now → slice_index new n ≤ slice_index old n + 1
+raised_most d from to low high n old now new lt e h = elim (cases_lt n high) [
   | inl below ↦ let s = h.same n below in let one = at_most_one (ends low high n) in omega arith
   | inr above ↦ let no = outside low high n lt above in let m = h.most n in omega arith
 ]
 
-pub raised_step : (low high : ℕ) (old now new : List ℕ) → low < high → length new ≡ length now
+way_next : (e d from to low high : ℕ) (old now new : List ℕ) → low < high → high ≤ 2 ^ e → 2 ^ e ≤ low * 2 → length new ≡ length now
     → ((n : ℕ) → slice_index new n ≡ slice_index now n + one_if (ends low high n))
-    → IsRaisedTo low high old now → IsRaisedTo (low / 2 + low % 2) (high / 2) old new
-raised_step low high old now new lt room raised h = record {
+    → ((end : List ℕ) → Adds e low high now end → Adds d from to old end) → IsOnWay d from to low high old now → IsOnWay d from to (low / 2 + low % 2) (high / 2) old new
+way_next zero d from to low high old now new lt row level room raised rest h = absurd (omega (arith, lt, row, level))
+way_next (suc e) d from to low high old now new lt row level room raised rest h = record {
+  e = e;
+  row = omega (arith, row);
+  level = omega (arith, level);
+  rest = λ end k. rest end (adds_step e low high now new end lt row level raised k);
   room = room ∙ h.room;
   high_room = let r = h.high_room in omega arith;
-  level = let r = h.level in omega arith;
-  same = λ n below. let r = h.level in let e = raised n in let no = before low high n lt (omega arith) in let s = h.same n (omega arith) in omega arith;
-  most = λ n. raised_most low high n old now new lt (raised n) h;
+  same = λ n below. let e = raised n in let no = before low high n lt (omega (arith, below, row, level)) in let s = h.same n (omega (arith, below)) in omega arith;
+  most = λ n. raised_most d from to low high n old now new lt (raised n) h;
 }
 
--- e levels down there is a row left to raise; with it, the whole span is raised
-pub record IsOnWay (d from to low high : ℕ) (old now : List ℕ) : Type 0 where
-  pub e : ℕ
-  pub room : high ≤ 2 ^ e
-  pub level : 2 ^ e ≤ low * 2
-  pub rest : (new : List ℕ) → Adds e low high now new → Adds d from to old new
-
-pub way_start : (d from to : ℕ) (xs : List ℕ) → to ≤ 2 ^ d → 2 ^ d ≤ from * 2 → IsOnWay d from to from to xs xs
-way_start d from to xs room level = record { e = d; room = room; level = level; rest = λ new h. h }
-
-way_next : (e d from to low high : ℕ) (old now mid : List ℕ) → low < high → high ≤ 2 ^ e → 2 ^ e ≤ low * 2
-    → ((n : ℕ) → slice_index mid n ≡ slice_index now n + one_if (ends low high n))
-    → ((new : List ℕ) → Adds e low high now new → Adds d from to old new) → IsOnWay d from to (low / 2 + low % 2) (high / 2) old mid
-way_next zero d from to low high old now mid lt room level raised rest = absurd (omega (arith, lt, room, level))
-way_next (suc e) d from to low high old now mid lt room level raised rest = record {
-  e = e;
-  room = omega (arith, room);
-  level = omega (arith, level);
-  rest = λ new h. rest new (adds_step e low high now mid new lt room level raised h);
-}
-
-pub way_step : (d from to low high : ℕ) (old now mid : List ℕ) → low < high
-    → ((n : ℕ) → slice_index mid n ≡ slice_index now n + one_if (ends low high n))
-    → IsOnWay d from to low high old now → IsOnWay d from to (low / 2 + low % 2) (high / 2) old mid
-way_step d from to low high old now mid lt raised h = way_next h.e d from to low high old now mid lt h.room h.level raised h.rest
+pub way_step : (d from to low high : ℕ) (old now new : List ℕ) → low < high → length new ≡ length now
+    → ((n : ℕ) → slice_index new n ≡ slice_index now n + one_if (ends low high n))
+    → IsOnWay d from to low high old now → IsOnWay d from to (low / 2 + low % 2) (high / 2) old new
+way_step d from to low high old now new lt room raised h = way_next h.e d from to low high old now new lt h.row h.level room raised h.rest h
 
 pub way_end : (d from to low high : ℕ) (old now : List ℕ) → high ≤ low → IsOnWay d from to low high old now → Adds d from to old now
 way_end d from to low high old now le h = h.rest now (adds_none h.e low high now le)
 
 -- ---- the leaves
 
-leaf_within : (leaves from to p : ℕ) → within (leaves + from) (leaves + to) (leaves + p) ≡ within from to p
-leaf_within leaves from to p = grind (arith, nat_tests)
+leaf_within : (leaves from to p : ℕ) → within (leaves + min from to) (leaves + to) (leaves + p) ≡ within from to p
+leaf_within leaves from to p = elim (cases_lt from to) [
+  | inl some ↦ let first : min from to ≡ from = omega arith in rw first (grind (arith, nat_tests))
+  | inr none ↦ let first : min from to ≡ to = omega arith in rw first (grind (arith, nat_tests))
+]
 
-pub count_raised : (levels leaves from to p : ℕ) (old new : List ℕ) → leaves * 2 ≡ 2 ^ levels → p < leaves → Adds levels (leaves + from) (leaves + to) old new → count_in new levels leaves p ≡ count_in old levels leaves p + one_if (within from to p)
+pub count_raised : (levels leaves from to p : ℕ) (old new : List ℕ) → leaves * 2 ≡ 2 ^ levels → p < leaves → Adds levels (leaves + min from to) (leaves + to) old new → count_in new levels leaves p ≡ count_in old levels leaves p + one_if (within from to p)
 count_raised levels leaves from to p old new half lt h = h.sums (leaves + p) (omega (arith, half, lt)) (omega (arith, half)) ∙ ap (λ b. sum_up old levels (leaves + p) + one_if b) (leaf_within leaves from to p)
-
-pub count_kept : (levels leaves from to p : ℕ) (xs : List ℕ) → to ≤ from → count_in xs levels leaves p ≡ count_in xs levels leaves p + one_if (within from to p)
-count_kept levels leaves from to p xs le = let no = within_none from to p le in omega arith
 
 -- no count is raised by more than one
 pub few_raised : (n from to p raised : ℕ) (m : ℕ) → m ≡ n + one_if (within from to p) → n ≤ raised → m ≤ raised + 1

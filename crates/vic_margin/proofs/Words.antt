@@ -1,9 +1,8 @@
 -- The words of proofs, from one place.
-pub use Rattle.std.proofs.Common.{Bool, List, None, Option, Some, [], add-one, ap, arith, eq-eqb, eqb-true, replicate, false, get_or, if◌then◌else◌, inl, inr, length, map, nat_eq, nat_lt, not, refl, slice_get, slice_index, slice_set, subst, suc, sym, true, zero, ℕ, ◌&&◌, ◌++◌, ◌+◌, ◌-◌, ◌*◌, ◌/◌, ◌%◌, ◌^◌, ◌<◌, ◌==◌, ◌||◌, ◌↔◌, ◌∙◌, ◌∷◌, ◌≡◌, ◌≢◌, ◌≤◌, ⊎_elim}
+pub use Rattle.std.proofs.Common.{rules, Bool, List, None, Option, Some, [], add-one, ap, arith, eq-eqb, eqb-true, replicate, false, get_or, if◌then◌else◌, inl, inr, length, map, nat_eq, nat_lt, not, refl, slice_get, slice_index, slice_set, subst, suc, sym, true, zero, ℕ, ◌&&◌, ◌++◌, ◌+◌, ◌-◌, ◌*◌, ◌/◌, ◌%◌, ◌^◌, ◌<◌, ◌==◌, ◌||◌, ◌↔◌, ◌∙◌, ◌∷◌, ◌≡◌, ◌≢◌, ◌≤◌, ⊎_elim}
 pub use Rattle.std.proofs.lemmas.Bool.{and_parts, both_ways, cases_Bool, cases_eq, cases_lt, false_from_ne_true, or_cases, or_left, or_right}
 pub use Rattle.std.proofs.lemmas.Bool.Decides.{nat_tests}
-pub use Rattle.std.proofs.lemmas.List.{length-map, length-replicate, get_or-replicate, get_or_past, get_or-set_other, get_or-set_same}
-pub use Rattle.std.proofs.Math.ListN.{length-set}
+pub use Rattle.std.proofs.lemmas.List.{length-map, length-replicate, get_or-replicate, get_or_default, get_or_past, get_or-set_other, get_or-set_same}
 pub use Rattle.vic_frame.proofs.MirrorLaws.{mirror_below, mirror_of_uid}
 pub use Rattle.vic_frame.specs.LowBitsFirst.{IsKey, mirror, uid_of}
 pub use Rattle.vic_frame.specs.Uids.{IsUid, has}

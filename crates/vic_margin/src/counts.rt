@@ -1,11 +1,13 @@
 //! A row of counts, of which all in a span are raised by one at once: a complete binary tree, in
 //! which a count is the sum of the numbers from its leaf up to the root.
 
-ghost use Rattle.std.specs.Prelude.{◌≡◌, ◌+◌, ◌*◌, ◌^◌, ◌/◌, ◌<◌, ◌≤◌, ◌&&◌, ℕ, IfOk, length, slice_index};
+ghost use Rattle.std.specs.Prelude.{◌≡◌, ◌+◌, ◌*◌, ◌^◌, ◌/◌, ◌<◌, ◌≤◌, ◌&&◌, ℕ, IfOk, length};
 ghost use Rattle.vic_margin.specs.UidMargins.{one_if};
-ghost use Rattle.vic_margin.specs.inner.Trees.{Adds, AreAtMost, count_in, ends, sum_up, within};
+ghost use Rattle.vic_margin.specs.inner.Trees.{AreAtMost, sum_up, within};
+ghost use Rattle.vic_walk.specs.Borders.{part_count};
 
 use std::alloc::{AllocError, Global};
+use vic_walk::{Parts, Span};
 
 /// A row of counts.
 #[derive(Drop)]
@@ -24,52 +26,16 @@ pub(crate) struct Counts {
     ghost low: { (p : ℕ) → p < leaves → sum_up nodes.items levels (leaves + p) ≤ raised },
 }
 
-/// Adds one to the nodes at both ends of a row of them, from `low` on and before `high`, if their
-/// parents have other nodes below.
-fn raise_ends(nodes: &mut Vec<u32>, low: usize, high: usize)
-    requires forward { low < high }
-    requires room { high ≤ length nodes.old.items }
-    requires least { (n : ℕ) → low ≤ n → n < high → slice_index nodes.old.items n + 1 < 2 ^ 32 }
-    ensures room { length nodes.new.items ≡ length nodes.old.items }
-    ensures raised { (n : ℕ) → slice_index nodes.new.items n
-        ≡ slice_index nodes.old.items n + one_if (ends low high n) }
-{
-    if low % 2 == 1 {
-        nodes[low] += 1;
-    }
-    if high % 2 == 1 {
-        nodes[high - 1] += 1;
-    }
-}
-
-/// Adds one to nodes, so that one more is counted in each leaf from `from` on and before `to`.
-fn raise(nodes: &mut Vec<u32>, from: usize, to: usize)
-    requires room { to ≤ length nodes.old.items }
-    requires level { to ≤ from * 2 }
-    requires small { (n : ℕ) → slice_index nodes.old.items n + 1 < 2 ^ 32 }
-    ensures room { length nodes.new.items ≡ length nodes.old.items }
-    ensures most { (k : ℕ) → AreAtMost k nodes.old.items → AreAtMost (k + 1) nodes.new.items }
-    ensures adds { (d : ℕ) → to ≤ 2 ^ d → 2 ^ d ≤ from * 2
-        → Adds d from to nodes.old.items nodes.new.items }
-{
-    let mut low = from;
-    let mut high = to;
-    while low < high {
-        raise_ends(nodes, low, high);
-        low = low / 2 + low % 2;
-        high /= 2;
-    }
-}
-
 impl Counts {
-    /// At least so many counts, all of them 0.
-    pub(crate) fn none(alloc: Global, count: usize) -> Result<Counts, AllocError>
-        requires { count ≤ 2 ^ 56 }
-        ensures room { IfOk result (λ c. count ≤ c.leaves) }
-        ensures counts { IfOk result (λ c. (p : ℕ) → p < count
-            → count_in c.nodes.items c.levels c.leaves p ≡ 0) }
+    ghost use Rattle.vic_margin.specs.inner.Counts.{count_at};
+
+    /// At least a count for each part, all of them 0.
+    pub(crate) fn none(alloc: Global, parts: &Parts) -> Result<Counts, AllocError>
+        ensures room { IfOk result (λ c. part_count parts.now ≤ c.leaves) }
+        ensures counts { IfOk result (λ c. (p : ℕ) → p < part_count parts.now → count_at c p ≡ 0) }
         ensures raised { IfOk result (λ c. c.raised ≡ 0) }
     {
+        let count = parts.count();
         let mut leaves = 1;
         let mut levels = 1;
         while leaves < count {
@@ -84,19 +50,28 @@ impl Counts {
         })
     }
 
-    /// Raises the counts from number `from` on and before `to`.
-    pub(crate) fn raise(&mut self, from: usize, to: usize)
-        requires within { to ≤ self.old.leaves }
+    /// Raises the counts of a span.
+    pub(crate) fn raise(&mut self, span: Span)
+        requires within { span.to ≤ self.old.leaves }
         requires few { self.old.raised + 1 < 2 ^ 32 }
         ensures room { self.new.leaves ≡ self.old.leaves }
         ensures raised { self.new.raised ≡ self.old.raised + 1 }
-        ensures counts { (p : ℕ) → p < self.old.leaves →
-            count_in self.new.nodes.items self.new.levels self.new.leaves p
-            ≡ count_in self.old.nodes.items self.old.levels self.old.leaves p
-            + one_if (within from to p) }
+        ensures counts { (p : ℕ) → p < self.old.leaves
+            → count_at self.new p ≡ count_at self.old p + one_if (within span.from span.to p) }
     {
-        if from < to {
-            raise(&mut self.nodes, self.leaves + from, self.leaves + to);
+        let mut low = self.leaves + span.from.min(span.to);
+        let mut high = self.leaves + span.to;
+        let nodes = &mut self.nodes;
+        while low < high {
+            // of each row the nodes at both ends, if their parents have other nodes below
+            if low % 2 == 1 {
+                nodes[low] += 1;
+            }
+            if high % 2 == 1 {
+                nodes[high - 1] += 1;
+            }
+            low = low / 2 + low % 2;
+            high /= 2;
         }
         self.raised += 1;
     }
@@ -104,8 +79,7 @@ impl Counts {
     /// A count.
     pub(crate) fn at(&self, place: usize) -> u32
         requires { place < self.now.leaves }
-        ensures value { result
-            ≡ count_in self.now.nodes.items self.now.levels self.now.leaves place }
+        ensures value { result ≡ count_at self.now place }
         ensures few { result ≤ self.now.raised }
     {
         // nothing is counted yet, as where a log silences its tags first

@@ -1,9 +1,9 @@
 //! The margins of UIDs.
 
-ghost use Rattle.std.specs.Prelude.{◌≡◌, IfOk, length, map};
+ghost use Rattle.std.specs.Prelude.{◌≡◌, IfOk, map};
 ghost use Rattle.std.proofs.Props.{props};
 ghost use Rattle.vic_log.specs.Order.{entries};
-ghost use Rattle.vic_walk.specs.Borders.{AreBorders, part_count};
+ghost use Rattle.vic_walk.specs.Borders.{AreBorders};
 ghost use Rattle.vic_walk.specs.Cuts.{AreCut};
 ghost use Rattle.vic_margin.specs.UidMargins.{margin_of};
 ghost use Rattle.vic_margin.specs.inner.Tallies.{AreMargins};
@@ -15,13 +15,14 @@ use vic_frame::low_bits_first::key;
 use vic_log::{Log, RoundCursor};
 use vic_walk::{Hints, LogLines, Parts};
 
-/// The parts of the keys, and the margin of the UIDs of each.
+/// The parts of the keys of a log, and the margin of the UIDs of each.
 #[derive(Drop)]
-pub(crate) struct PartMargins {
+pub(crate) struct PartMargins<'a> {
+    pub log: &'a Log,
     pub parts: Parts,
     pub each: Vec<u32>,
     ghost borders: { AreBorders parts } by { Prim.hlevel props },
-    ghost room: { length each.items ≡ part_count parts },
+    ghost margins: { AreMargins parts (entries log.now.lines) each.items } by { Prim.hlevel props },
 }
 
 /// The margin of each UID that is handed in: in how many slots of a log it was overlooked. It fails
@@ -39,24 +40,25 @@ pub fn overlooked(alloc: Global, log: &Log, uids: &[Uid]) -> Result<Vec<u32>, Al
 }
 
 /// The margin of the UIDs of each part of a log.
-pub(crate) fn part_margins(
+pub(crate) fn part_margins<'a>(
     alloc: Global,
-    log: &Log,
+    log: &'a Log,
     parts: Parts,
-) -> Result<PartMargins, AllocError>
+) -> Result<PartMargins<'a>, AllocError>
     requires { AreCut parts (entries log.now.lines) }
-    ensures { IfOk result (λ m. AreMargins m.parts (entries log.now.lines) m.each.items) }
+    ensures { IfOk result (λ m. m.log.now ≡ log.now) }
 {
     let lines = LogLines::of(log);
-    let mut tally = Tally::start(alloc, parts.count())?;
+    let part_hints = parts.hints();
+    let mut tally = Tally::start(alloc, &parts)?;
     let mut rounds = RoundCursor::first();
     let mut hints = Hints::first();
     for index in 0..lines.len() {
         let entry = lines.entry(index);
-        let near = hints.next(parts.hints(), &entry);
-        tally.pass(&parts, &rounds, near, &entry);
+        let near = hints.next(part_hints, &entry);
+        tally.pass(&rounds, near, &entry);
         rounds.advance(&entry);
     }
     let each = tally.margins();
-    Ok(PartMargins { parts, each })
+    Ok(PartMargins { log, parts, each })
 }

@@ -19,7 +19,9 @@ use vic_walk::{Marks, Near, Parts, Span, span_of};
 
 /// What is known of each part before a position of a log.
 #[derive(Drop)]
-pub(crate) struct Tally {
+pub(crate) struct Tally<'a> {
+    /// Cut for the log.
+    parts: &'a Parts,
     /// In how many slots that were silent, or in which a tag was heard alone, its UIDs lie in the
     /// mask.
     pub counts: Counts,
@@ -28,25 +30,25 @@ pub(crate) struct Tally {
     pub rest: Vec<u32>,
     /// Whether they are Quiet.
     pub quiet: Marks,
+    ghost room: { length rest.items ≡ part_count parts.now },
     ghost leaves: { length rest.items ≤ counts.leaves },
     ghost marks: { length quiet ≡ length rest.items },
     ghost least: { (p : ℕ) → p < length rest.items
         → slice_index rest.items p ≤ count_at counts p },
 }
 
-impl Tally {
+impl<'a> Tally<'a> {
     ghost use Rattle.vic_margin.specs.inner.Tallies.{AreMargins, IsCounted, IsTallyAt, IsTurned};
 
-    /// The tally before the first entry, of so many parts.
-    pub(crate) fn start(alloc: Global, count: usize) -> Result<Tally, AllocError>
-        requires { count ≤ 2 ^ 56 }
-        ensures { IfOk result (λ t. (bs : List ℕ) (es : List EntryValue) → part_count bs ≡ count
-            → IsTallyAt bs es 0 t) }
+    /// The tally before the first entry.
+    pub(crate) fn start(alloc: Global, parts: &'a Parts) -> Result<Tally<'a>, AllocError>
+        ensures { IfOk result (λ t. (es : List EntryValue) → IsTallyAt parts.now es 0 t) }
     {
         Ok(Tally {
-            counts: Counts::none(alloc, count)?,
-            rest: vec![in alloc; 0; count]?,
-            quiet: Marks::none(alloc, count)?,
+            parts,
+            counts: Counts::none(alloc, parts)?,
+            rest: vec![in alloc; 0; parts.count()]?,
+            quiet: Marks::none(alloc, parts.count())?,
         })
     }
 
@@ -57,6 +59,7 @@ impl Tally {
             (count_at self.old.counts part - slice_index self.old.rest.items part) }
         ensures counts { self.new.counts ≡ self.old.counts }
         ensures quiet { self.new.quiet ≡ self.old.quiet }
+        ensures parts { self.new.parts.now ≡ self.old.parts.now }
     {
         let left = self.counts.at(part) - self.rest[part];
         self.rest[part] = left;
@@ -89,41 +92,31 @@ impl Tally {
         }
     }
 
-    /// Counts a slot, in whose mask the UIDs of a span lie.
-    fn count(&mut self, span: Span)
-        requires within { span.to ≤ self.old.counts.leaves }
-        requires few { self.old.counts.raised + 1 < 2 ^ 32 }
-        ensures { IsCounted span (λ p. false) self.old self.new }
-    {
-        self.counts.raise(span.from, span.to);
-    }
-
     /// Counts a slot in which the UID of part `own` was heard alone, but not for that UID.
     fn hear(&mut self, span: Span, own: usize)
-        requires within { span.to ≤ self.old.counts.leaves }
+        requires within { span.to ≤ part_count self.old.parts.now }
         requires own { own < length self.old.rest.items }
         requires few { self.old.counts.raised + 1 < 2 ^ 32 }
         ensures { IsCounted span (λ p. p == own && (within span.from span.to own
             && not (is_marked self.old.quiet own))) self.old self.new }
     {
-        self.counts.raise(span.from, span.to);
+        self.counts.raise(span);
         if span.from <= own && own < span.to && !self.quiet.has(own) {
             self.rest[own] += 1;
         }
     }
 
     /// Makes the part of the UID Quiet that a request silences, if it silences one.
-    fn pass_request(&mut self, parts: &Parts, near: Near, request: &Request)
-        requires { length self.old.rest.items ≡ part_count parts.now }
-        ensures { (es : List EntryValue) (i : ℕ) → slice_get es i ≡ Some (Sent request.now)
-            → AreBorders parts.now → AreCut parts.now es → IsTallyAt parts.now es i self.old
-            → IsTallyAt parts.now es (i + 1) self.new }
+    fn pass_request(&mut self, near: Near, request: &Request)
+        ensures { (bs : List ℕ) (es : List EntryValue) (i : ℕ)
+            → slice_get es i ≡ Some (Sent request.now) → AreBorders bs → AreCut bs es
+            → IsTallyAt bs es i self.old → IsTallyAt bs es (i + 1) self.new }
     {
         match *request {
             Request::StayQuiet { uid, .. } => {
                 // no tag has another number
                 if let Some(uid) = Uid::new(uid) {
-                    self.silence(parts.at_or_after(near.own, key(uid)));
+                    self.silence(self.parts.at_or_after(near.own, key(uid)));
                 }
             }
             Request::Inventory { .. } => {}
@@ -131,19 +124,19 @@ impl Tally {
     }
 
     /// Takes the tally past an entry.
-    pub(crate) fn pass(&mut self, parts: &Parts, rounds: &RoundCursor, near: Near, entry: &Entry)
-        requires room { length self.old.rest.items ≡ part_count parts.now }
-        requires few { self.old.counts.raised + 1 < 2 ^ 32 }
-        ensures { (es : List EntryValue) (i : ℕ) → IsPlace parts.now es i entry.now rounds.now
-            → IsTallyAt parts.now es i self.old → IsTallyAt parts.now es (i + 1) self.new }
+    pub(crate) fn pass(&mut self, rounds: &RoundCursor, near: Near, entry: &Entry)
+        requires { self.old.counts.raised + 1 < 2 ^ 32 }
+        ensures { (bs : List ℕ) (es : List EntryValue) (i : ℕ)
+            → IsPlace bs es i entry.now rounds.now → IsTallyAt bs es i self.old
+            → IsTallyAt bs es (i + 1) self.new }
     {
         match *entry {
-            Entry::Sent(request) => self.pass_request(parts, near, &request),
+            Entry::Sent(request) => self.pass_request(near, &request),
             Entry::FieldCycle => self.wake(),
-            Entry::Silent => self.count(span_of(parts, rounds, near)),
+            Entry::Silent => self.counts.raise(span_of(self.parts, rounds, near)),
             Entry::Heard(response) => {
-                let span = span_of(parts, rounds, near);
-                let own = parts.at_or_after(near.own, key(response.uid()));
+                let span = span_of(self.parts, rounds, near);
+                let own = self.parts.at_or_after(near.own, key(response.uid()));
                 self.hear(span, own);
             }
             // in these no UID is overlooked
@@ -157,7 +150,7 @@ impl Tally {
 
     /// The margin of each part, after the last entry.
     pub(crate) fn margins(self) -> Vec<u32>
-        ensures { (bs : List ℕ) (es : List EntryValue) → IsTallyAt bs es (length es) self
+        ensures { (bs : List ℕ) (es : List EntryValue) → IsTallyAt bs es (length es) self.entry
             → AreMargins bs es result.items }
     {
         let mut tally = self;

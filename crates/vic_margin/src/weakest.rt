@@ -2,20 +2,18 @@
 
 ghost use Rattle.std.specs.Prelude.{IfOk, MatchOption};
 ghost use Rattle.vic_log.specs.Order.{entries};
-ghost use Rattle.vic_walk.specs.Cuts.{AreCut};
 ghost use Rattle.vic_verdict.specs.Possible.{IsPossible};
 ghost use Rattle.vic_verdict.specs.Verdict.{IsVerdict};
 ghost use Rattle.vic_margin.specs.Margins.{IsWeakest};
 
 use crate::answer::{Margin, Weakest};
 use crate::least::least_besides;
-use crate::margins::part_margins;
+use crate::margins::{PartMargins, part_margins};
 use crate::others::other_keys;
 use std::alloc::{AllocError, Global};
 use vic_log::Log;
 use vic_tree::{OpenSet, RangeSet, SortedKeys};
 use vic_verdict::{Facts, Verdict, facts_and_parts_of, first_finding, listed_uids};
-use vic_walk::Parts;
 
 /// The verdict on a log, and its margin, if it is possible. It fails only if memory is refused.
 pub fn margin(alloc: Global, log: &Log) -> Result<Margin, AllocError>
@@ -32,7 +30,18 @@ pub fn margin(alloc: Global, log: &Log) -> Result<Margin, AllocError>
                 certain,
             } = facts;
             let verdict = first_finding(alloc, open, &certain, log)?;
-            let weakest = weakest_by(alloc, log, parts, &verdict)?;
+            let weakest = match verdict {
+                // its UIDs were overlooked nowhere
+                Verdict::Unsettled(mask) => Weakest { margin: 0, mask },
+                Verdict::Impossible { .. }
+                | Verdict::Absent(_)
+                | Verdict::Unlisted(_)
+                | Verdict::Doubtful(_)
+                | Verdict::Complete { .. } => {
+                    let parts = parts.indexed(alloc)?;
+                    weakest_of(alloc, &part_margins(alloc, log, parts)?)?
+                }
+            };
             Ok(Margin {
                 verdict,
                 weakest: Some(weakest),
@@ -45,44 +54,16 @@ pub fn margin(alloc: Global, log: &Log) -> Result<Margin, AllocError>
     }
 }
 
-/// The margin of the lines of a possible log, by the verdict on it, and the first mask of UIDs that
-/// have it.
-fn weakest_by(
-    alloc: Global,
-    log: &Log,
-    parts: Parts,
-    verdict: &Verdict,
-) -> Result<Weakest, AllocError>
-    requires cut { AreCut parts (entries log.now.lines) }
-    requires verdict { IsVerdict log.now.lines verdict.now }
-    ensures { IfOk result (IsWeakest (entries log.now.lines)) }
+/// The margin of a log, and the first mask of UIDs that have it.
+fn weakest_of(alloc: Global, margins: &PartMargins) -> Result<Weakest, AllocError>
+    ensures { IfOk result (IsWeakest (entries margins.now.log.now.lines)) }
 {
-    match verdict {
-        // its UIDs were overlooked nowhere
-        Verdict::Unsettled(mask) => Ok(Weakest {
-            margin: 0,
-            mask: *mask,
-        }),
-        Verdict::Impossible { .. }
-        | Verdict::Absent(_)
-        | Verdict::Unlisted(_)
-        | Verdict::Doubtful(_)
-        | Verdict::Complete { .. } => weakest_of(alloc, log, parts.indexed(alloc)?),
-    }
-}
-
-/// The margin of the lines of a log, and the first mask of UIDs that have it.
-fn weakest_of(alloc: Global, log: &Log, parts: Parts) -> Result<Weakest, AllocError>
-    requires { AreCut parts (entries log.now.lines) }
-    ensures { IfOk result (IsWeakest (entries log.now.lines)) }
-{
-    let margins = part_margins(alloc, log, parts)?;
-    let listed = listed_uids(alloc, log.lines())?;
+    let listed = listed_uids(alloc, margins.log.lines())?;
     let keys = SortedKeys::of(alloc, &listed)?;
-    let Some(least) = least_besides(&margins, &keys) else {
+    let Some(least) = least_besides(margins, &keys) else {
         unreachable!()
     };
-    let others = other_keys(alloc, &margins, least)?;
+    let others = other_keys(alloc, margins, least)?;
     let set = RangeSet::without(alloc, others)?;
     let Some(mask) = set.widest_besides(&keys)? else {
         unreachable!()

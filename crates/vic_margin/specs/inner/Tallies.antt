@@ -21,7 +21,7 @@ pub record IsTallyOf (es : List Entry) (i u p : ℕ) (t : Tally) : Type 0 where
 
 -- the tally is before position i
 pub record IsTallyAt (bs : List ℕ) (es : List Entry) (i : ℕ) (t : Tally) : Type 0 where
-  pub room : length t.rest.items ≡ part_count bs
+  pub parts : t.parts.now ≡ bs
   pub few : t.counts.raised ≤ i
   pub known : (u p : ℕ) → IsUid u → IsPartOf bs (mirror u) p → IsTallyOf es i u p t
 
@@ -32,7 +32,7 @@ pub record IsTurned (which : ℕ → Bool) (old new : Tally) : Type 0 where
   pub same : (p : ℕ) → which p ≡ false
       → slice_index new.rest.items p ≡ slice_index old.rest.items p
   pub counts : new.counts ≡ old.counts
-  pub places : length new.rest.items ≡ length old.rest.items
+  pub parts : new.parts.now ≡ old.parts.now
 
 -- one more is counted in the parts of a span, and of those for which a test holds taken back
 pub record IsCounted (s : Span) (back : ℕ → Bool) (old new : Tally) : Type 0 where
@@ -43,7 +43,7 @@ pub record IsCounted (s : Span) (back : ℕ → Bool) (old new : Tally) : Type 0
   pub quiet : new.quiet ≡ old.quiet
   pub leaves : new.counts.leaves ≡ old.counts.leaves
   pub raised : new.counts.raised ≡ old.counts.raised + 1
-  pub places : length new.rest.items ≡ length old.rest.items
+  pub parts : new.parts.now ≡ old.parts.now
 
 -- the margin of the UIDs of each part
 pub record AreMargins (bs : List ℕ) (es : List Entry) (margins : List ℕ) : Type 0 where

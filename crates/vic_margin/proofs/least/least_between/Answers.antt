@@ -13,7 +13,7 @@ pub loop-part-preserved : goal.loop-part-preserved
 loop-part-preserved c wanted h =
     let low = c.loop-part.auto.part in
     let each = c.args.margins.now.each.items in
-    let lt : c.loop-part.part < length each = omega (arith, c.loop-part-test.true, c.at-part-end.ensures.within, c.args.margins.now.room) in
+    let lt : c.loop-part.part < length each = omega (arith, c.loop-part-test.true, c.at-part-end.ensures.within, c.args.margins.now.margins.room) in
     rw c.lesser.ensures (least_next _ _ wanted c.args.from c.args.end c.at-part.result c.at-part-end.result c.loop-part.part _ c.loop-part.found c.args.margins.now.borders c.if-end-from.false c.at-part.ensures c.at-part-end.ensures low (omega (arith, c.loop-part-test.true)) (c.index.ensures ∙ get_or_default each c.loop-part.part c.index.result.now 0 lt) (c.loop-part.invariant wanted h))
 
 pub returns : goal.returns

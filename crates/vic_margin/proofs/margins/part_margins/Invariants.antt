@@ -5,6 +5,6 @@ use Rattle.vic_margin.proofs.margins.part_margins.Given as goal
 
 abbrev pub invariant-loop-index : goal.invariant-loop-index
 invariant-loop-index l = record {
-  tally : IsTallyAt l.parts (entries l.lines) l.index l.tally;
+  tally : IsTallyAt l.fn.parts (entries l.lines) l.index l.tally;
   rounds : IsCursorAt (entries l.lines) l.index l.rounds;
 }

@@ -18,7 +18,7 @@ loop-part-preserved c =
     let bs = c.args.margins.now.parts in
     let ms = c.args.margins.now.each.items in
     let lt : c.loop-part.part < part_count bs = omega (arith, c.loop-part-test.true, c.count-part-end.ensures.count) in
-    let read = c.index.ensures ∙ get_or_default ms c.loop-part.part c.index.result.now 0 (omega (arith, lt, c.args.margins.now.room)) in
+    let read = c.index.ensures ∙ get_or_default ms c.loop-part.part c.index.result.now 0 (omega (arith, lt, c.args.margins.now.margins.room)) in
     elim c.if-index-margin.branch [
       | then-index-margin+in_ok-push_keys w ↦
           let isnt : not (slice_index ms c.loop-part.part == c.args.margin) ≡ false = grind (arith, nat_tests, read, w.if-index-margin.true) in

@@ -1,20 +1,21 @@
 use Rattle.vic_verdict.proofs.Verdicts.{possible_to}
 use Rattle.vic_verdict.specs.Verdict.{IsVerdict}
 use Rattle.vic_verdict.specs.declared.judging.Verdict.TheVariants.{Impossible}
+use Rattle.vic_margin.proofs.Words.{rules}
+use Rattle.vic_margin.proofs.LawLemmas.{unsettled_weakest}
 use Rattle.vic_margin.proofs.weakest.margin.Goals as goal
+use Rattle.vic_margin.proofs.weakest.margin.Goals.{in-Unsettled, in-Impossible+in_ok-parts-in-Impossible+in_ok-part_margins-in-Impossible+in_ok-weakest-in-Impossible}
 
-pub weakest_by-requires-clause-cut : goal.weakest_by-requires-clause-cut
-weakest_by-requires-clause-cut c = rw c.in-Ok.is at c.in_ok-facts.ensures.cut
-
-pub weakest_by-requires-clause-verdict : goal.weakest_by-requires-clause-verdict
-weakest_by-requires-clause-verdict c = c.in_ok-verdict-in-Ok.ensures
-
-impossible : (c : goal.In-Err) → IsVerdict c.args.log.now.lines (Impossible c.in-Err.line)
-impossible c = rw c.in-Err.is at c.in_ok-facts.ensures.facts
-
-pub returns-in-Err-clause-verdict : goal.returns-in-Err-clause-verdict
-returns-in-Err-clause-verdict c = impossible c
+pub returns-after-verdict-clause-weakest : goal.returns-after-verdict-clause-weakest
+returns-after-verdict-clause-weakest c = (
+  search rules,
+  elim c.match-verdict.branch [
+    | in-Unsettled w ↦ rw w.weakest-is (unsettled_weakest c.args.log.now.lines _ (rw w.in-Unsettled.is at c.in_ok-verdict-in-Ok.ensures))
+    | in-Impossible+in_ok-parts-in-Impossible+in_ok-part_margins-in-Impossible+in_ok-weakest-in-Impossible w ↦ rw w.weakest-is (rw w.in_ok-part_margins-in-Impossible.ensures at w.in_ok-weakest-in-Impossible.ensures)
+  ],
+)
 
 pub returns-in-Err-clause-weakest : goal.returns-in-Err-clause-weakest
 returns-in-Err-clause-weakest c p =
-    (impossible c).0 (possible_to c.args.log.now.lines c.in_ok-facts.ensures.log.rising p c.in-Err.line)
+    let impossible : IsVerdict c.args.log.now.lines (Impossible c.in-Err.line) = rw c.in-Err.is at c.in_ok-facts.ensures.facts in
+    impossible.0 (possible_to c.args.log.now.lines c.in_ok-facts.ensures.log.rising p c.in-Err.line)

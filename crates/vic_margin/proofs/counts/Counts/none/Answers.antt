@@ -1,6 +1,13 @@
-use Rattle.vic_margin.proofs.Words.{arith, ap, length, length-replicate, ℕ, ◌+◌, ◌∙◌}
+use Rattle.vic_margin.proofs.Words.{add-one, arith, ap, length, length-replicate, ℕ, ◌+◌, ◌∙◌}
+use Rattle.vic_margin.proofs.Places.{few_parts}
 use Rattle.vic_margin.proofs.Trees.{below_pow, sum_none, zero_at}
 use Rattle.vic_margin.proofs.counts.Counts.none.Goals as goal
+
+pub loop-leaves-preserved : goal.loop-leaves-preserved
+loop-leaves-preserved c =
+    let i = c.loop-leaves.invariant in
+    let few = few_parts c.args.parts.now c.count-count.ensures.borders in
+    record { half = rw add-one (omega (arith, i.half)); some = omega (arith, i.some); few = omega (arith, c.loop-leaves-test.true, c.count-count.ensures.count) }
 
 pub overflow_add-levels : goal.overflow_add-levels
 overflow_add-levels c = let h = below_pow c.loop-leaves.levels in omega arith
