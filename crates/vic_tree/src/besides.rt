@@ -1,7 +1,6 @@
 //! Ranges of keys without some keys: as ranges, what is gathered from them, and their widest mask.
 
 ghost use Rattle.std.specs.Prelude.{◌≡◌, ℕ, false, List, ◌++◌, OnOk, IfSome, IfNone};
-ghost use Rattle.std.specs.List.Sorted.{IsStrictlyIncreasing};
 ghost use Rattle.vic_frame.specs.Uids.{has};
 ghost use Rattle.vic_tree.specs.Gathering.{Gathers};
 ghost use Rattle.vic_tree.specs.OpenSet.{IsWidest, SameUids, without_keys};
@@ -43,7 +42,6 @@ pub(crate) fn gather_left(
     ranges: &[KeyRange],
     range: KeyRange,
 )
-    requires rising { IsStrictlyIncreasing except.now }
     requires ranges { AreRanges ranges.now }
     ensures { Gathers (IsFreeInRanges ranges.now range.0 range.1 (has except.now))
         out.old.items out.new.items }

@@ -14,10 +14,3 @@ pub fn put_in_order(uids: &mut Vec<Uid>)
     uids.sort_unstable();
     uids.dedup();
 }
-
-/// Whether a rising list has the UID.
-pub fn is_among(uids: &[Uid], uid: Uid) -> bool
-    ensures { IsStrictlyIncreasing uids.now → result ≡ has uids.now uid }
-{
-    uids.binary_search(&uid).is_ok()
-}
