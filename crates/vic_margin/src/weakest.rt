@@ -78,7 +78,7 @@ fn weakest_of(alloc: Global, log: &Log, parts: Parts) -> Result<Weakest, AllocEr
 {
     let margins = part_margins(alloc, log, parts)?;
     let listed = listed_uids(alloc, log.lines())?;
-    let keys = SortedKeys::of(alloc, &listed)?;
+    let keys = SortedKeys::of(alloc, listed.as_slice())?;
     let Some(least) = least_besides(&margins, &keys) else {
         unreachable!()
     };
