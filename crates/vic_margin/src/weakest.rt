@@ -59,7 +59,7 @@ fn weakest_of(alloc: Global, margins: &PartMargins) -> Result<Weakest, AllocErro
     ensures { IfOk result (IsWeakest (entries margins.now.log.now.lines)) }
 {
     let listed = listed_uids(alloc, margins.log.lines())?;
-    let keys = SortedKeys::of(alloc, &listed)?;
+    let keys = SortedKeys::of(alloc, listed.as_slice())?;
     let Some(least) = least_besides(margins, &keys) else {
         unreachable!()
     };

@@ -85,7 +85,7 @@ pub joined_more : (expected : List ℕ) (logs : List (List LogLine)) (lines : Li
 joined_more expected logs lines old new set besides certain keys told p facts is shown noted own same list count left j =
     let long = AllZip-long IsLeftBy logs old.left.items j.left in
     record {
-      members = subst (λ (us : List ℕ). SameMembers us expected) (sym (ap (λ v. v.items) list)) j.members;
+      members = subst (λ (us : List ℕ). SameMembers us expected) (sym list) j.members;
       count = count ∙ j.count;
       possible = All-push IsPossibleLog logs lines j.possible p;
       certain = λ u. certain_more logs lines certain told old.certain new.certain u facts.must is shown (subst (λ n. AreNoted old.certain new.certain n told) long noted) (j.certain u);
@@ -198,7 +198,7 @@ pub still_joined : (expected : List ℕ) (logs : List (List LogLine)) (old new :
 still_joined expected logs old new now told noted forgotten list count left j =
     let same = noted_forgotten old.certain now new.certain (length old.left.items) told noted forgotten (places_below expected logs old j) in
     record {
-      members = subst (λ (us : List ℕ). SameMembers us expected) (sym (ap (λ v. v.items) list)) j.members;
+      members = subst (λ (us : List ℕ). SameMembers us expected) (sym list) j.members;
       count = count ∙ j.count;
       possible = j.possible;
       certain = λ u. subst (λ o. MatchOption o (IsCertainInNone logs u) (IsFirstTold logs u)) (sym (same u)) (j.certain u);

@@ -48,22 +48,22 @@ pub findings_of : (expected : List ℕ) (logs : List (List LogLine)) (r : Reconc
     → IsJoined expected logs r
     → IsStrictlyIncreasing certain → ((u : ℕ) → has certain u ≡ is_some (tree.get nat_cmp r.certain u))
     → SameUids (is_open_in all) (is_left r.left.items)
-    → AreDifferences (is_open_in all) certain r.expected.items d
-    → f.absent ≡ d.absent
-    → map (λ (s : UnlistedUid). s.uid) f.unlisted.items ≡ d.unlisted.items
+    → AreDifferences (is_open_in all) certain r.expected d
+    → f.absent.items ≡ d.absent
+    → map (λ (s : UnlistedUid). s.uid) f.unlisted.items ≡ d.unlisted
     → All (λ (s : UnlistedUid). tree.get nat_cmp r.certain s.uid ≡ Some s.place) f.unlisted.items
     → IfNone d.unsettled (f.unsettled ≡ None) → IfSome d.unsettled (λ m. MatchOption f.unsettled ⊥ (IsLeftToAsk certain r.left.items m))
-    → IsListOf (IsFailing r.expected.items (has certain)) some → IsListOf (IsFailing some (has d.absent.items)) doubtful
+    → IsListOf (IsFailing r.expected (has certain)) some → IsListOf (IsFailing some (has d.absent)) doubtful
     → map (λ (s : DoubtfulUid). s.uid) f.doubtful.items ≡ doubtful
     → All (IsFirstLeft r.left.items) f.doubtful.items
     → AreFindings expected logs f
 findings_of expected logs r all certain some doubtful d f j rising members same differ is placed places none asked un l firsts lefts =
     let facts = joined_facts expected logs r all certain j rising members same in
     let own = listed_as expected logs r j in
-    let found = all_findings (IsPossibleUid logs) (IsCertainUid logs) (is_open_in all) certain r.expected.items expected d facts own differ in
-    let doubts : IsListOf (IsDoubtful expected logs) doubtful = doubtful_list (IsPossibleUid logs) (IsCertainUid logs) (is_open_in all) certain r.expected.items expected some d.absent.items doubtful facts own un differ.absent l in
+    let found = all_findings (IsPossibleUid logs) (IsCertainUid logs) (is_open_in all) certain r.expected expected d facts own differ in
+    let doubts : IsListOf (IsDoubtful expected logs) doubtful = doubtful_list (IsPossibleUid logs) (IsCertainUid logs) (is_open_in all) certain r.expected expected some d.absent doubtful facts own un differ.absent l in
     record {
-      absent = subst (λ v. IsListOf (IsAbsent expected logs) v.items) (sym is) found.absent;
+      absent = subst (IsListOf (IsAbsent expected logs)) (sym is) found.absent;
       unlisted = subst (IsListOf (IsUnlisted expected logs)) (sym placed) found.unlisted;
       unlisted_shown = λ k s lt. told_at expected logs r (get_or f.unlisted.items k s) j (places k s lt);
       unsettled = needed_as expected logs r certain d.unsettled f.unsettled j facts.must found.unsettled none asked;

@@ -101,15 +101,15 @@ log_facts logs certain sorted masks set t f = record {
 }
 
 pub found : (P C : ℕ → Type 0) (set : ℕ → Bool) (sorted us expected some : List ℕ) (d : Differences) (f : PlainFindings) → AreFacts P C set sorted → AreListed us expected → AreDifferences set sorted us d
-    → IsListOf (IsFailing us (has sorted)) some → IsListOf (IsFailing some (has d.absent.items)) f.doubtful.items
-    → f.absent ≡ d.absent → f.unlisted ≡ d.unlisted → f.unsettled ≡ d.unsettled → AreFindingsBy P C expected f
+    → IsListOf (IsFailing us (has sorted)) some → IsListOf (IsFailing some (has d.absent)) f.doubtful.items
+    → f.absent.items ≡ d.absent → f.unlisted.items ≡ d.unlisted → f.unsettled ≡ d.unsettled → AreFindingsBy P C expected f
 found P C set sorted us expected some d f facts own differ un l a b m =
     let all = all_findings P C set sorted us expected d facts own differ in
     record {
-      absent = subst (λ v. IsListOf (λ u. (has expected u ≡ true) × (P u → ⊥)) v.items) (sym a) all.absent;
-      unlisted = subst (λ v. IsListOf (λ u. C u × (has expected u ≡ false)) v.items) (sym b) all.unlisted;
+      absent = subst (IsListOf (λ u. (has expected u ≡ true) × (P u → ⊥))) (sym a) all.absent;
+      unlisted = subst (IsListOf (λ u. C u × (has expected u ≡ false))) (sym b) all.unlisted;
       unsettled = subst (λ x. MatchOption x (NoSuch (IsUnsettledBy P C expected)) (IsFirstMask (IsUnsettledBy P C expected))) (sym m) all.unsettled;
-      doubtful = doubtful_list P C set sorted us expected some d.absent.items f.doubtful.items facts own un differ.absent l;
+      doubtful = doubtful_list P C set sorted us expected some d.absent f.doubtful.items facts own un differ.absent l;
     }
 
 pub none_found : (logs : List (List LogLine)) (certain : List ℕ) (masks : List BitMask) (expected : List ℕ) (f : PlainFindings) → AreTogether logs certain masks → AreFindingsBy (IsPossibleUid logs) (IsCertainUid logs) expected f → AreNoneOf f → IsWhole expected logs

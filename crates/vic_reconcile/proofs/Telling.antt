@@ -66,7 +66,7 @@ joined_facts expected logs r all certain j rising members same = record {
       members = λ u. let w = certain_iff expected logs r u j in ((λ h. w.0 (sym (members u) ∙ h)), (λ c. members u ∙ w.1 c));
     }
 
-pub listed_as : (expected : List ℕ) (logs : List (List LogLine)) (r : Reconciliation) → IsJoined expected logs r → AreListed r.expected.items expected
+pub listed_as : (expected : List ℕ) (logs : List (List LogLine)) (r : Reconciliation) → IsJoined expected logs r → AreListed r.expected expected
 listed_as expected logs r j = record { members = j.members; are_uids = r.are_uids }
 
 -- ---- the first log in which a UID is possible

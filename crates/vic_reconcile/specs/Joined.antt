@@ -25,7 +25,7 @@ IsCertainInNone logs u = All (λ lines. IsCertainUid (entries lines) u → ⊥) 
 -- what was joined is the list of what is expected and what possible logs tell
 pub record IsJoined (expected : List ℕ) (logs : List (List LogLine)) (r : Reconciliation)
     : Type 0 where
-  pub members : SameMembers r.expected.items expected
+  pub members : SameMembers r.expected expected
   pub count : r.count ≡ length expected
   pub possible : All (λ lines. IsPossible (entries lines)) logs
   pub certain : (u : ℕ)

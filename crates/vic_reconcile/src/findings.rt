@@ -1,9 +1,8 @@
 //! What the logs tell together against the list of what is expected.
 
-ghost use Rattle.std.specs.BTreeMap.{IsOrdered, get, keys};
+ghost use Rattle.std.specs.BTreeMap.{get, keys};
 ghost use Rattle.std.specs.List.{All, AllPass};
-ghost use Rattle.std.specs.Ordering.{eq_by_cmp, nat_cmp};
-ghost use Rattle.std.specs.Set.{is_member};
+ghost use Rattle.std.specs.Ordering.{nat_cmp};
 ghost use Rattle.std.specs.Prelude.{◌≡◌, ◌↔◌, ℕ, false, IfNone, IfOk, IfSome, IsTrue, List, MatchOption, None, Some, is_some, map};
 ghost use Rattle.vic_frame.specs.Uids.{has};
 ghost use Rattle.vic_log.specs.declared.entry.LogLine.{LogLine as LogLineValue};
@@ -14,7 +13,7 @@ ghost use Rattle.vic_reconcile.specs.inner.Joined.{IsFirstLeft, IsLeftToAsk, is_
 use crate::reconciliation::{Place, Reconciliation};
 use std::alloc::{AllocError, Global};
 use vic_frame::{Mask, Uid};
-use vic_tree::{OpenMasks, OpenSet, RangeSet, SortedKeys};
+use vic_tree::{OpenMasks, OpenSet, RangeSet, RisingUids, SortedKeys};
 use vic_verdict::{compare, missing_from};
 
 /// What logs tell together against a list of what is expected.
@@ -82,21 +81,20 @@ impl Reconciliation {
         let uncertain = missing_from(alloc, &self.expected, &certain)?;
         let doubtful = missing_from(alloc, &uncertain, &found.absent)?;
         Ok(Findings {
-            absent: found.absent,
-            unlisted: self.places_of(&found.unlisted)?,
-            unsettled: self.left_to_ask(found.unsettled, &certain)?,
-            doubtful: self.first_logs(&doubtful)?,
+            absent: found.absent.into_vec(),
+            unlisted: self.places_of(found.unlisted.as_slice())?,
+            unsettled: self.left_to_ask(found.unsettled, certain.as_slice())?,
+            doubtful: self.first_logs(doubtful.as_slice())?,
         })
     }
 
-    /// The UIDs that are certain in some log, in rising order.
-    fn certain_uids(&self) -> Result<Vec<Uid>, AllocError>
-        ensures keys { IfOk result (λ v. v.items ≡ keys self.now.certain) }
-        ensures order { IsOrdered nat_cmp self.now.certain }
-        ensures members { (u : ℕ) → is_some (get nat_cmp self.now.certain u)
-            ≡ is_member (eq_by_cmp nat_cmp) (keys self.now.certain) u }
+    /// The UIDs that are certain in some log.
+    fn certain_uids(&self) -> Result<RisingUids, AllocError>
+        ensures { IfOk result (λ v. (u : ℕ)
+            → has v u ≡ is_some (get nat_cmp self.now.certain u)) }
     {
-        self.certain.keys().copied().collect(self.alloc)
+        let uids = self.certain.keys().copied().collect(self.alloc)?;
+        Ok(RisingUids::of(uids))
     }
 
     /// UIDs that are certain, with their places.

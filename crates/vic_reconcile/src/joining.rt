@@ -52,7 +52,7 @@ impl Reconciliation {
             → IsJoined expected logs self
             → IsListOf (λ u. has expected u ≡ true) result.items }
     {
-        self.expected
+        self.expected.into_vec()
     }
 
     /// How many UIDs are expected.
@@ -97,7 +97,7 @@ impl Reconciliation {
     /// Joins the facts of a possible log.
     fn join(&mut self, facts: &Facts<RangeSet>, lines: &[PackedLine]) -> Result<(), AllocError>
         requires { AreFactsOf (entries lines.now) (is_open_in facts.now.«open») facts.now.met
-            facts.now.certain.items }
+            facts.now.certain }
         ensures joined { OnOk result ((expected : List ℕ) (logs : List (List LogLineValue))
             → IsJoined expected logs self.old
             → IsJoined expected (logs ++ lines.now ∷ []) self.new) }
@@ -105,8 +105,9 @@ impl Reconciliation {
             → IsJoined expected logs self.old → IsJoined expected logs self.new) }
     {
         let alloc = self.alloc;
-        let told = lines_of_certain(alloc, lines, &facts.met, &facts.certain)?;
-        let keys = SortedKeys::of(alloc, &facts.certain)?;
+        let certain = facts.certain.as_slice();
+        let told = lines_of_certain(alloc, lines, &facts.met, certain)?;
+        let keys = SortedKeys::of(alloc, certain)?;
         let open = facts.open.besides(alloc, &keys)?;
         let log = self.left.len();
         self.left.push(open)?;

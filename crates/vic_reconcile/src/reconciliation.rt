@@ -1,13 +1,12 @@
 //! What is expected, and what the logs that were joined so far tell.
 
-ghost use Rattle.std.specs.List.Sorted.{IsStrictlyIncreasing};
 ghost use Rattle.std.specs.Prelude.{◌≡◌, ℕ, true};
 ghost use Rattle.vic_frame.specs.Uids.{IsUid, has};
 
 use std::alloc::Global;
 use std::collections::BTreeMap;
 use vic_frame::Uid;
-use vic_tree::RangeSet;
+use vic_tree::{RangeSet, RisingUids};
 
 /// A line of one of the logs.
 #[derive(Clone, Copy, Debug, PartialEq, Eq)]
@@ -24,13 +23,12 @@ pub struct Place {
 #[derive(Drop)]
 pub struct Reconciliation {
     pub(crate) alloc: Global,
-    /// What is expected, in rising order, and how many UIDs that are.
-    pub(crate) expected: Vec<Uid>,
+    /// What is expected, and how many UIDs that are.
+    pub(crate) expected: RisingUids,
     pub(crate) count: u32,
     /// The UIDs that are certain in some log, each with a line of the first such log.
     pub(crate) certain: BTreeMap<Uid, Place>,
     /// For each log the UIDs that are possible in it and not certain.
     pub(crate) left: Vec<RangeSet>,
-    ghost rising: { IsStrictlyIncreasing expected.items },
-    ghost are_uids: { (u : ℕ) → has expected.items u ≡ true → IsUid u },
+    ghost are_uids: { (u : ℕ) → has expected u ≡ true → IsUid u },
 }

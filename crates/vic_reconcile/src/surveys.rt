@@ -15,8 +15,7 @@ ghost use Rattle.vic_reconcile.specs.Surveys.{AreFindingsBy, AreNoneOf, AreOpenI
 use std::alloc::{AllocError, Global};
 use vic_frame::{Mask, Uid};
 use vic_log::Log;
-use vic_tree::rising::put_in_order;
-use vic_tree::{RangeSet, SortedKeys};
+use vic_tree::{RangeSet, RisingUids, SortedKeys};
 use vic_verdict::{Facts, Verdict, compare, facts_of, first_finding, missing_from};
 
 /// What is left of a log without its lines.
@@ -58,7 +57,7 @@ impl Survey {
 /// The survey of a possible log, by what it tells.
 fn survey_facts(alloc: Global, facts: Facts<RangeSet>, log: &Log) -> Result<Survey, AllocError>
     requires { AreFactsOf (entries log.now.lines) (is_open_in facts.«open») facts.met
-        facts.certain.items }
+        facts.certain }
     ensures { IfOk result (IsSurvey log.now.lines) }
 {
     let Facts {
@@ -66,12 +65,12 @@ fn survey_facts(alloc: Global, facts: Facts<RangeSet>, log: &Log) -> Result<Surv
         met: _,
         certain,
     } = facts;
-    let keys = SortedKeys::of(alloc, &certain)?;
+    let keys = SortedKeys::of(alloc, certain.as_slice())?;
     let left = open.besides(alloc, &keys)?;
     let verdict = first_finding(alloc, open, &certain, log)?;
     Ok(Survey {
         verdict,
-        certain,
+        certain: certain.into_vec(),
         left,
     })
 }
@@ -115,18 +114,18 @@ pub fn compare_surveys(
     let uncertain = missing_from(alloc, &listed, &sure)?;
     let doubtful = missing_from(alloc, &uncertain, &found.absent)?;
     Ok(PlainFindings {
-        absent: found.absent,
-        unlisted: found.unlisted,
+        absent: found.absent.into_vec(),
+        unlisted: found.unlisted.into_vec(),
         unsettled: found.unsettled,
-        doubtful,
+        doubtful: doubtful.into_vec(),
     })
 }
 
 /// UIDs in rising order, each once.
-fn in_order(alloc: Global, uids: &[Uid]) -> Result<Vec<Uid>, AllocError>
-    ensures rising { IfOk result (λ v. IsStrictlyIncreasing v.items) }
-    ensures members { IfOk result (λ v. SameMembers v.items uids.now) }
-    ensures uids { IfOk result (λ v. (u : ℕ) → has v.items u ≡ true → IsUid u) }
+fn in_order(alloc: Global, uids: &[Uid]) -> Result<RisingUids, AllocError>
+    ensures rising { IfOk result (λ v. IsStrictlyIncreasing v) }
+    ensures members { IfOk result (λ v. SameMembers v uids.now) }
+    ensures uids { IfOk result (λ v. (u : ℕ) → has v u ≡ true → IsUid u) }
 {
     let mut sorted = Vec::with_capacity(alloc, uids.len())?;
     for uid in uids {
@@ -134,6 +133,5 @@ fn in_order(alloc: Global, uids: &[Uid]) -> Result<Vec<Uid>, AllocError>
         let _number = uid.number();
         sorted.push(*uid)?;
     }
-    put_in_order(&mut sorted);
-    Ok(sorted)
+    Ok(RisingUids::of(sorted))
 }

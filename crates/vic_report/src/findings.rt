@@ -82,13 +82,13 @@ pub(crate) fn find_findings(
     log: &Log,
 ) -> Result<Findings, AllocError>
     requires { AreFactsOf (entries log.now.lines) (is_open_in facts.«open») facts.met
-        facts.certain.items }
+        facts.certain }
     ensures { IfOk result (AreFindings log.now.lines) }
 {
     let lines = log.lines();
     let Facts { open, met, certain } = facts;
     let listed = listed_uids(alloc, lines)?;
-    let keys = SortedKeys::of(alloc, &certain)?;
+    let keys = SortedKeys::of(alloc, certain.as_slice())?;
     // made before it is known whether a mask is unsettled, since `compare` consumes the set; they
     // take one walk over its ranges, and no memory
     let masks = open.open_masks_besides(&keys);
@@ -96,10 +96,10 @@ pub(crate) fn find_findings(
     let uncertain = missing_from(alloc, &listed, &certain)?;
     let doubtful = missing_from(alloc, &uncertain, &differences.absent)?;
     Ok(Findings {
-        absent: lines_of_absent(alloc, log, &differences.absent)?,
-        unlisted: lines_of_certain(alloc, lines, &met, &differences.unlisted)?,
+        absent: lines_of_absent(alloc, log, differences.absent.as_slice())?,
+        unlisted: lines_of_certain(alloc, lines, &met, differences.unlisted.as_slice())?,
         unsettled: left_to_ask(differences.unsettled, masks),
-        doubtful,
+        doubtful: doubtful.into_vec(),
     })
 }
 

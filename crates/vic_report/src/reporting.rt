@@ -53,7 +53,7 @@ pub fn report(alloc: Global, log: &Log) -> Result<LogReport, AllocError>
 /// The report on a possible log, by what it tells.
 fn report_facts(alloc: Global, facts: Facts<RangeSet>, log: &Log) -> Result<LogReport, AllocError>
     requires { AreFactsOf (entries log.now.lines) (is_open_in facts.«open») facts.met
-        facts.certain.items }
+        facts.certain }
     ensures { IfOk result (IsReport log.now.lines) }
 {
     let findings = find_findings(alloc, facts, log)?;

@@ -4,19 +4,18 @@ ghost use Rattle.std.specs.Prelude.{IfOk};
 ghost use Rattle.vic_tree.specs.OpenSet.{AreOutside};
 
 use crate::open_set::OpenSet;
-use crate::rising::put_in_order;
+use crate::rising::RisingUids;
 use crate::sorted_keys::SortedKeys;
 use std::alloc::{AllocError, Global};
-use vic_frame::Uid;
 use vic_frame::low_bits_first::uid_at;
 
-/// The UIDs with some keys that aren't in a set, from the least to the greatest.
+/// The UIDs with some keys that aren't in a set.
 pub fn uids_outside<S: OpenSet>(
     alloc: Global,
     set: &S,
     keys: &SortedKeys,
-) -> Result<Vec<Uid>, AllocError>
-    ensures { IfOk result (λ uids. AreOutside (S.is_open set.now) keys.now uids.items) }
+) -> Result<RisingUids, AllocError>
+    ensures { IfOk result (λ uids. AreOutside (S.is_open set.now) keys.now uids) }
 {
     let is_open = set.has_each(alloc, keys)?;
     let keys = keys.as_slice();
@@ -26,6 +25,5 @@ pub fn uids_outside<S: OpenSet>(
             outside.push(uid_at(keys[i]))?;
         }
     }
-    put_in_order(&mut outside);
-    Ok(outside)
+    Ok(RisingUids::of(outside))
 }

@@ -73,14 +73,14 @@ first_left P C set certain us all (Some m) f l w = (
 
 -- the differences are the findings
 pub record AreAllFindings (P C : ℕ → Type 0) (all : List ℕ) (d : Differences) : Type 0 where
-  pub absent : IsListOf (λ u. (has all u ≡ true) × (P u → ⊥)) d.absent.items
-  pub unlisted : IsListOf (λ u. C u × (has all u ≡ false)) d.unlisted.items
+  pub absent : IsListOf (λ u. (has all u ≡ true) × (P u → ⊥)) d.absent
+  pub unlisted : IsListOf (λ u. C u × (has all u ≡ false)) d.unlisted
   pub unsettled : MatchOption d.unsettled (NoSuch (IsLeft P C all)) (IsFirstMask (IsLeft P C all))
 
 pub all_findings : (P C : ℕ → Type 0) (set : ℕ → Bool) (certain us all : List ℕ) (d : Differences) → AreFacts P C set certain → AreListed us all → AreDifferences set certain us d → AreAllFindings P C all d
 all_findings P C set certain us all d f l h = record {
-  absent = list_as _ _ d.absent.items (absent_iff P C set certain us all f l) h.absent;
-  unlisted = list_as _ _ d.unlisted.items (unlisted_iff P C set certain us all f l) h.unlisted;
+  absent = list_as _ _ d.absent (absent_iff P C set certain us all f l) h.absent;
+  unlisted = list_as _ _ d.unlisted (unlisted_iff P C set certain us all f l) h.unlisted;
   unsettled = first_left P C set certain us all d.unsettled f l h.unsettled;
 }
 

@@ -34,7 +34,7 @@ left_by set certain us u = set u && not (has certain u || has us u)
 
 -- how the list `us` differs from the UIDs that are open or certain, and from the certain ones
 pub record AreDifferences (set : ℕ → Bool) (certain us : List ℕ) (d : Differences) : Type 0 where
-  pub absent : IsListOf (λ u. IsFailing us set u × (has certain u ≡ false)) d.absent.items
-  pub unlisted : IsListOf (IsFailing certain (has us)) d.unlisted.items
+  pub absent : IsListOf (λ u. IsFailing us set u × (has certain u ≡ false)) d.absent
+  pub unlisted : IsListOf (IsFailing certain (has us)) d.unlisted
   pub unsettled : MatchOption d.unsettled (SameUids (left_by set certain us) (λ _. false))
       (IsWidest (left_by set certain us))

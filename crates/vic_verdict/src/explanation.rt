@@ -13,8 +13,7 @@ use crate::judging::{Verdict, first_finding};
 use std::alloc::{AllocError, Global};
 use vic_frame::Uid;
 use vic_log::Log;
-use vic_tree::rising::put_in_order;
-use vic_tree::{OpenSet, RangeSet};
+use vic_tree::{OpenSet, RangeSet, RisingUids};
 use vic_walk::Answering;
 
 /// The verdict on a log, and a population that shows it.
@@ -55,8 +54,7 @@ fn explain_facts<S: OpenSet>(
     facts: Facts<S>,
     log: &Log,
 ) -> Result<Explanation, AllocError>
-    requires { AreFactsOf (entries log.now.lines) (S.is_open facts.«open») facts.met
-        facts.certain.items }
+    requires { AreFactsOf (entries log.now.lines) (S.is_open facts.«open») facts.met facts.certain }
     ensures { IfOk result (IsExplanation log.now.lines) }
 {
     let Facts { open, met, certain } = facts;
@@ -86,8 +84,7 @@ fn choose(met: Met, avoid: &Option<Uid>) -> Result<Vec<Uid>, AllocError>
     for one in &found {
         add_chosen(&mut uids, one, avoid)?;
     }
-    put_in_order(&mut uids);
-    Ok(uids)
+    Ok(RisingUids::of(uids).into_vec())
 }
 
 /// Adds as many UIDs as a slot needs, other than the one to avoid. That one isn't certain, so there
@@ -122,6 +119,5 @@ fn with_uid(mut uids: Vec<Uid>, uid: Uid) -> Result<Vec<Uid>, AllocError>
     ensures members { IfOk result (λ v. SameMembers v.items (uids.items ++ uid ∷ [])) }
 {
     uids.push(uid)?;
-    put_in_order(&mut uids);
-    Ok(uids)
+    Ok(RisingUids::of(uids).into_vec())
 }

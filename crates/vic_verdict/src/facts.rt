@@ -2,7 +2,6 @@
 //! to which no population could have produced it.
 
 ghost use Rattle.std.specs.Prelude.{IfOk, MatchResult, ◌≡◌, ◌↔◌, ℕ, List, OnOk, ⊤, length, true, false};
-ghost use Rattle.std.specs.List.Sorted.{IsStrictlyIncreasing};
 ghost use Rattle.std.specs.List.{All, Any};
 ghost use Rattle.vic_frame.specs.Uids.{has};
 ghost use Rattle.vic_log.specs.Order.{entries};
@@ -23,8 +22,7 @@ ghost use Rattle.vic_verdict.specs.inner.Enough.{HasEnough, LacksSome};
 use std::alloc::{AllocError, Global};
 use vic_frame::Uid;
 use vic_log::Log;
-use vic_tree::OpenSet;
-use vic_tree::rising::put_in_order;
+use vic_tree::{OpenSet, RisingUids};
 use vic_walk::{
     Answering, LogLines, LogWalk, Parts, closed_keys, first_lack, list_start, open_answers,
     walk_log,
@@ -37,8 +35,8 @@ pub struct Facts<S: OpenSet> {
     pub open: S,
     /// What meets the slots in which tags answered.
     pub met: Met,
-    /// The UIDs that every population has that could have produced the log, in rising order.
-    pub certain: Vec<Uid>,
+    /// The UIDs that every population has that could have produced the log.
+    pub certain: RisingUids,
 }
 
 /// The UIDs that meet the slots of a possible log.
@@ -54,7 +52,7 @@ pub struct Met {
 /// the first line up to which none could. Clause `log` tells a proof what is so of any `Log`.
 pub fn facts_of<S: OpenSet>(alloc: Global, log: &Log) -> Result<Result<Facts<S>, u32>, AllocError>
     ensures facts { IfOk result (λ r. MatchResult r
-        (λ f. AreFactsOf (entries log.now.lines) (S.is_open f.«open») f.met f.certain.items)
+        (λ f. AreFactsOf (entries log.now.lines) (S.is_open f.«open») f.met f.certain)
         (λ n. IsVerdict log.now.lines (Impossible n))) }
     ensures log { AreLogLines log.now.lines }
 {
@@ -70,7 +68,7 @@ pub fn facts_and_parts_of<S: OpenSet>(
     log: &Log,
 ) -> Result<Result<(Facts<S>, Parts), u32>, AllocError>
     ensures facts { IfOk result (λ r. MatchResult r
-        (λ p. AreFactsOf (entries log.now.lines) (S.is_open p.0.«open») p.0.met p.0.certain.items)
+        (λ p. AreFactsOf (entries log.now.lines) (S.is_open p.0.«open») p.0.met p.0.certain)
         (λ n. IsVerdict log.now.lines (Impossible n))) }
     ensures borders { IfOk result (λ r. MatchResult r (λ p. AreBorders p.1) (λ _. ⊤)) }
     ensures cut { IfOk result (λ r. MatchResult r
@@ -89,20 +87,18 @@ pub fn facts_and_parts_of<S: OpenSet>(
     }
 }
 
-/// The UIDs that the slots of a possible log force, in rising order: those that were heard, and
-/// those that meet a slot, if no more can meet it than it requires.
-pub fn certain_uids(alloc: Global, met: &Met) -> Result<Vec<Uid>, AllocError>
-    ensures rising { IfOk result (λ v. IsStrictlyIncreasing v.items) }
+/// The UIDs that the slots of a possible log force: those that were heard, and those that meet a
+/// slot, if no more can meet it than it requires.
+pub fn certain_uids(alloc: Global, met: &Met) -> Result<RisingUids, AllocError>
     ensures certain { IfOk result (λ v. (es : List EntryValue) → IsMet es met.now
-        → IsListOf (IsForcedBy (is_open (slots_of es)) (slots_of es)) v.items) }
-    ensures met { IfOk result (λ v. (u : ℕ) → has v.items u ≡ true → IsMetFor met.now u) }
+        → IsListOf (IsForcedBy (is_open (slots_of es)) (slots_of es)) v) }
+    ensures met { IfOk result (λ v. (u : ℕ) → has v u ≡ true → IsMetFor met.now u) }
 {
     let mut certain = Vec::from_slice(alloc, &met.heard)?;
     for found in &met.found {
         add_if_exactly(&mut certain, &found.uids, found.need)?;
     }
-    put_in_order(&mut certain);
-    Ok(certain)
+    Ok(RisingUids::of(certain))
 }
 
 /// Adds UIDs if there are exactly this many.

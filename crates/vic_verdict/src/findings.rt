@@ -2,7 +2,6 @@
 //! that a set in that order is walked once.
 
 ghost use Rattle.std.specs.Prelude.{◌<◌, ◌^◌, ◌≡◌, ◌++◌, ℕ, false, IfOk, List, ◌≤◌, [], ◌∷◌, if◌then◌else◌, OnOk, length, true};
-ghost use Rattle.std.specs.List.Sorted.{IsStrictlyIncreasing};
 ghost use Rattle.vic_frame.specs.Uids.{has, IsUid};
 ghost use Rattle.vic_log.specs.Order.{entries, listed};
 ghost use Rattle.vic_tree.specs.Keys.{AreKeysOf};
@@ -14,17 +13,16 @@ use std::alloc::{AllocError, Global};
 use vic_frame::{Mask, Uid};
 use vic_log::{Entry, Log, PackedLine};
 use vic_tree::outside::uids_outside;
-use vic_tree::rising::put_in_order;
-use vic_tree::{OpenSet, SortedKeys};
+use vic_tree::{OpenSet, RisingUids, SortedKeys};
 
 /// How a list of UIDs differs from what a log says. The doubtful UIDs can't be told from it alone:
 /// they are the listed ones that are neither certain nor absent (`missing_from`, called twice).
 #[derive(Drop)]
 pub struct Differences {
-    /// The listed UIDs that can't be there, in rising order.
-    pub absent: Vec<Uid>,
-    /// The UIDs that must be there and aren't listed, in rising order.
-    pub unlisted: Vec<Uid>,
+    /// The listed UIDs that can't be there.
+    pub absent: RisingUids,
+    /// The UIDs that must be there and aren't listed.
+    pub unlisted: RisingUids,
     /// The first mask by length, then by value, of at most 56 bits, all of whose UIDs may be there
     /// or not and aren't listed. Unlike that of a verdict it has no certain UIDs; if all of those
     /// are listed, both are the same mask.
@@ -36,11 +34,9 @@ pub struct Differences {
 pub fn compare<S: OpenSet>(
     alloc: Global,
     set: S,
-    certain: &[Uid],
-    listed: &[Uid],
+    certain: &RisingUids,
+    listed: &RisingUids,
 ) -> Result<Differences, AllocError>
-    requires certain { IsStrictlyIncreasing certain.now }
-    requires listed { IsStrictlyIncreasing listed.now }
     ensures { IfOk result (AreDifferences (S.is_open set) certain.now listed.now) }
 {
     let unlisted = missing_from(alloc, certain, listed)?;
@@ -55,28 +51,33 @@ pub fn compare<S: OpenSet>(
     })
 }
 
-/// The UIDs at some keys that can't be there, since they are neither in a set nor certain; in
-/// rising order. The open UIDs of one log contain its certain ones, so these change nothing; the
-/// set that `vic_reconcile` makes of several logs contains none of them.
+/// The UIDs at some keys that can't be there, since they are neither in a set nor certain. The open
+/// UIDs of one log contain its certain ones, so these change nothing; the set that `vic_reconcile`
+/// makes of several logs contains none of them.
 pub(crate) fn absent_from<S: OpenSet>(
     alloc: Global,
     keys: &SortedKeys,
     set: &S,
-    certain: &[Uid],
-) -> Result<Vec<Uid>, AllocError>
-    requires certain { IsStrictlyIncreasing certain.now }
+    certain: &RisingUids,
+) -> Result<RisingUids, AllocError>
     ensures { IfOk result (λ v. (us : List ℕ) → AreKeysOf keys.now us
         → IsListOf (λ u. IsFailing us (S.is_open set.now) u × (has certain.now u ≡ false))
-        v.items) }
+        v) }
 {
     let outside = uids_outside(alloc, set, keys)?;
     missing_from(alloc, &outside, certain)
 }
 
 /// The keys of the UIDs of two lists.
-fn keys_of_both(alloc: Global, uids: &[Uid], others: &[Uid]) -> Result<SortedKeys, AllocError>
+fn keys_of_both(
+    alloc: Global,
+    uids: &RisingUids,
+    others: &RisingUids,
+) -> Result<SortedKeys, AllocError>
     ensures { IfOk result (λ keys. AreKeysOf keys (uids.now ++ others.now)) }
 {
+    let uids = uids.as_slice();
+    let others = others.as_slice();
     if others.is_empty() {
         return SortedKeys::of(alloc, uids);
     }
@@ -85,28 +86,30 @@ fn keys_of_both(alloc: Global, uids: &[Uid], others: &[Uid]) -> Result<SortedKey
     SortedKeys::of(alloc, &both)
 }
 
-/// Those of a rising list that aren't in another, in rising order.
-pub fn missing_from(alloc: Global, uids: &[Uid], others: &[Uid]) -> Result<Vec<Uid>, AllocError>
-    requires rising { IsStrictlyIncreasing uids.now }
-    requires others { IsStrictlyIncreasing others.now }
-    ensures { IfOk result (λ v. IsListOf (IsFailing uids.now (has others.now)) v.items) }
+/// Those UIDs that aren't among others.
+pub fn missing_from(
+    alloc: Global,
+    uids: &RisingUids,
+    others: &RisingUids,
+) -> Result<RisingUids, AllocError>
+    ensures { IfOk result (λ v. IsListOf (IsFailing uids.now (has others.now)) v) }
 {
     let mut missing = Vec::new(alloc);
     let mut next = 0;
-    for uid in uids {
+    for uid in uids.as_slice() {
         next = index_from(others, next, *uid);
         push_if(&mut missing, *uid, !is_at(others, next, *uid))?;
     }
-    Ok(missing)
+    Ok(RisingUids::of(missing))
 }
 
-/// The first index from `start` on at which a rising list has a UID that isn't below `uid`; the end
-/// if there is none.
-fn index_from(uids: &[Uid], start: usize, uid: Uid) -> usize
+/// The first index from `start` on at which a UID isn't below `uid`; the end if there is none.
+fn index_from(uids: &RisingUids, start: usize, uid: Uid) -> usize
     requires start { start ≤ length uids.now }
     requires below { AreBelow uids.now start uid }
     ensures { IsIndexOf uids.now result uid }
 {
+    let uids = uids.as_slice();
     let mut index = start;
     while index < uids.len() && uids[index] < uid {
         index += 1;
@@ -114,12 +117,12 @@ fn index_from(uids: &[Uid], start: usize, uid: Uid) -> usize
     index
 }
 
-/// Whether a rising list has a UID, by its index there.
-fn is_at(uids: &[Uid], index: usize, uid: Uid) -> bool
-    requires rising { IsStrictlyIncreasing uids.now }
-    requires index { IsIndexOf uids.now index uid }
+/// Whether a UID is among others, by its index there.
+fn is_at(uids: &RisingUids, index: usize, uid: Uid) -> bool
+    requires { IsIndexOf uids.now index uid }
     ensures { result ≡ has uids.now uid }
 {
+    let uids = uids.as_slice();
     if index < uids.len() {
         return uids[index] == uid;
     }
@@ -136,11 +139,10 @@ fn push_if(uids: &mut Vec<Uid>, uid: Uid, yes: bool) -> Result<(), AllocError>
     Ok(())
 }
 
-/// The UIDs that a log lists, in rising order.
-pub fn listed_uids(alloc: Global, lines: &[PackedLine]) -> Result<Vec<Uid>, AllocError>
-    ensures rising { IfOk result (λ v. IsStrictlyIncreasing v.items) }
-    ensures members { IfOk result (λ v. SameMembers v.items (listed (entries lines.now))) }
-    ensures uids { IfOk result (λ v. (u : ℕ) → has v.items u ≡ true → IsUid u) }
+/// The UIDs that a log lists.
+pub fn listed_uids(alloc: Global, lines: &[PackedLine]) -> Result<RisingUids, AllocError>
+    ensures members { IfOk result (λ v. SameMembers v (listed (entries lines.now))) }
+    ensures uids { IfOk result (λ v. (u : ℕ) → has v u ≡ true → IsUid u) }
 {
     let mut uids = Vec::new(alloc);
     for line in lines {
@@ -148,8 +150,7 @@ pub fn listed_uids(alloc: Global, lines: &[PackedLine]) -> Result<Vec<Uid>, Allo
             uids.push(uid)?;
         }
     }
-    put_in_order(&mut uids);
-    Ok(uids)
+    Ok(RisingUids::of(uids))
 }
 
 /// How many lines of a log list a UID. None is listed twice; they are counted line by line, so that

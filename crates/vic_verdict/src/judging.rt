@@ -1,6 +1,6 @@
 //! What a log proves about its list of tags: the first finding.
 
-ghost use Rattle.std.specs.Prelude.{◌≡◌, ℕ, IfOk, length, slice_get};
+ghost use Rattle.std.specs.Prelude.{◌≡◌, ℕ, IfOk, length};
 ghost use Rattle.vic_log.specs.Order.{entries, listed};
 ghost use Rattle.vic_log.specs.SecondVersion.{AreOfSecondVersion};
 ghost use Rattle.vic_walk.specs.LogLines.{AreLogLines};
@@ -14,7 +14,7 @@ use crate::findings::{absent_from, count_listed, listed_uids, missing_from};
 use std::alloc::{AllocError, Global};
 use vic_frame::{Mask, Uid};
 use vic_log::Log;
-use vic_tree::{OpenSet, RangeSet, SortedKeys};
+use vic_tree::{OpenSet, RangeSet, RisingUids, SortedKeys};
 
 /// What a log proves about its list of tags (profile): the first answer that applies. Each answer
 /// is about the populations of tags that could have produced the log.
@@ -98,20 +98,20 @@ fn judge_lines<S: OpenSet>(alloc: Global, log: &Log) -> Result<Verdict, AllocErr
 pub fn first_finding<S: OpenSet>(
     alloc: Global,
     set: S,
-    certain: &[Uid],
+    certain: &RisingUids,
     log: &Log,
 ) -> Result<Verdict, AllocError>
     requires { IsTold (entries log.now.lines) (S.is_open set) certain.now }
     ensures { IfOk result (λ v. IsVerdict log.now.lines v) }
 {
     let listed = listed_uids(alloc, log.lines())?;
-    let keys = SortedKeys::of(alloc, &listed)?;
+    let keys = SortedKeys::of(alloc, listed.as_slice())?;
     let absent = absent_from(alloc, &keys, &set, certain)?;
-    if let Some(uid) = first_of(&absent) {
+    if let Some(uid) = absent.first() {
         return Ok(Verdict::Absent(uid));
     }
     let unlisted = missing_from(alloc, certain, &listed)?;
-    if let Some(uid) = first_of(&unlisted) {
+    if let Some(uid) = unlisted.first() {
         return Ok(Verdict::Unlisted(uid));
     }
     // `compare` leaves the certain UIDs out of the mask, and its callers leave the absent ones out
@@ -121,16 +121,9 @@ pub fn first_finding<S: OpenSet>(
         return Ok(Verdict::Unsettled(mask));
     }
     let doubtful = missing_from(alloc, &listed, certain)?;
-    if let Some(uid) = first_of(&doubtful) {
+    if let Some(uid) = doubtful.first() {
         return Ok(Verdict::Doubtful(uid));
     }
     let count = count_listed(log);
     Ok(Verdict::Complete { count })
-}
-
-/// The first UID of a list.
-fn first_of(uids: &[Uid]) -> Option<Uid>
-    ensures { result ≡ slice_get uids.now 0 }
-{
-    uids.first().copied()
 }

@@ -12,7 +12,7 @@ pub unreachable-requires : goal.unreachable-requires
 unreachable-requires c =
     let es = entries c.args.margins.now.log.now.lines in
     let keys = c.in_ok-keys.keys in
-    let named : AreListedKeys es keys = listed_keys es keys _ _ c.in_ok-keys.ensures c.deref.ensures.value (rw c.lines.ensures.value at c.in_ok-listed.ensures.members) in
+    let named : AreListedKeys es keys = listed_keys es keys _ _ c.in_ok-keys.ensures c.as_slice.ensures.value (rw c.lines.ensures.value at c.in_ok-listed.ensures.members) in
     let none : IsLeastOf c.args.margins.now.parts c.args.margins.now.each.items (is_free keys (2 ^ 56)) None = c.in_default.ensures in
     least_is_there _ _ keys es c.args.margins.now.borders named (omega (arith, entries_long c.args.margins.now.log.now.lines, ap length c.lines.ensures.value, rising_long 1 c.lines.result.now c.lines.ensures.log.rising, c.lines.ensures.log.limit)) none
 
@@ -23,7 +23,7 @@ unreachable-requires-in_default-2 c =
     let ms = c.args.margins.now.each.items in
     let m = c.in-Some.least in
     let borders = c.args.margins.now.borders in
-    let named : AreListedKeys es keys = listed_keys es keys _ _ c.in_ok-keys.ensures c.deref.ensures.value (rw c.lines.ensures.value at c.in_ok-listed.ensures.members) in
+    let named : AreListedKeys es keys = listed_keys es keys _ _ c.in_ok-keys.ensures c.as_slice.ensures.value (rw c.lines.ensures.value at c.in_ok-listed.ensures.members) in
     let least : IsLeastOf c.args.margins.now.parts ms (is_free keys (2 ^ 56)) (Some m) = c.in-Some.ensures in
     let others : (k p : ℕ) → IsPartOf c.args.margins.now.parts k p → k < 2 ^ 56 → in_ranges c.in_ok-others.others.items k ≡ not (slice_index ms p == m) = c.in_ok-others.ensures in
     let is : (u : ℕ) → IsUid u → without_keys (is_open_in c.in_ok-set.set) keys u ≡ has_it es m u = set_is _ ms keys es m (is_open_in c.in_ok-set.set) _ borders c.args.margins.now.margins named others c.in_ok-set.ensures in
@@ -37,7 +37,7 @@ returns c =
     let ms = c.args.margins.now.each.items in
     let m = c.in-Some.least in
     let borders = c.args.margins.now.borders in
-    let named : AreListedKeys es keys = listed_keys es keys _ _ c.in_ok-keys.ensures c.deref.ensures.value (rw c.lines.ensures.value at c.in_ok-listed.ensures.members) in
+    let named : AreListedKeys es keys = listed_keys es keys _ _ c.in_ok-keys.ensures c.as_slice.ensures.value (rw c.lines.ensures.value at c.in_ok-listed.ensures.members) in
     let least : IsLeastOf c.args.margins.now.parts ms (is_free keys (2 ^ 56)) (Some m) = c.in-Some.ensures in
     let others : (k p : ℕ) → IsPartOf c.args.margins.now.parts k p → k < 2 ^ 56 → in_ranges c.in_ok-others.others.items k ≡ not (slice_index ms p == m) = c.in_ok-others.ensures in
     let is : (u : ℕ) → IsUid u → without_keys (is_open_in c.in_ok-set.set) keys u ≡ has_it es m u = set_is _ ms keys es m (is_open_in c.in_ok-set.set) _ borders c.args.margins.now.margins named others c.in_ok-set.ensures in

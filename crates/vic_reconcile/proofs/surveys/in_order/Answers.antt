@@ -14,10 +14,10 @@ loop-uid-preserved c =
 
 pub returns-clause-members : goal.returns-clause-members
 returns-clause-members c u =
-    c.put_in_order.ensures.members u
+    c.of.ensures.members u
     ∙ ap (λ vs. has vs u) (c.loop-uid.invariant.items ∙ take_all c.loop-uid.uid-index c.args.uids.now (let end = c.loop-uid-test.false in omega arith))
 
 pub returns-clause-uids : goal.returns-clause-uids
 returns-clause-uids c u h =
-    let p = place_of c.loop-uid.sorted.items u 0 (sym (c.put_in_order.ensures.members u) ∙ h) in
+    let p = place_of c.loop-uid.sorted.items u 0 (sym (c.of.ensures.members u) ∙ h) in
     subst IsUid p.2 (c.loop-uid.invariant.uids p.0 0 p.1)

@@ -5,48 +5,44 @@ use Rattle.vic_report.proofs.findings.find_findings.Goals as goal
 pub lines_of_absent-requires-clause-not_open : goal.lines_of_absent-requires-clause-not_open
 lines_of_absent-requires-clause-not_open c =
     let es = entries c.args.log.now.lines in
-    let us = c.in_ok-listed.listed.items in
-    let certain = c.args.facts.certain.items in
+    let us = c.in_ok-listed.listed in
+    let certain = c.args.facts.certain in
     let d = c.in_ok-differences.differences in
-    let here = rw (c.deref-2.ensures.value, c.deref-3.ensures.value) at c.in_ok-differences.ensures in
-    rw c.deref-8.ensures.value (shut_all es (is_open_in c.args.facts.open) us certain d.absent.items c.requires.told.uids_open c.in_ok-listed.ensures.uids here.absent)
+    rw c.as_slice-2.ensures.value (shut_all es (is_open_in c.args.facts.open) us certain d.absent c.requires.told.uids_open c.in_ok-listed.ensures.uids c.in_ok-differences.ensures.absent)
 
 pub lines_of_certain-requires : goal.lines_of_certain-requires
 lines_of_certain-requires c = record {
   possible = rw c.lines-lines.ensures.value c.requires.told.possible;
   met = rw c.lines-lines.ensures.value c.requires.is_met;
   forced = λ u h.
-      let w = (c.in_ok-differences.ensures.unlisted.members u).0 (subst (λ xs. has xs u ≡ true) c.deref-9.ensures.value h) in
-      c.requires.met_for u (subst (λ xs. has xs u ≡ true) c.deref-2.ensures.value w.0);
+      let w = (c.in_ok-differences.ensures.unlisted.members u).0 (subst (λ xs. has xs u ≡ true) c.as_slice-3.ensures.value h) in
+      c.requires.met_for u w.0;
 }
 
 pub returns : goal.returns
 returns c =
     let es = entries c.args.log.now.lines in
     let set = is_open_in c.args.facts.open in
-    let us = c.in_ok-listed.listed.items in
-    let certain = c.args.facts.certain.items in
+    let us = c.in_ok-listed.listed in
+    let certain = c.args.facts.certain in
     let keys = c.in_ok-keys.keys in
-    let some = c.in_ok-uncertain.uncertain.items in
+    let some = c.in_ok-uncertain.uncertain in
     let d = c.in_ok-differences.differences in
     let facts = log_facts es set certain c.requires.told in
     let own : AreListed us (listed es) = record { members = rw c.lines-lines.ensures.value at c.in_ok-listed.ensures.members; are_uids = c.in_ok-listed.ensures.uids } in
-    let here = rw (c.deref-2.ensures.value, c.deref-3.ensures.value) at c.in_ok-differences.ensures in
+    let here = c.in_ok-differences.ensures in
     let all = all_findings (IsPossibleUid es) (IsCertainUid es) set certain us (listed es) d facts own here in
     let masks : AreOpenMasks es c.open_masks_besides-masks.result = record {
       set = without_keys set keys;
-      uids = open_set es set certain keys facts (λ u i. c.in_ok-keys.ensures.members u i ∙ ap (λ xs. has xs u) c.deref.ensures.value);
+      uids = open_set es set certain keys facts (λ u i. c.in_ok-keys.ensures.members u i ∙ ap (λ xs. has xs u) c.as_slice.ensures.value);
       first = c.open_masks_besides-masks.ensures.first;
       more = c.open_masks_besides-masks.ensures.more;
     } in
     record {
-      absent = subst (IsListOf (IsAbsent es)) (sym (c.in_ok-lines_of_absent.ensures.uids ∙ c.deref-8.ensures.value)) all.absent;
+      absent = subst (IsListOf (IsAbsent es)) (sym (c.in_ok-lines_of_absent.ensures.uids ∙ c.as_slice-2.ensures.value)) all.absent;
       absent_shown = c.in_ok-lines_of_absent.ensures.shown;
-      unlisted = subst (IsListOf (IsUnlisted es)) (sym (c.in_ok-lines_of_certain.ensures.uids ∙ c.deref-9.ensures.value)) all.unlisted;
+      unlisted = subst (IsListOf (IsUnlisted es)) (sym (c.in_ok-lines_of_certain.ensures.uids ∙ c.as_slice-3.ensures.value)) all.unlisted;
       unlisted_shown = rw c.lines-lines.ensures.value at c.in_ok-lines_of_certain.ensures.shown;
       unsettled = subst (λ o. MatchOption o (NoSuch (IsLeftOpen es)) (IsUnsettledWith es)) (sym c.left_to_ask.ensures) (left_to_ask es d.unsettled c.open_masks_besides-masks.result all.unsettled masks);
-      doubtful = doubtful_list (IsPossibleUid es) (IsCertainUid es) set certain us (listed es) some d.absent.items c.in_ok-doubtful.doubtful.items facts own
-          (rw (c.deref-4.ensures.value, c.deref-5.ensures.value) at c.in_ok-uncertain.ensures)
-          here.absent
-          (rw (c.deref-6.ensures.value, c.deref-7.ensures.value) at c.in_ok-doubtful.ensures);
+      doubtful = rw c.into_vec.ensures.value (doubtful_list (IsPossibleUid es) (IsCertainUid es) set certain us (listed es) some d.absent c.in_ok-doubtful.doubtful facts own c.in_ok-uncertain.ensures here.absent c.in_ok-doubtful.ensures);
     }

@@ -13,14 +13,14 @@ loop-found-preserved c =
 
 pub returns-clause-certain : goal.returns-clause-certain
 returns-clause-certain c es m = record {
-  rising = c.put_in_order.ensures.rising;
+  rising = c.of.ensures.rising;
   members = λ u.
       let met = certain_met c.args.met.now c.loop-found.certain.items c.loop-found.found-index (rw c.deref-found-items.ensures.value at c.loop-found-test.false) c.loop-found.invariant u in
       let forced = forced_iff es c.args.met.now u m in
-      rw (c.put_in_order.ensures.members u) ((λ h. forced.1 (met.0 h)), (λ f. met.1 (forced.0 f)));
+      rw (c.of.ensures.members u) ((λ h. forced.1 (met.0 h)), (λ f. met.1 (forced.0 f)));
 }
 
 pub returns-clause-met : goal.returns-clause-met
 returns-clause-met c u h =
     (certain_met c.args.met.now c.loop-found.certain.items c.loop-found.found-index (rw c.deref-found-items.ensures.value at c.loop-found-test.false) c.loop-found.invariant u).0
-    (sym (c.put_in_order.ensures.members u) ∙ h)
+    (sym (c.of.ensures.members u) ∙ h)

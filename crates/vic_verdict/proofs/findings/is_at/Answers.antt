@@ -4,7 +4,10 @@ use Rattle.vic_verdict.proofs.findings.is_at.Goals as goal
 
 pub returns-then-index-uids : goal.returns-then-index-uids
 returns-then-index-uids c =
-    c.eq.ensures ∙ is_here c.args.uids.now c.args.index c.args.uid c.index-uids-index.result c.requires.rising c.requires.index c.if-index-uids.true c.index-uids-index.is
+    let as_slice = c.as_slice-uids.ensures in
+    c.eq.ensures ∙ is_here c.args.uids.now c.args.index c.args.uid c.index-uids-index.result as_slice.rising c.requires (rw as_slice.value at c.if-index-uids.true) (rw as_slice.value at c.index-uids-index.is)
 
 pub returns : goal.returns
-returns c = sym (is_past c.args.uids.now c.args.index c.args.uid c.requires.rising c.requires.index c.if-index-uids.false)
+returns c =
+    let as_slice = c.as_slice-uids.ensures in
+    sym (is_past c.args.uids.now c.args.index c.args.uid as_slice.rising c.requires (rw as_slice.value at c.if-index-uids.false))

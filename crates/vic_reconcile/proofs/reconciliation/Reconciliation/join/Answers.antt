@@ -9,13 +9,13 @@ returns-clause-joined c expected logs j =
     let told = c.in_ok-told.told.items in
     let old = c.args.self.now.certain in
     let new = c.note_all.new.certain in
-    joined_more expected logs c.args.lines.now c.args.self.now _ f.open c.in_ok-open.open f.certain.items c.in_ok-keys.keys told
+    joined_more expected logs c.args.lines.now c.args.self.now _ f.open c.in_ok-open.open f.certain c.in_ok-keys.keys told
     c.requires.told.possible
-    (log_facts es (is_open_in f.open) f.certain.items c.requires.told)
-    (c.in_ok-told.ensures.uids ∙ c.deref.ensures.value)
+    (log_facts es (is_open_in f.open) f.certain c.requires.told)
+    (c.in_ok-told.ensures.uids ∙ c.as_slice-certain.ensures.value)
     c.in_ok-told.ensures.shown
-    (subst (λ n. AreNoted old new n told) (c.len-log.ensures ∙ c.args.self.now.left.ok.0) (subst (AreNoted old new c.len-log.result) c.deref-3.ensures.value c.in_default.ensures.noted))
-    (subst (AreKeysOf c.in_ok-keys.keys) c.deref-2.ensures.value c.in_ok-keys.ensures)
+    (subst (λ n. AreNoted old new n told) (c.len-log.ensures ∙ c.args.self.now.left.ok.0) (subst (AreNoted old new c.len-log.result) c.deref.ensures.value c.in_default.ensures.noted))
+    (subst (AreKeysOf c.in_ok-keys.keys) c.as_slice-certain.ensures.value c.in_ok-keys.ensures)
     c.in_ok-open.ensures
     refl
     refl
@@ -28,7 +28,7 @@ returns-in-Err-clause-kept c expected logs j =
     let told = c.in_ok-told.told.items in
     let long = c.len-log.ensures ∙ old.left.ok.0 in
     still_joined expected logs old _ c.note_all.new.certain told
-    (subst (λ n. AreSomeNoted old.certain c.note_all.new.certain n told) long (subst (AreSomeNoted old.certain c.note_all.new.certain c.len-log.result) c.deref-3.ensures.value c.in-Err.ensures.some))
+    (subst (λ n. AreSomeNoted old.certain c.note_all.new.certain n told) long (subst (AreSomeNoted old.certain c.note_all.new.certain c.len-log.result) c.deref.ensures.value c.in-Err.ensures.some))
     (subst (λ n. AreForgotten c.note_all.new.certain c.forget_all.new.certain n told) long (subst (AreForgotten c.note_all.new.certain c.forget_all.new.certain c.len-log.result) c.deref-in-Err.ensures.value c.forget_all.ensures))
     refl
     refl
