@@ -7,17 +7,19 @@ import { Pane } from "./pane.mjs";
 import { unfoldOnPaper } from "./printing.mjs";
 import { nameOfText } from "./refused.mjs";
 import { pageOf, save } from "./saving.mjs";
-import { say } from "./say.mjs";
 import { isSpreadsheet } from "./tables.mjs";
 import { Trial } from "./trial.mjs";
-import { titleOf, view } from "./view.mjs";
+import { headOf, titleOf, view } from "./view.mjs";
 import { count, TRIAL } from "./words.mjs";
-import { Work } from "./work.mjs";
+import { STOPPED, Work } from "./work.mjs";
 
 /** @typedef {import("./work.mjs").Done} Done */
-/** @typedef {{expected: Given, places: Given | null, logs: Given[]}} Collection */
 /** @typedef {import("./catalogue.mjs").Given} Given */
-/** @typedef {Given & Done & {given?: Collection, pause?: number}} Entry a log, or a collection, which has no text */
+/** @typedef {{expected: Entry, places: Entry | null, logs: Entry[]}} Collection */
+/**
+ * A log, with what it was before a line was tried, or a collection, which has no text.
+ * @typedef {Given & Done & {before?: Entry, given?: Collection, pause?: number}} Entry
+ */
 
 /** How long after the last key a text is judged, and how long a judging goes on before it can be stopped, in ms. */
 const PAUSE = 250, PATIENCE = 400;
@@ -25,6 +27,7 @@ const PAUSE = 250, PATIENCE = 400;
 const EDITED = " (edited)";
 const PASTE = "Paste a log here";
 const TOGETHER = "Press one to see it. For one answer about all of them, open them together with a catalogue (CSV).";
+const OPEN_AGAIN = "Open it again, together with the other logs and the catalogue.";
 
 const field = /** @type {HTMLTextAreaElement} */ (at("text")), files = /** @type {HTMLInputElement} */ (at("files"));
 const stop = at("stop"), shown = at("told"), several = at("several"), each = at("each"), list = at("logs"), status = at("status"), saves = at("save");
@@ -73,17 +76,33 @@ function take(taken) {
   show();
 }
 
-/**
- * Tables alone belong to the logs that are here, also in place of a catalogue that was opened with them.
- * @param {Iterable<File>} chosen
- */
+/** @param {Iterable<File>} chosen */
 async function open(chosen) {
-  const taken = await Promise.all([...chosen].map(read)), isRead = taken.every((entry) => !entry.error);
-  const here = isRead && taken.every(looksLikeTable) ? entries.flatMap((entry) => entry.given?.logs ?? (entry.error ? [] : [entry])) : [];
-  const { expected, places, logs } = sorted([...here, ...taken.filter((entry) => !entry.error)]);
-  if (expected && logs.length && isRead) {
-    take([{ name: expected.name, text: new Uint8Array(), given: { expected, places, logs } }]);
+  opened(await Promise.all([...chosen].map(read)));
+}
+
+/**
+ * Tables alone belong to the logs that are here, as these were before a trial, also in place of a catalogue that was opened with them.
+ * @param {Entry[]} taken
+ */
+function opened(taken) {
+  const here = taken.every(looksLikeTable) ? entries.flatMap((entry) => entry.given?.logs ?? entry.before ?? entry) : [];
+  const given = /** @type {Collection} */ (sorted([...here, ...taken])), { expected, logs } = given;
+  if (expected && logs.length) {
+    take([{ name: expected.name, text: new Uint8Array(), given, ...lacking(given) }]);
   } else if (taken.length) take(taken);
+}
+
+/** @param {Entry} entry */
+const isLacking = ({ error }) => error && error !== STOPPED;
+
+/**
+ * Without one of its files nothing is said of a collection.
+ * @param {Collection} given
+ */
+function lacking({ expected, places, logs }) {
+  const which = [...logs, expected, ...places ? [places] : []].filter(isLacking);
+  return which.length ? { error: which.map(({ name, error }) => `${name} is lacking: ${error}`).join("; ") } : {};
 }
 
 /**
@@ -115,7 +134,7 @@ function show() {
   beside.hidden = entry?.given !== undefined || current < 0;
   if (entry?.error) {
     const words = unanswered(entry.name, entry.error);
-    shown.replaceChildren(el("h1", { class: "error" }, words), ...entry.given ? [el("p", {}, kept(entry.given.logs.length))] : []);
+    shown.replaceChildren(el("h1", { class: "error" }, words), ...entry.given ? [el("p", {}, kept(entry.given.logs))] : []);
     headed(words);
   } else if (entry?.told) {
     shown.replaceChildren(...view(entry.told));
@@ -159,10 +178,11 @@ const unanswered = (name, error) => error.startsWith(name) ? `No answer: ${error
 
 /**
  * What becomes of the logs of a collection that has no answer.
- * @param {number} logs
+ * @param {Entry[]} logs
  */
-const kept = (logs) => logs === 1 ? "The log is still here: the next catalogue will be compared with it."
-  : `The ${count(logs, "log")} are still here: the next catalogue will be compared with them.`;
+const kept = (logs) => logs.some(isLacking) ? OPEN_AGAIN
+  : logs.length === 1 ? "The log is still here: the next catalogue will be compared with it."
+    : `The ${count(logs.length, "log")} are still here: the next catalogue will be compared with them.`;
 
 /** @param {Entry} entry */
 function titleOfEntry({ told, collection, name }) {
@@ -183,7 +203,7 @@ function headed(title) {
  * @param {number} index
  */
 function item(entry, index) {
-  const said = entry.told && say(entry.told), words = said ? `${said.sign} ${said.headline}` : entry.error ?? "..";
+  const said = entry.told && headOf(entry.told), words = said ? `${said.sign} ${said.headline}` : entry.error ?? "..";
   const button = el("button", { type: "button", "aria-pressed": String(index === current) }, el("b", {}, entry.name), ` ${words}`);
   button.addEventListener("click", () => {
     current = index;
@@ -198,12 +218,13 @@ function item(entry, index) {
  * A changed text belongs to the log that is shown now, whichever is shown when it is judged.
  * @param {string} name
  * @param {number} pause
+ * @param {Entry} [before]
  */
-function changed(name, pause) {
+function changed(name, pause, before) {
   shown.setAttribute("aria-busy", "true");
   clearTimeout(entries[current]?.pause);
   /** @type {Entry} */
-  const entry = { name, text: new TextEncoder().encode(field.value) };
+  const entry = { name, text: new TextEncoder().encode(field.value), before };
   entries[current] = entry;
   shown.dataset.name = name;
   overview();
@@ -214,7 +235,17 @@ field.addEventListener("input", () => {
   trial.end();
   changed(entries.length ? entries[current].name.replace(EDITED, "") + EDITED : "pasted text", PAUSE);
 });
-const trial = new Trial(at("trial"), pane, () => entries[current]?.name ?? "", (name) => changed(name, 0));
+const trial = new Trial(at("trial"), pane, () => entries[current], (name) => changed(name, 0, entries[current].before ?? entries[current]), asBefore);
+
+/** Takes a trial back: the log is the file again, byte for byte. */
+function asBefore() {
+  const { before } = entries[current];
+  if (!before) return;
+  entries[current] = before;
+  edit();
+  show();
+  if (!before.told && !before.error) ask(before);
+}
 
 saves.addEventListener("click", () => {
   const { told, collection, name } = entries[current], object = told?.object ?? (collection && withRoom(collection));
