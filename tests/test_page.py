@@ -13,7 +13,7 @@ import biglog
 from helpers.lines import log_lines, log_of, text_of
 from helpers.program import TOP
 from helpers.records import drawn_in
-from helpers.screen import PHONE, Screen
+from helpers.screen import DROP, PHONE, Screen
 
 MOST_BYTES = 700_000
 UNFINISHED = (TOP / "examples/unfinished-count.log").read_bytes()
@@ -1195,3 +1195,36 @@ def test_a_collection_with_a_trial_is_never_green(page, tmp_path):
     page.open(saved(page, tmp_path / "saved"))
     assert page.texts(".banner.read h1") == [trial]
     assert page.driver.title == f"{trial} books.csv"
+
+
+def test_what_was_tried_is_taken_back_byte_for_byte(page):
+    """A field has no CR: with LF alone the log would have another sum under the same name."""
+    log = log_of("I1 RA QA I1 S UA").replace(b"\n", b"\r\n")
+    page.drop(log=log)
+    page.until("h1", "The one listed tag is here")
+    tried(page, 6)
+    page.press("#trial button", -1)
+    page.until("h1", "The one listed tag is here")
+    assert page.texts(".record code")[1] == sha256(log).hexdigest()
+
+
+def test_no_line_is_tried_where_a_field_has_other_lines(page):
+    """A CR alone ends none of the log: behind it stands no list."""
+    page.drop(log=log_of("I1 RA QA I1 S") + b"# claims:\rU E0040100000000A1\n")
+    page.until("h1", "1 tag is here, and no other. The log has no list")
+    page.press("td[data-line='6']")
+    assert page.texts("#trial button") == []
+
+
+def test_no_answer_stands_beside_another_log_of_the_same_name(page):
+    page.run("""
+      const post = Worker.prototype.postMessage;
+      let posted = 0;
+      Worker.prototype.postMessage = function (it) { if (!posted++) post.call(this, it); };
+    """)
+    page.run(DROP, [["log", log_of(names).decode()] for names in ("I1 RA QA I1 S UA", "I1 S UA")])
+    page.until("#logs", "The one listed tag is here")
+    page.press("#logs button")
+    page.until(".banner.yes h1", "The one listed tag is here")
+    page.press("#logs button", 1)
+    assert (page.said(), page.texts("h1"), page.driver.title) == ("", [], "log ..")

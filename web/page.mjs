@@ -37,6 +37,11 @@ const beside = at("beside"), pane = new Pane(field, shown, PASTE);
 let entries = [];
 /** Which is shown; none of several, until one is pressed. */
 let current = 0;
+/**
+ * Of which the answer is shown, or that to its text before it was changed.
+ * @type {Entry | undefined}
+ */
+let answered;
 /** @type {number | undefined} */
 let patience;
 
@@ -69,8 +74,6 @@ stop.addEventListener("click", () => work.stop());
 function take(taken) {
   entries = taken;
   current = taken.length > 1 ? -1 : 0;
-  // also of a file with the same name nothing is known yet
-  shown.dataset.name = "";
   entries.filter((entry) => !entry.error).forEach(ask);
   edit();
   show();
@@ -148,11 +151,11 @@ function show() {
   // until a text is judged, what is shown is that of another one
   const old = entry !== undefined && !entry.told && !entry.collection && !entry.error;
   shown.setAttribute("aria-busy", String(old));
-  if (old && shown.dataset.name !== entry.name) {
+  if (old && answered !== entry) {
     shown.replaceChildren();
     headed(`${entry.name} ..`);
   }
-  shown.dataset.name = entry?.name ?? "";
+  answered = entry;
 }
 
 /** Shows several logs with what each says. Of all together nothing is said but how many are complete, once all are judged. */
@@ -226,7 +229,7 @@ function changed(name, pause, before) {
   /** @type {Entry} */
   const entry = { name, text: new TextEncoder().encode(field.value), before };
   entries[current] = entry;
-  shown.dataset.name = name;
+  answered = entry;
   overview();
   entry.pause = window.setTimeout(() => ask(entry), pause);
 }

@@ -6,12 +6,13 @@ const TRIED = /** @type {[string, string, number][]} */ ([["S", "nobody", 1], ["
 /** What a reply may have been instead, as its frame stays. */
 const READ = /** @type {[string, string, number][]} */ ([["R", "one tag alone", 3], ["H", "one tag, perhaps over others", 3]]);
 const FIRST_LINE = /^vicinity-log (\d)/, MOVES = /^(Arrow|Page|Home|End|Tab)/, TRIED_AS = " (trial: ";
+const ALL_OF_IT = new TextDecoder("utf-8", { ignoreBOM: true });
 
 export class Trial {
   /**
    * @param {HTMLElement} bar
    * @param {import("./pane.mjs").Pane} pane
-   * @param {() => {name: string, before?: {name: string}}} log
+   * @param {() => {name: string, text: Uint8Array, before?: {name: string}}} log
    * @param {(name: string) => void} tried is called when the text has changed
    * @param {() => void} asBefore takes all that was tried back
    */
@@ -36,6 +37,7 @@ export class Trial {
 
   /** @param {number} line */
   #offer(line) {
+    if (!this.#hasLines()) return this.end();
     const lines = this.pane.field.value.split("\n"), letter = lines[line - 1]?.[0] ?? "", version = Number(lines[0].match(FIRST_LINE)?.[1]);
     const isReply = READ.some(([it]) => it === letter), isSlot = isReply || TRIED.some(([it]) => it === letter);
     const known = [...isReply ? READ : [], ...isSlot ? TRIED : []], tried = known.filter(([it, , from]) => it !== letter && from <= version);
@@ -43,6 +45,12 @@ export class Trial {
     const back = this.log()?.before ? [this.#button("As it was", () => this.#back())] : [];
     this.bar.replaceChildren(...tried.length ? [`What if line ${line} were `] : [], ...[...buttons, ...back].flatMap((it) => [it, " "]));
     this.bar.hidden = !tried.length && !back.length;
+  }
+
+  /** Whether the field has the lines of the log: for a field also a CR alone ends one. */
+  #hasLines() {
+    const text = ALL_OF_IT.decode(this.log()?.text);
+    return text.replaceAll("\r\n", "\n") === this.pane.field.value;
   }
 
   /**
