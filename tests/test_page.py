@@ -1228,3 +1228,60 @@ def test_no_answer_stands_beside_another_log_of_the_same_name(page):
     page.until(".banner.yes h1", "The one listed tag is here")
     page.press("#logs button", 1)
     assert (page.said(), page.texts("h1"), page.driver.title) == ("", [], "log ..")
+
+
+def test_the_next_catalogue_does_not_lose_the_places(page):
+    """Nor do other places lose the catalogue."""
+    page.drop(**{"books.csv": OF_A, "places.csv": b"place,log\nA,1.log\nReturns,2.log\n",
+                 "1.log": log_of("I1 S"), "2.log": log_of("I1 RA QA I1 S")})
+    page.until("h1", "1 item in the wrong place.")
+    page.drop(**{"better.csv": OF_A.replace(b"Emma", b"Kim")})
+    page.until(".banner", "better.csv")
+    assert page.texts("h1") == ["1 item in the wrong place."]
+    page.drop(**{"others.csv": b"place,log\nA,2.log\nReturns,1.log\n"})
+    page.until(".banner.yes h1", "The one expected item is here, and no other.")
+    assert "better.csv" in page.texts(".banner")[0] and "others.csv" in page.texts(".record")[0]
+    page.drop(**{"places.csv": b"place,log\nA,1.log\nReturns,2.log\n"})
+    page.until("h1", "1 item in the wrong place.")
+
+
+# The file slow.log is read once `go` is called.
+SLOW = """
+File.prototype.arrayBuffer = function () {
+  const read = Blob.prototype.arrayBuffer.call(this);
+  if (this.name !== "slow.log") return read;
+  return new Promise((done) => read.then((bytes) => { window.go = () => done(bytes); }));
+};
+"""
+
+
+def test_a_table_waits_for_a_log_that_is_still_read(page):
+    page.run(SLOW)
+    page.drop(**{"slow.log": log_of("I1 RA QA I1 S")})
+    page.drop(**{"books.csv": OF_A})
+    page.wait(lambda: page.run("return 'go' in window"))
+    page.run("window.go()")
+    page.until(".banner.yes h1", "The one expected item is here, and no other.")
+
+
+@pytest.mark.parametrize("is_example", [False, True])
+def test_a_file_that_is_read_slowly_does_not_replace_a_later_one(page, is_example):
+    page.run(SLOW)
+    page.drop(**{"slow.log": log_of("I1 RA UA")})
+    if is_example:
+        page.press("#example")
+    else:
+        page.drop(**{"example.log": UNFINISHED})
+    page.wait(lambda: page.run("return 'go' in window"))
+    page.run("window.go()")
+    page.until(".banner", "example.log")
+
+
+def test_a_drop_without_files_changes_nothing(page):
+    """It made the catalogue of a collection one of its logs."""
+    page.drop(**{"books.csv": b"uid\nE0040100000000A1\nE0040100000000B2\n",
+                 "A.log": log_of("I1 RA QA I1 S"), "list.log": log_of("UA")})
+    said = "1 item not known yet; count 1 log again."
+    page.until("h1", said)
+    page.drop()
+    assert page.texts("h1") == [said]

@@ -44,6 +44,8 @@ let current = 0;
 let answered;
 /** @type {number | undefined} */
 let patience;
+/** What is opened, after all that was opened before it. */
+let opening = Promise.resolve();
 
 const work = new Work(at("worker").textContent ?? "", at("module").textContent ?? "");
 
@@ -79,21 +81,29 @@ function take(taken) {
   show();
 }
 
-/** @param {Iterable<File>} chosen */
-async function open(chosen) {
-  opened(await Promise.all([...chosen].map(read)));
+/**
+ * Files are taken in the order in which they were opened, however long each is read.
+ * @param {Iterable<File>} chosen
+ */
+function open(chosen) {
+  const reading = Promise.all([...chosen].map(read)), next = async () => opened(await reading);
+  opening = opening.then(next, next);
+  return opening;
 }
 
 /**
- * Tables alone belong to the logs that are here, as these were before a trial, also in place of a catalogue that was opened with them.
+ * Tables alone belong to the logs that are here, as these were before a trial: in place of a catalogue, or of its places, that were
+ * opened with them.
  * @param {Entry[]} taken
  */
 function opened(taken) {
-  const here = taken.every(looksLikeTable) ? entries.flatMap((entry) => entry.given?.logs ?? entry.before ?? entry) : [];
-  const given = /** @type {Collection} */ (sorted([...here, ...taken])), { expected, logs } = given;
-  if (expected && logs.length) {
-    take([{ name: expected.name, text: new Uint8Array(), given, ...lacking(given) }]);
-  } else if (taken.length) take(taken);
+  if (!taken.length) return;
+  const here = taken.every(looksLikeTable) ? entries : [], earlier = here[0]?.given;
+  const files = [...here.flatMap((entry) => entry.given?.logs ?? entry.before ?? entry), ...taken];
+  const found = sorted(files), { expected, places, logs } = found.expected || !earlier ? found : sorted([...files, earlier.expected]);
+  if (!expected || !logs.length) return take(taken);
+  const given = { expected, places: places ?? earlier?.places ?? null, logs };
+  take([{ name: expected.name, text: new Uint8Array(), given, ...lacking(given) }]);
 }
 
 /** @param {Entry} entry */
@@ -272,7 +282,7 @@ files.addEventListener("change", async () => {
   files.value = "";
 });
 at("example").addEventListener("click", () => {
-  take([{ name: "example.log", text: new TextEncoder().encode(at("sample").textContent ?? "") }]);
+  open([new File([at("sample").textContent ?? ""], "example.log")]);
 });
 document.addEventListener("dragover", (event) => event.preventDefault());
 document.addEventListener("drop", (event) => {
