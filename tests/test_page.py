@@ -1133,7 +1133,8 @@ def test_no_collection_is_judged_without_one_of_its_logs(page, why):
     for name in "books.csv", "better.csv":
         page.drop(**{name: OF_A})
         page.until(".error", f"{name}: no answer (two is lacking: {why}).")
-        assert page.said().endswith("Open it again, together with the other logs and the catalogue.")
+        assert page.texts("#told p") == [
+            "Open it again, together with the other logs and the catalogue."]
 
 
 def tried(page, line):
@@ -1172,6 +1173,7 @@ def test_an_edited_log_is_called_so_in_a_collection(page):
     type_in(page, log_of("I1 RA QA I1 S").decode())
     page.drop(**{"books.csv": OF_A})
     page.until(".banner.yes h1", "The one expected item is here, and no other.")
+    assert page.texts(".banner div > p") == ["books.csv · 1 log (1 edited)"]
     page.press("#told > details > summary")
     assert page.texts(".logs summary") == ["A (A.log (edited)): 1 tag proved"]
 

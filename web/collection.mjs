@@ -8,7 +8,7 @@ import { inOrder, MOST_NAMES, nameOf, shelved, Shelves } from "./shelves.mjs";
 import { ALLOWED, granted, HOLDS, mayBeWrong, missed, notSure, stillHolds } from "./sure.mjs";
 import { tell } from "./told.mjs";
 import { banner, signed, view } from "./view.mjs";
-import { count, endings, hex, listing, printable, TRIAL } from "./words.mjs";
+import { count, EDITED, endings, hex, listing, printable, TRIAL } from "./words.mjs";
 
 /** @typedef {import("./told.mjs").LogObject} LogObject */
 /** @typedef {import("./view.mjs").Names} Names */
@@ -81,10 +81,11 @@ export function collectionView(object) {
   const which = none.length ? ` They are ${count(none.length, "item")} of ${all}, not named here${these}` : "";
   const open = object.logs.filter(isOpen), isShelf = away.every((item) => item.may_be_in.every((file) => shelves.placeOf(file)));
   const todo = [...of("missing"), ...of("misplaced"), ...of("unexpected")], isKnown = !todo.length && !unknown.length;
+  const edited = object.logs.filter(({ file }) => file.endsWith(EDITED)).length, changes = edited ? ` (${edited.toLocaleString("en")} edited)` : "";
   const said = { headline: headlineOf(object), lights: lights(object) }, rests = conditionsOfAll(object, shelves);
   return [banner(isWhole(object) ? { look: "yes", sign: "✓", ...said } : isTried(object) ? { look: "read", sign: "?", ...said }
     : { look: "no", sign: "!", ...said },
-    `${printable(object.name)} · ${count(object.logs.length, "log")}`), ...isKnown ? rests : [],
+    `${printable(object.name)} · ${count(object.logs.length, "log")}${changes}`), ...isKnown ? rests : [],
     ...logs("Count again", countAgain(open.length), open, true, object, shelves),
     ...part("At the shelves", todo, true, howTo(object), shelved(todo, (item) => shelves.at(item), object.counts.missing ? slots : {}, (item) => shelves.toDo(item))),
     ...part("Not heard on their shelves", away, true, `${AWAY} ${isShelf ? "on a shelf" : "in a field"} that has to be counted again. ${STILL_AWAY}`,

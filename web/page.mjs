@@ -10,7 +10,7 @@ import { pageOf, save } from "./saving.mjs";
 import { isSpreadsheet } from "./tables.mjs";
 import { Trial } from "./trial.mjs";
 import { headOf, titleOf, view } from "./view.mjs";
-import { count, TRIAL } from "./words.mjs";
+import { count, EDITED, TRIAL } from "./words.mjs";
 import { STOPPED, Work } from "./work.mjs";
 
 /** @typedef {import("./work.mjs").Done} Done */
@@ -23,8 +23,6 @@ import { STOPPED, Work } from "./work.mjs";
 
 /** How long after the last key a text is judged, and how long a judging goes on before it can be stopped, in ms. */
 const PAUSE = 250, PATIENCE = 400;
-/** What is added to the name of a log whose text was changed here. */
-const EDITED = " (edited)";
 const PASTE = "Paste a log here";
 const TOGETHER = "Press one to see it. For one answer about all of them, open them together with a catalogue (CSV).";
 const OPEN_AGAIN = "Open it again, together with the other logs and the catalogue.";
@@ -248,11 +246,12 @@ field.addEventListener("input", () => {
   trial.end();
   changed(entries.length ? entries[current].name.replace(EDITED, "") + EDITED : "pasted text", PAUSE);
 });
-const trial = new Trial(at("trial"), pane, () => entries[current], (name) => changed(name, 0, entries[current].before ?? entries[current]), asBefore);
+const shownLog = () => entries[current];
+const trial = new Trial(at("trial"), pane, shownLog, (name) => changed(name, 0, shownLog().before ?? shownLog()), asBefore);
 
 /** Takes a trial back: the log is the file again, byte for byte. */
 function asBefore() {
-  const { before } = entries[current];
+  const { before } = shownLog();
   if (!before) return;
   entries[current] = before;
   edit();
