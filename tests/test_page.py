@@ -13,7 +13,7 @@ import biglog
 from helpers.lines import log_lines, log_of, text_of
 from helpers.program import TOP
 from helpers.records import drawn_in
-from helpers.screen import PHONE, Screen
+from helpers.screen import DROP, PHONE, Screen
 
 MOST_BYTES = 700_000
 UNFINISHED = (TOP / "examples/unfinished-count.log").read_bytes()
@@ -209,6 +209,26 @@ STOP = """
 const stop = document.getElementById("stop");
 new MutationObserver(() => { if (!stop.hidden) stop.click(); }).observe(stop, { attributes: true });
 """
+# The worker is given its module, but no text until `free` is called.
+HOLD = """
+const post = Worker.prototype.postMessage;
+Worker.prototype.postMessage = function (it) { if (it.module) post.call(this, it); };
+window.free = () => { Worker.prototype.postMessage = post; };
+"""
+# Why the second of two logs has no answer, with what makes it so.
+UNANSWERED = {
+    "it can't be read": """
+File.prototype.arrayBuffer = function () {
+  return this.name === "two" ? Promise.reject(new Error()) : Blob.prototype.arrayBuffer.call(this);
+};
+""",
+    "out of memory": """
+const post = Worker.prototype.postMessage;
+Worker.prototype.postMessage = function (it) {
+  if (it.name !== "two") post.call(this, it);
+  else queueMicrotask(() => this.onmessage({ data: { id: it.id, error: "out of memory" } }));
+};
+"""}
 # The rows of tables of items: shelves, of which one alone stands at the head, and items.
 ROWS = ".items :is(thead tr + tr, tbody tr)"
 CHOSEN = """
@@ -1086,3 +1106,184 @@ def test_a_better_catalogue_is_compared_with_the_same_logs(page, tmp_path, name,
 def test_a_catalogue_that_cannot_be_used(page, table, words):
     page.drop(catalogue=table, log=log_of("I1 S"))
     page.until("h1", words)
+
+
+OF_A = b"uid,title,shelf\nE0040100000000A1,Emma,A\n"
+UNKNOWN_SLOT = third(ALL, OVER_A, QUIET_A, ALL, "N", LIST_A)
+
+
+def test_a_stopped_log_is_not_left_out_of_a_collection(page):
+    """It has its text, so it is judged again."""
+    page.run(HOLD)
+    page.drop(one=log_of("I1 RA QA I1 S"), two=log_of("I1 RB QB I1 S"))
+    page.until("#logs", "two ..")
+    page.press("#stop")
+    page.until("#logs", "two stopped")
+    page.run("window.free()")
+    page.drop(**{"books.csv": OF_A})
+    page.until("h1", "1 item not in the catalogue.")
+
+
+@pytest.mark.parametrize("why", UNANSWERED)
+def test_no_collection_is_judged_without_one_of_its_logs(page, why):
+    """Nor by the next catalogue."""
+    page.run(UNANSWERED[why])
+    page.drop(one=log_of("I1 RA QA I1 S"), two=log_of("I1 RB QB I1 S"))
+    page.until("#logs", f"two {why}")
+    for name in "books.csv", "better.csv":
+        page.drop(**{name: OF_A})
+        page.until(".error", f"{name}: no answer (two is lacking: {why}).")
+        assert page.texts("#told p") == [
+            "Open it again, together with the other logs and the catalogue."]
+
+
+def tried(page, line):
+    """Tries for the slot of a line that nobody answered."""
+    page.press(f"td[data-line='{line}']")
+    page.press("#trial button")
+    page.until("h1", "A trial: ")
+
+
+def test_what_is_only_tried_does_not_stand_in_a_collection(page):
+    """It is judged by what stood in the log before."""
+    page.drop(**{"A.log": UNKNOWN_SLOT})
+    page.until("h1", "The one listed tag is here; others may be")
+    tried(page, 6)
+    page.drop(**{"books.csv": OF_A})
+    page.until("h1", "Count A again.")
+    assert "trial" not in page.said()
+
+
+def test_what_is_only_tried_does_not_stand_in_a_collection_beside_another_log(page):
+    """Also if the other is shown meanwhile."""
+    page.drop(**{"A.log": UNKNOWN_SLOT, "B.log": log_of("I1 S")})
+    page.press("#logs button")
+    tried(page, 6)
+    assert page.texts("#logs b")[0] == "A.log (trial: line 6 is S)"
+    page.until("#logs", "A.log (trial: line 6 is S) ? A trial: The one listed tag is here")
+    page.press("#logs button", 1)
+    page.until("h1", "The field is empty")
+    page.drop(**{"books.csv": OF_A})
+    page.until("h1", "Count A again.")
+
+
+def test_an_edited_log_is_called_so_in_a_collection(page):
+    page.drop(**{"A.log": log_of("I1 RA")})
+    page.until("h1", "1 tag is here")
+    type_in(page, log_of("I1 RA QA I1 S").decode())
+    page.drop(**{"books.csv": OF_A})
+    page.until(".banner.yes h1", "The one expected item is here, and no other.")
+    assert page.texts(".banner div > p") == ["books.csv · 1 log (1 edited)"]
+    page.press("#told > details > summary")
+    assert page.texts(".logs summary") == ["A (A.log (edited)): 1 tag proved"]
+
+
+def test_a_collection_with_a_trial_is_never_green(page, tmp_path):
+    """As with one that was edited afterwards, which stays a trial; nor on paper, nor as saved."""
+    log = log_of("I1 RA QA I1 S UA")
+    page.drop(**{"A.log": log})
+    page.until("h1", "The one listed tag is here")
+    tried(page, 3)
+    type_in(page, log.decode())
+    page.until(".banner", "A.log (trial: line 3 is S) (edited)")
+    page.until("h1", "A trial: The one listed tag is here, and no other.")
+    assert page.driver.title.startswith("A trial: ")
+    page.drop(**{"books.csv": OF_A})
+    trial = "A trial: The one expected item is here, and no other."
+    page.until(".banner.read h1", trial)
+    page.media("print")
+    assert page.texts(".signed")[0] == f"{trial} (books.csv)"
+    page.media()
+    page.open(saved(page, tmp_path / "saved"))
+    assert page.texts(".banner.read h1") == [trial]
+    assert page.driver.title == f"{trial} books.csv"
+
+
+def test_what_was_tried_is_taken_back_byte_for_byte(page):
+    """A field has no CR: with LF alone the log would have another sum under the same name."""
+    log = log_of("I1 RA QA I1 S UA").replace(b"\n", b"\r\n")
+    page.drop(log=log)
+    page.until("h1", "The one listed tag is here")
+    tried(page, 6)
+    page.press("#trial button", -1)
+    page.until("h1", "The one listed tag is here")
+    assert page.texts(".record code")[1] == sha256(log).hexdigest()
+
+
+def test_no_line_is_tried_where_a_field_has_other_lines(page):
+    """A CR alone ends none of the log: behind it stands no list."""
+    page.drop(log=log_of("I1 RA QA I1 S") + b"# claims:\rU E0040100000000A1\n")
+    page.until("h1", "1 tag is here, and no other. The log has no list")
+    page.press("td[data-line='6']")
+    assert page.texts("#trial button") == []
+
+
+def test_no_answer_stands_beside_another_log_of_the_same_name(page):
+    page.run("""
+      const post = Worker.prototype.postMessage;
+      let posted = 0;
+      Worker.prototype.postMessage = function (it) { if (!posted++) post.call(this, it); };
+    """)
+    page.run(DROP, [["log", log_of(names).decode()] for names in ("I1 RA QA I1 S UA", "I1 S UA")])
+    page.until("#logs", "The one listed tag is here")
+    page.press("#logs button")
+    page.until(".banner.yes h1", "The one listed tag is here")
+    page.press("#logs button", 1)
+    assert (page.said(), page.texts("h1"), page.driver.title) == ("", [], "log ..")
+
+
+def test_the_next_catalogue_does_not_lose_the_places(page):
+    """Nor do other places lose the catalogue."""
+    page.drop(**{"books.csv": OF_A, "places.csv": b"place,log\nA,1.log\nReturns,2.log\n",
+                 "1.log": log_of("I1 S"), "2.log": log_of("I1 RA QA I1 S")})
+    page.until("h1", "1 item in the wrong place.")
+    page.drop(**{"better.csv": OF_A.replace(b"Emma", b"Kim")})
+    page.until(".banner", "better.csv")
+    assert page.texts("h1") == ["1 item in the wrong place."]
+    page.drop(**{"others.csv": b"place,log\nA,2.log\nReturns,1.log\n"})
+    page.until(".banner.yes h1", "The one expected item is here, and no other.")
+    assert "better.csv" in page.texts(".banner")[0] and "others.csv" in page.texts(".record")[0]
+    page.drop(**{"places.csv": b"place,log\nA,1.log\nReturns,2.log\n"})
+    page.until("h1", "1 item in the wrong place.")
+
+
+# The file slow.log is read once `go` is called.
+SLOW = """
+File.prototype.arrayBuffer = function () {
+  const read = Blob.prototype.arrayBuffer.call(this);
+  if (this.name !== "slow.log") return read;
+  return new Promise((done) => read.then((bytes) => { window.go = () => done(bytes); }));
+};
+"""
+
+
+def test_a_table_waits_for_a_log_that_is_still_read(page):
+    page.run(SLOW)
+    page.drop(**{"slow.log": log_of("I1 RA QA I1 S")})
+    page.drop(**{"books.csv": OF_A})
+    page.wait(lambda: page.run("return 'go' in window"))
+    page.run("window.go()")
+    page.until(".banner.yes h1", "The one expected item is here, and no other.")
+
+
+@pytest.mark.parametrize("is_example", [False, True])
+def test_a_file_that_is_read_slowly_does_not_replace_a_later_one(page, is_example):
+    page.run(SLOW)
+    page.drop(**{"slow.log": log_of("I1 RA UA")})
+    if is_example:
+        page.press("#example")
+    else:
+        page.drop(**{"example.log": UNFINISHED})
+    page.wait(lambda: page.run("return 'go' in window"))
+    page.run("window.go()")
+    page.until(".banner", "example.log")
+
+
+def test_a_drop_without_files_changes_nothing(page):
+    """It made the catalogue of a collection one of its logs."""
+    page.drop(**{"books.csv": b"uid\nE0040100000000A1\nE0040100000000B2\n",
+                 "A.log": log_of("I1 RA QA I1 S"), "list.log": log_of("UA")})
+    said = "1 item not known yet; count 1 log again."
+    page.until("h1", said)
+    page.drop()
+    assert page.texts("h1") == [said]

@@ -8,7 +8,7 @@ import { inOrder, MOST_NAMES, nameOf, shelved, Shelves } from "./shelves.mjs";
 import { ALLOWED, granted, HOLDS, mayBeWrong, missed, notSure, stillHolds } from "./sure.mjs";
 import { tell } from "./told.mjs";
 import { banner, signed, view } from "./view.mjs";
-import { count, endings, hex, listing, printable } from "./words.mjs";
+import { count, EDITED, endings, hex, listing, printable, TRIAL } from "./words.mjs";
 
 /** @typedef {import("./told.mjs").LogObject} LogObject */
 /** @typedef {import("./view.mjs").Names} Names */
@@ -81,9 +81,11 @@ export function collectionView(object) {
   const which = none.length ? ` They are ${count(none.length, "item")} of ${all}, not named here${these}` : "";
   const open = object.logs.filter(isOpen), isShelf = away.every((item) => item.may_be_in.every((file) => shelves.placeOf(file)));
   const todo = [...of("missing"), ...of("misplaced"), ...of("unexpected")], isKnown = !todo.length && !unknown.length;
+  const edited = object.logs.filter(({ file }) => file.endsWith(EDITED)).length, changes = edited ? ` (${edited.toLocaleString("en")} edited)` : "";
   const said = { headline: headlineOf(object), lights: lights(object) }, rests = conditionsOfAll(object, shelves);
-  return [banner(isWhole(object) ? { look: "yes", sign: "✓", ...said } : { look: "no", sign: "!", ...said },
-    `${printable(object.name)} · ${count(object.logs.length, "log")}`), ...isKnown ? rests : [],
+  return [banner(isWhole(object) ? { look: "yes", sign: "✓", ...said } : isTried(object) ? { look: "read", sign: "?", ...said }
+    : { look: "no", sign: "!", ...said },
+    `${printable(object.name)} · ${count(object.logs.length, "log")}${changes}`), ...isKnown ? rests : [],
     ...logs("Count again", countAgain(open.length), open, true, object, shelves),
     ...part("At the shelves", todo, true, howTo(object), shelved(todo, (item) => shelves.at(item), object.counts.missing ? slots : {}, (item) => shelves.toDo(item))),
     ...part("Not heard on their shelves", away, true, `${AWAY} ${isShelf ? "on a shelf" : "in a field"} that has to be counted again. ${STILL_AWAY}`,
@@ -146,16 +148,31 @@ export function withRoom(object) {
 }
 
 /** @param {CollectionObject} object */
-const isWhole = (object) => object.kind === KIND.COMPLETE && object.status === 0;
+const isComplete = ({ kind, status }) => kind === KIND.COMPLETE && status === 0;
+
+/**
+ * Whether a line of some log is only tried.
+ * @param {CollectionObject} object
+ */
+const isTried = ({ logs: all }) => all.some(({ file }) => TRIAL.test(file));
+
+/**
+ * What is only tried is never green.
+ * @param {CollectionObject} object
+ */
+const isWhole = (object) => isComplete(object) && !isTried(object);
 
 /** @param {CollectionObject} object */
-const isOfAll = (object) => isWhole(object) || object.kind === KIND.SMALL;
+const isOfAll = (object) => isComplete(object) || object.kind === KIND.SMALL;
 
 /** @param {CollectionObject} object */
-export function headlineOf(object) {
+export const headlineOf = (object) => isTried(object) ? `A trial: ${sentenceOf(object)}` : sentenceOf(object);
+
+/** @param {CollectionObject} object */
+function sentenceOf(object) {
   const { counts } = object, tags = object.items.filter((item) => item.uid !== null && item.state !== "unexpected").length;
   const which = counts["no tag"] ? " that have a tag" : "", again = object.logs.filter(isOpen), shelves = new Shelves(object.logs);
-  if (isWhole(object)) {
+  if (isComplete(object)) {
     if (tags === 0) return "Nothing is expected, and nothing is here.";
     if (tags === 1) return "The one expected item is here, and no other.";
     return `All ${count(tags, "expected item")}${which} are here, and no others.`;
@@ -237,7 +254,7 @@ function logs(title, words, list, open, object, shelves) {
 function oneLog(log, names, shelves) {
   const { object } = log, sha256 = object?.sha256;
   const sum = sha256 ? [el("span", { class: "sum" }, "\u00A0· ", el("code", {}, `SHA-256 ${sha256}`))] : [];
-  const name = shelves.name(log.file), file = nameOf(log.file), isSame = [file, file.replace(/\.[^.]*$/, "")].includes(name);
+  const name = shelves.name(log.file), file = nameOf(log.file), isSame = [file, file.replace(/\.[^. ]*$/, "")].includes(name);
   const broken = log.list.kind === KIND.IMPOSSIBLE ? brokenBy(log, names) : null, advice = broken ? [el("p", { class: "advice" }, broken.advice)] : [];
   const said = broken ? `nothing is known of its field, since its log contradicts itself${broken.why}` : saidOf(log);
   const words = [el("b", { title: printable(log.file) }, name), `${isSame ? "" : ` (${file})`}: ${said}`, ...sum];
@@ -303,7 +320,7 @@ const allowsHidden = ({ logs: all }) => all.every(({ object }) => object && !/^R
 
 /** @param {CollectionObject} object */
 function grantedOfAll(object) {
-  const all = [...OF_LOGS, ...granted(allowsHidden(object) || isWhole(object) && object.logs.every((log) => log.captured?.holds))];
+  const all = [...OF_LOGS, ...granted(allowsHidden(object) || isComplete(object) && object.logs.every((log) => log.captured?.holds))];
   return [folded(`What this takes for granted (${all.length})`, !object.status, el("ul", {}, all.map((it) => el("li", {}, it))))];
 }
 

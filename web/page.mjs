@@ -7,24 +7,25 @@ import { Pane } from "./pane.mjs";
 import { unfoldOnPaper } from "./printing.mjs";
 import { nameOfText } from "./refused.mjs";
 import { pageOf, save } from "./saving.mjs";
-import { say } from "./say.mjs";
 import { isSpreadsheet } from "./tables.mjs";
 import { Trial } from "./trial.mjs";
-import { titleOf, view } from "./view.mjs";
-import { count, TRIAL } from "./words.mjs";
-import { Work } from "./work.mjs";
+import { headOf, titleOf, view } from "./view.mjs";
+import { count, EDITED, TRIAL } from "./words.mjs";
+import { STOPPED, Work } from "./work.mjs";
 
 /** @typedef {import("./work.mjs").Done} Done */
-/** @typedef {{expected: Given, places: Given | null, logs: Given[]}} Collection */
 /** @typedef {import("./catalogue.mjs").Given} Given */
-/** @typedef {Given & Done & {given?: Collection, pause?: number}} Entry a log, or a collection, which has no text */
+/** @typedef {{expected: Entry, places: Entry | null, logs: Entry[]}} Collection */
+/**
+ * A log, with what it was before a line was tried, or a collection, which has no text.
+ * @typedef {Given & Done & {before?: Entry, given?: Collection, pause?: number}} Entry
+ */
 
 /** How long after the last key a text is judged, and how long a judging goes on before it can be stopped, in ms. */
 const PAUSE = 250, PATIENCE = 400;
-/** What is added to the name of a log whose text was changed here. */
-const EDITED = " (edited)";
 const PASTE = "Paste a log here";
 const TOGETHER = "Press one to see it. For one answer about all of them, open them together with a catalogue (CSV).";
+const OPEN_AGAIN = "Open it again, together with the other logs and the catalogue.";
 
 const field = /** @type {HTMLTextAreaElement} */ (at("text")), files = /** @type {HTMLInputElement} */ (at("files"));
 const stop = at("stop"), shown = at("told"), several = at("several"), each = at("each"), list = at("logs"), status = at("status"), saves = at("save");
@@ -34,8 +35,15 @@ const beside = at("beside"), pane = new Pane(field, shown, PASTE);
 let entries = [];
 /** Which is shown; none of several, until one is pressed. */
 let current = 0;
+/**
+ * Of which the answer is shown, or that to its text before it was changed.
+ * @type {Entry | undefined}
+ */
+let answered;
 /** @type {number | undefined} */
 let patience;
+/** What is opened, after all that was opened before it. */
+let opening = Promise.resolve();
 
 const work = new Work(at("worker").textContent ?? "", at("module").textContent ?? "");
 
@@ -66,24 +74,46 @@ stop.addEventListener("click", () => work.stop());
 function take(taken) {
   entries = taken;
   current = taken.length > 1 ? -1 : 0;
-  // also of a file with the same name nothing is known yet
-  shown.dataset.name = "";
   entries.filter((entry) => !entry.error).forEach(ask);
   edit();
   show();
 }
 
 /**
- * Tables alone belong to the logs that are here, also in place of a catalogue that was opened with them.
+ * Files are taken in the order in which they were opened, however long each is read.
  * @param {Iterable<File>} chosen
  */
-async function open(chosen) {
-  const taken = await Promise.all([...chosen].map(read)), isRead = taken.every((entry) => !entry.error);
-  const here = isRead && taken.every(looksLikeTable) ? entries.flatMap((entry) => entry.given?.logs ?? (entry.error ? [] : [entry])) : [];
-  const { expected, places, logs } = sorted([...here, ...taken.filter((entry) => !entry.error)]);
-  if (expected && logs.length && isRead) {
-    take([{ name: expected.name, text: new Uint8Array(), given: { expected, places, logs } }]);
-  } else if (taken.length) take(taken);
+function open(chosen) {
+  const reading = Promise.all([...chosen].map(read)), next = async () => opened(await reading);
+  opening = opening.then(next, next);
+  return opening;
+}
+
+/**
+ * Tables alone belong to the logs that are here, as these were before a trial: in place of a catalogue, or of its places, that were
+ * opened with them.
+ * @param {Entry[]} taken
+ */
+function opened(taken) {
+  if (!taken.length) return;
+  const here = taken.every(looksLikeTable) ? entries : [], earlier = here[0]?.given;
+  const files = [...here.flatMap((entry) => entry.given?.logs ?? entry.before ?? entry), ...taken];
+  const found = sorted(files), { expected, places, logs } = found.expected || !earlier ? found : sorted([...files, earlier.expected]);
+  if (!expected || !logs.length) return take(taken);
+  const given = { expected, places: places ?? earlier?.places ?? null, logs };
+  take([{ name: expected.name, text: new Uint8Array(), given, ...lacking(given) }]);
+}
+
+/** @param {Entry} entry */
+const isLacking = ({ error }) => error && error !== STOPPED;
+
+/**
+ * Without one of its files nothing is said of a collection.
+ * @param {Collection} given
+ */
+function lacking({ expected, places, logs }) {
+  const which = [...logs, expected, ...places ? [places] : []].filter(isLacking);
+  return which.length ? { error: which.map(({ name, error }) => `${name} is lacking: ${error}`).join("; ") } : {};
 }
 
 /**
@@ -115,7 +145,7 @@ function show() {
   beside.hidden = entry?.given !== undefined || current < 0;
   if (entry?.error) {
     const words = unanswered(entry.name, entry.error);
-    shown.replaceChildren(el("h1", { class: "error" }, words), ...entry.given ? [el("p", {}, kept(entry.given.logs.length))] : []);
+    shown.replaceChildren(el("h1", { class: "error" }, words), ...entry.given ? [el("p", {}, kept(entry.given.logs))] : []);
     headed(words);
   } else if (entry?.told) {
     shown.replaceChildren(...view(entry.told));
@@ -129,11 +159,11 @@ function show() {
   // until a text is judged, what is shown is that of another one
   const old = entry !== undefined && !entry.told && !entry.collection && !entry.error;
   shown.setAttribute("aria-busy", String(old));
-  if (old && shown.dataset.name !== entry.name) {
+  if (old && answered !== entry) {
     shown.replaceChildren();
     headed(`${entry.name} ..`);
   }
-  shown.dataset.name = entry?.name ?? "";
+  answered = entry;
 }
 
 /** Shows several logs with what each says. Of all together nothing is said but how many are complete, once all are judged. */
@@ -159,10 +189,11 @@ const unanswered = (name, error) => error.startsWith(name) ? `No answer: ${error
 
 /**
  * What becomes of the logs of a collection that has no answer.
- * @param {number} logs
+ * @param {Entry[]} logs
  */
-const kept = (logs) => logs === 1 ? "The log is still here: the next catalogue will be compared with it."
-  : `The ${count(logs, "log")} are still here: the next catalogue will be compared with them.`;
+const kept = (logs) => logs.some(isLacking) ? OPEN_AGAIN
+  : logs.length === 1 ? "The log is still here: the next catalogue will be compared with it."
+    : `The ${count(logs.length, "log")} are still here: the next catalogue will be compared with them.`;
 
 /** @param {Entry} entry */
 function titleOfEntry({ told, collection, name }) {
@@ -183,7 +214,7 @@ function headed(title) {
  * @param {number} index
  */
 function item(entry, index) {
-  const said = entry.told && say(entry.told), words = said ? `${said.sign} ${said.headline}` : entry.error ?? "..";
+  const said = entry.told && headOf(entry.told), words = said ? `${said.sign} ${said.headline}` : entry.error ?? "..";
   const button = el("button", { type: "button", "aria-pressed": String(index === current) }, el("b", {}, entry.name), ` ${words}`);
   button.addEventListener("click", () => {
     current = index;
@@ -198,14 +229,15 @@ function item(entry, index) {
  * A changed text belongs to the log that is shown now, whichever is shown when it is judged.
  * @param {string} name
  * @param {number} pause
+ * @param {Entry} [before]
  */
-function changed(name, pause) {
+function changed(name, pause, before) {
   shown.setAttribute("aria-busy", "true");
   clearTimeout(entries[current]?.pause);
   /** @type {Entry} */
-  const entry = { name, text: new TextEncoder().encode(field.value) };
+  const entry = { name, text: new TextEncoder().encode(field.value), before };
   entries[current] = entry;
-  shown.dataset.name = name;
+  answered = entry;
   overview();
   entry.pause = window.setTimeout(() => ask(entry), pause);
 }
@@ -214,7 +246,18 @@ field.addEventListener("input", () => {
   trial.end();
   changed(entries.length ? entries[current].name.replace(EDITED, "") + EDITED : "pasted text", PAUSE);
 });
-const trial = new Trial(at("trial"), pane, () => entries[current]?.name ?? "", (name) => changed(name, 0));
+const shownLog = () => entries[current];
+const trial = new Trial(at("trial"), pane, shownLog, (name) => changed(name, 0, shownLog().before ?? shownLog()), asBefore);
+
+/** Takes a trial back: the log is the file again, byte for byte. */
+function asBefore() {
+  const { before } = shownLog();
+  if (!before) return;
+  entries[current] = before;
+  edit();
+  show();
+  if (!before.told && !before.error) ask(before);
+}
 
 saves.addEventListener("click", () => {
   const { told, collection, name } = entries[current], object = told?.object ?? (collection && withRoom(collection));
@@ -238,7 +281,7 @@ files.addEventListener("change", async () => {
   files.value = "";
 });
 at("example").addEventListener("click", () => {
-  take([{ name: "example.log", text: new TextEncoder().encode(at("sample").textContent ?? "") }]);
+  open([new File([at("sample").textContent ?? ""], "example.log")]);
 });
 document.addEventListener("dragover", (event) => event.preventDefault());
 document.addEventListener("drop", (event) => {

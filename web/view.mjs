@@ -24,19 +24,28 @@ const FEW = 24, MOST_ROUNDS = 60;
  * @returns {Node[]}
  */
 export function view(told, names = new Map(), isAlone = true) {
-  const said = say(told, isAlone), file = printable(told.object.file), { answer, kind } = told.object;
+  const said = say(told, isAlone), head = headOf(told, isAlone), file = printable(told.object.file), { answer, kind } = told.object;
   // without a list, its first tag isn't more than the others
   const what = kind === KIND.UNLISTED && !told.counts.listed ? [file] : [file, " · ", el("code", {}, answer)];
-  // what is only tried is never green
-  const trial = TRIAL.test(told.object.file) ? { look: /** @type {const} */ ("read"), sign: "?", headline: `A trial: ${said.headline}` } : {};
-  return [banner({ ...said, ...trial }, what), ...shelf(said), ...conditions(told),
+  return [banner(head, what), ...shelf(said), ...conditions(told),
     ...findings(told, names), ...tags(told, names), ...conflict(told), ...rounds(told, names),
-    ...maintainer(told, said), ...notes(told), ...takenForGranted(told), record(told, isAlone, said.headline)];
+    ...maintainer(told, said), ...notes(told), ...takenForGranted(told), record(told, isAlone, head.headline)];
+}
+
+/**
+ * What is said first. What is only tried is never green.
+ * @param {Told} told
+ * @param {boolean} [isAlone]
+ * @returns {import("./say.mjs").Said}
+ */
+export function headOf(told, isAlone) {
+  const said = say(told, isAlone);
+  return TRIAL.test(told.object.file) ? { ...said, look: "read", sign: "?", headline: `A trial: ${said.headline}` } : said;
 }
 
 /** @param {Told} told */
 export function titleOf(told) {
-  return `${say(told).headline} ${printable(told.object.file)}`;
+  return `${headOf(told).headline} ${printable(told.object.file)}`;
 }
 
 /**

@@ -14,6 +14,8 @@ export const uidOf = (mask) => mask.value | E0;
 
 /** What the name of a log ends with of which a line was tried otherwise. */
 export const TRIAL = / \(trial: .*\)$/;
+/** And of which the text was changed. */
+export const EDITED = " (edited)";
 
 /**
  * 1 tag, 2,000 tags.

@@ -4,6 +4,9 @@
 /** @typedef {import("./collection.mjs").CollectionObject} CollectionObject */
 /** @typedef {{told?: Told, collection?: CollectionObject, error?: string}} Done */
 
+/** Why there is no answer to what was ended. */
+export const STOPPED = "stopped";
+
 export class Work {
   #requested = 0;
   /** @type {Map<number, (done: any) => void>} */
@@ -45,7 +48,7 @@ export class Work {
   /** Ends what is being done, which has no answer then. */
   stop() {
     this.worker.terminate();
-    for (const answer of this.#waiting.values()) answer({ error: "stopped" });
+    for (const answer of this.#waiting.values()) answer({ error: STOPPED });
     this.#waiting.clear();
     this.worker = this.#begin();
   }
