@@ -1082,6 +1082,7 @@ def test_a_better_catalogue_is_compared_with_the_same_logs(page, tmp_path, name,
     (b"uid\nE004\n", "row 2: E004 isn't a UID"), (b"title,uid\na,\nb,\n\n", "Nothing is expected"),
     (b"uid,x\nE0040100000000A1,\nE0040100000000A1,\n", "E0040100000000A1 is also in row 2"),
     (b"uid,uid\n", "two columns are named uid"),
+    (b"vicinity-log 1\nU E0040100000000A1\nU E004", "catalogue, line 3: refused (ListedLength)."),
     (b'uid,x\n"E0', "row 2: a quote isn't closed"), (b"uid,x\n,,3\n", "it has 3 cells")])
 def test_a_catalogue_that_cannot_be_used(page, table, words):
     page.drop(catalogue=table, log=log_of("I1 S"))

@@ -2,6 +2,7 @@
 import { Wrong, columnOf, isSpreadsheet, readTable, SAVE_AS_CSV } from "./tables.mjs";
 import { count, hex, listing, printable } from "./words.mjs";
 
+/** @typedef {import("./library.mjs").Library} Library */
 /** @typedef {{row: number, uid: bigint | null, cells: string[]}} Entry */
 /** @typedef {{name: string, heads: string[], uidAt: number, entries: Entry[]}} Catalogue */
 /** @typedef {{name: string, text: Uint8Array}} Given a file */
@@ -9,8 +10,10 @@ import { count, hex, listing, printable } from "./words.mjs";
 const HEADER = "vicinity-log", OF_UIDS = "uid", PLACE = "place", LOG = "log";
 /** What may be among the digits of a UID, and before them. */
 const BETWEEN = /[\s:\-\u2010-\u2013]/g, BEFORE = /^'?(0x)?/i, DIGITS = /^E0[0-9A-F]{14}$/;
-/** Lines of a log that aren't a list: requests and outcomes. */
-const ASKED = /^[TSRHCDNF]/m, LISTED = /^U ([0-9A-Fa-f]{16})/gm;
+/** Lines of a log that isn't a list, requests and outcomes, and of one that is meant as a list, even if the library refuses them. */
+const ASKED = /^[TSRHCDNF](?:\s*$|\s+[0-9A-F])/m, LISTED = /^[^\w#]*(?:U|E0)/im;
+const OF_A_LIST = "A list has the header 'vicinity-log 1', and then for each UID a line: U, one space and its 16 digits. If the file was cut off, " +
+  "copy it again";
 /** How many columns are named, where none has the UIDs. */
 const MOST_HEADS = 12;
 /** The columns that `reconcile --csv` has added, and the state of rows that it has. */
@@ -49,21 +52,36 @@ const isLog = (file) => startOf(file).startsWith(HEADER);
 export const looksLikeTable = (file) => !isLog(file) && (/\.(csv|tsv)$/i.test(file.name) || headsOf(file).heads.includes(OF_UIDS)
   || isSpreadsheet(startOf(file)));
 
-/** @param {Given} file */
+/**
+ * Whether a log is meant as a list, also if it isn't one: it must not be silently taken for the log of a field.
+ * @param {Given} file
+ */
 function isList(file) {
-  const text = new TextDecoder().decode(file.text), uids = text.match(LISTED) ?? [];
-  return !ASKED.test(text) && uids.length > 0 && new Set(uids).size === uids.length;
+  const text = new TextDecoder().decode(file.text);
+  return !ASKED.test(text) && LISTED.test(text);
 }
 
 /**
+ * The UIDs of a list, as the library reads it.
+ * @param {Library} library
+ * @param {Given} file
+ */
+function listedIn(library, { name, text }) {
+  const { answer, list } = library.listed(text);
+  if (answer.status) throw new Wrong(`${name}, line ${answer.line}: refused (${library.nameOf("fault", answer.fault)}). ${OF_A_LIST}`);
+  if (!list.length) throw new Wrong(`${name}: no line lists a UID. ${OF_A_LIST}`);
+  return list;
+}
+
+/**
+ * @param {Library} library
  * @param {Given} file
  * @returns {Catalogue}
  */
-export function readCatalogue(file) {
+export function readCatalogue(library, file) {
   if (isSpreadsheet(startOf(file))) throw new Wrong(`${file.name} is a spreadsheet: ${SAVE_AS_CSV}, and open that`);
-  if (startOf(file).startsWith(HEADER)) {
-    const entries = [...new TextDecoder().decode(file.text).matchAll(LISTED)].map(([, digits]) => BigInt(`0x${digits}`))
-      .sort((one, other) => one < other ? -1 : 1).map((uid) => ({ row: 0, uid, cells: [hex(uid)] }));
+  if (isLog(file)) {
+    const entries = listedIn(library, file).map((uid) => ({ row: 0, uid, cells: [hex(uid)] }));
     return { name: file.name, heads: [OF_UIDS], uidAt: 0, entries };
   }
   const table = withoutAdded(readTable(file.name, file.text)), uidAt = columnOf(table, OF_UIDS), rows = new Map();

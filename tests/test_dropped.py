@@ -1,0 +1,68 @@
+"""What the page makes of files that are dropped together, asked of its modules by node: what can't
+be read as it was meant has no answer, and no row or line of it is silently left out."""
+import json
+
+import pytest
+
+from helpers.program import TOP, told
+
+UID_A, UID_B = "E0040100000000A1", "E0040100000000B2"
+READ_A, READ_B = "R 0000A1000000000104E06745", "R 0000B2000000000104E0CF94"
+QUIET_A = "T 2202A1000000000104E0662A"
+# The only tag here is A.
+SHELF = "\n".join(["vicinity-log 1", "T 260100F60A", READ_A, QUIET_A, "T 260100F60A", "S",
+                   f"U {UID_A}", ""])
+# Lists that aren't any, by what happened to them.
+FAULTY = {
+    "cut off": f"U {UID_A}\nU E00401000000", "short": f"U {UID_A}\nU E00401000000\n",
+    "lower case": f"U {UID_A}\nu {UID_B}\n", "spaces": f"U {UID_A}\nU E0 04 01 00 00 00 00 B2\n",
+    "indented": f"U {UID_A}\n U {UID_B}\n", "tab": f"U {UID_A}\nU\t{UID_B}\n",
+    "no space": f"U {UID_A}\nU{UID_B}\n", "two spaces": f"U {UID_A}\nU  {UID_B}\n",
+    "no letter": f"U {UID_A}\n{UID_B}\n", "no letter at all": f"{UID_A}\n{UID_B}\n",
+    "dashes": f"- U {UID_A}\n- U {UID_B}\n", "title": f"Shelf A\nU {UID_A}\n",
+    "long": f"U {UID_A}2\n", "comment": f"U {UID_A} # Emma\n",
+    "reversed": f"U {UID_A}\nU B2000000000104E0\n",
+    "twice": f"U {UID_A}\nU {UID_A}\n", "twice, in lower case": f"U {UID_A}\nU {UID_A.lower()}\n"}
+LISTS = {name: f"vicinity-log 1\n{lines}" for name, lines in FAULTY.items()} | {
+    "another version": f"vicinity-log 9\nU {UID_A}\n",
+    "ended by CR": f"vicinity-log 1\rU {UID_A}\r"}
+
+
+@pytest.fixture
+def drop(wasm_module, tmp_path):
+    """Drops files, given by their names and texts: the object of a collection, or an error."""
+    def ask(files):
+        for name, text in files.items():
+            (tmp_path / name).write_text(text, newline="")
+        words = [tmp_path / name for name in files]
+        return json.loads(told("node", TOP / "tests/wasm/dropped.mjs", wasm_module, *words))
+    return ask
+
+
+@pytest.mark.parametrize("name", LISTS)
+def test_no_line_of_a_list_is_left_out(drop, program, tmp_path, name):
+    """It is refused at the line, and for the fault, that the program names."""
+    said = drop({"shelf.log": SHELF, "expected.log": LISTS[name]})
+    files = tmp_path / "expected.log", tmp_path / "shelf.log"
+    refused = program.run("reconcile", *map(str, files)).out.decode()
+    line, fault = refused.removeprefix("refused at line ").split(f" of {files[0]}: ")
+    assert said["error"].startswith(f"expected.log, line {line}: refused ({fault.strip()})")
+
+
+@pytest.mark.parametrize("end", ["\r", "\u2028"])
+def test_a_comment_lists_nothing(drop, end):
+    """As whatever follows a line's end of another kind than LF."""
+    said = drop({"shelf.log": SHELF, "expected.log": f"vicinity-log 1\n# all{end}U {UID_A}\n"})
+    assert said["error"].startswith("expected.log: no line lists a UID.")
+
+
+@pytest.mark.parametrize("more", ["", "# Used by reader 4\n", f"T 2601\nU {UID_A}\n"])
+def test_a_log_of_a_field_is_no_list(drop, more):
+    """Also if it was cut off early, or is refused."""
+    said = drop({"shelf.log": SHELF, "other.log": f"vicinity-log 1\n{more}"})
+    assert said == {"error": "each alone"}
+
+
+def test_a_list_is_compared_with_a_log(drop):
+    said = drop({"shelf.log": SHELF, "expected.log": f"vicinity-log 1\nU {UID_B}\nU {UID_A}\n"})
+    assert (said["kind"], said["uid"], said["counts"]["there"]) == ("absent", UID_B, 1)
