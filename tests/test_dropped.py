@@ -66,3 +66,35 @@ def test_a_log_of_a_field_is_no_list(drop, more):
 def test_a_list_is_compared_with_a_log(drop):
     said = drop({"shelf.log": SHELF, "expected.log": f"vicinity-log 1\nU {UID_B}\nU {UID_A}\n"})
     assert (said["kind"], said["uid"], said["counts"]["there"]) == ("absent", UID_B, 1)
+
+
+# Tables of which a quote swallows rows, by what is wrong with it, with the row and why.
+SWALLOWING = {
+    "a quote before a later cell": (
+        f"uid\ttitle\tshelf\n{UID_A}\t\"Surely You're Joking, Mr. Feyn\tA\n{UID_B}\tWalden\tA\n"
+        f"E0040100000000C3\tEmma\tA\nE0040100000000D4\t\"Heroes and other\tA\n",
+        "row 2: text follows a cell in quotes"),
+    "quotes within a later cell": (
+        f'uid,title,shelf\n{UID_A},"Surely,A\n{UID_B},Walden,A\nE0040100000000C3,The "Big" one,A\n',
+        "row 2: text follows a cell in quotes"),
+    "a quote at the end of a later cell": (
+        f'uid\ttitle\tshelf\n{UID_A}\t"Surely\tA\n{UID_B}\tWalden\tA\n'
+        'E0040100000000C3\tRuler 12"\tA\n', "row 2: a cell in quotes has a UID and a line end"),
+    "UIDs with colons, and line ends CR": (
+        f'title,uid\rx,{UID_A}\r"Surely,\rWalden,e0:04:01:00:00:00:00:b2\rRuler 12",\r',
+        "row 3: a cell in quotes has a UID and a line end")}
+
+
+@pytest.mark.parametrize("name", SWALLOWING)
+def test_no_row_of_a_catalogue_is_swallowed_by_a_quote(drop, name):
+    table, why = SWALLOWING[name]
+    said = drop({"shelf.log": SHELF, "books.tsv": table})
+    assert said["error"].startswith(f"books.tsv, {why}")
+
+
+def test_a_cell_in_quotes_may_have_anything_but_a_row(drop):
+    """Also line ends, quotes, and a UID that is no cell of a row."""
+    said = drop({"shelf.log": SHELF, "books.csv": f'uid,title\n{UID_A},"a ""b"", '
+                 f'\nnot {UID_B},\nwhich is lost"\r\n'})
+    assert (said["kind"], said["items"][0]["columns"]) == (
+        "complete", {"title": f'a "b", \nnot {UID_B},\nwhich is lost'})

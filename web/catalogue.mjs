@@ -85,6 +85,8 @@ export function readCatalogue(library, file) {
     return { name: file.name, heads: [OF_UIDS], uidAt: 0, entries };
   }
   const table = withoutAdded(readTable(file.name, file.text)), uidAt = columnOf(table, OF_UIDS), rows = new Map();
+  const row = table.rows.find(({ cells }) => cells.some((cell) => within(table, cell).some(isUid)))?.row;
+  if (row) throw new Wrong(`${file.name}, row ${row}: a cell in quotes has a UID and a line end in it: is a quote missing?`);
   if (uidAt < 0) throw new Wrong(`${file.name}, row 1: no column is named uid. Name the column of UIDs 'uid'. ${found(table.heads)}`);
   const entries = table.rows.map(({ row, cells }) => ({ row, uid: uidOfCell(file.name, row, cells[uidAt]), cells }));
   for (const { row, uid } of entries) {
@@ -123,10 +125,25 @@ function withoutAdded(table) {
  * @param {string} cell
  */
 function uidOfCell(name, row, cell) {
-  const digits = cell.replace(BETWEEN, "").replace(BEFORE, "").toUpperCase();
   if (!cell.trim()) return null;
-  if (!DIGITS.test(digits)) throw new Wrong(`${name}, row ${row}: ${cell} isn't a UID: 16 hex digits that begin with E0`);
-  return BigInt(`0x${digits}`);
+  if (!isUid(cell)) throw new Wrong(`${name}, row ${row}: ${cell} isn't a UID: 16 hex digits that begin with E0`);
+  return BigInt(`0x${digitsOf(cell)}`);
+}
+
+/** @param {string} cell */
+const digitsOf = (cell) => cell.replace(BETWEEN, "").replace(BEFORE, "").toUpperCase();
+
+/** @param {string} cell */
+const isUid = (cell) => DIGITS.test(digitsOf(cell));
+
+/**
+ * The cells of the lines in a cell, if it has several: those of rows that were swallowed, where a quote isn't closed.
+ * @param {import("./tables.mjs").Table} table
+ * @param {string} cell
+ */
+function within({ separator }, cell) {
+  const lines = cell.split(/[\r\n]+/);
+  return lines.length > 1 ? lines.flatMap((line) => line.split(separator)) : [];
 }
 
 /**
@@ -144,7 +161,7 @@ export function placesOf(catalogue, file, names) {
   names.forEach((name, at) => {
     for (const key of new Set([name.toLowerCase(), name.toLowerCase().replace(/\.[^.]*$/, "")])) add(byName, key, [at]);
   });
-  const table = file ? readTable(file.name, file.text) : { name: "", heads: [], rows: [] };
+  const table = file ? readTable(file.name, file.text) : { name: "", separator: "", heads: [], rows: [] };
   const placeAt = columnOf(table, PLACE), logAt = columnOf(table, LOG);
   for (const { cells } of table.rows) {
     const place = cells[placeAt].trim(), key = place.toLowerCase();

@@ -1,6 +1,7 @@
 /** Tables (CSV) as spreadsheets and library systems save them. */
 
-/** @typedef {{name: string, heads: string[], rows: {row: number, cells: string[]}[]}} Table rows are counted from 1, with that of the heads */
+/** @typedef {{name: string, separator: string, heads: string[], rows: {row: number, cells: string[]}[]}} Table rows are counted from 1, with
+ *   that of the heads */
 
 /** Of these the one that makes the most columns of the first row separates the cells. */
 const SEPARATORS = [",", ";", "\t", "|"];
@@ -49,7 +50,7 @@ export function readTable(name, bytes) {
   const [heads = [], ...rows] = cellsIn(name, text, separator), names = heads.map((head) => head.trim());
   const twice = names.find((head, at) => head && names.indexOf(head) < at);
   if (twice) throw new Wrong(`${name}, row 1: two columns are named ${twice}`);
-  return { name, heads: names, rows: rows.map((cells, at) => ({ row: at + 2, cells: fitting(name, names.length, at + 2, cells) }))
+  return { name, separator, heads: names, rows: rows.map((cells, at) => ({ row: at + 2, cells: fitting(name, names.length, at + 2, cells) }))
     .filter(({ cells }) => cells.some((cell) => cell.trim())) };
 }
 
@@ -70,7 +71,8 @@ function cellsIn(name, text, separator) {
     if (quoted) at += quoted[0].length;
     let end = at;
     while (end < text.length && text[end] !== separator && text[end] !== "\n" && text[end] !== "\r") end++;
-    cells.push((quoted ? quoted[1].replace(/""/g, '"') : "") + text.slice(at, end));
+    if (quoted && end > at) throw new Wrong(`${name}, row ${rows.length + 1}: text follows a cell in quotes: is a quote missing?`);
+    cells.push(quoted ? quoted[1].replace(/""/g, '"') : text.slice(at, end));
     at = end + 1;
     if (text[end] === separator) {
       if (at >= text.length) cells.push("");
