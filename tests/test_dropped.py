@@ -8,7 +8,7 @@ from helpers.program import TOP, told
 
 UID_A, UID_B = "E0040100000000A1", "E0040100000000B2"
 READ_A, READ_B = "R 0000A1000000000104E06745", "R 0000B2000000000104E0CF94"
-QUIET_A = "T 2202A1000000000104E0662A"
+QUIET_A, QUIET_B = "T 2202A1000000000104E0662A", "T 2202B2000000000104E0CEFB"
 # The only tag here is A.
 SHELF = "\n".join(["vicinity-log 1", "T 260100F60A", READ_A, QUIET_A, "T 260100F60A", "S",
                    f"U {UID_A}", ""])
@@ -98,3 +98,35 @@ def test_a_cell_in_quotes_may_have_anything_but_a_row(drop):
                  f'\nnot {UID_B},\nwhich is lost"\r\n'})
     assert (said["kind"], said["items"][0]["columns"]) == (
         "complete", {"title": f'a "b", \nnot {UID_B},\nwhich is lost'})
+
+
+# The columns of a result of `reconcile --csv`, by those that the catalogue has itself.
+FOUND = {
+    "none": "uid,state,certain in,may be in",
+    "its own": "uid,state,state (found),certain in,may be in",
+    "its own, moved": "uid,state (found),certain in,may be in,state",
+    "another of its own": "uid,May be in,state,certain in,may be in (found)",
+    "one of such a name": "state (found) (found),certain in,may be in,state,uid,state (found)"}
+
+
+@pytest.mark.parametrize("name", FOUND)
+def test_what_was_unexpected_is_not_expected_the_next_time(drop, name):
+    """Where the result is the catalogue, also if it has columns of these names itself."""
+    heads = FOUND[name].split(",")
+    state = next(it for it in ("state (found) (found)", "state (found)", "state") if it in heads)
+    rows = {UID_A: "there", UID_B: "unexpected"}
+    cells = [[{"uid": uid, state: said}.get(head, "worn" if head == "state" else "")
+              for head in heads] for uid, said in rows.items()]
+    both = "\n".join(["vicinity-log 1", "T 060100CD09", "S", READ_A, READ_B, *"S" * 13, QUIET_A,
+                      QUIET_B, "T 260100F60A", "S", ""])
+    said = drop({"both.log": both, "found.csv": "\n".join(map(",".join, [heads, *cells]))})
+    assert (said["kind"], said["uid"]) == ("unlisted", UID_B)
+
+
+@pytest.mark.parametrize(("table", "head"), [
+    ({"books.csv": f"UID,uid\n{UID_A},{UID_B}\n"}, "uid"),
+    ({"books.csv": f"uid,shelf\n{UID_A},A\n", "places.csv": "place,log,Place\nA,shelf.log,B\n"},
+     "place")])
+def test_no_column_of_two_with_one_name_is_taken(drop, table, head):
+    said = drop({"shelf.log": SHELF, **table})
+    assert said["error"] == f"{[*table][-1]}, row 1: two columns are named {head}"

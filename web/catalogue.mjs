@@ -12,12 +12,13 @@ const HEADER = "vicinity-log", OF_UIDS = "uid", PLACE = "place", LOG = "log";
 const BETWEEN = /[\s:\-\u2010-\u2013]/g, BEFORE = /^'?(0x)?/i, DIGITS = /^E0[0-9A-F]{14}$/;
 /** Lines of a log that isn't a list, requests and outcomes, and of one that is meant as a list, even if the library refuses them. */
 const ASKED = /^[TSRHCDNF](?:\s*$|\s+[0-9A-F])/m, LISTED = /^[^\w#]*(?:U|E0)/im;
-const OF_A_LIST = "A list has the header 'vicinity-log 1', and then for each UID a line: U, one space and its 16 digits. If the file was cut off, " +
-  "copy it again";
+const OF_A_LIST = "A list has the header 'vicinity-log 1', and then for each UID a line: U, one space and its 16 digits. If the file was " +
+  "cut off, copy it again";
 /** How many columns are named, where none has the UIDs. */
 const MOST_HEADS = 12;
-/** The columns that `reconcile --csv` has added, and the state of rows that it has. */
-const ADDED = ["state", "certain in", "may be in"], UNEXPECTED = "unexpected";
+/** The columns that `reconcile --csv` has added, what stands behind such a name once more than behind the same one of the catalogue, and the
+ *  state of rows that it has. */
+const ADDED = ["state", "certain in", "may be in"], TWIN = " (found)", UNEXPECTED = "unexpected";
 
 /**
  * The files of a drop as logs, a catalogue, and which logs are of which place. Without a catalogue all are logs.
@@ -111,11 +112,21 @@ function found(heads) {
  * @param {import("./tables.mjs").Table} table
  */
 function withoutAdded(table) {
-  const added = ADDED.map((head) => columnOf(table, head));
+  const added = ADDED.map((name) => lastAdded(table.heads, name));
   if (added.includes(-1)) return table;
   const kept = (/** @type {string[]} */ cells) => cells.filter((_, at) => !added.includes(at));
   return { ...table, heads: kept(table.heads), rows: table.rows.filter(({ cells }) => cells[added[0]].trim() !== UNEXPECTED)
     .map(({ row, cells }) => ({ row, cells: kept(cells) })) };
+}
+
+/**
+ * Which column was added last of those with a name; -1 if there is none.
+ * @param {string[]} heads
+ * @param {string} name
+ */
+function lastAdded(heads, name) {
+  const isNamed = (/** @type {string} */ head) => head.toLowerCase().replaceAll(TWIN, "") === name;
+  return heads.reduce((last, head, at) => isNamed(head) && head.length >= (heads[last] ?? "").length ? at : last, -1);
 }
 
 /**

@@ -103,8 +103,10 @@ function fitting(name, columns, row, cells) {
 /**
  * The place of the only column with a name, in any case; -1 if there is none.
  * @param {Table} table
- * @param {string} name
+ * @param {string} head
  */
-export function columnOf(table, name) {
-  return table.heads.findIndex((head) => head.toLowerCase() === name);
+export function columnOf({ name, heads }, head) {
+  const [at = -1, other] = heads.flatMap((it, place) => it.toLowerCase() === head ? [place] : []);
+  if (other) throw new Wrong(`${name}, row 1: two columns are named ${head}`);
+  return at;
 }
