@@ -1038,6 +1038,15 @@ def test_rows_without_a_tag(page):
     assert page.texts(".lights dd") == ["1 of 1 log", "1 of 2 items, 1 without a tag"]
 
 
+def test_the_title_of_an_item_is_said_as_it_is(page):
+    """Also if it has what stands for other text where something is replaced by it."""
+    page.drop(**{"catalogue": b"title;uid\nUS$& $' $1;E0040100000000A1\n",
+                 "one.log": log_of("I1 RA QA I1 RA")})
+    page.until("h1", "count 1 log again")
+    assert page.texts(".advice")[0].startswith(
+        "Move US$& $' $1 (tag E0040100000000A1) nearer to the antenna")
+
+
 def test_a_place_that_is_not_in_the_catalogue(page):
     """What is found there is told by it."""
     page.drop(**{"catalogue.csv": b"uid,title,shelf\nE0040100000000A1,Walden,one\n",
