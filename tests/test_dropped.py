@@ -4,9 +4,10 @@ import json
 
 import pytest
 
+import biglog
 from helpers.program import TOP, told
 
-UID_A, UID_B = "E0040100000000A1", "E0040100000000B2"
+UID_A, UID_B, UID_C = "E0040100000000A1", "E0040100000000B2", "E0040100000000C3"
 READ_A, READ_B = "R 0000A1000000000104E06745", "R 0000B2000000000104E0CF94"
 QUIET_A, QUIET_B = "T 2202A1000000000104E0662A", "T 2202B2000000000104E0CEFB"
 # The only tag here is A.
@@ -130,3 +131,61 @@ def test_what_was_unexpected_is_not_expected_the_next_time(drop, name):
 def test_no_column_of_two_with_one_name_is_taken(drop, table, head):
     said = drop({"shelf.log": SHELF, **table})
     assert said["error"] == f"{[*table][-1]}, row 1: two columns are named {head}"
+
+
+def field(*uids):
+    """A log of a field in which only these tags are, and all is asked."""
+    asked = [line for uid in (int(it, 16) for it in uids) for line in (
+        biglog.ask((56, uid & (1 << 56) - 1)), biglog.reply(uid), biglog.silence(uid))]
+    return "\n".join(["vicinity-log 1", *asked, biglog.ask((0, 0)), "S", ""])
+
+
+BOOKS = f"uid,title,shelf\n{UID_A},Emma,South\n{UID_B},Walden,North\n{UID_C},Kim,North\n"
+
+
+def test_an_item_of_a_place_without_a_log_is_not_in_place(drop):
+    """Though it is in the only log, which is of another place."""
+    said = drop({"books.csv": BOOKS, "places.csv": "place,log\nSouth,x.log\nNorth,y.log\n",
+                 "x.log": field(UID_A, UID_B, UID_C)})
+    assert (said["status"], said["kind"], said["uid"]) == (1, "misplaced", UID_B)
+    assert said["counts"]["misplaced"] == 2
+
+
+@pytest.mark.parametrize(("places", "why"), [
+    ("South,shelf.log", "places.csv: no column of books.csv has a place of it in most rows"),
+    (",shelf.log", "places.csv: no column of books.csv has a place of it in most rows"),
+    ("North,other.log\nSouth,shelf.log", "no log is of any place of the catalogue, such as North")])
+def test_no_table_of_places_is_silently_unused(drop, places, why):
+    said = drop({"books.csv": f"uid,title,shelf,note\n{UID_A},Emma,North,\n",
+                 "places.csv": f"place,log\n{places}\n", "shelf.log": SHELF})
+    assert said["error"].startswith(why)
+
+
+def test_a_log_of_exactly_that_name_comes_first(drop):
+    """Before one that has it without its ending."""
+    said = drop({"books.csv": f"uid,shelf\n{UID_A},A\n", "A.log": field(), "A.log.1": SHELF,
+                 "places.csv": "place,log\nA,A.log\nB,A.log.1\n"})
+    assert (said["kind"], said["items"][0]["belongs"], said["items"][0]["certain_in"]) == (
+        "misplaced", "A", ["A.log.1"])
+
+
+def test_no_two_logs_are_of_one_place_by_their_names(drop):
+    said = drop({"books.csv": f"uid,shelf\n{UID_A},A\n", "A.log": field(), "A.txt": SHELF})
+    assert said["error"].startswith(
+        "two logs are of the place A, by their names: A.log and A.txt; ")
+
+
+@pytest.mark.parametrize("more", [{}, {"places.csv": "place,log\nA,shelf.log\n"}])
+def test_a_catalogue_may_have_columns_named_place_and_log(drop, more):
+    said = drop({"books.csv": f"uid,place,log\n{UID_A},A,yes\n{UID_B},A,\n", "shelf.log": SHELF,
+                 **more})
+    assert (said["kind"], said["uid"], said["name"]) == ("absent", UID_B, "books.csv")
+
+
+@pytest.mark.parametrize("end", ["\n", "\r\n", "\r"])
+def test_a_separator_is_named_before_any_line_end(drop, end):
+    """So it isn't the first of others that are more often in the rows."""
+    rows = ["sep=;", "title;uid", f"Emma, a, b;{UID_A}", ""]
+    said = drop({"books": end.join(rows), "shelf.log": SHELF})
+    assert (said["kind"], said["items"][0]["columns"]) == ("complete", {"title": "Emma, a, b"})
+    assert drop({"books": end.join(rows[1:]), "shelf.log": SHELF})["kind"] == "complete"

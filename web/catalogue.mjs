@@ -1,5 +1,5 @@
 /** What is expected in a collection: a table with a column of UIDs, or a log that only lists them. */
-import { Wrong, columnOf, isSpreadsheet, readTable, SAVE_AS_CSV } from "./tables.mjs";
+import { Wrong, columnOf, isSpreadsheet, LINE_END, readTable, SAVE_AS_CSV, SAYS_SEPARATOR } from "./tables.mjs";
 import { count, hex, listing, printable } from "./words.mjs";
 
 /** @typedef {import("./library.mjs").Library} Library */
@@ -7,7 +7,9 @@ import { count, hex, listing, printable } from "./words.mjs";
 /** @typedef {{name: string, heads: string[], uidAt: number, entries: Entry[]}} Catalogue */
 /** @typedef {{name: string, text: Uint8Array}} Given a file */
 
-const HEADER = "vicinity-log", OF_UIDS = "uid", PLACE = "place", LOG = "log";
+const HEADER = "vicinity-log", OF_UIDS = "uid";
+/** The columns of a table that says which logs are of which place. */
+export const PLACE = "place", LOG = "log";
 /** What may be among the digits of a UID, and before them. */
 const BETWEEN = /[\s:\-\u2010-\u2013]/g, BEFORE = /^'?(0x)?/i, DIGITS = /^E0[0-9A-F]{14}$/;
 /** Lines of a log that isn't a list, requests and outcomes, and of one that is meant as a list, even if the library refuses them. */
@@ -16,8 +18,8 @@ const OF_A_LIST = "A list has the header 'vicinity-log 1', and then for each UID
   "cut off, copy it again";
 /** How many columns are named, where none has the UIDs. */
 const MOST_HEADS = 12;
-/** The columns that `reconcile --csv` has added, what stands behind such a name once more than behind the same one of the catalogue, and the
- *  state of rows that it has. */
+/** The columns that `reconcile --csv` has added, what stands behind such a name once more than behind the catalogue's own, and the state of
+ *  rows that it has. */
 const ADDED = ["state", "certain in", "may be in"], TWIN = " (found)", UNEXPECTED = "unexpected";
 
 /**
@@ -28,7 +30,10 @@ export function sorted(files) {
   if (files.length < 2) return { logs: files, expected: null, places: null };
   const tables = files.filter(looksLikeTable);
   const lists = files.filter((file) => isLog(file) && isList(file));
-  const places = tables.find((file) => { const { heads } = headsOf(file); return heads.includes(PLACE) && heads.includes(LOG); });
+  const places = tables.find((file) => {
+    const { heads } = headsOf(file);
+    return heads.includes(PLACE) && heads.includes(LOG) && !heads.includes(OF_UIDS);
+  });
   const expected = [...tables.filter((file) => file !== places), ...tables.length ? [] : lists];
   if (expected.length !== 1) return { logs: files, expected: null, places: null };
   return { logs: files.filter((file) => file !== places && file !== expected[0]), expected: expected[0], places: places ?? null };
@@ -39,7 +44,7 @@ const startOf = (file) => new TextDecoder().decode(file.text.subarray(0, 4096)).
 
 /** @param {Given} file */
 function headsOf(file) {
-  const [first] = startOf(file).replace(/^"?sep=.*\n/i, "").split(/\r?\n/, 1);
+  const [first] = startOf(file).replace(SAYS_SEPARATOR, "").split(LINE_END, 1);
   return { heads: first.replace(/[\0"]/g, "").split(/[,;\t|]/).map((head) => head.trim().toLowerCase()) };
 }
 
@@ -155,44 +160,4 @@ const isUid = (cell) => DIGITS.test(digitsOf(cell));
 function within({ separator }, cell) {
   const lines = cell.split(/[\r\n]+/);
   return lines.length > 1 ? lines.flatMap((line) => line.split(separator)) : [];
-}
-
-/**
- * The logs of each place, by their positions: those that a table names, or else that are named like it; which column of a catalogue says
- * where items belong; and the places of each log, as the catalogue writes them, or else the table.
- * @param {Catalogue} catalogue
- * @param {Given | null} file
- * @param {string[]} names
- */
-export function placesOf(catalogue, file, names) {
-  /** @type {Map<string, number[]>} */
-  const byName = new Map(), logs = file ? new Map() : byName, spelled = /** @type {Map<string, string>} */ (new Map());
-  const add = (/** @type {Map<any, any[]>} */ to, /** @type {string | number} */ key, /** @type {any[]} */ more) =>
-    to.set(key, [...to.get(key) ?? [], ...more]);
-  names.forEach((name, at) => {
-    for (const key of new Set([name.toLowerCase(), name.toLowerCase().replace(/\.[^.]*$/, "")])) add(byName, key, [at]);
-  });
-  const table = file ? readTable(file.name, file.text) : { name: "", separator: "", heads: [], rows: [] };
-  const placeAt = columnOf(table, PLACE), logAt = columnOf(table, LOG);
-  for (const { cells } of table.rows) {
-    const place = cells[placeAt].trim(), key = place.toLowerCase();
-    if (place && !spelled.has(key)) spelled.set(key, place);
-    add(logs, key, byName.get(cells[logAt].trim().toLowerCase()) ?? []);
-  }
-  const at = placeColumn(catalogue, logs), written = /** @type {Map<number, string[]>} */ (new Map());
-  for (const { cells: { [at]: cell = "" } } of catalogue.entries) if (cell.trim()) spelled.set(cell.trim().toLowerCase(), cell.trim());
-  for (const [key, place] of spelled) for (const log of new Set(logs.get(key))) add(written, log, [place]);
-  return { logs, at, written };
-}
-
-/**
- * The column of a catalogue that says where items belong: the one of which most rows name a place, if they are most of all.
- * @param {Catalogue} catalogue
- * @param {Map<string, number[]>} places
- */
-function placeColumn({ heads, uidAt, entries }, places) {
-  const isPlace = (/** @type {string} */ cell) => places.get(cell.trim().toLowerCase())?.length;
-  const named = (/** @type {number} */ at) => at === uidAt ? 0 : entries.filter(({ cells }) => isPlace(cells[at])).length;
-  const best = heads.reduce((one, _, at) => named(at) > named(one) ? at : one, 0);
-  return 2 * named(best) > entries.length ? best : -1;
 }

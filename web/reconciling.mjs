@@ -1,10 +1,11 @@
 /** The object of a collection, of what the library says of its logs: the same as `python3 -m vicinity reconcile` writes. */
-import { placesOf, readCatalogue } from "./catalogue.mjs";
+import { readCatalogue } from "./catalogue.mjs";
 import { withCaptures } from "./captured.mjs";
 import { fields, judge, sumOf } from "./judge.mjs";
 import { FOUND, KIND } from "./kinds.mjs";
 import { leastOf, marginFields, maskFields, overlookedIn, withoutList } from "./margins.mjs";
 import { maskKey } from "./frames.mjs";
+import { placesOf } from "./places.mjs";
 import { UID_BITS, hex } from "./words.mjs";
 
 /** @typedef {import("./library.mjs").Library} Library */

@@ -1,12 +1,13 @@
 /** Tables (CSV) as spreadsheets and library systems save them. */
 
-/** @typedef {{name: string, separator: string, heads: string[], rows: {row: number, cells: string[]}[]}} Table rows are counted from 1, with
- *   that of the heads */
+/** @typedef {{row: number, cells: string[]}} Row counted from 1, with that of the heads */
+/** @typedef {{name: string, separator: string, heads: string[], rows: Row[]}} Table */
 
 /** Of these the one that makes the most columns of the first row separates the cells. */
 const SEPARATORS = [",", ";", "\t", "|"];
 /** A first line for spreadsheets, which names the separator. */
-const SAYS_SEPARATOR = /^"?sep=(.)"?[ \t]*\r?\n/i;
+export const SAYS_SEPARATOR = /^"?sep=(.)"?[ \t]*(?:\r\n?|\n)/i;
+export const LINE_END = /\r\n?|\n/;
 /** A cell, with what ends it: in quotes, or not. */
 const QUOTED = /"((?:[^"]|"")*)"/y;
 
@@ -45,13 +46,13 @@ function decoded(bytes) {
  */
 export function readTable(name, bytes) {
   const whole = decoded(bytes), says = whole.match(SAYS_SEPARATOR), text = says ? whole.slice(says[0].length) : whole;
-  const first = text.split("\n", 1)[0], many = (/** @type {string} */ it) => first.replace(/"[^"]*"/g, "").split(it).length;
+  const [first] = text.split(LINE_END, 1), many = (/** @type {string} */ it) => first.replace(/"[^"]*"/g, "").split(it).length;
   const separator = says ? says[1] : SEPARATORS.reduce((best, it) => many(it) > many(best) ? it : best);
   const [heads = [], ...rows] = cellsIn(name, text, separator), names = heads.map((head) => head.trim());
   const twice = names.find((head, at) => head && names.indexOf(head) < at);
   if (twice) throw new Wrong(`${name}, row 1: two columns are named ${twice}`);
-  return { name, separator, heads: names, rows: rows.map((cells, at) => ({ row: at + 2, cells: fitting(name, names.length, at + 2, cells) }))
-    .filter(({ cells }) => cells.some((cell) => cell.trim())) };
+  const all = rows.map((cells, at) => ({ row: at + 2, cells: fitting(name, names.length, at + 2, cells) }));
+  return { name, separator, heads: names, rows: all.filter(({ cells }) => cells.some((cell) => cell.trim())) };
 }
 
 /**
