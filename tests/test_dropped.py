@@ -83,6 +83,13 @@ SWALLOWING = {
         'E0040100000000C3\tRuler 12"\tA\n', "row 2: a cell in quotes has a UID and a line end"),
     "UIDs with colons, and line ends CR": (
         f'title,uid\rx,{UID_A}\r"Surely,\rWalden,e0:04:01:00:00:00:00:b2\rRuler 12",\r',
+        "row 3: a cell in quotes has a UID and a line end"),
+    "a quote in the first row": (
+        f'uid,"title\n{UID_B},Ruler 12"\n{UID_A},Emma\n',
+        "row 1: a cell in quotes has a UID and a line end"),
+    "a row that is left out": (
+        f'uid,title,state,certain in,may be in\n{UID_A},Emma,there,,\n{UID_B},"Surely,missing,,\n'
+        'E0040100000000C3,Ruler 12",unexpected,,\n',
         "row 3: a cell in quotes has a UID and a line end")}
 
 

@@ -4,7 +4,7 @@ import { columnOf, readTable, Wrong } from "./tables.mjs";
 import { printable } from "./words.mjs";
 
 /** @typedef {import("./catalogue.mjs").Given} Given */
-/** @typedef {import("./catalogue.mjs").Catalogue} Catalogue */
+/** @typedef {import("./expected.mjs").Catalogue} Catalogue */
 /** @typedef {Map<string, number[]>} ByKey positions of logs, by names in lower case */
 
 /** @param {string} cell */
@@ -30,7 +30,7 @@ export function placesOf(catalogue, file, names) {
   const byName = logsByName(names), [spelled, belongs] = [new Map(), /** @type {Map<string, string>} */ (new Map())];
   const logs = file ? logsByTable(file, byName, spelled) : byName, at = placeColumn(catalogue, logs);
   if (file && at < 0 && catalogue.entries.length) {
-    throw new Wrong(`${file.name}: no column of ${catalogue.name} has a place of it in most rows. Write all places into it, as they are there`);
+    throw new Wrong(`${file.name}: no column of ${catalogue.name} has a place of it in most rows. Write all places into both alike`);
   }
   for (const { cells: { [at]: cell = "" } } of catalogue.entries) if (cell.trim()) belongs.set(keyOf(cell), cell.trim());
   for (const [key, place] of belongs) refuseTwo(place, file ? [] : logs.get(key) ?? [], names);

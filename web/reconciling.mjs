@@ -1,6 +1,6 @@
 /** The object of a collection, of what the library says of its logs: the same as `python3 -m vicinity reconcile` writes. */
-import { readCatalogue } from "./catalogue.mjs";
 import { withCaptures } from "./captured.mjs";
+import { readCatalogue } from "./expected.mjs";
 import { fields, judge, sumOf } from "./judge.mjs";
 import { FOUND, KIND } from "./kinds.mjs";
 import { leastOf, marginFields, maskFields, overlookedIn, withoutList } from "./margins.mjs";
@@ -123,7 +123,7 @@ function answerOf({ status, kind, count, line, fault, uid, mask_len, mask_value 
 
 /**
  * Each row of the catalogue, and then the tags that aren't in it.
- * @param {import("./catalogue.mjs").Catalogue} catalogue
+ * @param {import("./expected.mjs").Catalogue} catalogue
  * @param {ReturnType<typeof placesOf>} places
  * @param {Surveyed[]} logs
  * @param {import("./library.mjs").Finding[]} list
