@@ -772,7 +772,7 @@ def test_text_and_rounds_are_linked(page):
 
 def test_several_logs(page):
     """Each has its own answer, and no answer stands for all of them, until one is pressed."""
-    page.drop(one=log_of("I1 RA UA"), two=log_of("I1 S UA"), three=log_of("UA UA"))
+    page.drop(one=log_of("I1 RA UA"), two=log_of("I1 S UA"), three=log_of("I1 S S"))
     page.until("#logs", "The one listed tag is here")
     page.until("#logs", "1 didn't answer")
     page.until("#logs", "can't be used")

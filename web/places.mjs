@@ -30,7 +30,8 @@ export function placesOf(catalogue, file, names) {
   const byName = logsByName(names), [spelled, belongs] = [new Map(), /** @type {Map<string, string>} */ (new Map())];
   const logs = file ? logsByTable(file, byName, spelled) : byName, at = placeColumn(catalogue, logs);
   if (file && at < 0 && catalogue.entries.length) {
-    throw new Wrong(`${file.name}: no column of ${catalogue.name} has a place of it in most rows. Write all places into both alike`);
+    const why = `no column of ${catalogue.name} has a place of it in most rows. Add the places that it lacks, written as there`;
+    throw new Wrong(`${file.name}: ${why}`);
   }
   for (const { cells: { [at]: cell = "" } } of catalogue.entries) if (cell.trim()) belongs.set(keyOf(cell), cell.trim());
   for (const [key, place] of belongs) refuseTwo(place, file ? [] : logs.get(key) ?? [], names);
