@@ -25,7 +25,7 @@ FAULTY = {
     "reversed": f"U {UID_A}\nU B2000000000104E0\n",
     "twice": f"U {UID_A}\nU {UID_A}\n", "twice, in lower case": f"U {UID_A}\nU {UID_A.lower()}\n"}
 LISTS = {name: f"vicinity-log 1\n{lines}" for name, lines in FAULTY.items()} | {
-    "another version": f"vicinity-log 9\nU {UID_A}\n",
+    "another version": f"vicinity-log 9\nU {UID_A}\n", "no header": f"U {UID_A}\nU {UID_B}\n",
     "ended by CR": f"vicinity-log 1\rU {UID_A}\r"}
 
 

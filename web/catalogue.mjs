@@ -6,8 +6,10 @@ import { isSpreadsheet, LINE_END, SAYS_SEPARATOR } from "./tables.mjs";
 const HEADER = "vicinity-log";
 /** The column of the UIDs, and those of a table that says which logs are of which place. */
 export const OF_UIDS = "uid", PLACE = "place", LOG = "log";
-/** Lines of a log that isn't a list, requests and outcomes, and of one that is meant as a list, even if the library refuses them. */
-const ASKED = /^[TSRHCDNF](?:\s*$|\s+[0-9A-F])/m, LISTED = /^[^\w#]*(?:U|E0)/im;
+/** Lines of a log that isn't a list: requests and outcomes. */
+const ASKED = /^[TSRHCDNF](?:\s*$|\s+[0-9A-F])/m;
+/** Lines of a text that is meant as a list, also if the library refuses them; and those that tell it from a table. */
+const LISTED = /^[^\w#]*(?:U|E0)/im, LISTS = /^U E0/im;
 
 /**
  * The files of a drop as logs, a catalogue, and which logs are of which place. Without a catalogue all are logs.
@@ -35,8 +37,11 @@ function headsOf(file) {
   return { heads: first.replace(/[\0"]/g, "").split(/[,;\t|]/).map((head) => head.trim().toLowerCase()) };
 }
 
-/** @param {Given} file */
-export const isLog = (file) => startOf(file).startsWith(HEADER);
+/**
+ * Whether a file is meant as a log, or as a list, also if it lacks its header.
+ * @param {Given} file
+ */
+export const isLog = (file) => startOf(file).startsWith(HEADER) || LISTS.test(startOf(file));
 
 /**
  * Whether a file is meant as a table: its name says so, or it has a column of UIDs, or is a spreadsheet.
