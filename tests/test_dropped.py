@@ -168,6 +168,13 @@ def test_no_table_of_places_is_silently_unused(drop, places, why):
     assert said["error"].startswith(why)
 
 
+def test_a_table_of_places_has_its_columns(drop):
+    """Where commas separate them."""
+    said = drop({"books.csv": f"uid,shelf\n{UID_A},A\n", "shelf.log": SHELF,
+                 "places.csv": "place,more,log;x\nA,,shelf.log\n"})
+    assert said["error"] == "places.csv, row 1: the columns place and log aren't both there"
+
+
 def test_a_log_of_exactly_that_name_comes_first(drop):
     """Before one that has it without its ending."""
     said = drop({"books.csv": f"uid,shelf\n{UID_A},A\n", "A.log": field(), "A.log.1": SHELF,

@@ -80,6 +80,7 @@ function logsByName(names) {
 function logsByTable(file, byName, spelled) {
   const table = readTable(file.name, file.text), placeAt = columnOf(table, PLACE), logAt = columnOf(table, LOG);
   const logs = /** @type {ByKey} */ (new Map());
+  if (placeAt < 0 || logAt < 0) throw new Wrong(`${file.name}, row 1: the columns place and log aren't both there`);
   for (const { cells } of table.rows) {
     const place = cells[placeAt].trim(), key = keyOf(place);
     if (place && !spelled.has(key)) spelled.set(key, place);

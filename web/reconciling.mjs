@@ -66,13 +66,14 @@ class Under {
  */
 export async function reconciled(library, given) {
   const catalogue = readCatalogue(library, given.expected), files = given.logs.map((log) => log.name);
+  const places = placesOf(catalogue, given.places, files);
   const uids = catalogue.entries.flatMap(({ uid }) => uid ?? []), logs = [];
   for (const log of given.logs) logs.push(await surveyed(library, log));
   const { answer, list } = library.reconcile(uids, logs.flatMap((log) => log.certain),
     logs.flatMap((log) => log.open.map((mask) => ({ fault: 0, ...mask }))));
   if (answer.status > 1) throw new Error(answer.text.trim());
   const missing = overlookedIn(library, logs, list.filter((it) => it.kind === FOUND.ABSENT).map((it) => it.uid));
-  const places = placesOf(catalogue, given.places, files), items = itemsOf(catalogue, places, logs, list, files, missing);
+  const items = itemsOf(catalogue, places, logs, list, files, missing);
   const aside = logs.filter((log) => log.aside), unsettled = list.find((it) => it.kind === FOUND.UNSETTLED);
   const misplaced = items.filter((item) => item.state === "misplaced");
   const said = fields(library, answer), worst = Math.max(...aside.map((log) => log.object.status));
