@@ -792,7 +792,7 @@ def test_text_and_rounds_are_linked(page):
 
 def test_several_logs(page):
     """Each has its own answer, and no answer stands for all of them, until one is pressed."""
-    page.drop(one=log_of("I1 RA UA"), two=log_of("I1 S UA"), three=log_of("UA UA"))
+    page.drop(one=log_of("I1 RA UA"), two=log_of("I1 S UA"), three=log_of("I1 S S"))
     page.until("#logs", "The one listed tag is here")
     page.until("#logs", "1 didn't answer")
     page.until("#logs", "can't be used")
@@ -1058,6 +1058,15 @@ def test_rows_without_a_tag(page):
     assert page.texts(".lights dd") == ["1 of 1 log", "1 of 2 items, 1 without a tag"]
 
 
+def test_the_title_of_an_item_is_said_as_it_is(page):
+    """Also if it has what stands for other text where something is replaced by it."""
+    page.drop(**{"catalogue": b"title;uid\nUS$& $' $1;E0040100000000A1\n",
+                 "one.log": log_of("I1 RA QA I1 RA")})
+    page.until("h1", "count 1 log again")
+    assert page.texts(".advice")[0].startswith(
+        "Move US$& $' $1 (tag E0040100000000A1) nearer to the antenna")
+
+
 def test_a_place_that_is_not_in_the_catalogue(page):
     """What is found there is told by it."""
     page.drop(**{"catalogue.csv": b"uid,title,shelf\nE0040100000000A1,Walden,one\n",
@@ -1102,6 +1111,7 @@ def test_a_better_catalogue_is_compared_with_the_same_logs(page, tmp_path, name,
     (b"uid\nE004\n", "row 2: E004 isn't a UID"), (b"title,uid\na,\nb,\n\n", "Nothing is expected"),
     (b"uid,x\nE0040100000000A1,\nE0040100000000A1,\n", "E0040100000000A1 is also in row 2"),
     (b"uid,uid\n", "two columns are named uid"),
+    (b"vicinity-log 1\nU E0040100000000A1\nU E004", "catalogue, line 3: refused (ListedLength)."),
     (b'uid,x\n"E0', "row 2: a quote isn't closed"), (b"uid,x\n,,3\n", "it has 3 cells")])
 def test_a_catalogue_that_cannot_be_used(page, table, words):
     page.drop(catalogue=table, log=log_of("I1 S"))

@@ -1,20 +1,15 @@
-/** What is expected in a collection: a table with a column of UIDs, or a log that only lists them. */
-import { Wrong, columnOf, isSpreadsheet, readTable, SAVE_AS_CSV } from "./tables.mjs";
-import { count, hex, listing, printable } from "./words.mjs";
+/** Which of several files is the catalogue, which one says the places of logs, and which are logs. */
+import { isSpreadsheet, LINE_END, SAYS_SEPARATOR } from "./tables.mjs";
 
-/** @typedef {{row: number, uid: bigint | null, cells: string[]}} Entry */
-/** @typedef {{name: string, heads: string[], uidAt: number, entries: Entry[]}} Catalogue */
 /** @typedef {{name: string, text: Uint8Array}} Given a file */
 
-const HEADER = "vicinity-log", OF_UIDS = "uid", PLACE = "place", LOG = "log";
-/** What may be among the digits of a UID, and before them. */
-const BETWEEN = /[\s:\-\u2010-\u2013]/g, BEFORE = /^'?(0x)?/i, DIGITS = /^E0[0-9A-F]{14}$/;
-/** Lines of a log that aren't a list: requests and outcomes. */
-const ASKED = /^[TSRHCDNF]/m, LISTED = /^U ([0-9A-Fa-f]{16})/gm;
-/** How many columns are named, where none has the UIDs. */
-const MOST_HEADS = 12;
-/** The columns that `reconcile --csv` has added, and the state of rows that it has. */
-const ADDED = ["state", "certain in", "may be in"], UNEXPECTED = "unexpected";
+const HEADER = "vicinity-log";
+/** The column of the UIDs, and those of a table that says which logs are of which place. */
+export const OF_UIDS = "uid", PLACE = "place", LOG = "log";
+/** Lines of a log that isn't a list: requests and outcomes. */
+const ASKED = /^[TSRHCDNF](?:\s*$|\s+[0-9A-F])/m;
+/** Lines of a text that is meant as a list, also if the library refuses them; and those that tell it from a table. */
+const LISTED = /^[^\w#]*(?:U|E0)/im, LISTS = /^U E0/im;
 
 /**
  * The files of a drop as logs, a catalogue, and which logs are of which place. Without a catalogue all are logs.
@@ -24,23 +19,29 @@ export function sorted(files) {
   if (files.length < 2) return { logs: files, expected: null, places: null };
   const tables = files.filter(looksLikeTable);
   const lists = files.filter((file) => isLog(file) && isList(file));
-  const places = tables.find((file) => { const { heads } = headsOf(file); return heads.includes(PLACE) && heads.includes(LOG); });
+  const places = tables.find((file) => {
+    const { heads } = headsOf(file);
+    return heads.includes(PLACE) && heads.includes(LOG) && !heads.includes(OF_UIDS);
+  });
   const expected = [...tables.filter((file) => file !== places), ...tables.length ? [] : lists];
   if (expected.length !== 1) return { logs: files, expected: null, places: null };
   return { logs: files.filter((file) => file !== places && file !== expected[0]), expected: expected[0], places: places ?? null };
 }
 
 /** @param {Given} file */
-const startOf = (file) => new TextDecoder().decode(file.text.subarray(0, 4096)).replace("\uFEFF", "");
+export const startOf = (file) => new TextDecoder().decode(file.text.subarray(0, 4096)).replace("\uFEFF", "");
 
 /** @param {Given} file */
 function headsOf(file) {
-  const [first] = startOf(file).replace(/^"?sep=.*\n/i, "").split(/\r?\n/, 1);
+  const [first] = startOf(file).replace(SAYS_SEPARATOR, "").split(LINE_END, 1);
   return { heads: first.replace(/[\0"]/g, "").split(/[,;\t|]/).map((head) => head.trim().toLowerCase()) };
 }
 
-/** @param {Given} file */
-const isLog = (file) => startOf(file).startsWith(HEADER);
+/**
+ * Whether a file is meant as a log, or as a list, also if it lacks its header.
+ * @param {Given} file
+ */
+export const isLog = (file) => startOf(file).startsWith(HEADER) || LISTS.test(startOf(file));
 
 /**
  * Whether a file is meant as a table: its name says so, or it has a column of UIDs, or is a spreadsheet.
@@ -49,104 +50,11 @@ const isLog = (file) => startOf(file).startsWith(HEADER);
 export const looksLikeTable = (file) => !isLog(file) && (/\.(csv|tsv)$/i.test(file.name) || headsOf(file).heads.includes(OF_UIDS)
   || isSpreadsheet(startOf(file)));
 
-/** @param {Given} file */
-function isList(file) {
-  const text = new TextDecoder().decode(file.text), uids = text.match(LISTED) ?? [];
-  return !ASKED.test(text) && uids.length > 0 && new Set(uids).size === uids.length;
-}
-
 /**
+ * Whether a log is meant as a list, also if it isn't one: it must not be silently taken for the log of a field.
  * @param {Given} file
- * @returns {Catalogue}
  */
-export function readCatalogue(file) {
-  if (isSpreadsheet(startOf(file))) throw new Wrong(`${file.name} is a spreadsheet: ${SAVE_AS_CSV}, and open that`);
-  if (startOf(file).startsWith(HEADER)) {
-    const entries = [...new TextDecoder().decode(file.text).matchAll(LISTED)].map(([, digits]) => BigInt(`0x${digits}`))
-      .sort((one, other) => one < other ? -1 : 1).map((uid) => ({ row: 0, uid, cells: [hex(uid)] }));
-    return { name: file.name, heads: [OF_UIDS], uidAt: 0, entries };
-  }
-  const table = withoutAdded(readTable(file.name, file.text)), uidAt = columnOf(table, OF_UIDS), rows = new Map();
-  if (uidAt < 0) throw new Wrong(`${file.name}, row 1: no column is named uid. Name the column of UIDs 'uid'. ${found(table.heads)}`);
-  const entries = table.rows.map(({ row, cells }) => ({ row, uid: uidOfCell(file.name, row, cells[uidAt]), cells }));
-  for (const { row, uid } of entries) {
-    if (uid !== null && rows.has(uid)) throw new Wrong(`${file.name}, row ${row}: ${hex(uid)} is also in row ${rows.get(uid)}`);
-    if (uid !== null) rows.set(uid, row);
-  }
-  return { name: file.name, heads: table.heads, uidAt, entries };
-}
-
-/**
- * Which columns a table has.
- * @param {string[]} heads
- */
-function found(heads) {
-  const named = heads.filter((head) => head).map((head) => `'${printable(head)}'`), more = named.length - MOST_HEADS;
-  if (!named.length) return "No column has a name";
-  return `The columns found are ${listing(more > 1 ? [...named.slice(0, MOST_HEADS), count(more, "other")] : named)}`;
-}
-
-/**
- * A table without what an earlier run has added.
- * @param {import("./tables.mjs").Table} table
- */
-function withoutAdded(table) {
-  const added = ADDED.map((head) => columnOf(table, head));
-  if (added.includes(-1)) return table;
-  const kept = (/** @type {string[]} */ cells) => cells.filter((_, at) => !added.includes(at));
-  return { ...table, heads: kept(table.heads), rows: table.rows.filter(({ cells }) => cells[added[0]].trim() !== UNEXPECTED)
-    .map(({ row, cells }) => ({ row, cells: kept(cells) })) };
-}
-
-/**
- * The UID in a cell, or null if it is blank.
- * @param {string} name
- * @param {number} row
- * @param {string} cell
- */
-function uidOfCell(name, row, cell) {
-  const digits = cell.replace(BETWEEN, "").replace(BEFORE, "").toUpperCase();
-  if (!cell.trim()) return null;
-  if (!DIGITS.test(digits)) throw new Wrong(`${name}, row ${row}: ${cell} isn't a UID: 16 hex digits that begin with E0`);
-  return BigInt(`0x${digits}`);
-}
-
-/**
- * The logs of each place, by their positions: those that a table names, or else that are named like it; which column of a catalogue says
- * where items belong; and the places of each log, as the catalogue writes them, or else the table.
- * @param {Catalogue} catalogue
- * @param {Given | null} file
- * @param {string[]} names
- */
-export function placesOf(catalogue, file, names) {
-  /** @type {Map<string, number[]>} */
-  const byName = new Map(), logs = file ? new Map() : byName, spelled = /** @type {Map<string, string>} */ (new Map());
-  const add = (/** @type {Map<any, any[]>} */ to, /** @type {string | number} */ key, /** @type {any[]} */ more) =>
-    to.set(key, [...to.get(key) ?? [], ...more]);
-  names.forEach((name, at) => {
-    for (const key of new Set([name.toLowerCase(), name.toLowerCase().replace(/\.[^.]*$/, "")])) add(byName, key, [at]);
-  });
-  const table = file ? readTable(file.name, file.text) : { name: "", heads: [], rows: [] };
-  const placeAt = columnOf(table, PLACE), logAt = columnOf(table, LOG);
-  for (const { cells } of table.rows) {
-    const place = cells[placeAt].trim(), key = place.toLowerCase();
-    if (place && !spelled.has(key)) spelled.set(key, place);
-    add(logs, key, byName.get(cells[logAt].trim().toLowerCase()) ?? []);
-  }
-  const at = placeColumn(catalogue, logs), written = /** @type {Map<number, string[]>} */ (new Map());
-  for (const { cells: { [at]: cell = "" } } of catalogue.entries) if (cell.trim()) spelled.set(cell.trim().toLowerCase(), cell.trim());
-  for (const [key, place] of spelled) for (const log of new Set(logs.get(key))) add(written, log, [place]);
-  return { logs, at, written };
-}
-
-/**
- * The column of a catalogue that says where items belong: the one of which most rows name a place, if they are most of all.
- * @param {Catalogue} catalogue
- * @param {Map<string, number[]>} places
- */
-function placeColumn({ heads, uidAt, entries }, places) {
-  const isPlace = (/** @type {string} */ cell) => places.get(cell.trim().toLowerCase())?.length;
-  const named = (/** @type {number} */ at) => at === uidAt ? 0 : entries.filter(({ cells }) => isPlace(cells[at])).length;
-  const best = heads.reduce((one, _, at) => named(at) > named(one) ? at : one, 0);
-  return 2 * named(best) > entries.length ? best : -1;
+function isList(file) {
+  const text = new TextDecoder().decode(file.text);
+  return !ASKED.test(text) && LISTED.test(text);
 }

@@ -287,7 +287,7 @@ function brokenBy({ list, object }, names) {
   const conflict = object && tell(object).conflict;
   if (!conflict) return { why: ` (line ${list.line})`, advice: AGAIN_BROKEN };
   const { sentence, shelf = "" } = contradiction(conflict), uids = new Set(conflict.heard.map((slot) => hex(slot.uid ?? 0n)));
-  const name = uids.size === 1 ? names.get([...uids][0]) : "", move = name ? shelf.replace(/the item with tag (\w+)/, `${printable(name)} (tag $1)`) : shelf;
+  const name = uids.size === 1 ? names.get([...uids][0]) : "", move = name ? shelf.replace(/the item with tag (\w+)/, (_, tag) => `${printable(name)} (tag ${tag})`) : shelf;
   return { why: `: ${sentence.replace(/\.$/, "")}`, advice: `${move} ${AGAIN_BROKEN}`.trim() };
 }
 

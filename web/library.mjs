@@ -214,6 +214,12 @@ export class Library {
     return { answer, counts, conflict, list };
   }
 
+  /**
+   * The UIDs of a text that has U lines alone. Any other is refused.
+   * @param {Uint8Array | string} text
+   */
+  listed(text) { return this.#listed("listed", (take) => this.#put(take, text), UID, uidAt, roomFor(text)); }
+
   /** @param {Uint8Array | string} text */
   certain(text) { return this.#listed("certain", (take) => this.#put(take, text), UID, uidAt, roomFor(text)); }
 

@@ -1,10 +1,11 @@
 /** The object of a collection, of what the library says of its logs: the same as `python3 -m vicinity reconcile` writes. */
-import { placesOf, readCatalogue } from "./catalogue.mjs";
 import { withCaptures } from "./captured.mjs";
+import { readCatalogue } from "./expected.mjs";
 import { fields, judge, sumOf } from "./judge.mjs";
 import { FOUND, KIND } from "./kinds.mjs";
 import { leastOf, marginFields, maskFields, overlookedIn, withoutList } from "./margins.mjs";
 import { maskKey } from "./frames.mjs";
+import { placesOf } from "./places.mjs";
 import { UID_BITS, hex } from "./words.mjs";
 
 /** @typedef {import("./library.mjs").Library} Library */
@@ -64,13 +65,15 @@ class Under {
  * @returns {Promise<CollectionObject>}
  */
 export async function reconciled(library, given) {
-  const catalogue = readCatalogue(given.expected), files = given.logs.map((log) => log.name);
+  const catalogue = readCatalogue(library, given.expected), files = given.logs.map((log) => log.name);
+  const places = placesOf(catalogue, given.places, files);
   const uids = catalogue.entries.flatMap(({ uid }) => uid ?? []), logs = [];
   for (const log of given.logs) logs.push(await surveyed(library, log));
   const { answer, list } = library.reconcile(uids, logs.flatMap((log) => log.certain),
     logs.flatMap((log) => log.open.map((mask) => ({ fault: 0, ...mask }))));
+  if (answer.status > 1) throw new Error(answer.text.trim());
   const missing = overlookedIn(library, logs, list.filter((it) => it.kind === FOUND.ABSENT).map((it) => it.uid));
-  const places = placesOf(catalogue, given.places, files), items = itemsOf(catalogue, places, logs, list, files, missing);
+  const items = itemsOf(catalogue, places, logs, list, files, missing);
   const aside = logs.filter((log) => log.aside), unsettled = list.find((it) => it.kind === FOUND.UNSETTLED);
   const misplaced = items.filter((item) => item.state === "misplaced");
   const said = fields(library, answer), worst = Math.max(...aside.map((log) => log.object.status));
@@ -121,7 +124,7 @@ function answerOf({ status, kind, count, line, fault, uid, mask_len, mask_value 
 
 /**
  * Each row of the catalogue, and then the tags that aren't in it.
- * @param {import("./catalogue.mjs").Catalogue} catalogue
+ * @param {import("./expected.mjs").Catalogue} catalogue
  * @param {ReturnType<typeof placesOf>} places
  * @param {Surveyed[]} logs
  * @param {import("./library.mjs").Finding[]} list

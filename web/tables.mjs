@@ -1,11 +1,13 @@
 /** Tables (CSV) as spreadsheets and library systems save them. */
 
-/** @typedef {{name: string, heads: string[], rows: {row: number, cells: string[]}[]}} Table rows are counted from 1, with that of the heads */
+/** @typedef {{row: number, cells: string[]}} Row counted from 1, with that of the heads */
+/** @typedef {{name: string, separator: string, heads: string[], rows: Row[]}} Table */
 
 /** Of these the one that makes the most columns of the first row separates the cells. */
 const SEPARATORS = [",", ";", "\t", "|"];
 /** A first line for spreadsheets, which names the separator. */
-const SAYS_SEPARATOR = /^"?sep=(.)"?[ \t]*\r?\n/i;
+export const SAYS_SEPARATOR = /^"?sep=(.)"?[ \t]*(?:\r\n?|\n)/i;
+export const LINE_END = /\r\n?|\n/;
 /** A cell, with what ends it: in quotes, or not. */
 const QUOTED = /"((?:[^"]|"")*)"/y;
 
@@ -44,13 +46,13 @@ function decoded(bytes) {
  */
 export function readTable(name, bytes) {
   const whole = decoded(bytes), says = whole.match(SAYS_SEPARATOR), text = says ? whole.slice(says[0].length) : whole;
-  const first = text.split("\n", 1)[0], many = (/** @type {string} */ it) => first.replace(/"[^"]*"/g, "").split(it).length;
+  const [first] = text.split(LINE_END, 1), many = (/** @type {string} */ it) => first.replace(/"[^"]*"/g, "").split(it).length;
   const separator = says ? says[1] : SEPARATORS.reduce((best, it) => many(it) > many(best) ? it : best);
   const [heads = [], ...rows] = cellsIn(name, text, separator), names = heads.map((head) => head.trim());
   const twice = names.find((head, at) => head && names.indexOf(head) < at);
   if (twice) throw new Wrong(`${name}, row 1: two columns are named ${twice}`);
-  return { name, heads: names, rows: rows.map((cells, at) => ({ row: at + 2, cells: fitting(name, names.length, at + 2, cells) }))
-    .filter(({ cells }) => cells.some((cell) => cell.trim())) };
+  const all = rows.map((cells, at) => ({ row: at + 2, cells: fitting(name, names.length, at + 2, cells) }));
+  return { name, separator, heads: names, rows: all.filter(({ cells }) => cells.some((cell) => cell.trim())) };
 }
 
 /**
@@ -70,7 +72,8 @@ function cellsIn(name, text, separator) {
     if (quoted) at += quoted[0].length;
     let end = at;
     while (end < text.length && text[end] !== separator && text[end] !== "\n" && text[end] !== "\r") end++;
-    cells.push((quoted ? quoted[1].replace(/""/g, '"') : "") + text.slice(at, end));
+    if (quoted && end > at) throw new Wrong(`${name}, row ${rows.length + 1}: text follows a cell in quotes: is a quote missing?`);
+    cells.push(quoted ? quoted[1].replace(/""/g, '"') : text.slice(at, end));
     at = end + 1;
     if (text[end] === separator) {
       if (at >= text.length) cells.push("");
@@ -101,8 +104,10 @@ function fitting(name, columns, row, cells) {
 /**
  * The place of the only column with a name, in any case; -1 if there is none.
  * @param {Table} table
- * @param {string} name
+ * @param {string} head
  */
-export function columnOf(table, name) {
-  return table.heads.findIndex((head) => head.toLowerCase() === name);
+export function columnOf({ name, heads }, head) {
+  const [at = -1, other] = heads.flatMap((it, place) => it.toLowerCase() === head ? [place] : []);
+  if (other) throw new Wrong(`${name}, row 1: two columns are named ${head}`);
+  return at;
 }

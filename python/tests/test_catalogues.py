@@ -256,6 +256,14 @@ class Catalogues(Command):
             [f"E0040100000000A1,a,there,{there}; {both},",
              f"E0040100000000B2,b,misplaced,{both},{broken}"], 2))
 
+    def test_a_log_of_exactly_that_name_comes_first(self):
+        catalogue = self.catalogue("uid,shelf\nE0040100000000A1,A.log\n")
+        one, other = self.write("A.log", NOTHING), self.write("A.log.1", log(ALL + HEARD_A))
+        said = f"misplaced E0040100000000A1 in {other}, belongs to A.log\n"
+        for names in ((one, other), (other, one)):
+            self.assertEqual(here("lines", catalogue, *names, options=["--place", "shelf"]),
+                             (said, "", 1))
+
     def test_places_without_a_column_of_places(self):
         catalogue = self.catalogue("uid\n")
         said, errors, status = self.ask("--expected", catalogue, "--places", "y", "x")

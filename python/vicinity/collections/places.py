@@ -51,11 +51,11 @@ def places_of(expected: Catalogue, names: Sequence[str], file: Optional[tuple[st
 
 def _by_names(names: Sequence[str]) -> dict[str, list[int]]:
     """Logs by their names: as given, and if no log has exactly that, without folders,
-    and without the ending."""
-    given = {name.casefold(): [index] for index, name in enumerate(names)}
+    and if no log has that either, without the ending too."""
     found: dict[str, list[int]] = {}
-    for index, name in enumerate(names):
-        base = os.path.basename(name)
-        for key in {base.casefold(), os.path.splitext(base)[0].casefold()} - given.keys():
-            found.setdefault(key, []).append(index)
-    return {**found, **given}
+    for shortened in (str, os.path.basename, lambda it: os.path.splitext(os.path.basename(it))[0]):
+        these: dict[str, list[int]] = {}
+        for index, name in enumerate(names):
+            these.setdefault(shortened(name).casefold(), []).append(index)
+        found = {**these, **found}
+    return found

@@ -1,0 +1,205 @@
+"""What the page makes of files that are dropped together, asked of its modules by node: what can't
+be read as it was meant has no answer, and no row or line of it is silently left out."""
+import json
+
+import pytest
+
+import biglog
+from helpers.program import TOP, told
+
+UID_A, UID_B, UID_C = "E0040100000000A1", "E0040100000000B2", "E0040100000000C3"
+READ_A, READ_B = "R 0000A1000000000104E06745", "R 0000B2000000000104E0CF94"
+QUIET_A, QUIET_B = "T 2202A1000000000104E0662A", "T 2202B2000000000104E0CEFB"
+# The only tag here is A.
+SHELF = "\n".join(["vicinity-log 1", "T 260100F60A", READ_A, QUIET_A, "T 260100F60A", "S",
+                   f"U {UID_A}", ""])
+# Lists that aren't any, by what happened to them.
+FAULTY = {
+    "cut off": f"U {UID_A}\nU E00401000000", "short": f"U {UID_A}\nU E00401000000\n",
+    "lower case": f"U {UID_A}\nu {UID_B}\n", "spaces": f"U {UID_A}\nU E0 04 01 00 00 00 00 B2\n",
+    "indented": f"U {UID_A}\n U {UID_B}\n", "tab": f"U {UID_A}\nU\t{UID_B}\n",
+    "no space": f"U {UID_A}\nU{UID_B}\n", "two spaces": f"U {UID_A}\nU  {UID_B}\n",
+    "no letter": f"U {UID_A}\n{UID_B}\n", "no letter at all": f"{UID_A}\n{UID_B}\n",
+    "dashes": f"- U {UID_A}\n- U {UID_B}\n", "title": f"Shelf A\nU {UID_A}\n",
+    "long": f"U {UID_A}2\n", "comment": f"U {UID_A} # Emma\n",
+    "reversed": f"U {UID_A}\nU B2000000000104E0\n",
+    "twice": f"U {UID_A}\nU {UID_A}\n", "twice, in lower case": f"U {UID_A}\nU {UID_A.lower()}\n"}
+LISTS = {name: f"vicinity-log 1\n{lines}" for name, lines in FAULTY.items()} | {
+    "another version": f"vicinity-log 9\nU {UID_A}\n", "no header": f"U {UID_A}\nU {UID_B}\n",
+    "ended by CR": f"vicinity-log 1\rU {UID_A}\r"}
+
+
+@pytest.fixture
+def drop(wasm_module, tmp_path):
+    """Drops files, given by their names and texts: the object of a collection, or an error."""
+    def ask(files):
+        for name, text in files.items():
+            (tmp_path / name).write_text(text, newline="")
+        words = [tmp_path / name for name in files]
+        return json.loads(told("node", TOP / "tests/wasm/dropped.mjs", wasm_module, *words))
+    return ask
+
+
+@pytest.mark.parametrize("name", LISTS)
+def test_no_line_of_a_list_is_left_out(drop, program, tmp_path, name):
+    """It is refused at the line, and for the fault, that the program names."""
+    said = drop({"shelf.log": SHELF, "expected.log": LISTS[name]})
+    files = tmp_path / "expected.log", tmp_path / "shelf.log"
+    refused = program.run("reconcile", *map(str, files)).out.decode()
+    line, fault = refused.removeprefix("refused at line ").split(f" of {files[0]}: ")
+    assert said["error"].startswith(f"expected.log, line {line}: refused ({fault.strip()})")
+
+
+@pytest.mark.parametrize("end", ["\r", "\u2028"])
+def test_a_comment_lists_nothing(drop, end):
+    """As whatever follows a line's end of another kind than LF."""
+    said = drop({"shelf.log": SHELF, "expected.log": f"vicinity-log 1\n# all{end}U {UID_A}\n"})
+    assert said["error"].startswith("expected.log: no line lists a UID.")
+
+
+@pytest.mark.parametrize("more", ["", "# Used by reader 4\n", f"T 2601\nU {UID_A}\n"])
+def test_a_log_of_a_field_is_no_list(drop, more):
+    """Also if it was cut off early, or is refused."""
+    said = drop({"shelf.log": SHELF, "other.log": f"vicinity-log 1\n{more}"})
+    assert said == {"error": "each alone"}
+
+
+def test_a_list_is_compared_with_a_log(drop):
+    said = drop({"shelf.log": SHELF, "expected.log": f"vicinity-log 1\nU {UID_B}\nU {UID_A}\n"})
+    assert (said["kind"], said["uid"], said["counts"]["there"]) == ("absent", UID_B, 1)
+
+
+# Tables of which a quote swallows rows, by what is wrong with it, with the row and why.
+SWALLOWING = {
+    "a quote before a later cell": (
+        f"uid\ttitle\tshelf\n{UID_A}\t\"Surely You're Joking, Mr. Feyn\tA\n{UID_B}\tWalden\tA\n"
+        f"E0040100000000C3\tEmma\tA\nE0040100000000D4\t\"Heroes and other\tA\n",
+        "row 2: text follows a cell in quotes"),
+    "quotes within a later cell": (
+        f'uid,title,shelf\n{UID_A},"Surely,A\n{UID_B},Walden,A\nE0040100000000C3,The "Big" one,A\n',
+        "row 2: text follows a cell in quotes"),
+    "a quote at the end of a later cell": (
+        f'uid\ttitle\tshelf\n{UID_A}\t"Surely\tA\n{UID_B}\tWalden\tA\n'
+        'E0040100000000C3\tRuler 12"\tA\n', "row 2: a cell in quotes has a UID and a line end"),
+    "UIDs with colons, and line ends CR": (
+        f'title,uid\rx,{UID_A}\r"Surely,\rWalden,e0:04:01:00:00:00:00:b2\rRuler 12",\r',
+        "row 3: a cell in quotes has a UID and a line end"),
+    "a quote in the first row": (
+        f'uid,"title\n{UID_B},Ruler 12"\n{UID_A},Emma\n',
+        "row 1: a cell in quotes has a UID and a line end"),
+    "a row that is left out": (
+        f'uid,title,state,certain in,may be in\n{UID_A},Emma,there,,\n{UID_B},"Surely,missing,,\n'
+        'E0040100000000C3,Ruler 12",unexpected,,\n',
+        "row 3: a cell in quotes has a UID and a line end")}
+
+
+@pytest.mark.parametrize("name", SWALLOWING)
+def test_no_row_of_a_catalogue_is_swallowed_by_a_quote(drop, name):
+    table, why = SWALLOWING[name]
+    said = drop({"shelf.log": SHELF, "books.tsv": table})
+    assert said["error"].startswith(f"books.tsv, {why}")
+
+
+def test_a_cell_in_quotes_may_have_anything_but_a_row(drop):
+    """Also line ends, quotes, and a UID that is no cell of a row."""
+    said = drop({"shelf.log": SHELF, "books.csv": f'uid,title\n{UID_A},"a ""b"", '
+                 f'\nnot {UID_B},\nwhich is lost"\r\n'})
+    assert (said["kind"], said["items"][0]["columns"]) == (
+        "complete", {"title": f'a "b", \nnot {UID_B},\nwhich is lost'})
+
+
+# The columns of a result of `reconcile --csv`, by those that the catalogue has itself.
+FOUND = {
+    "none": "uid,state,certain in,may be in",
+    "its own": "uid,state,state (found),certain in,may be in",
+    "its own, moved": "uid,state (found),certain in,may be in,state",
+    "another of its own": "uid,May be in,state,certain in,may be in (found)",
+    "one of such a name": "state (found) (found),certain in,may be in,state,uid,state (found)"}
+
+
+@pytest.mark.parametrize("name", FOUND)
+def test_what_was_unexpected_is_not_expected_the_next_time(drop, name):
+    """Where the result is the catalogue, also if it has columns of these names itself."""
+    heads = FOUND[name].split(",")
+    state = next(it for it in ("state (found) (found)", "state (found)", "state") if it in heads)
+    rows = {UID_A: "there", UID_B: "unexpected"}
+    cells = [[{"uid": uid, state: said}.get(head, "worn" if head == "state" else "")
+              for head in heads] for uid, said in rows.items()]
+    both = "\n".join(["vicinity-log 1", "T 060100CD09", "S", READ_A, READ_B, *"S" * 13, QUIET_A,
+                      QUIET_B, "T 260100F60A", "S", ""])
+    said = drop({"both.log": both, "found.csv": "\n".join(map(",".join, [heads, *cells]))})
+    assert (said["kind"], said["uid"]) == ("unlisted", UID_B)
+
+
+@pytest.mark.parametrize(("table", "head"), [
+    ({"books.csv": f"UID,uid\n{UID_A},{UID_B}\n"}, "uid"),
+    ({"books.csv": f"uid,shelf\n{UID_A},A\n", "places.csv": "place,log,Place\nA,shelf.log,B\n"},
+     "place")])
+def test_no_column_of_two_with_one_name_is_taken(drop, table, head):
+    said = drop({"shelf.log": SHELF, **table})
+    assert said["error"] == f"{[*table][-1]}, row 1: two columns are named {head}"
+
+
+def field(*uids):
+    """A log of a field in which only these tags are, and all is asked."""
+    asked = [line for uid in (int(it, 16) for it in uids) for line in (
+        biglog.ask((56, uid & (1 << 56) - 1)), biglog.reply(uid), biglog.silence(uid))]
+    return "\n".join(["vicinity-log 1", *asked, biglog.ask((0, 0)), "S", ""])
+
+
+BOOKS = f"uid,title,shelf\n{UID_A},Emma,South\n{UID_B},Walden,North\n{UID_C},Kim,North\n"
+
+
+def test_an_item_of_a_place_without_a_log_is_not_in_place(drop):
+    """Though it is in the only log, which is of another place."""
+    said = drop({"books.csv": BOOKS, "places.csv": "place,log\nSouth,x.log\nNorth,y.log\n",
+                 "x.log": field(UID_A, UID_B, UID_C)})
+    assert (said["status"], said["kind"], said["uid"]) == (1, "misplaced", UID_B)
+    assert said["counts"]["misplaced"] == 2
+
+
+@pytest.mark.parametrize(("places", "why"), [
+    ("South,shelf.log", "places.csv: no column of books.csv has a place of it in most rows"),
+    (",shelf.log", "places.csv: no column of books.csv has a place of it in most rows"),
+    ("North,other.log\nSouth,shelf.log", "no log is of any place of the catalogue, such as North")])
+def test_no_table_of_places_is_silently_unused(drop, places, why):
+    said = drop({"books.csv": f"uid,title,shelf,note\n{UID_A},Emma,North,\n",
+                 "places.csv": f"place,log\n{places}\n", "shelf.log": SHELF})
+    assert said["error"].startswith(why)
+
+
+def test_a_table_of_places_has_its_columns(drop):
+    """Where commas separate them."""
+    said = drop({"books.csv": f"uid,shelf\n{UID_A},A\n", "shelf.log": SHELF,
+                 "places.csv": "place,more,log;x\nA,,shelf.log\n"})
+    assert said["error"] == "places.csv, row 1: the columns place and log aren't both there"
+
+
+def test_a_log_of_exactly_that_name_comes_first(drop):
+    """Before one that has it without its ending."""
+    said = drop({"books.csv": f"uid,shelf\n{UID_A},A\n", "A.log": field(), "A.log.1": SHELF,
+                 "places.csv": "place,log\nA,A.log\nB,A.log.1\n"})
+    assert (said["kind"], said["items"][0]["belongs"], said["items"][0]["certain_in"]) == (
+        "misplaced", "A", ["A.log.1"])
+
+
+def test_no_two_logs_are_of_one_place_by_their_names(drop):
+    said = drop({"books.csv": f"uid,shelf\n{UID_A},A\n", "A.log": field(), "A.txt": SHELF})
+    assert said["error"].startswith(
+        "two logs are of the place A, by their names: A.log and A.txt; ")
+
+
+@pytest.mark.parametrize("more", [{}, {"places.csv": "place,log\nA,shelf.log\n"}])
+def test_a_catalogue_may_have_columns_named_place_and_log(drop, more):
+    said = drop({"books.csv": f"uid,place,log\n{UID_A},A,yes\n{UID_B},A,\n", "shelf.log": SHELF,
+                 **more})
+    assert (said["kind"], said["uid"], said["name"]) == ("absent", UID_B, "books.csv")
+
+
+@pytest.mark.parametrize("end", ["\n", "\r\n", "\r"])
+def test_a_separator_is_named_before_any_line_end(drop, end):
+    """So it isn't the first of others that are more often in the rows."""
+    rows = ["sep=;", "title;uid", f"Emma, a, b;{UID_A}", ""]
+    said = drop({"books": end.join(rows), "shelf.log": SHELF})
+    assert (said["kind"], said["items"][0]["columns"]) == ("complete", {"title": "Emma, a, b"})
+    assert drop({"books": end.join(rows[1:]), "shelf.log": SHELF})["kind"] == "complete"

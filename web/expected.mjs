@@ -1,0 +1,116 @@
+/** What is expected in a collection: a table with a column of UIDs, or a log that only lists them. */
+import { isLog, OF_UIDS, startOf } from "./catalogue.mjs";
+import { Wrong, columnOf, isSpreadsheet, readTable, SAVE_AS_CSV } from "./tables.mjs";
+import { count, hex, listing, printable } from "./words.mjs";
+
+/** @typedef {import("./library.mjs").Library} Library */
+/** @typedef {import("./catalogue.mjs").Given} Given */
+/** @typedef {{row: number, uid: bigint | null, cells: string[]}} Entry */
+/** @typedef {{name: string, heads: string[], uidAt: number, entries: Entry[]}} Catalogue */
+
+/** What may be among the digits of a UID, and before them. */
+const BETWEEN = /[\s:\-\u2010-\u2013]/g, BEFORE = /^'?(0x)?/i, DIGITS = /^E0[0-9A-F]{14}$/;
+const OF_A_LIST = "A list has the header 'vicinity-log 1', and then for each UID a line: U, one space and its 16 digits. If the file was " +
+  "cut off, copy it again";
+/** How many columns are named, where none has the UIDs. */
+const MOST_HEADS = 12;
+/** The columns that `reconcile --csv` has added, what stands behind such a name once more than behind the catalogue's own, and the state of
+ *  rows that it has. */
+const ADDED = ["state", "certain in", "may be in"], TWIN = " (found)", UNEXPECTED = "unexpected";
+
+/**
+ * @param {Library} library
+ * @param {Given} file
+ * @returns {Catalogue}
+ */
+export function readCatalogue(library, file) {
+  if (isSpreadsheet(startOf(file))) throw new Wrong(`${file.name} is a spreadsheet: ${SAVE_AS_CSV}, and open that`);
+  if (isLog(file)) {
+    const entries = listedIn(library, file).map((uid) => ({ row: 0, uid, cells: [hex(uid)] }));
+    return { name: file.name, heads: [OF_UIDS], uidAt: 0, entries };
+  }
+  const table = withoutAdded(refuseSwallowed(readTable(file.name, file.text))), uidAt = columnOf(table, OF_UIDS), rows = new Map();
+  if (uidAt < 0) throw new Wrong(`${file.name}, row 1: no column is named uid. Name the column of UIDs 'uid'. ${found(table.heads)}`);
+  const entries = table.rows.map(({ row, cells }) => ({ row, uid: uidOfCell(file.name, row, cells[uidAt]), cells }));
+  for (const { row, uid } of entries) {
+    if (uid !== null && rows.has(uid)) throw new Wrong(`${file.name}, row ${row}: ${hex(uid)} is also in row ${rows.get(uid)}`);
+    if (uid !== null) rows.set(uid, row);
+  }
+  return { name: file.name, heads: table.heads, uidAt, entries };
+}
+
+/**
+ * The UIDs of a list, as the library reads it.
+ * @param {Library} library
+ * @param {Given} file
+ */
+function listedIn(library, { name, text }) {
+  const { answer, list } = library.listed(text);
+  if (answer.status) throw new Wrong(`${name}, line ${answer.line}: refused (${library.nameOf("fault", answer.fault)}). ${OF_A_LIST}`);
+  if (!list.length) throw new Wrong(`${name}: no line lists a UID. ${OF_A_LIST}`);
+  return list;
+}
+
+/**
+ * Which columns a table has.
+ * @param {string[]} heads
+ */
+function found(heads) {
+  const named = heads.filter((head) => head).map((head) => `'${printable(head)}'`), more = named.length - MOST_HEADS;
+  if (!named.length) return "No column has a name";
+  return `The columns found are ${listing(more > 1 ? [...named.slice(0, MOST_HEADS), count(more, "other")] : named)}`;
+}
+
+/**
+ * A table without what an earlier run has added.
+ * @param {import("./tables.mjs").Table} table
+ */
+function withoutAdded(table) {
+  const added = ADDED.map((name) => lastAdded(table.heads, name));
+  if (added.includes(-1)) return table;
+  const kept = (/** @type {string[]} */ cells) => cells.filter((_, at) => !added.includes(at));
+  return { ...table, heads: kept(table.heads), rows: table.rows.filter(({ cells }) => cells[added[0]].trim() !== UNEXPECTED)
+    .map(({ row, cells }) => ({ row, cells: kept(cells) })) };
+}
+
+/**
+ * Which column was added last of those with a name; -1 if there is none.
+ * @param {string[]} heads
+ * @param {string} name
+ */
+function lastAdded(heads, name) {
+  const isNamed = (/** @type {string} */ head) => head.toLowerCase().replaceAll(TWIN, "") === name;
+  return heads.reduce((last, head, at) => isNamed(head) && head.length >= (heads[last] ?? "").length ? at : last, -1);
+}
+
+/**
+ * The UID in a cell, or null if it is blank.
+ * @param {string} name
+ * @param {number} row
+ * @param {string} cell
+ */
+function uidOfCell(name, row, cell) {
+  if (!cell.trim()) return null;
+  if (!isUid(cell)) throw new Wrong(`${name}, row ${row}: ${cell} isn't a UID: 16 hex digits that begin with E0`);
+  return BigInt(`0x${digitsOf(cell)}`);
+}
+
+/** @param {string} cell */
+const digitsOf = (cell) => cell.replace(BETWEEN, "").replace(BEFORE, "").toUpperCase();
+
+/** @param {string} cell */
+const isUid = (cell) => DIGITS.test(digitsOf(cell));
+
+/**
+ * A table, of which no cell has others in it: those of rows that it has swallowed, since its quote isn't closed where it should be.
+ * @param {import("./tables.mjs").Table} table
+ */
+function refuseSwallowed(table) {
+  for (const { row, cells } of [{ row: 1, cells: table.heads }, ...table.rows]) {
+    const lines = cells.map((cell) => cell.split(/[\r\n]+/)).filter((it) => it.length > 1).flat();
+    if (lines.flatMap((line) => line.split(table.separator)).some(isUid)) {
+      throw new Wrong(`${table.name}, row ${row}: a cell in quotes has a UID and a line end in it: is a quote missing?`);
+    }
+  }
+  return table;
+}
