@@ -52,10 +52,11 @@ def places_of(expected: Catalogue, names: Sequence[str], file: Optional[tuple[st
 def _by_names(names: Sequence[str]) -> dict[str, list[int]]:
     """Logs by their names: as given, and if no log has exactly that, without folders,
     and if no log has that either, without the ending too."""
+    bases = [os.path.basename(name) for name in names]
     found: dict[str, list[int]] = {}
-    for shortened in (str, os.path.basename, lambda it: os.path.splitext(os.path.basename(it))[0]):
+    for spelled in (names, bases, [os.path.splitext(base)[0] for base in bases]):
         these: dict[str, list[int]] = {}
-        for index, name in enumerate(names):
-            these.setdefault(shortened(name).casefold(), []).append(index)
+        for index, name in enumerate(spelled):
+            these.setdefault(name.casefold(), []).append(index)
         found = {**these, **found}
     return found
