@@ -1297,3 +1297,17 @@ def test_a_drop_without_files_changes_nothing(page):
     page.until("h1", said)
     page.drop()
     assert page.texts("h1") == [said]
+
+
+def test_a_log_that_was_a_list_is_not_left_out_of_a_collection(page):
+    """As a reader leaves it that has asked nothing: with all files at once it is a log."""
+    logs = {"A.log": log_of("I1 RA QA I1 S"), "B.log": log_of("UA")}
+    table = {"books.csv": b"uid\nE0040100000000A1\n"}
+    page.drop_files(logs | table)
+    page.until(".banner", "books.csv · 2 logs")
+    said = page.texts("h1")
+    page.drop_files(logs)
+    page.until(".banner", "B.log · 1 log")
+    page.drop_files(table)
+    page.until(".banner", "books.csv")
+    assert (page.texts("h1"), page.texts(".banner.yes")) == (said, [])

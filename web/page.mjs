@@ -97,7 +97,9 @@ function open(chosen) {
 function opened(taken) {
   if (!taken.length) return;
   const here = taken.every(looksLikeTable) ? entries : [], earlier = here[0]?.given;
-  const files = [...here.flatMap((entry) => entry.given?.logs ?? entry.before ?? entry), ...taken];
+  // a list may be the log of a field in which nothing was asked: beside a table it is one, as if all were opened at once
+  const list = earlier && !looksLikeTable(earlier.expected) ? [earlier.expected] : [];
+  const files = [...list, ...here.flatMap((entry) => entry.given?.logs ?? entry.before ?? entry), ...taken];
   const found = sorted(files), { expected, places, logs } = found.expected || !earlier ? found : sorted([...files, earlier.expected]);
   if (!expected || !logs.length) return take(taken);
   const given = { expected, places: places ?? earlier?.places ?? null, logs };
