@@ -1,6 +1,6 @@
 use Rattle.vic_walk.proofs.Words.{◌≡◌, false_from_ne_true, eqb-true, refl, subst, sym, IsUid, Sent}
 use Rattle.vic_walk.proofs.Steps.{ready_silenced, ready_still}
-use Rattle.vic_walk.proofs.walk.Walk.pass_request.Goals as goal
+use Rattle.vic_walk.proofs.open_parts.OpenParts.pass_request.Goals as goal
 
 pub returns-in_ok-silence-in-Some-clause-ready : goal.returns-in_ok-silence-in-Some-clause-ready
 returns-in_ok-silence-in-Some-clause-ready c es set i k borders cut h =

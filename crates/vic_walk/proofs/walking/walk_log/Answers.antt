@@ -3,7 +3,7 @@ use Rattle.vic_log.specs.declared.entry.LogLine.{LogLine}
 use Rattle.vic_walk.specs.Spans.{IsPlace}
 use Rattle.vic_log.specs.Order.{entries}
 use Rattle.vic_walk.proofs.ListLaws.{walk_at_list}
-use Rattle.vic_walk.proofs.walk.walk_log.Goals as goal
+use Rattle.vic_walk.proofs.walking.walk_log.Goals as goal
 
 pub loop-index-init : goal.loop-index-init
 loop-index-init c = record {

@@ -1,6 +1,6 @@
 use Rattle.vic_walk.proofs.Words.{◌≡◌, ℕ, arith, true, false, nat_eq, nat_tests, cases_eq, inl, inr, list_any_at, list_any_more, get_or, length-set, ◌∙◌}
 use Rattle.vic_walk.proofs.Ruling.{marked_at, marked_else}
-use Rattle.vic_walk.proofs.walk.put_all.Goals as goal
+use Rattle.vic_walk.proofs.open_parts.put_all.Goals as goal
 
 same_self : (p : ℕ) → nat_eq p p ≡ true
 same_self p = grind (arith, nat_tests)

@@ -1,6 +1,6 @@
 use Rattle.std.proofs.Common.{◌≡◌, ℕ, ◌||◌, length, take}
 use Rattle.vic_walk.proofs.Words.{has, is_marked}
-use Rattle.vic_walk.proofs.walk.put_all.Given as goal
+use Rattle.vic_walk.proofs.open_parts.put_all.Given as goal
 
 abbrev pub invariant-loop-place : goal.invariant-loop-place
 invariant-loop-place l =
