@@ -150,8 +150,9 @@ pub fn open_answers(
     ensures heard { OnOk result (walk.new.heard ≡ walk.old.heard) }
     ensures ends { OnOk result (walk.new.ends.items ≡ walk.old.ends.items) }
 {
+    let open = &mut walk.open;
     // before the first entry no part is Quiet
-    walk.open.wake();
+    open.wake();
     let mut found = Vec::new(alloc);
     let mut rounds = RoundCursor::first();
     let mut hints = Hints::first();
@@ -159,18 +160,10 @@ pub fn open_answers(
     for index in 0..after {
         let entry = lines.entry(index);
         let near = hints.next(parts.hints(), &entry);
-        pass_again(
-            &mut walk.open,
-            &mut found,
-            parts,
-            &rounds,
-            near,
-            index,
-            &entry,
-        )?;
+        pass_again(open, &mut found, parts, &rounds, near, index, &entry)?;
         rounds.advance(&entry);
     }
     // parts that are Quiet at the end are open too
-    walk.open.wake();
+    open.wake();
     Ok(found)
 }

@@ -141,28 +141,6 @@ impl Model for NotedBits {
 }
 
 impl NotedBits {
-    /// Words that have the bits up to a number, none of them set.
-    fn none(alloc: Global, end: usize) -> Result<NotedBits, AllocError>
-        ensures size { IfOk result (λ b. length b ≡ end / WORD + 1) }
-        ensures none { IfOk result (λ b. (k : ℕ) → is_set b k ≡ false) }
-    {
-        Ok(NotedBits {
-            bits: Bits::none(alloc, end)?,
-            notes: Bits::none(alloc, end / WORD)?,
-        })
-    }
-
-    /// Words that have the bits up to a number, those below it set.
-    fn below(alloc: Global, end: usize) -> Result<NotedBits, AllocError>
-        ensures size { IfOk result (λ b. length b ≡ end / WORD + 1) }
-        ensures set { IfOk result (λ b. (k : ℕ) → is_set b k ≡ nat_lt k end) }
-    {
-        Ok(NotedBits {
-            bits: Bits::below(alloc, end)?,
-            notes: Bits::below(alloc, end.div_ceil(WORD))?,
-        })
-    }
-
     /// Sets a bit.
     fn set(&mut self, bit: usize)
         requires { bit / WORD < length self.old }
@@ -225,7 +203,10 @@ impl Marks {
         Ok(Marks {
             count,
             places: Bits::none(alloc, count)?,
-            words: NotedBits::none(alloc, count / WORD)?,
+            words: NotedBits {
+                bits: Bits::none(alloc, count / WORD)?,
+                notes: Bits::none(alloc, count / WORD / WORD)?,
+            },
         })
     }
 
@@ -233,10 +214,14 @@ impl Marks {
     pub fn all(alloc: Global, count: usize) -> Result<Marks, AllocError>
         ensures { IfOk result (λ m. m ≡ replicate count true) }
     {
+        let words = count.div_ceil(WORD);
         Ok(Marks {
             count,
             places: Bits::below(alloc, count)?,
-            words: NotedBits::below(alloc, count.div_ceil(WORD))?,
+            words: NotedBits {
+                bits: Bits::below(alloc, words)?,
+                notes: Bits::below(alloc, words.div_ceil(WORD))?,
+            },
         })
     }
 
