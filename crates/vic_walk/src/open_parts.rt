@@ -25,18 +25,6 @@ pub struct OpenParts {
     ghost listed: { (p : ℕ) → has quiet.items p ≡ true → p < length lasting },
 }
 
-/// Marks each place of a list.
-fn put_all(marks: &mut Marks, places: &[usize])
-    requires { (p : ℕ) → has places.now p ≡ true → p < length marks.old }
-    ensures marked { (p : ℕ) → is_marked marks.new p
-        ≡ (is_marked marks.old p || has places.now p) }
-    ensures room { length marks.new ≡ length marks.old }
-{
-    for place in places {
-        marks.put(*place);
-    }
-}
-
 impl OpenParts {
     ghost use Rattle.vic_walk.specs.inner.Ready.{IsReadyAt};
 
@@ -74,7 +62,9 @@ impl OpenParts {
         ensures room { length self.new.lasting ≡ length self.old.lasting }
         ensures quiet { (p : ℕ) → has self.new.quiet.items p ≡ false }
     {
-        put_all(&mut self.lasting, &self.quiet);
+        for part in &self.quiet {
+            self.lasting.put(*part);
+        }
         self.quiet.clear();
     }
 
