@@ -6,7 +6,8 @@ use Rattle.std.proofs.lemmas.Bool.Decides.{nat_tests}
 use Rattle.std.proofs.lemmas.List.{get_or-replicate, get_or_default, get_or_past, length-replicate}
 use Rattle.std.proofs.lemmas.Nat.{shr_le}
 use Rattle.std.proofs.lemmas.Nat.Bits.{bit_at-trailing_zeros, bit_at-zero, bit_at_above, bit_at_clear_other, bit_at_clear_same, bit_at_ones, bit_at_ones_above, bit_at_set_other, bit_at_set_same}
-use Rattle.std.specs.Int.{bit_at, bit_not, trailing_zeros}
+use Rattle.std.proofs.lemmas.Grind.{div_ceil_times}
+use Rattle.std.specs.Int.{bit_at, bit_not, div_ceil, trailing_zeros}
 use Rattle.std.specs.Option.{IfNone, IfSome}
 use lib.Bits.{bit_and}
 use Rattle.vic_walk.specs.Marked.{IsFirst, NoneBetween}
@@ -48,32 +49,50 @@ ones_here ws bits n k within at here = set_here ws n (2 ^ (bits % 64) - 1) k wit
     (cases_lt (k % 64) (bits % 64))
 
 -- as many words as they need, all bits of which are set
-pub first_bits : (ws : List ℕ) (n bits k : ℕ) → ws ≡ replicate n (2 ^ 64 - 1) → bits ≤ n * 64 → n ≤ bits / 64 → is_set ws k ≡ nat_lt k bits
+first_bits : (ws : List ℕ) (n bits k : ℕ) → ws ≡ replicate n (2 ^ 64 - 1) → bits ≤ n * 64 → n ≤ bits / 64 → is_set ws k ≡ nat_lt k bits
 first_bits ws n bits k e room none = ap (λ v. is_set v k) e ∙ ⊎_elim
     (λ (within : k / 64 < n). ap (λ w. nat_eq (bit_at w (k % 64)) 1) (get_or-replicate n (k / 64) (2 ^ 64 - 1) 0 within) ∙ eq-eqb _ 1 (bit_at_ones 64 (k % 64) (omega arith)) ∙ sym (lt-ltb k bits (omega (arith, within, none))))
     (λ (past : n ≤ k / 64). none_past _ k (let size = length-replicate {A = ℕ} n (2 ^ 64 - 1) in omega (arith, size, past)) ∙ sym (le-ltb k bits (omega (arith, past, room))))
     (cases_lt (k / 64) n)
 
 -- and a last one with the rest of them
-pub first_bits_and_rest : (ws : List ℕ) (n bits k : ℕ) → ws ≡ set (replicate n (2 ^ 64 - 1)) (bits / 64) (bit_of bits - 1) → bits / 64 < n → n ≤ bits / 64 + 1 → is_set ws k ≡ nat_lt k bits
-first_bits_and_rest ws n bits k e room last =
+pub first_bits_and_rest : (ws : List ℕ) (bits k : ℕ) → ws ≡ set (replicate (bits / 64 + 1) (2 ^ 64 - 1)) (bits / 64) (bit_of bits - 1) → is_set ws k ≡ nat_lt k bits
+first_bits_and_rest ws bits k e =
     let small : 2 ^ (bits % 64) < 2 ^ 64 = (let lt : bits % 64 < 64 = omega arith in pow-lt lt) in
     let one : bit_of bits ≡ 2 ^ (bits % 64) = omega (arith, small) in
-    let all = replicate n (2 ^ 64 - 1) in
-    let size : length all ≡ n = length-replicate {A = ℕ} n (2 ^ 64 - 1) in
+    let all = replicate (bits / 64 + 1) (2 ^ 64 - 1) in
+    let size : length all ≡ bits / 64 + 1 = length-replicate {A = ℕ} (bits / 64 + 1) (2 ^ 64 - 1) in
     ap (λ v. is_set v k) (e ∙ ap (λ w. set all (bits / 64) (w - 1)) one) ∙ ⊎_elim
-    (λ (here : k / 64 ≡ bits / 64). ones_here all bits (bits / 64) k (omega (arith, size, room)) here refl)
+    (λ (here : k / 64 ≡ bits / 64). ones_here all bits (bits / 64) k (omega (arith, size)) here refl)
     (λ (other : k / 64 ≢ bits / 64). set_elsewhere all (bits / 64) (2 ^ (bits % 64) - 1) k other ∙ ⊎_elim
-    (λ (low : k / 64 < bits / 64). first_bits all (bits / 64 + 1) ((bits / 64 + 1) * 64) k (ap (λ m. replicate m (2 ^ 64 - 1)) (omega (arith, room, last))) (omega arith) (omega arith) ∙ lt-ltb k ((bits / 64 + 1) * 64) (omega (arith, low)) ∙ sym (lt-ltb k bits (omega (arith, low))))
-    (λ (high : bits / 64 ≤ k / 64). none_past all k (omega (arith, size, last, high, other)) ∙ sym (le-ltb k bits (omega (arith, high, other))))
+    (λ (low : k / 64 < bits / 64). first_bits all (bits / 64 + 1) ((bits / 64 + 1) * 64) k refl (omega arith) (omega arith) ∙ lt-ltb k ((bits / 64 + 1) * 64) (omega (arith, low)) ∙ sym (lt-ltb k bits (omega (arith, low))))
+    (λ (high : bits / 64 ≤ k / 64). none_past all k (omega (arith, size, high, other)) ∙ sym (le-ltb k bits (omega (arith, high, other))))
     (cases_lt (k / 64) (bits / 64)))
     (cases_eq (k / 64) (bits / 64))
 
 -- a bit noted for each of the first words
-pub first_noted : (ws notes : List ℕ) (bits count : ℕ) → ((k : ℕ) → is_set ws k ≡ nat_lt k bits) → ((k : ℕ) → is_set notes k ≡ nat_lt k count) → bits ≤ count * 64 → count * 64 < bits + 64 → AreNoted ws notes
-first_noted ws notes bits count all noted room last = record {
-  noted = λ k is. noted (k / 64) ∙ lt-ltb (k / 64) count (let lt = ltb-true k bits (sym (all k) ∙ is) in omega (arith, lt, room));
-  found = λ n is. let lt = ltb-true n count (sym (noted n) ∙ is) in (n * 64, omega arith, all (n * 64) ∙ lt-ltb (n * 64) bits (omega (arith, lt, last)));
+pub first_noted : (ws notes : List ℕ) (bits : ℕ) → ((k : ℕ) → is_set ws k ≡ nat_lt k bits) → ((k : ℕ) → is_set notes k ≡ nat_lt k (div_ceil bits 64)) → length ws ≤ length notes * 64 → AreNoted ws notes
+first_noted ws notes bits all noted room =
+    let up = div_ceil_times bits 64 (omega arith) in
+    record {
+      noted = λ k is. noted (k / 64) ∙ lt-ltb (k / 64) _ (let lt = ltb-true k bits (sym (all k) ∙ is) in omega (arith, lt, up.0));
+      found = λ n is. let lt = ltb-true n _ (sym (noted n) ∙ is) in (n * 64, omega arith, all (n * 64) ∙ lt-ltb (n * 64) bits (omega (arith, lt, up.1)));
+      room = room;
+    }
+
+-- ---- no bits
+
+pub blank : (n k : ℕ) (ws : List ℕ) → ws ≡ replicate n 0 → is_set ws k ≡ false
+blank n k ws e = none_in_zero ws k (ap (λ v. get_or v (k / 64) 0) e ∙ ⊎_elim
+    (λ (inside : k / 64 < n). get_or-replicate {A = ℕ} n (k / 64) 0 0 inside)
+    (λ (past : n ≤ k / 64). let size = length-replicate {A = ℕ} n 0 in get_or_past (replicate {A = ℕ} n 0) (k / 64) 0 (omega (arith, size, past)))
+    (cases_lt (k / 64) n))
+
+pub blank_noted : (ws notes : List ℕ) → ((k : ℕ) → is_set ws k ≡ false) → ((k : ℕ) → is_set notes k ≡ false) → length ws ≤ length notes * 64 → AreNoted ws notes
+blank_noted ws notes none unnoted room = record {
+  noted = λ k is. absurd (both_ways _ (none k) is);
+  found = λ n is. absurd (both_ways _ (unnoted n) is);
+  room = room;
 }
 
 -- ---- the first bit from a bit on
@@ -144,34 +163,37 @@ not_emptied ws n w h small some =
 
 -- ---- what is noted of words
 
-pub noted_with : (bit : ℕ) (ws new notes after : List ℕ) → IsWith bit ws new → IsWith (bit / 64) notes after → AreNoted ws notes → AreNoted new after
-noted_with bit ws new notes after more note i = record {
+pub noted_with : (bit : ℕ) (ws new notes after : List ℕ) → IsWith bit ws new → IsWith (bit / 64) notes after → length new ≡ length ws → length after ≡ length notes → AreNoted ws notes → AreNoted new after
+noted_with bit ws new notes after more note size note_size i = record {
   noted = λ k is. grind (arith, nat_tests, is, more k, note (k / 64), i.noted k);
   found = λ n is. ⊎_elim
       (λ (here : nat_eq n (bit / 64) ≡ true). (bit, sym (eqb-true n (bit / 64) here), more bit ∙ ap (λ b. b || is_set ws bit) (eq-eqb bit bit refl)))
       (λ (old : is_set notes n ≡ true). let one = i.found n old in (one.0, one.1, more one.0 ∙ or_right _ _ one.2))
       (or_cases _ _ (sym (note n) ∙ is));
+  room = let room = i.room in omega (arith, size, note_size, room);
 }
 
 -- a bit of another word is still there
 still_some : (bit n : ℕ) (ws new : List ℕ) → IsWithout bit ws new → n ≢ bit / 64 → HasSome ws n → HasSome new n
 still_some bit n ws new less other one = (one.0, one.1, less one.0 ∙ grind (arith, nat_tests, one.1, one.2))
 
-pub noted_emptied : (bit : ℕ) (ws new notes after : List ℕ) → IsWithout bit ws new → HasNone new (bit / 64) → IsWithout (bit / 64) notes after → AreNoted ws notes → AreNoted new after
-noted_emptied bit ws new notes after less none note i = record {
+pub noted_emptied : (bit : ℕ) (ws new notes after : List ℕ) → IsWithout bit ws new → HasNone new (bit / 64) → IsWithout (bit / 64) notes after → length new ≡ length ws → length after ≡ length notes → AreNoted ws notes → AreNoted new after
+noted_emptied bit ws new notes after less none note size note_size i = record {
   noted = λ k is. grind (arith, nat_tests, is, less k, none k, note (k / 64), i.noted k);
   found = λ n is.
       let parts = and_parts (not (nat_eq n (bit / 64))) (is_set notes n) (sym (note n) ∙ is) in
       still_some bit n ws new less (grind (arith, nat_tests, parts.0)) (i.found n parts.1);
+  room = let room = i.room in omega (arith, size, note_size, room);
 }
 
-pub noted_left : (bit : ℕ) (ws new notes : List ℕ) → IsWithout bit ws new → HasSome new (bit / 64) → AreNoted ws notes → AreNoted new notes
-noted_left bit ws new notes less some i = record {
+pub noted_left : (bit : ℕ) (ws new notes : List ℕ) → IsWithout bit ws new → HasSome new (bit / 64) → length new ≡ length ws → AreNoted ws notes → AreNoted new notes
+noted_left bit ws new notes less some size i = record {
   noted = λ k is. i.noted k (and_parts _ _ (sym (less k) ∙ is)).1;
   found = λ n is. ⊎_elim
       (λ (here : n ≡ bit / 64). subst (HasSome new) (sym here) some)
       (λ (other : n ≢ bit / 64). still_some bit n ws new less other (i.found n is))
       (cases_eq n (bit / 64));
+  room = let room = i.room in omega (arith, size, room);
 }
 
 -- ---- the first one from a number on

@@ -10,15 +10,16 @@ use Rattle.vic_walk.specs.Met.{AreMetBefore, IsMetAt, answers_open}
 use Rattle.vic_walk.specs.Needs.{needs, needs_at, needs_of}
 use Rattle.vic_walk.specs.declared.lacking.Reach.{Reach}
 use Rattle.vic_walk.specs.declared.parts.Span.{Span}
-use Rattle.vic_walk.specs.declared.walk.Walk.{Walk}
+use Rattle.vic_walk.specs.declared.open_parts.OpenParts.{OpenParts}
 use Rattle.vic_walk.specs.inner.PartUids.{AreUidsOf}
-use Rattle.vic_walk.specs.inner.Reach.{AreRuled, HasReach, IsBackTo, IsReachAt, lasts_to}
+use Rattle.vic_walk.specs.inner.Ends.{AreRuled, IsBackTo, lasts_to}
+use Rattle.vic_walk.specs.inner.Reach.{IsReachAt}
 use Rattle.vic_walk.specs.Spans.{IsSpanAt}
 use Rattle.vic_walk.proofs.Ending.{open_earlier}
 use Rattle.vic_walk.proofs.OpenAnswers.{open_by_parts}
 use Rattle.vic_walk.proofs.Ruling.{marked_at, marked_else}
 use Rattle.vic_walk.proofs.Steps.{DoesNothing, ready_still}
-use Rattle.vic_walk.proofs.Words.{silences, wakes, ◌-◌, get_or, length-set, list_any_more, inl, inr, cases_eq, cases_lt, ◌++◌, slice_set, ◌≡◌, ◌==◌, ℕ, ◌+◌, ◌<◌, ◌≤◌, ◌∷◌, ◌∙◌, ◌&&◌, ◌||◌, not, Bool, true, false, Option, Some, None, List, [], length, refl, sym, ap, and_parts, and_from, or_cases, false≢true, arith, eqb-true, nat_tests, nat_lt, nat_eq, slice_index, slice_get, Entry, Collision, Garbled, IsPartOf, IsReadyAt, IsUid, IsUid-from, has, is_marked, is_open, is_quiet, mirror, part_count, slots_before}
+use Rattle.vic_walk.proofs.Words.{if◌then◌else◌, silences, wakes, ◌-◌, get_or, length-set, list_any_more, inl, inr, cases_eq, cases_lt, ◌++◌, slice_set, ◌≡◌, ◌==◌, ℕ, ◌+◌, ◌<◌, ◌≤◌, ◌∷◌, ◌∙◌, ◌&&◌, ◌||◌, not, Bool, true, false, Option, Some, None, List, [], length, refl, sym, ap, and_parts, and_from, or_cases, arith, eqb-true, nat_tests, nat_lt, nat_eq, slice_index, slice_get, Entry, Collision, Garbled, IsPartOf, IsReadyAt, IsUid, IsUid-from, has, is_marked, is_open, is_quiet, mirror, part_count, slots_before}
 
 -- ---- which slots are met
 
@@ -61,10 +62,10 @@ pub met_only_by : (es : List Entry) (n j : ℕ) (us : List ℕ) → UpToThree (a
 met_only_by es n j us three h = enough (answers_open es n j) us h.uids (needs_at es j) (needs_of_few (slice_get es j)) three h.different h.answer h.enough
 
 -- these are the UIDs of the parts of the span that are marked
-pub uids_at : (bs : List ℕ) (es : List Entry) (ends : List ℕ) (i : ℕ) (s : Span) (r : Reach) → IsSpanAt bs es i s → IsReachAt bs es ends i r → AreUidsOf bs r.kept.lasting s (answers_open es r.upto i)
-uids_at bs es ends i s r span h = record {
+pub uids_at : (es : List Entry) (i : ℕ) (s : Span) (r : Reach) → IsSpanAt r.parts.now es i s → IsReachAt es i r → AreUidsOf r.parts.now r.kept.lasting s (answers_open es r.upto i)
+uids_at es i s r span h = record {
   uids = λ u it. IsUid-from u (and_parts _ _ (and_parts (is_open (slots_before es r.upto) u) _ it).0).0;
-  marked = open_by_parts bs es (is_open (slots_before es r.upto)) i s r.kept span h.kept;
+  marked = open_by_parts r.parts.now es (is_open (slots_before es r.upto)) i s r.kept span h.kept;
 }
 
 -- ---- one position back
@@ -114,13 +115,21 @@ back_list false true false = refl
 back_list false false q = refl
 
 -- they are added to the parts that are open
-pub record AreAdded (old new : Walk) (ready : List Bool) (ps : List ℕ) : Type 0 where
+pub record AreAdded (old new : OpenParts) (ready : List Bool) (ps : List ℕ) : Type 0 where
   pub lasting : (p : ℕ) → is_marked new.lasting p ≡ (is_marked old.lasting p || (has ps p && is_marked ready p))
   pub quiet : (p : ℕ) → has new.quiet.items p ≡ (has old.quiet.items p || (has ps p && not (is_marked ready p)))
   pub room : length new.lasting ≡ length old.lasting
 
+-- the parts listed are below a number still when one that is below it may be listed too
+pub listed_more : (n q : ℕ) (old new : List ℕ) (ok : Bool) → new ≡ (if ok then old ++ q ∷ [] else old) → q < n → ((p : ℕ) → has old p ≡ true → p < n) → (p : ℕ) → has new p ≡ true → p < n
+listed_more n q old new true is below h p it = elim (or_cases _ _ (sym (list_any-append (nat_eq p) old (q ∷ [])) ∙ rw is at it)) [
+  | inl before ↦ h p before
+  | inr last ↦ grind (arith, nat_tests)
+]
+listed_more n q old new false is below h p it = h p (rw is at it)
+
 -- one part of a list more: it is marked, or listed
-pub added_marked : (old now new : Walk) (ready : List Bool) (ps : List ℕ) (i : ℕ) → i < length ps → is_marked ready (get_or ps i 0) ≡ true → get_or ps i 0 < length now.lasting → new.lasting ≡ slice_set now.lasting (get_or ps i 0) true → new.quiet.items ≡ now.quiet.items → AreAdded old now ready (take i ps) → AreAdded old new ready (take (i + 1) ps)
+pub added_marked : (old now new : OpenParts) (ready : List Bool) (ps : List ℕ) (i : ℕ) → i < length ps → is_marked ready (get_or ps i 0) ≡ true → get_or ps i 0 < length now.lasting → new.lasting ≡ slice_set now.lasting (get_or ps i 0) true → new.quiet.items ≡ now.quiet.items → AreAdded old now ready (take i ps) → AreAdded old new ready (take (i + 1) ps)
 added_marked old now new ready ps i within marked below lasting quiet h = record {
   lasting = λ p. rw (lasting, list_any_more (nat_eq p) ps i 0 within) (elim (cases_eq p (get_or ps i 0)) [
     | inl here ↦ rw (here, marked_at now.lasting (get_or ps i 0) true below, marked) (grind (arith, nat_tests))
@@ -133,7 +142,7 @@ added_marked old now new ready ps i within marked below lasting quiet h = record
   room = rw lasting (length-set now.lasting (get_or ps i 0) true ∙ h.room);
 }
 
-pub added_listed : (old now new : Walk) (ready : List Bool) (ps : List ℕ) (i : ℕ) → i < length ps → is_marked ready (get_or ps i 0) ≡ false → new.lasting ≡ now.lasting → new.quiet.items ≡ now.quiet.items ++ get_or ps i 0 ∷ [] → AreAdded old now ready (take i ps) → AreAdded old new ready (take (i + 1) ps)
+pub added_listed : (old now new : OpenParts) (ready : List Bool) (ps : List ℕ) (i : ℕ) → i < length ps → is_marked ready (get_or ps i 0) ≡ false → new.lasting ≡ now.lasting → new.quiet.items ≡ now.quiet.items ++ get_or ps i 0 ∷ [] → AreAdded old now ready (take i ps) → AreAdded old new ready (take (i + 1) ps)
 added_listed old now new ready ps i within unmarked lasting quiet h = record {
   lasting = λ p. rw (lasting, list_any_more (nat_eq p) ps i 0 within, h.lasting p) (elim (cases_eq p (get_or ps i 0)) [
     | inl here ↦ rw (here, unmarked) (grind (arith, nat_tests))
@@ -150,32 +159,31 @@ added_listed old now new ready ps i within unmarked lasting quiet h = record {
 pub slice_rest : (ps : List ℕ) (k : ℕ) → take (length ps - k) (drop k ps) ≡ drop k ps
 slice_rest ps k = take_all (length ps - k) (drop k ps) (omega (arith, length-drop k ps))
 
-pub listed_back : (ends : List ℕ) (k m : ℕ) (old : Reach) (new : Walk) → AreApart ends old.ruled.items k (m + 1) → old.upto ≡ m + 1 → AreAdded old.kept new old.all.lasting (drop k old.ruled.items) → HasReach ends old → (p : ℕ) → has new.quiet.items p ≡ true → p < length ends
-listed_back ends k m old new apart upto added h p it =
-    let back = back_at ends old.ruled.items k m p _ apart (rw upto at h.ruled) in
-    elim (or_cases _ _ (sym (added.quiet p) ∙ it)) [
-      | inl before ↦ h.kept_listed p before
-      | inr now ↦
-          let in_back : has (drop k old.ruled.items) p ≡ true = (and_parts (has (drop k old.ruled.items) p) (not (is_marked old.all.lasting p)) now).0 in
-          grind (arith, nat_tests)
-    ]
+-- the parts that aren't open, as a reach has them
+pub ruled_of : (r : Reach) → AreRuled r.ends.now r.upto r.ordered r.ruled.items
+ruled_of r = record { order = r.order; ruled = r.ruled_out }
 
-pub reach_back : (bs : List ℕ) (es : List Entry) (ends : List ℕ) (i k m : ℕ) (old new : Reach) → part_count bs ≡ length ends → AreApart ends old.ruled.items k (m + 1) → old.upto ≡ m + 1 → new.upto ≡ m → new.all ≡ old.all → AreAdded old.kept new.kept old.all.lasting (drop k old.ruled.items) → HasReach ends old → IsReachAt bs es ends i old → IsReachAt bs es ends i new
-reach_back bs es ends i k m old new count apart from to same added over h =
+pub reach_back : (es : List Entry) (i k m : ℕ) (old new : Reach) → AreApart old.ends.now old.ruled.items k (m + 1) → old.upto ≡ m + 1 → new.upto ≡ m → new.parts.now ≡ old.parts.now → new.ends.now ≡ old.ends.now → new.all.lasting ≡ old.all.lasting → new.all.quiet.items ≡ old.all.quiet.items → AreAdded old.kept new.kept old.all.lasting (drop k old.ruled.items) → IsReachAt es i old → IsReachAt es i new
+reach_back es i k m old new apart from to same_parts same_ends same_marks same_list added h =
+    let bs = old.parts.now in
+    let ends = old.ends.now in
     let was_open : (u p : ℕ) → IsUid u → IsPartOf bs (mirror u) p → is_open (slots_before es (m + 1)) u ≡ lasts_to (m + 1) (slice_index ends p) = λ u p is at. h.known u p (m + 1) is at (omega (arith, from)) in
     let now_open : (u p : ℕ) → IsUid u → IsPartOf bs (mirror u) p → is_open (slots_before es m) u ≡ (is_open (slots_before es (m + 1)) u || slice_index ends p == m + 1) = λ u p is at. h.known u p m is at (omega (arith, from)) ∙ rw (was_open u p is at) (lasts_before m (slice_index ends p)) in
-    let back : (p : ℕ) → p < part_count bs → has (drop k old.ruled.items) p ≡ (slice_index ends p == m + 1) = λ p lt. back_at ends old.ruled.items k m p _ apart (rw from at over.ruled) ∙ grind (arith, nat_tests) in
+    let back : (p : ℕ) → p < part_count bs → has (drop k old.ruled.items) p ≡ (slice_index ends p == m + 1) = λ p lt. back_at ends old.ruled.items k m p _ apart (rw from at (ruled_of old)) ∙ (let room = old.ends_room in grind (arith, nat_tests)) in
     let ready : (u p : ℕ) → IsUid u → IsPartOf bs (mirror u) p → is_marked old.all.lasting p ≡ not (is_quiet es i u) = h.all.lasting in
     let before : IsReadyAt bs es (is_open (slots_before es (m + 1))) i old.kept = rw from at h.kept in
     record {
-      known = λ u p j is at le. h.known u p j is at (omega (arith, from, to, le));
-      kept = rw to (record {
+      known = rw (same_parts, same_ends) (λ u p j is at le. h.known u p j is at (omega (arith, from, to, le)));
+      kept = rw (to, same_parts) (record {
         room = added.room ∙ before.room;
-        listed = λ p it. rw count (listed_back ends k m old new.kept apart from added over p it);
         lasting = λ u p is at. rw (now_open u p is at, added.lasting p, back p at.within, before.lasting u p is at, ready u p is at) (back_marks (is_open (slots_before es (m + 1)) u) (slice_index ends p == m + 1) (is_quiet es i u));
         quiet = λ u p is at. rw (now_open u p is at, added.quiet p, back p at.within, before.quiet u p is at, ready u p is at) (back_list (is_open (slots_before es (m + 1)) u) (slice_index ends p == m + 1) (is_quiet es i u));
       });
-      all = rw same h.all;
+      all = rw same_parts (record {
+        room = rw same_marks h.all.room;
+        lasting = λ u p is at. rw same_marks (h.all.lasting u p is at);
+        quiet = λ u p is at. rw same_list (h.all.quiet u p is at);
+      });
     }
 
 -- ---- parts in the order of their ends
@@ -216,26 +224,16 @@ back_none es i n none = record {
   lack = λ less. absurd (omega (arith, less));
 }
 
-pub has_reach : (bs : List ℕ) (es : List Entry) (ends : List ℕ) (i : ℕ) (r : Reach) → part_count bs ≡ length ends → AreRuled ends r.upto r.ordered r.ruled.items → IsReachAt bs es ends i r → HasReach ends r
-has_reach bs es ends i r count ruled h = record {
-  kept = h.kept.room ∙ count;
-  all = h.all.room ∙ count;
-  kept_listed = λ p it. rw (← count) (h.kept.listed p it);
-  all_listed = λ p it. rw (← count) (h.all.listed p it);
-  ruled = ruled;
-}
-
--- an entry that does nothing to UIDs
 -- an entry that silences no UID, and wakes none
-pub reach_past : (bs : List ℕ) (es : List Entry) (ends : List ℕ) (i : ℕ) (e : Entry) (r : Reach) → slice_get es i ≡ Some e → ((u : ℕ) → silences (Some e) u ≡ false) → wakes (Some e) ≡ false → IsReachAt bs es ends i r → IsReachAt bs es ends (i + 1) r
-reach_past bs es ends i e r here silent awake h = record {
+pub reach_past : (es : List Entry) (i : ℕ) (e : Entry) (r : Reach) → slice_get es i ≡ Some e → ((u : ℕ) → silences (Some e) u ≡ false) → wakes (Some e) ≡ false → IsReachAt es i r → IsReachAt es (i + 1) r
+reach_past es i e r here silent awake h = record {
   known = h.known;
-  kept = ready_still bs es _ i e r.kept here (λ u is. silent u) awake h.kept;
-  all = ready_still bs es _ i e r.all here (λ u is. silent u) awake h.all;
+  kept = ready_still r.parts.now es _ i e r.kept here (λ u is. silent u) awake h.kept;
+  all = ready_still r.parts.now es _ i e r.all here (λ u is. silent u) awake h.all;
 }
 
-pub reach_still : (bs : List ℕ) (es : List Entry) (ends : List ℕ) (i : ℕ) (e : Entry) (r : Reach) → slice_get es i ≡ Some e → DoesNothing e → IsReachAt bs es ends i r → IsReachAt bs es ends (i + 1) r
-reach_still bs es ends i e r here nothing h = reach_past bs es ends i e r here nothing.silent nothing.awake h
+pub reach_still : (es : List Entry) (i : ℕ) (e : Entry) (r : Reach) → slice_get es i ≡ Some e → DoesNothing e → IsReachAt es i r → IsReachAt es (i + 1) r
+reach_still es i e r here nothing h = reach_past es i e r here nothing.silent nothing.awake h
 
 -- ---- before the first entry
 
@@ -264,10 +262,9 @@ first_marks true = refl
 first_marks false = refl
 
 -- parts that are all Ready
-pub ready_first : (bs : List ℕ) (es : List Entry) (set : ℕ → Bool) (w : Walk) → length w.lasting ≡ part_count bs → ((p : ℕ) → has w.quiet.items p ≡ false) → ((u p : ℕ) → IsUid u → IsPartOf bs (mirror u) p → is_marked w.lasting p ≡ set u) → IsReadyAt bs es set 0 w
+pub ready_first : (bs : List ℕ) (es : List Entry) (set : ℕ → Bool) (w : OpenParts) → length w.lasting ≡ part_count bs → ((p : ℕ) → has w.quiet.items p ≡ false) → ((u p : ℕ) → IsUid u → IsPartOf bs (mirror u) p → is_marked w.lasting p ≡ set u) → IsReadyAt bs es set 0 w
 ready_first bs es set w room none marks = record {
   room = room;
-  listed = λ p it. absurd (false≢true (sym (none p) ∙ it));
   lasting = λ u p is at. marks u p is at ∙ first_marks (set u);
   quiet = λ u p is at. none p ∙ grind (arith, nat_tests);
 }

@@ -1,5 +1,6 @@
 -- What each kind of entry makes of what a walk knows.
-use Rattle.vic_walk.proofs.Words.{◌≡◌, ◌==◌, IsReadyAt, Sent, FieldCycle, Silent, silences, wakes, names, AreCut, has, arith, nat_tests, or_left, or_right, cases_lt, [], replicate, length-replicate, get_or-replicate, is_uid_from, Captured, Collision, Garbled, Listed, Unknown, StayQuiet, Request, and-false, eqb-true, eq_swapped, uid_of, is_uid, mirror_of_uid, mirror_below, IsUid-from, ltb-true, false_from_ne_true, ◌↔◌, ℕ, zero, suc, ◌+◌, ◌<◌, ◌≤◌, Bool, true, false, ◌&&◌, ◌||◌, not, Option, Some, List, sym, refl, subst, ◌∙◌, inl, inr, add-one, if◌then◌else◌, slice_get, slice_index, length, cases_Bool, and_parts, and_from, or_cases, false≢true, and-true, Entry, Reply, Heard, IsUid, mirror, answers_at, is_quiet, is_open, reading_of, slots_before, AreBorders, AreBorneOut, IsEnd, IsPartOf, IsWalkAt, hears, is_marked, part_count, was_heard}
+use Rattle.vic_walk.proofs.Words.{◌≡◌, ◌==◌, IsReadyAt, Sent, FieldCycle, Silent, silences, wakes, names, AreCut, has, arith, nat_tests, or_left, or_right, cases_lt, replicate, length-replicate, get_or-replicate, is_uid_from, Captured, Collision, Garbled, Listed, Unknown, StayQuiet, Request, and-false, eqb-true, eq_swapped, uid_of, is_uid, mirror_of_uid, mirror_below, IsUid-from, ltb-true, false_from_ne_true, ◌↔◌, ℕ, zero, suc, ◌+◌, ◌<◌, ◌≤◌, Bool, true, false, ◌&&◌, ◌||◌, not, Option, Some, List, sym, refl, subst, ◌∙◌, inl, inr, add-one, if◌then◌else◌, slice_get, slice_index, length, cases_Bool, and_parts, and_from, or_cases, false≢true, and-true, Entry, Reply, Heard, IsUid, mirror, answers_at, is_quiet, is_open, reading_of, slots_before, AreBorders, AreBorneOut, IsEnd, IsPartOf, IsWalkAt, hears, is_marked, part_count, was_heard}
+use Rattle.vic_walk.specs.declared.open_parts.OpenParts.{OpenParts}
 use Rattle.vic_walk.specs.declared.walk.Walk.{Walk}
 use Rattle.vic_walk.specs.declared.parts.Span.{Span}
 use Rattle.vic_walk.specs.Spans.{IsSpanAt, is_within}
@@ -9,20 +10,20 @@ use Rattle.vic_walk.proofs.PartLaws.{key_of_part, one_part, part_of_key}
 
 -- ---- before the first entry
 
-pub walk_starts : (bs : List ℕ) (es : List Entry) (n : ℕ) (w : Walk) → part_count bs ≡ n → w.lasting ≡ replicate n true → w.quiet.items ≡ [] → w.ends.items ≡ replicate n 0 → w.heard ≡ replicate n false → IsWalkAt bs es 0 w
+pub walk_starts : (bs : List ℕ) (es : List Entry) (n : ℕ) (w : Walk) → part_count bs ≡ n → w.open.lasting ≡ replicate n true → ((p : ℕ) → has w.open.quiet.items p ≡ false) → w.ends.items ≡ replicate n 0 → w.heard ≡ replicate n false → IsWalkAt bs es 0 w
 walk_starts bs es n w count lasting quiet ends heard = record {
   room = record {
     lasting = rw lasting (length-replicate n true ∙ sym count);
     heard = rw heard (length-replicate n false ∙ sym count);
     ends = rw ends (length-replicate n 0 ∙ sym count);
-    quiet = λ p listed. absurd (false≢true (rw quiet at listed));
+    quiet = λ p listed. absurd (false≢true (sym (quiet p) ∙ listed));
   };
   known = λ u p is at.
       let below : p < n = omega (arith, at.within, count) in
       let first : is_open (slots_before es 0) u ≡ true = rw (is_uid_from u is) refl in
       record {
         lasting = rw (lasting, first) (get_or-replicate n p true false below);
-        quiet = rw (quiet, first) refl;
+        quiet = rw (quiet p, first) refl;
         end = rw (ends, get_or-replicate {A = ℕ} n p 0 0 below) first;
         heard = rw heard (get_or-replicate n p false false below);
       };
@@ -41,10 +42,9 @@ end_here es i u before after = rw add-one (omega arith, before, after)
 -- ---- who is Ready
 
 -- what a walk knows of that
-pub ready_of : (bs : List ℕ) (es : List Entry) (i : ℕ) (w : Walk) → IsWalkAt bs es i w → IsReadyAt bs es (is_open (slots_before es i)) i w
+pub ready_of : (bs : List ℕ) (es : List Entry) (i : ℕ) (w : Walk) → IsWalkAt bs es i w → IsReadyAt bs es (is_open (slots_before es i)) i w.open
 ready_of bs es i w h = record {
   room = h.room.lasting;
-  listed = h.room.quiet;
   lasting = λ u p is at. (h.known u p is at).lasting;
   quiet = λ u p is at. (h.known u p is at).quiet;
 }
@@ -53,10 +53,9 @@ quiet_same : (es : List Entry) (i : ℕ) (e : Entry) (u : ℕ) → slice_get es 
 quiet_same es i e u k silent awake = rw (quiet_step es i e u k, silent, awake) refl
 
 -- an entry that silences no UID, and wakes none
-pub ready_still : (bs : List ℕ) (es : List Entry) (set : ℕ → Bool) (i : ℕ) (e : Entry) (w : Walk) → slice_get es i ≡ Some e → ((u : ℕ) → IsUid u → silences (Some e) u ≡ false) → wakes (Some e) ≡ false → IsReadyAt bs es set i w → IsReadyAt bs es set (i + 1) w
+pub ready_still : (bs : List ℕ) (es : List Entry) (set : ℕ → Bool) (i : ℕ) (e : Entry) (w : OpenParts) → slice_get es i ≡ Some e → ((u : ℕ) → IsUid u → silences (Some e) u ≡ false) → wakes (Some e) ≡ false → IsReadyAt bs es set i w → IsReadyAt bs es set (i + 1) w
 ready_still bs es set i e w k silent awake h = rw add-one (record {
   room = h.room;
-  listed = h.listed;
   lasting = λ u p is at. rw (quiet_same es i e u k (silent u is) awake) (h.lasting u p is at);
   quiet = λ u p is at. rw (quiet_same es i e u k (silent u is) awake) (h.quiet u p is at);
 })
@@ -91,17 +90,13 @@ silenced_list false true false = refl
 silenced_list false false true = refl
 silenced_list false false false = refl
 
-pub ready_silenced : (bs : List ℕ) (es : List Entry) (set : ℕ → Bool) (i link v q : ℕ) (old new : Walk) → slice_get es i ≡ Some (Sent (StayQuiet link v)) → IsUid v → IsPartOf bs (mirror v) q → AreBorders bs → AreCut bs es → ((p : ℕ) → is_marked new.lasting p ≡ (not (p == q) && is_marked old.lasting p)) → length new.lasting ≡ length old.lasting → ((p : ℕ) → has new.quiet.items p ≡ (has old.quiet.items p || (p == q && is_marked old.lasting p))) → IsReadyAt bs es set i old → IsReadyAt bs es set (i + 1) new
+pub ready_silenced : (bs : List ℕ) (es : List Entry) (set : ℕ → Bool) (i link v q : ℕ) (old new : OpenParts) → slice_get es i ≡ Some (Sent (StayQuiet link v)) → IsUid v → IsPartOf bs (mirror v) q → AreBorders bs → AreCut bs es → ((p : ℕ) → is_marked new.lasting p ≡ (not (p == q) && is_marked old.lasting p)) → length new.lasting ≡ length old.lasting → ((p : ℕ) → has new.quiet.items p ≡ (has old.quiet.items p || (p == q && is_marked old.lasting p))) → IsReadyAt bs es set i old → IsReadyAt bs es set (i + 1) new
 ready_silenced bs es set i link v q old new k is_too at_too borders cut lasting room quiet h =
     let named : names (slice_get es i) v ≡ true = rw k (or_left _ _ (eqb-same v)) in
     let later : (u p : ℕ) → IsUid u → IsPartOf bs (mirror u) p → is_quiet es (suc i) u ≡ (p == q || is_quiet es i u) =
     λ u p is at. quiet_step es i (Sent (StayQuiet link v)) u k ∙ rw (own_part bs es i u v p q borders cut named is is_too at at_too) refl in
     rw add-one (record {
       room = room ∙ h.room;
-      listed = λ p there. elim (or_cases _ _ (sym (quiet p) ∙ there)) [
-        | inl before ↦ h.listed p before
-        | inr it ↦ let here : p ≡ q = eqb-true _ _ (and_parts _ _ it).0 in omega (arith, here, at_too.within)
-      ];
       lasting = λ u p is at. rw (later u p is at, lasting p, h.lasting u p is at) (silenced_marks (set u) (is_quiet es i u) (p == q));
       quiet = λ u p is at. rw (later u p is at, quiet p, h.quiet u p is at, h.lasting u p is at) (silenced_list (set u) (is_quiet es i u) (p == q));
     })
@@ -112,10 +107,9 @@ woken_marks true false = refl
 woken_marks false q = refl
 
 -- all that are marked or listed are marked, and none is listed: so all are Ready
-pub ready_woken : (bs : List ℕ) (es : List Entry) (set : ℕ → Bool) (i j : ℕ) (old new : Walk) → ((u : ℕ) → is_quiet es j u ≡ false) → ((p : ℕ) → is_marked new.lasting p ≡ (is_marked old.lasting p || has old.quiet.items p)) → length new.lasting ≡ length old.lasting → ((p : ℕ) → has new.quiet.items p ≡ false) → IsReadyAt bs es set i old → IsReadyAt bs es set j new
+pub ready_woken : (bs : List ℕ) (es : List Entry) (set : ℕ → Bool) (i j : ℕ) (old new : OpenParts) → ((u : ℕ) → is_quiet es j u ≡ false) → ((p : ℕ) → is_marked new.lasting p ≡ (is_marked old.lasting p || has old.quiet.items p)) → length new.lasting ≡ length old.lasting → ((p : ℕ) → has new.quiet.items p ≡ false) → IsReadyAt bs es set i old → IsReadyAt bs es set j new
 ready_woken bs es set i j old new awake lasting room quiet h = record {
   room = room ∙ h.room;
-  listed = λ p there. absurd (false≢true (sym (quiet p) ∙ there));
   lasting = λ u p is at. rw (awake u, lasting p, h.lasting u p is at, h.quiet u p is at) (woken_marks (set u) (is_quiet es i u) ∙ sym (and-true (set u)));
   quiet = λ u p is at. rw (awake u, quiet p) (sym (and-false (set u)));
 }
@@ -136,15 +130,15 @@ heard_none : (es : List Entry) (i : ℕ) (e : Entry) (u : ℕ) → slice_get es 
 heard_none es i e u k none = rw k (none true u).1
 
 -- then what is known changes only by who is Ready
-pub walk_unread : (bs : List ℕ) (es : List Entry) (i : ℕ) (e : Entry) (old new : Walk) → slice_get es i ≡ Some e → ReadsNone e → IsReadyAt bs es (is_open (slots_before es i)) (i + 1) new → new.heard ≡ old.heard → new.ends.items ≡ old.ends.items → IsWalkAt bs es i old → IsWalkAt bs es (i + 1) new
+pub walk_unread : (bs : List ℕ) (es : List Entry) (i : ℕ) (e : Entry) (old new : Walk) → slice_get es i ≡ Some e → ReadsNone e → IsReadyAt bs es (is_open (slots_before es i)) (i + 1) new.open → new.heard ≡ old.heard → new.ends.items ≡ old.ends.items → IsWalkAt bs es i old → IsWalkAt bs es (i + 1) new
 walk_unread bs es i e old new k none ready heard ends h =
-    let later : IsReadyAt bs es (is_open (slots_before es i)) (suc i) new = rw (← add-one) ready in
+    let later : IsReadyAt bs es (is_open (slots_before es i)) (suc i) new.open = rw (← add-one) ready in
     rw add-one (record {
       room = record {
         lasting = later.room;
         heard = rw heard h.room.heard;
         ends = rw ends h.room.ends;
-        quiet = later.listed;
+        quiet = λ p it. let within = new.open.listed p it in let room = later.room in omega (arith, within, room);
       };
       known = λ u p is at.
           let before = h.known u p is at in
@@ -176,7 +170,7 @@ pub nothing_listed : (v : ℕ) → DoesNothing (Listed v)
 nothing_listed v = record { reads = λ a u. (refl, refl); silent = λ u. refl; awake = refl }
 
 pub walk_idle : (bs : List ℕ) (es : List Entry) (i : ℕ) (e : Entry) (w : Walk) → slice_get es i ≡ Some e → DoesNothing e → IsWalkAt bs es i w → IsWalkAt bs es (i + 1) w
-walk_idle bs es i e w k n h = walk_unread bs es i e w w k n.reads (ready_still bs es _ i e w k (λ u is. n.silent u) n.awake (ready_of bs es i w h)) refl refl h
+walk_idle bs es i e w k n h = walk_unread bs es i e w w k n.reads (ready_still bs es _ i e w.open k (λ u is. n.silent u) n.awake (ready_of bs es i w h)) refl refl h
 
 pub sent_none : (q : Request) → ReadsNone (Sent q)
 sent_none q a u = (refl, refl)
@@ -239,12 +233,12 @@ end_read es i u n m o q r before after is h = elim (cases_Bool ((o && not q) && 
   | inr kept ↦ rw (is, kept) (end_kept es i u n (after ∙ (read_kept o q r kept ∙ before)) h)
 ]
 
-pub walk_read : (bs : List ℕ) (es : List Entry) (i : ℕ) (out : ℕ → Bool) (old new : Walk) → RulesOut bs es i out → IsRuledOut old new out (i + 1) → ((u p : ℕ) → IsUid u → IsPartOf bs (mirror u) p → is_marked new.heard p ≡ (hears (slice_get es i) u || is_marked old.heard p)) → length new.heard ≡ length old.heard → IsWalkAt bs es i old → IsWalkAt bs es (i + 1) new
-walk_read bs es i out old new rules ruled heard heard_room h = rw add-one (record {
+pub walk_read : (bs : List ℕ) (es : List Entry) (i : ℕ) (out : ℕ → Bool) (old new : Walk) → RulesOut bs es i out → IsRuledOut old new out (i + 1) → ((u p : ℕ) → IsUid u → IsPartOf bs (mirror u) p → is_marked new.heard p ≡ (hears (slice_get es i) u || is_marked old.heard p)) → IsWalkAt bs es i old → IsWalkAt bs es (i + 1) new
+walk_read bs es i out old new rules ruled heard h = rw add-one (record {
   room = record {
     lasting = ruled.room ∙ h.room.lasting;
-    heard = heard_room ∙ h.room.heard;
-    ends = ruled.places ∙ h.room.ends;
+    heard = new.heard_room ∙ ruled.room ∙ h.room.lasting;
+    ends = new.ends_room ∙ ruled.room ∙ h.room.lasting;
     quiet = λ p listed. h.room.quiet p (rw ruled.quiet at listed);
   };
   known = λ u p is at.
@@ -307,13 +301,12 @@ none_ended : (marked : Bool) (end n : ℕ) → n ≡ (if marked && false then en
 none_ended true end n = refl
 none_ended false end n = refl
 
-pub nothing_ruled_out : (old new : Walk) (end : ℕ) → new.lasting ≡ old.lasting → new.ends.items ≡ old.ends.items → new.quiet.items ≡ old.quiet.items → IsRuledOut old new (λ p. false) end
-nothing_ruled_out old new end lasting ends quiet = record {
-  lasting = λ p. rw lasting (none_out (is_marked old.lasting p));
-  ends = λ p. rw ends (none_ended (is_marked old.lasting p) end (slice_index old.ends.items p));
-  room = rw lasting refl;
-  places = rw ends refl;
-  quiet = quiet;
+pub nothing_ruled_out : (old new : Walk) (end : ℕ) → new.open ≡ old.open → new.ends.items ≡ old.ends.items → IsRuledOut old new (λ p. false) end
+nothing_ruled_out old new end same ends = record {
+  lasting = λ p. rw same (none_out (is_marked old.open.lasting p));
+  ends = λ p. rw ends (none_ended (is_marked old.open.lasting p) end (slice_index old.ends.items p));
+  room = rw same refl;
+  quiet = rw same refl;
 }
 
 -- the entry is a reply of this UID, and of no other
@@ -387,7 +380,7 @@ within_count : (bs : List ℕ) (s : Span) (p : ℕ) → s.to ≤ part_count bs �
 within_count bs s p within in_span = omega (arith, ltb-true p s.to (and_parts _ _ in_span).1)
 
 -- a UID was read, and the parts for which the test holds are ruled out, of which its own is none
-borne_reply : (bs : List ℕ) (es : List Entry) (i v own : ℕ) (s : Span) (out : ℕ → Bool) (w : Walk) (fine : Bool) → HearsOnly (slice_get es i) v → RulesOut bs es i out → out own ≡ false → ((p : ℕ) → out p ≡ true → is_within s p ≡ true) → IsUid v → IsPartOf bs (mirror v) own → IsSpanAt bs es i s → s.to ≤ part_count bs → AreBorders bs → IsWalkAt bs es i w → (fine ≡ true) ↔ ((is_within s own ≡ true) × (is_marked w.lasting own ≡ true) × (HasLost w out → ⊥)) → AreBorneOut es i → (fine ≡ true) ↔ AreBorneOut es (i + 1)
+borne_reply : (bs : List ℕ) (es : List Entry) (i v own : ℕ) (s : Span) (out : ℕ → Bool) (w : Walk) (fine : Bool) → HearsOnly (slice_get es i) v → RulesOut bs es i out → out own ≡ false → ((p : ℕ) → out p ≡ true → is_within s p ≡ true) → IsUid v → IsPartOf bs (mirror v) own → IsSpanAt bs es i s → s.to ≤ part_count bs → AreBorders bs → IsWalkAt bs es i w → (fine ≡ true) ↔ ((is_within s own ≡ true) × (is_marked w.open.lasting own ≡ true) × (HasLost w out → ⊥)) → AreBorneOut es i → (fine ≡ true) ↔ AreBorneOut es (i + 1)
 borne_reply bs es i v own s out w fine only rules mine inside is at span within borders h iff b =
     let known = h.known v own is at in
     let lies = span v own is at in
@@ -422,10 +415,10 @@ borne_reply bs es i v own s out w fine only rules mine inside is at span within 
           )),
     )
 
-pub borne_heard : (bs : List ℕ) (es : List Entry) (i own : ℕ) (r : Reply) (s : Span) (w : Walk) (fine : Bool) → slice_get es i ≡ Some (Heard r) → IsUid r.uid → IsPartOf bs (mirror r.uid) own → IsSpanAt bs es i s → s.to ≤ part_count bs → AreBorders bs → AreCut bs es → IsWalkAt bs es i w → (fine ≡ true) ↔ ((is_within s own ≡ true) × (is_marked w.lasting own ≡ true) × (HasLost w (is_other s own) → ⊥)) → AreBorneOut es i → (fine ≡ true) ↔ AreBorneOut es (i + 1)
+pub borne_heard : (bs : List ℕ) (es : List Entry) (i own : ℕ) (r : Reply) (s : Span) (w : Walk) (fine : Bool) → slice_get es i ≡ Some (Heard r) → IsUid r.uid → IsPartOf bs (mirror r.uid) own → IsSpanAt bs es i s → s.to ≤ part_count bs → AreBorders bs → AreCut bs es → IsWalkAt bs es i w → (fine ≡ true) ↔ ((is_within s own ≡ true) × (is_marked w.open.lasting own ≡ true) × (HasLost w (is_other s own) → ⊥)) → AreBorneOut es i → (fine ≡ true) ↔ AreBorneOut es (i + 1)
 borne_heard bs es i own r s w fine k is at span within borders cut h iff b =
     borne_reply bs es i r.uid own s (is_other s own) w fine (heard_only es i r k) (heard_rules_out bs es i own r s k is at borders cut span) (not_own s own) (λ p other. (and_parts _ _ other).0) is at span within borders h iff b
 
-pub borne_captured : (bs : List ℕ) (es : List Entry) (i own : ℕ) (r : Reply) (s : Span) (w : Walk) (fine : Bool) → slice_get es i ≡ Some (Captured r) → IsUid r.uid → IsPartOf bs (mirror r.uid) own → IsSpanAt bs es i s → s.to ≤ part_count bs → AreBorders bs → IsWalkAt bs es i w → (fine ≡ true) ↔ ((is_within s own ≡ true) × (is_marked w.lasting own ≡ true)) → AreBorneOut es i → (fine ≡ true) ↔ AreBorneOut es (i + 1)
+pub borne_captured : (bs : List ℕ) (es : List Entry) (i own : ℕ) (r : Reply) (s : Span) (w : Walk) (fine : Bool) → slice_get es i ≡ Some (Captured r) → IsUid r.uid → IsPartOf bs (mirror r.uid) own → IsSpanAt bs es i s → s.to ≤ part_count bs → AreBorders bs → IsWalkAt bs es i w → (fine ≡ true) ↔ ((is_within s own ≡ true) × (is_marked w.open.lasting own ≡ true)) → AreBorneOut es i → (fine ≡ true) ↔ AreBorneOut es (i + 1)
 borne_captured bs es i own r s w fine k is at span within borders h iff b =
     borne_reply bs es i r.uid own s (λ p. false) w fine (captured_only es i r k) (captured_rules_out bs es i r k) refl (λ p gone. absurd (false≢true gone)) is at span within borders h ((λ it. let f = iff.0 it in (f.0, f.1, λ lost. false≢true lost.1)), (λ f. iff.1 (f.0, f.1))) b

@@ -27,18 +27,18 @@ IsEnd es i u (suc j) =
 -- before position i, what the walk says of a part is so of a UID in it: the part lasts if the UID
 -- is open and Ready, and is among the Quiet ones if it is open and Quiet
 pub record IsKnown (es : List Entry) (i u p : ℕ) (w : Walk) : Type 0 where
-  pub lasting : is_marked w.lasting p
+  pub lasting : is_marked w.open.lasting p
       ≡ (is_open (slots_before es i) u && not (is_quiet es i u))
-  pub quiet : has w.quiet.items p ≡ (is_open (slots_before es i) u && is_quiet es i u)
+  pub quiet : has w.open.quiet.items p ≡ (is_open (slots_before es i) u && is_quiet es i u)
   pub end : IsEnd es i u (slice_index w.ends.items p)
   pub heard : is_marked w.heard p ≡ was_heard es i u
 
 -- there is room for that many parts
 pub record HasRoom (count : ℕ) (w : Walk) : Type 0 where
-  pub lasting : length w.lasting ≡ count
+  pub lasting : length w.open.lasting ≡ count
   pub heard : length w.heard ≡ count
   pub ends : length w.ends.items ≡ count
-  pub quiet : (p : ℕ) → has w.quiet.items p ≡ true → p < count
+  pub quiet : (p : ℕ) → has w.open.quiet.items p ≡ true → p < count
 
 -- the walk is before position i
 pub record IsWalkAt (bs : List ℕ) (es : List Entry) (i : ℕ) (w : Walk) : Type 0 where

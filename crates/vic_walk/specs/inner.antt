@@ -6,4 +6,5 @@ pub mod Ruled
 pub mod Ready
 pub mod PartUids
 pub mod RangesTo
+pub mod Ends
 pub mod Reach

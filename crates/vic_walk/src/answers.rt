@@ -17,6 +17,7 @@ ghost use Rattle.vic_walk.specs.Spans.{IsPlace};
 use crate::hints::{Hints, Near};
 use crate::lines::LogLines;
 use crate::listing::list_start;
+use crate::open_parts::OpenParts;
 use crate::parts::Parts;
 use crate::three::up_to_three;
 use crate::walk::{Walk, span_of};
@@ -54,10 +55,9 @@ fn needs(entry: &Entry) -> usize
     }
 }
 
-/// Moves a walk past an entry, ruling nothing out; notes which open UIDs answer there, if it is an
-/// unread slot.
+/// Moves open parts past an entry; notes which open UIDs answer there, if it is an unread slot.
 fn pass_again(
-    walk: &mut Walk,
+    open: &mut OpenParts,
     found: &mut Vec<Answering>,
     parts: &Parts,
     rounds: &RoundCursor,
@@ -65,30 +65,28 @@ fn pass_again(
     at: usize,
     entry: &Entry,
 ) -> Result<(), AllocError>
-    requires room { length walk.old.lasting ≡ part_count parts.now }
-    requires listed { (p : ℕ) → has walk.old.quiet.items p ≡ true → p < part_count parts.now }
+    requires { part_count parts.now ≡ length open.old.lasting }
+    ensures room { length open.new.lasting ≡ length open.old.lasting }
     ensures ready { OnOk result ((es : List EntryValue) (set : ℕ → Bool)
         → IsPlace parts.now es at entry.now rounds.now
-        → IsReadyAt parts.now es set at walk.old
-        → IsReadyAt parts.now es set (at + 1) walk.new) }
+        → IsReadyAt parts.now es set at open.old
+        → IsReadyAt parts.now es set (at + 1) open.new) }
     ensures found { OnOk result ((es : List EntryValue)
         → IsPlace parts.now es at entry.now rounds.now
-        → IsReadyAt parts.now es (is_open (slots_of es)) at walk.old
+        → IsReadyAt parts.now es (is_open (slots_of es)) at open.old
         → AreAnswering es at found.old.items → AreAnswering es (at + 1) found.new.items) }
-    ensures heard { OnOk result (walk.new.heard ≡ walk.old.heard) }
-    ensures ends { OnOk result (walk.new.ends.items ≡ walk.old.ends.items) }
 {
     match *entry {
         Entry::Sent(request) => {
-            walk.pass_request(parts, near, &request)?;
+            open.pass_request(parts, near, &request)?;
             Ok(())
         }
         Entry::FieldCycle => {
-            walk.wake();
+            open.wake();
             Ok(())
         }
         Entry::Collision | Entry::Garbled => {
-            let uids = up_to_three(parts, &walk.lasting, span_of(parts, rounds, near));
+            let uids = up_to_three(parts, &open.lasting, span_of(parts, rounds, near));
             found.push(Answering {
                 at,
                 need: needs(entry),
@@ -134,8 +132,8 @@ fn after_unread(lines: &LogLines) -> usize
 }
 
 /// For each unread slot of a log, in the order of the log, the open UIDs that answer there. The
-/// walk has come to the end of the log; afterwards its `lasting` marks exactly the open parts,
-/// Quiet ones too, none is listed in `quiet`, and `ends` and `heard` stay as they were.
+/// walk has come to the end of the log; afterwards its `open.lasting` marks exactly the open parts,
+/// Quiet ones too, none is listed in `open.quiet`, and `ends` and `heard` stay as they were.
 pub fn open_answers(
     alloc: Global,
     lines: &LogLines,
@@ -146,14 +144,15 @@ pub fn open_answers(
     requires walk { IsWalkAt parts.now (entries lines.now) (length (entries lines.now)) walk.old }
     ensures found { IfOk result (λ found.
         AreAnswering (entries lines.now) (length (entries lines.now)) found.items) }
-    ensures parts { OnOk result (AreOpenParts parts.now (entries lines.now) walk.new.lasting) }
-    ensures quiet { OnOk result ((p : ℕ) → has walk.new.quiet.items p ≡ false) }
+    ensures parts { OnOk result (AreOpenParts parts.now (entries lines.now) walk.new.open.lasting) }
+    ensures quiet { OnOk result ((p : ℕ) → has walk.new.open.quiet.items p ≡ false) }
     ensures room { OnOk result (HasRoom (part_count parts.now) walk.new) }
     ensures heard { OnOk result (walk.new.heard ≡ walk.old.heard) }
     ensures ends { OnOk result (walk.new.ends.items ≡ walk.old.ends.items) }
 {
+    let open = &mut walk.open;
     // before the first entry no part is Quiet
-    walk.wake();
+    open.wake();
     let mut found = Vec::new(alloc);
     let mut rounds = RoundCursor::first();
     let mut hints = Hints::first();
@@ -161,10 +160,10 @@ pub fn open_answers(
     for index in 0..after {
         let entry = lines.entry(index);
         let near = hints.next(parts.hints(), &entry);
-        pass_again(walk, &mut found, parts, &rounds, near, index, &entry)?;
+        pass_again(open, &mut found, parts, &rounds, near, index, &entry)?;
         rounds.advance(&entry);
     }
     // parts that are Quiet at the end are open too
-    walk.wake();
+    open.wake();
     Ok(found)
 }

@@ -90,29 +90,17 @@ impl Gathered {
         Ok(at)
     }
 
-    /// Adds a border that a walk will look up.
-    pub(crate) fn push_asked(&mut self, border: u64) -> Result<(), AllocError>
+    /// Adds a border, and notes where it stands if a walk may look it up.
+    pub(crate) fn push_asked(&mut self, border: u64, asked: bool) -> Result<(), AllocError>
         requires { IsBorder border }
         ensures more { OnOk result (HasAll self.old self.new) }
         ensures there { OnOk result (Contains self.new border) }
     {
         let at = self.push(border)?;
-        self.asked.push(at)?;
-        Ok(())
-    }
-
-    /// Adds a border that a walk may look up.
-    pub(crate) fn push_maybe_asked(&mut self, border: u64, asked: bool) -> Result<(), AllocError>
-        requires { IsBorder border }
-        ensures more { OnOk result (HasAll self.old self.new) }
-        ensures there { OnOk result (Contains self.new border) }
-    {
         if asked {
-            self.push_asked(border)
-        } else {
-            self.push(border)?;
-            Ok(())
+            self.asked.push(at)?;
         }
+        Ok(())
     }
 
     /// The borders in rising order, each once; and of those that were asked for, in turn, hints of

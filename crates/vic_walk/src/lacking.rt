@@ -1,6 +1,6 @@
 //! The first position at which an unread slot lacks tags.
 
-ghost use Rattle.std.specs.Prelude.{◌≡◌, ◌+◌, ◌<◌, ◌≤◌, ◌&&◌, ◌||◌, not, ℕ, Bool, true, false, List, IfOk, OnOk, drop, length, nat_lt, slice_index, take};
+ghost use Rattle.std.specs.Prelude.{◌≡◌, ◌+◌, ◌<◌, ◌≤◌, ◌&&◌, not, ℕ, true, false, List, IfOk, OnOk, drop, length, nat_lt, slice_index, take};
 ghost use Rattle.std.specs.List.Sorted.{IsNonDecreasingBy};
 ghost use Rattle.vic_frame.specs.Uids.{has};
 ghost use Rattle.vic_log.specs.declared.entry.Entry.{Entry as EntryValue};
@@ -10,12 +10,13 @@ ghost use Rattle.vic_walk.specs.Cuts.{AreCut};
 ghost use Rattle.vic_walk.specs.Marked.{is_marked};
 ghost use Rattle.vic_walk.specs.Met.{AreMetBefore, HasEndsPast};
 ghost use Rattle.vic_walk.specs.Needs.{needs_at};
-ghost use Rattle.vic_walk.specs.inner.Reach.{AreEndsUpTo, AreRuled, HasReach, IsBackTo, IsReachAt, lasts_to};
+ghost use Rattle.vic_walk.specs.inner.Ends.{AreEndsUpTo, AreRuled, IsBackTo, lasts_to};
 ghost use Rattle.vic_walk.specs.Spans.{IsPlace, IsSpanAt};
 
 use crate::hints::{Hints, Near};
 use crate::lines::LogLines;
 use crate::marks::Marks;
+use crate::open_parts::OpenParts;
 use crate::parts::{Parts, Span};
 use crate::three::up_to_three;
 use crate::walk::{Walk, span_of};
@@ -24,33 +25,51 @@ use vic_log::{Entry, RoundCursor};
 
 /// How far a log is possible, by the entries that were passed.
 #[derive(Drop)]
-struct Reach {
+struct Reach<'a> {
+    parts: &'a Parts,
+    /// The end of each part.
+    ends: &'a [u32],
     /// The unread slots passed before this position are met by the UIDs that are open before it.
     upto: usize,
     /// Which of the parts that are open before `upto` are Ready now, and which Quiet.
-    kept: Walk,
+    kept: OpenParts,
     /// Which of all parts are, whether open or not.
-    all: Walk,
+    all: OpenParts,
     /// The parts that aren't open before `upto`.
     ruled: Vec<usize>,
     /// Whether these are in the order of their ends.
     ordered: bool,
+    ghost ends_room: { length ends.now ≡ part_count parts.now },
+    ghost kept_room: { length kept.lasting ≡ part_count parts.now },
+    ghost all_room: { length all.lasting ≡ part_count parts.now },
+    ghost order: { ordered ≡ true → IsNonDecreasingBy (λ p. slice_index ends.now p) ruled.items },
+    ghost ruled_out: { (p : ℕ) → has ruled.items p
+        ≡ (nat_lt p (length ends.now) && not (lasts_to upto (slice_index ends.now p))) },
 }
 
-impl Reach {
+impl<'a> Reach<'a> {
+    ghost use Rattle.vic_walk.specs.inner.Reach.{IsReachAt};
+
     /// Before the first entry, for parts with these ends.
-    fn start(alloc: Global, ends: &[u32], upto: usize) -> Result<Reach, AllocError>
-        ensures reach { IfOk result (HasReach ends.now) }
+    fn start(
+        alloc: Global,
+        parts: &'a Parts,
+        ends: &'a [u32],
+        upto: usize,
+    ) -> Result<Reach<'a>, AllocError>
+        requires { length ends.now ≡ part_count parts.now }
         ensures upto { IfOk result (λ r. r.upto ≡ upto) }
-        ensures ready { IfOk result (λ r. (bs : List ℕ) (es : List EntryValue)
-            → part_count bs ≡ length ends.now → AreEndsUpTo bs es upto ends.now
-            → IsReachAt bs es ends.now 0 r) }
+        ensures parts { IfOk result (λ r. r.parts.now ≡ parts.now) }
+        ensures ready { IfOk result (λ r. (es : List EntryValue)
+            → AreEndsUpTo parts.now es upto ends.now → IsReachAt es 0 r) }
     {
         let (kept, ruled) = divide(alloc, ends, upto)?;
         Ok(Reach {
+            parts,
+            ends,
             upto,
-            kept: all_ready(alloc, kept)?,
-            all: all_ready(alloc, Marks::all(alloc, ends.len())?)?,
+            kept: OpenParts::ready(alloc, kept),
+            all: OpenParts::ready(alloc, Marks::all(alloc, ends.len())?),
             ruled,
             ordered: false,
         })
@@ -59,30 +78,23 @@ impl Reach {
     /// Goes past an entry. If it is an unread slot that isn't met, `upto` goes back first.
     fn pass(
         &mut self,
-        parts: &Parts,
-        ends: &[u32],
         rounds: &RoundCursor,
         near: Near,
         at: usize,
         entry: &Entry,
     ) -> Result<(), AllocError>
-        requires count { part_count parts.now ≡ length ends.now }
-        requires reach { HasReach ends.now self.old }
-        ensures ruled { OnOk result (AreRuled ends.now self.new.upto self.new.ordered
-            self.new.ruled.items) }
+        ensures parts { self.new.parts.now ≡ self.old.parts.now }
         ensures back { OnOk result ((es : List EntryValue)
-            → IsPlace parts.now es at entry.now rounds.now
-            → IsReachAt parts.now es ends.now at self.old
-            → IsBackTo es at self.old.upto self.new.upto) }
+            → IsPlace self.old.parts.now es at entry.now rounds.now
+            → IsReachAt es at self.old → IsBackTo es at self.old.upto self.new.upto) }
         ensures ready { OnOk result ((es : List EntryValue)
-            → IsPlace parts.now es at entry.now rounds.now
-            → IsReachAt parts.now es ends.now at self.old
-            → IsReachAt parts.now es ends.now (at + 1) self.new) }
+            → IsPlace self.old.parts.now es at entry.now rounds.now
+            → IsReachAt es at self.old → IsReachAt es (at + 1) self.new) }
     {
         match *entry {
             Entry::Sent(request) => {
-                self.kept.pass_request(parts, near, &request)?;
-                self.all.pass_request(parts, near, &request)?;
+                self.kept.pass_request(self.parts, near, &request)?;
+                self.all.pass_request(self.parts, near, &request)?;
                 Ok(())
             }
             Entry::FieldCycle => {
@@ -91,11 +103,11 @@ impl Reach {
                 Ok(())
             }
             Entry::Collision => {
-                self.meet(parts, ends, span_of(parts, rounds, near), at, 2)?;
+                self.meet(span_of(self.parts, rounds, near), at, 2)?;
                 Ok(())
             }
             Entry::Garbled => {
-                self.meet(parts, ends, span_of(parts, rounds, near), at, 1)?;
+                self.meet(span_of(self.parts, rounds, near), at, 1)?;
                 Ok(())
             }
             Entry::Silent
@@ -107,80 +119,55 @@ impl Reach {
     }
 
     /// Goes back until as many UIDs as a slot needs answer there, or else to its own position.
-    fn meet(
-        &mut self,
-        parts: &Parts,
-        ends: &[u32],
-        span: Span,
-        at: usize,
-        need: usize,
-    ) -> Result<(), AllocError>
-        requires within { span.to ≤ part_count parts.now }
-        requires count { part_count parts.now ≡ length ends.now }
-        requires reach { HasReach ends.now self.old }
-        ensures reach { OnOk result (HasReach ends.now self.new) }
-        ensures back { OnOk result ((es : List EntryValue) → AreBorders parts.now
-            → IsSpanAt parts.now es at span → needs_at es at ≡ need
-            → IsReachAt parts.now es ends.now at self.old
-            → IsBackTo es at self.old.upto self.new.upto) }
+    fn meet(&mut self, span: Span, at: usize, need: usize) -> Result<(), AllocError>
+        requires { span.to ≤ part_count self.old.parts.now }
+        ensures parts { self.new.parts.now ≡ self.old.parts.now }
+        ensures back { OnOk result ((es : List EntryValue) → AreBorders self.old.parts.now
+            → IsSpanAt self.old.parts.now es at span → needs_at es at ≡ need
+            → IsReachAt es at self.old → IsBackTo es at self.old.upto self.new.upto) }
         ensures ready { OnOk result ((es : List EntryValue) (i : ℕ)
-            → IsReachAt parts.now es ends.now i self.old
-            → IsReachAt parts.now es ends.now i self.new) }
+            → IsReachAt es i self.old → IsReachAt es i self.new) }
     {
         while at < self.upto {
-            if need <= up_to_three(parts, &self.kept.lasting, span).len() {
+            if need <= up_to_three(self.parts, &self.kept.lasting, span).len() {
                 return Ok(());
             }
-            self.step_back(ends)?;
+            self.step_back()?;
         }
         Ok(())
     }
 
-    /// Goes back by one position: the parts that its entry rules out are open again.
-    fn step_back(&mut self, ends: &[u32]) -> Result<(), AllocError>
-        requires some { 0 < self.old.upto }
-        requires reach { HasReach ends.now self.old }
-        ensures reach { OnOk result (HasReach ends.now self.new) }
+    /// Goes back by one position: the parts that its entry rules out are open again. They are the
+    /// last ones in the order of their ends.
+    fn step_back(&mut self) -> Result<(), AllocError>
+        requires { 0 < self.old.upto }
+        ensures parts { self.new.parts.now ≡ self.old.parts.now }
         ensures upto { OnOk result (self.new.upto + 1 ≡ self.old.upto) }
-        ensures ready { OnOk result ((bs : List ℕ) (es : List EntryValue) (i : ℕ)
-            → part_count bs ≡ length ends.now → IsReachAt bs es ends.now i self.old
-            → IsReachAt bs es ends.now i self.new) }
+        ensures ready { OnOk result ((es : List EntryValue) (i : ℕ)
+            → IsReachAt es i self.old → IsReachAt es i self.new) }
     {
-        self.put_in_order(ends);
-        self.open_last(ends)
+        self.put_in_order();
+        let left = count_below(&self.ruled, self.ends, self.upto);
+        self.kept.add(&self.all.lasting, &self.ruled[left..])?;
+        self.ruled.truncate(left);
+        self.upto -= 1;
+        Ok(())
     }
 
     /// Puts the parts that aren't open in the order of their ends. Most logs don't need it.
-    fn put_in_order(&mut self, ends: &[u32])
-        requires reach { HasReach ends.now self.old }
-        ensures reach { HasReach ends.now self.new }
+    fn put_in_order(&mut self)
         ensures ordered { self.new.ordered ≡ true }
+        ensures parts { self.new.parts.now ≡ self.old.parts.now }
+        ensures ends { self.new.ends.now ≡ self.old.ends.now }
         ensures upto { self.new.upto ≡ self.old.upto }
         ensures kept { self.new.kept ≡ self.old.kept }
         ensures all { self.new.all ≡ self.old.all }
     {
         if !self.ordered {
+            let ends = self.ends;
             self.ruled.sort_unstable_by_key(|part| end_of(ends, *part));
             self.ordered = true;
         }
-    }
-
-    /// Opens the parts that end last, and goes back by one position.
-    fn open_last(&mut self, ends: &[u32]) -> Result<(), AllocError>
-        requires some { 0 < self.old.upto }
-        requires ordered { self.old.ordered ≡ true }
-        requires reach { HasReach ends.now self.old }
-        ensures reach { OnOk result (HasReach ends.now self.new) }
-        ensures upto { OnOk result (self.new.upto + 1 ≡ self.old.upto) }
-        ensures ready { OnOk result ((bs : List ℕ) (es : List EntryValue) (i : ℕ)
-            → part_count bs ≡ length ends.now → IsReachAt bs es ends.now i self.old
-            → IsReachAt bs es ends.now i self.new) }
-    {
-        let left = count_below(&self.ruled, ends, self.upto);
-        self.upto -= 1;
-        add_parts(&mut self.kept, &self.all.lasting, &self.ruled[left..])?;
-        self.ruled.truncate(left);
-        Ok(())
     }
 }
 
@@ -200,7 +187,7 @@ pub fn first_lack(
     ensures met { IfOk result (λ m. AreMetBefore (entries lines.now) m) }
     ensures lack { IfOk result (λ m. m < upto → AreMetBefore (entries lines.now) (m + 1) → ⊥) }
 {
-    let mut reach = Reach::start(alloc, &walk.ends, upto)?;
+    let mut reach = Reach::start(alloc, parts, &walk.ends, upto)?;
     let mut rounds = RoundCursor::first();
     let mut hints = Hints::first();
     for index in 0..lines.len() {
@@ -209,23 +196,10 @@ pub fn first_lack(
         }
         let entry = lines.entry(index);
         let near = hints.next(parts.hints(), &entry);
-        reach.pass(parts, &walk.ends, &rounds, near, index, &entry)?;
+        reach.pass(&rounds, near, index, &entry)?;
         rounds.advance(&entry);
     }
     Ok(reach.upto)
-}
-
-/// A walk before the first entry over some parts: all of them are Ready.
-fn all_ready(alloc: Global, parts: Marks) -> Result<Walk, AllocError>
-    ensures lasting { IfOk result (λ w. w.lasting ≡ parts) }
-    ensures quiet { IfOk result (λ w. (p : ℕ) → has w.quiet.items p ≡ false) }
-{
-    Ok(Walk {
-        lasting: parts,
-        quiet: Vec::new(alloc),
-        ends: Vec::new(alloc),
-        heard: Marks::none(alloc, 0)?,
-    })
 }
 
 /// By the ends of all parts, those that are open before a position, and the others.
@@ -281,23 +255,4 @@ fn count_below(parts: &[usize], ends: &[u32], position: usize) -> usize
         count -= 1;
     }
     0
-}
-
-/// Adds parts to a walk: marks them if they are Ready, and lists them as Quiet if they aren't.
-fn add_parts(walk: &mut Walk, ready: &Marks, parts: &[usize]) -> Result<(), AllocError>
-    requires { (p : ℕ) → has parts.now p ≡ true → p < length walk.old.lasting }
-    ensures lasting { OnOk result ((p : ℕ) → is_marked walk.new.lasting p
-        ≡ (is_marked walk.old.lasting p || (has parts.now p && is_marked ready.now p))) }
-    ensures quiet { OnOk result ((p : ℕ) → has walk.new.quiet.items p
-        ≡ (has walk.old.quiet.items p || (has parts.now p && not (is_marked ready.now p)))) }
-    ensures room { OnOk result (length walk.new.lasting ≡ length walk.old.lasting) }
-{
-    for part in parts {
-        if ready.has(*part) {
-            walk.lasting.put(*part);
-        } else {
-            walk.quiet.push(*part)?;
-        }
-    }
-    Ok(())
 }

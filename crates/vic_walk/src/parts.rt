@@ -316,8 +316,8 @@ fn push_both(borders: &mut Gathered, from: u64, end: u64, with_end: bool) -> Res
     ensures both { OnOk result (Contains borders.new from
         × Contains borders.new end) }
 {
-    borders.push_asked(from)?;
-    borders.push_maybe_asked(end, with_end)?;
+    borders.push_asked(from, true)?;
+    borders.push_asked(end, with_end)?;
     Ok(())
 }
 
@@ -327,7 +327,7 @@ fn push_uid(borders: &mut Gathered, uid: Uid, asked: bool) -> Result<(), AllocEr
     ensures uid { OnOk result (HasUid borders.new uid) }
 {
     let own = key(uid);
-    borders.push_maybe_asked(own, asked)?;
+    borders.push_asked(own, asked)?;
     borders.push(own + 1)?;
     Ok(())
 }

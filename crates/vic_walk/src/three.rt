@@ -1,7 +1,6 @@
 //! The UIDs of some parts, at most three.
 
-ghost use Rattle.std.specs.Prelude.{◌≡◌, ℕ, ◌^◌, ◌≤◌, Bool, length};
-ghost use Rattle.vic_frame.specs.declared.uid.TheConstants.{UID_BITS};
+ghost use Rattle.std.specs.Prelude.{ℕ, ◌+◌, ◌<◌, ◌≤◌, Bool, slice_index};
 ghost use Rattle.vic_tree.specs.Gathering.{Gathers};
 ghost use Rattle.vic_tree.specs.OpenSet.{UpToThree};
 ghost use Rattle.vic_walk.specs.Borders.{AreBorders, part_count};
@@ -23,7 +22,7 @@ pub(crate) fn up_to_three(parts: &Parts, marks: &Marks, span: Span) -> ArrayVec<
     let mut found = ArrayVec::new();
     let mut from = span.from;
     while let Some(part) = marks.first(from, span.to) {
-        gather_between(&mut found, parts.first(part), parts.end(part));
+        gather_part(&mut found, parts, part);
         if found.is_full() {
             return found;
         }
@@ -32,13 +31,13 @@ pub(crate) fn up_to_three(parts: &Parts, marks: &Marks, span: Span) -> ArrayVec<
     found
 }
 
-/// Appends the UIDs with keys from `first` on and before `end`, until there are three.
-fn gather_between(found: &mut ArrayVec<Uid, 3>, first: u64, end: u64)
-    requires forward { first ≤ end }
-    requires small { end ≤ 2 ^ UID_BITS }
-    ensures { Gathers (HasKey first end) found.old.items found.new.items }
+/// Appends the UIDs of a part, until there are three.
+fn gather_part(found: &mut ArrayVec<Uid, 3>, parts: &Parts, part: usize)
+    requires { part < part_count parts.now }
+    ensures { Gathers (HasKey (slice_index parts.now part) (slice_index parts.now (part + 1)))
+        found.old.items found.new.items }
 {
-    for key in first..end {
+    for key in parts.first(part)..parts.end(part) {
         if found.is_full() {
             return;
         }

@@ -30,21 +30,23 @@ IsWith bit old new = (k : ℕ) → is_set new k ≡ (nat_eq k bit || is_set old 
 abbrev pub IsWithout : ℕ → List ℕ → List ℕ → Type 0
 IsWithout bit old new = (k : ℕ) → is_set new k ≡ (not (nat_eq k bit) && is_set old k)
 
+-- a number of type usize can be that of any bit
+abbrev pub AreCounted : List ℕ → Type 0
+AreCounted ws = length ws * WORD ≤ 2 ^ 64
+
 -- a bit of `notes` for each word, set if and only if some bit of the word is
 pub record AreNoted (ws notes : List ℕ) : Type 0 where
   pub noted : (k : ℕ) → is_set ws k ≡ true → is_set notes (k / WORD) ≡ true
   pub found : (n : ℕ) → is_set notes n ≡ true → HasSome ws n
+  pub room : length ws ≤ length notes * WORD
 
 -- which of the first numbers are marked
 abbrev pub marked_in : ℕ → List ℕ → List Bool
 marked_in count places = map (is_set places) (range_with_len 0 count)
 
--- the bits of a set of numbers below a count, in three levels
-pub record AreMarks (count : ℕ) (places words groups : List ℕ) : Type 0 where
+-- the bits of a set of numbers below a count, and of the words that aren't 0
+pub record AreMarks (count : ℕ) (places words : List ℕ) : Type 0 where
   pub fits : count < 2 ^ 64
   pub below : (k : ℕ) → is_set places k ≡ true → k < count
-  pub places_noted : AreNoted places words
-  pub words_noted : AreNoted words groups
-  pub place_room : length places ≡ count / WORD + 1
-  pub word_room : length words ≡ count / (WORD * WORD) + 1
-  pub group_room : length groups ≡ count / (WORD * WORD * WORD) + 1
+  pub noted : AreNoted places words
+  pub room : length places ≡ count / WORD + 1

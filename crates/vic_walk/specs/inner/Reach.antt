@@ -1,49 +1,13 @@
 -- How far a log is possible, and the parts that are open before that position.
-use Rattle.std.specs.Prelude.{◌≡◌, ◌==◌, ℕ, ◌+◌, ◌<◌, ◌≤◌, Bool, true, not, ◌&&◌, ◌||◌, List, length, nat_lt, slice_index}
-use Rattle.std.specs.List.Sorted.{IsNonDecreasingBy}
-use Rattle.vic_frame.specs.LowBitsFirst.{mirror}
-use Rattle.vic_frame.specs.Uids.{IsUid, has}
+use Rattle.std.specs.Prelude.{ℕ, true, List}
 use Rattle.vic_log.specs.declared.entry.Entry.{Entry}
 use Rattle.vic_log.specs.Slots.{slots_before, is_open}
 use Rattle.vic_walk.specs.declared.lacking.Reach.{Reach}
-use Rattle.vic_walk.specs.Borders.{IsPartOf}
-use Rattle.vic_walk.specs.Met.{IsMetAt}
+use Rattle.vic_walk.specs.inner.Ends.{AreEndsUpTo}
 use Rattle.vic_walk.specs.inner.Ready.{IsReadyAt}
 
--- a part with this end is open before position n
-abbrev pub lasts_to : ℕ → ℕ → Bool
-lasts_to n end = end == 0 || nat_lt n end
-
--- up to position n the ends of the parts tell where their UIDs are open
-abbrev pub AreEndsUpTo : List ℕ → List Entry → ℕ → List ℕ → Type 0
-AreEndsUpTo bs es n ends =
-    (u p i : ℕ) → IsUid u → IsPartOf bs (mirror u) p → i ≤ n
-    → is_open (slots_before es i) u ≡ lasts_to i (slice_index ends p)
-
--- the parts that aren't open before position n; in the order of their ends, if they were put so
-pub record AreRuled (ends : List ℕ) (n : ℕ) (ordered : Bool) (ps : List ℕ) : Type 0 where
-  pub order : ordered ≡ true → IsNonDecreasingBy (λ p. slice_index ends p) ps
-  pub ruled : (p : ℕ) → has ps p
-      ≡ (nat_lt p (length ends) && not (lasts_to n (slice_index ends p)))
-
--- there is room for as many parts as have ends
-pub record HasReach (ends : List ℕ) (r : Reach) : Type 0 where
-  pub kept : length r.kept.lasting ≡ length ends
-  pub all : length r.all.lasting ≡ length ends
-  pub kept_listed : (p : ℕ) → has r.kept.quiet.items p ≡ true → p < length ends
-  pub all_listed : (p : ℕ) → has r.all.quiet.items p ≡ true → p < length ends
-  pub ruled : AreRuled ends r.upto r.ordered r.ruled.items
-
 -- before position i it is known of all parts which are Ready, and of those open before `upto`
-pub record IsReachAt (bs : List ℕ) (es : List Entry) (ends : List ℕ) (i : ℕ) (r : Reach)
-    : Type 0 where
-  pub known : AreEndsUpTo bs es r.upto ends
-  pub kept : IsReadyAt bs es (is_open (slots_before es r.upto)) i r.kept
-  pub all : IsReadyAt bs es (λ u. true) i r.all
-
--- from position n one has to go back to position m until the slot at position j is met, or m isn't
--- behind it
-pub record IsBackTo (es : List Entry) (j n m : ℕ) : Type 0 where
-  pub back : m ≤ n
-  pub met : j < m → IsMetAt es m j
-  pub lack : m < n → (j ≤ m) × (IsMetAt es (m + 1) j → ⊥)
+pub record IsReachAt (es : List Entry) (i : ℕ) (r : Reach) : Type 0 where
+  pub known : AreEndsUpTo r.parts.now es r.upto r.ends.now
+  pub kept : IsReadyAt r.parts.now es (is_open (slots_before es r.upto)) i r.kept
+  pub all : IsReadyAt r.parts.now es (λ u. true) i r.all

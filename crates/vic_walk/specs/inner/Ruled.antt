@@ -11,14 +11,15 @@ is_other s own p = is_within s p && not (p == own)
 
 -- of the parts for which a test holds, those that last are ruled out, with this end
 pub record IsRuledOut (old new : Walk) (out : ℕ → Bool) (end : ℕ) : Type 0 where
-  pub lasting : (p : ℕ) → is_marked new.lasting p ≡ (is_marked old.lasting p && not (out p))
+  pub lasting : (p : ℕ) → is_marked new.open.lasting p
+      ≡ (is_marked old.open.lasting p && not (out p))
   pub ends : (p : ℕ) → slice_index new.ends.items p
-      ≡ (if is_marked old.lasting p && out p then end else slice_index old.ends.items p)
-  pub room : length new.lasting ≡ length old.lasting
-  pub places : length new.ends.items ≡ length old.ends.items
-  pub quiet : new.quiet.items ≡ old.quiet.items
+      ≡ (if is_marked old.open.lasting p && out p then end else slice_index old.ends.items p)
+  pub room : length new.open.lasting ≡ length old.open.lasting
+  pub quiet : new.open.quiet.items ≡ old.open.quiet.items
 
 -- one of them was heard
 abbrev pub HasLost : Walk → (ℕ → Bool) → Type 0
 HasLost old out =
-    (p : ℕ) × (out p ≡ true) × (is_marked old.lasting p ≡ true) × (is_marked old.heard p ≡ true)
+    (p : ℕ) × (out p ≡ true) × (is_marked old.open.lasting p ≡ true)
+    × (is_marked old.heard p ≡ true)

@@ -12,9 +12,7 @@ loop-index-init c =
     let es = entries c.args.lines.now in
     let w = c.wake.ensures in
     record {
-      ready = ready_woken _ es (is_open (slots_of es)) (length es) 0 c.args.walk.now _ (λ u. refl) w.lasting w.room w.quiet (ready_of _ es (length es) _ c.requires.walk);
-      heard = refl;
-      ends = refl;
+      ready = ready_woken _ es (is_open (slots_of es)) (length es) 0 c.args.walk.now.open _ (λ u. refl) w.lasting w.room w.quiet (ready_of _ es (length es) _ c.requires.walk);
       rounds = c.first-rounds.ensures es;
       found = rw c.new-found.ensures.items (answering_none es);
     }
@@ -27,8 +25,6 @@ loop-index-preserved c =
     let place : IsPlace c.args.parts.now es l.index c.entry-entry.result l.rounds = record { here = here; valid = c.entry-entry.ensures.log.valid; rounds_here = l.invariant.rounds; borders = c.hints.ensures.borders; cut = c.requires.cut } in
     record {
       ready = c.in_ok-pass_again.ensures.ready es (is_open (slots_of es)) place l.invariant.ready;
-      heard = c.in_ok-pass_again.ensures.heard ∙ l.invariant.heard;
-      ends = c.in_ok-pass_again.ensures.ends ∙ l.invariant.ends;
       rounds = c.advance.ensures es l.index c.entry-entry.ensures.log.order here l.invariant.rounds;
       found = c.in_ok-pass_again.ensures.found es place l.invariant.ready l.invariant.found;
     }
@@ -44,5 +40,5 @@ pub returns-clause-parts : goal.returns-clause-parts
 returns-clause-parts c u p is at =
     let es = entries c.args.lines.now in
     let w = c.wake-2.ensures in
-    let ready = ready_woken _ es (is_open (slots_of es)) c.loop-index.index 0 c.loop-index.walk c.wake-2.new.self (λ u. refl) w.lasting w.room w.quiet c.loop-index.invariant.ready in
+    let ready = ready_woken _ es (is_open (slots_of es)) c.loop-index.index 0 c.loop-index.open c.wake-2.new.self (λ u. refl) w.lasting w.room w.quiet c.loop-index.invariant.ready in
     ready.lasting u p is at ∙ and-true _

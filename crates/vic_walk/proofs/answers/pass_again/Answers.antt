@@ -17,7 +17,7 @@ pub returns-in-FieldCycle-clause-ready : goal.returns-in-FieldCycle-clause-ready
 returns-in-FieldCycle-clause-ready c es set place h =
     let k = rw c.in-FieldCycle.is at place.here in
     let w = c.wake.ensures in
-    ready_woken _ es set c.args.at (c.args.at + 1) c.args.walk.now _ (λ u. cycle_wakes es c.args.at u k) w.lasting w.room w.quiet h
+    ready_woken _ es set c.args.at (c.args.at + 1) c.args.open.now _ (λ u. cycle_wakes es c.args.at u k) w.lasting w.room w.quiet h
 
 pub returns-in-FieldCycle-clause-found : goal.returns-in-FieldCycle-clause-found
 returns-in-FieldCycle-clause-found c es place h found =
@@ -28,7 +28,7 @@ returns-in_ok-push-in-Collision-clause-found c es place h found =
     let slot : is_slot c.args.entry.now ≡ true = elim c.in-Collision.is [ inl e ↦ rw e refl | inr e ↦ rw e refl ] in
     let unread : is_unread (Some c.args.entry.now) ≡ true = elim c.in-Collision.is [ inl e ↦ rw e refl | inr e ↦ rw e refl ] in
     let span = c.span_of.ensures.inside es c.args.at _ place slot in
-    answering_more es c.args.at _ _ _ c.in_ok-push-in-Collision.ensures.items (answering_here _ es c.args.at c.span_of.result c.args.walk.now _ refl (rw place.here unread) (ap needs_of place.here ∙ sym c.needs.ensures) span h (λ t. c.up_to_three-uids.ensures t place.borders)) found
+    answering_more es c.args.at _ _ _ c.in_ok-push-in-Collision.ensures.items (answering_here _ es c.args.at c.span_of.result c.args.open.now _ refl (rw place.here unread) (ap needs_of place.here ∙ sym c.needs.ensures) span h (λ t. c.up_to_three-uids.ensures t place.borders)) found
 
 pub returns-in-Silent-clause-found : goal.returns-in-Silent-clause-found
 returns-in-Silent-clause-found c es place h found =

@@ -1,5 +1,5 @@
 use Rattle.std.proofs.Common.{Global, Vec}
-use Rattle.vic_walk.specs.inner.Reach.{lasts_to}
+use Rattle.vic_walk.specs.inner.Ends.{lasts_to}
 use Rattle.vic_walk.proofs.Words.{◌≡◌, ℕ, ◌∙◌, Bool, true, false, false≢true, not, arith, length, length-set, slice_index, sym, ap, has, is_marked, List}
 use Rattle.vic_walk.proofs.GoingBack.{more_parts, no_part, push_part, put_part}
 use Rattle.vic_walk.proofs.lacking.divide.Goals as goal

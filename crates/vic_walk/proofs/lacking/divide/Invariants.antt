@@ -1,5 +1,5 @@
 use Rattle.vic_walk.proofs.Words.{◌≡◌, ℕ, ◌&&◌, not, has, is_marked, length, nat_lt, slice_index}
-use Rattle.vic_walk.specs.inner.Reach.{lasts_to}
+use Rattle.vic_walk.specs.inner.Ends.{lasts_to}
 use Rattle.vic_walk.proofs.lacking.divide.Given as goal
 
 abbrev pub invariant-loop-part : goal.invariant-loop-part

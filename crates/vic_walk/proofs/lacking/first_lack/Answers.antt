@@ -1,11 +1,14 @@
-use Rattle.vic_walk.proofs.Words.{arith, length-map, slice_index, sym}
+use Rattle.vic_walk.proofs.Words.{◌∙◌, arith, length-map, slice_index}
 use Rattle.vic_log.specs.declared.entry.LogLine.{LogLine}
 use Rattle.vic_log.specs.Order.{entries}
 use Rattle.vic_walk.specs.Spans.{IsPlace}
-use Rattle.vic_walk.specs.inner.Reach.{AreEndsUpTo, IsBackTo}
+use Rattle.vic_walk.specs.inner.Ends.{AreEndsUpTo, IsBackTo}
 use Rattle.vic_walk.proofs.Ending.{open_to_end}
-use Rattle.vic_walk.proofs.GoingBack.{has_reach, lack_next, met_next}
+use Rattle.vic_walk.proofs.GoingBack.{lack_next, met_next}
 use Rattle.vic_walk.proofs.lacking.first_lack.Goals as goal
+
+pub start-requires : goal.start-requires
+start-requires c = rw c.deref.ensures.value c.requires.walk.room
 
 pub loop-index-init : goal.loop-index-init
 loop-index-init c =
@@ -15,30 +18,24 @@ loop-index-init c =
     let r = c.in_ok-reach.ensures in
     let known : AreEndsUpTo c.args.parts.now es c.args.upto ends = λ u p i is at le. open_to_end es w.position u (slice_index ends p) i (w.ends u p is at) (let far = w.far in omega (arith, le, far)) in
     record {
-      ruled = (rw c.deref.ensures.value at r.reach).ruled;
-      ready = (rw c.deref.ensures.value at r.ready) c.args.parts.now es (sym w.room) known;
+      parts = r.parts;
+      ready = r.ready es (rw c.deref.ensures.value known);
       rounds = c.first-rounds.ensures es;
       back = omega (arith, r.upto);
       met = λ j below. absurd (omega (arith, below));
       lack = λ less. absurd (omega (arith, less, r.upto));
     }
 
-pub pass-requires-clause-reach : goal.pass-requires-clause-reach
-pass-requires-clause-reach c =
-    let l = c.loop-index.invariant in
-    rw c.deref-in-loop-index.ensures.value (has_reach c.args.parts.now (entries c.args.lines.now) c.args.walk.now.ends.items c.loop-index.index c.loop-index.reach (sym c.requires.walk.room) l.ruled l.ready)
-
 pub loop-index-preserved : goal.loop-index-preserved
 loop-index-preserved c =
     let es = entries c.args.lines.now in
     let l = c.loop-index in
     let here = c.entry-entry.ensures.here in
-    let place : IsPlace c.args.parts.now es l.index c.entry-entry.result l.rounds = record { here = here; valid = c.entry-entry.ensures.log.valid; rounds_here = l.invariant.rounds; borders = c.hints.ensures.borders; cut = c.requires.cut } in
-    let ready = rw (← c.deref-in-loop-index.ensures.value) at l.invariant.ready in
-    let back : IsBackTo es l.index l.reach.upto c.pass.new.self.upto = c.in_ok-pass.ensures.back es place ready in
+    let place : IsPlace l.reach.parts.now es l.index c.entry-entry.result l.rounds = rw l.invariant.parts (record { here = here; valid = c.entry-entry.ensures.log.valid; rounds_here = l.invariant.rounds; borders = c.hints.ensures.borders; cut = c.requires.cut }) in
+    let back : IsBackTo es l.index l.reach.upto c.pass.new.self.upto = c.in_ok-pass.ensures.back es place l.invariant.ready in
     record {
-      ruled = rw c.deref-in-loop-index.ensures.value at c.in_ok-pass.ensures.ruled;
-      ready = rw c.deref-in-loop-index.ensures.value at (c.in_ok-pass.ensures.ready es place ready);
+      parts = c.pass.ensures.parts ∙ l.invariant.parts;
+      ready = c.in_ok-pass.ensures.ready es place l.invariant.ready;
       rounds = c.advance.ensures es l.index c.entry-entry.ensures.log.order here l.invariant.rounds;
       back = let le = back.back in omega (arith, le, l.invariant.back);
       met = met_next es l.index l.reach.upto c.pass.new.self.upto back l.invariant.met;

@@ -1,14 +1,14 @@
-use Rattle.vic_walk.proofs.Words.{ℕ, ◌+◌, ◌<◌, ◌≤◌}
+use Rattle.vic_walk.proofs.Words.{◌≡◌, ℕ, ◌+◌, ◌<◌, ◌≤◌}
 use Rattle.vic_log.specs.OpenRounds.{IsCursorAt}
 use Rattle.vic_log.specs.Order.{entries}
 use Rattle.vic_walk.specs.Met.{AreMetBefore, IsMetAt}
-use Rattle.vic_walk.specs.inner.Reach.{AreRuled, IsReachAt}
+use Rattle.vic_walk.specs.inner.Reach.{IsReachAt}
 use Rattle.vic_walk.proofs.lacking.first_lack.Given as goal
 
 abbrev pub invariant-loop-index : goal.invariant-loop-index
 invariant-loop-index l = record {
-  ruled : AreRuled l.walk.ends.items l.reach.upto l.reach.ordered l.reach.ruled.items;
-  ready : IsReachAt l.parts (entries l.lines) l.walk.ends.items l.index l.reach;
+  parts : l.reach.parts.now ≡ l.parts;
+  ready : IsReachAt (entries l.lines) l.index l.reach;
   rounds : IsCursorAt (entries l.lines) l.index l.rounds;
   back : l.reach.upto ≤ l.upto;
   met : (j : ℕ) → j < l.index → j < l.reach.upto → IsMetAt (entries l.lines) l.reach.upto j;

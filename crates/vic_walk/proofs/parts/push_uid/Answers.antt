@@ -5,6 +5,6 @@ use Rattle.vic_walk.proofs.parts.push_uid.Goals as goal
 pub returns-clause-uid : goal.returns-clause-uid
 returns-clause-uid c =
     let own = c.key-own.ensures.value in (
-      subst (Contains c.push.new.self) own (c.in_ok-push.ensures.more.kept _ c.in_ok-push_maybe_asked.ensures.there),
+      subst (Contains c.push.new.self) own (c.in_ok-push.ensures.more.kept _ c.in_ok-push_asked.ensures.there),
       subst (λ (k : ℕ). Contains c.push.new.self (k + 1)) own c.in_ok-push.ensures.there,
     )

@@ -20,7 +20,7 @@ returns-in_ok-meet-in-Collision-clause-back c es place h =
 
 pub returns-in_ok-meet-in-Collision-clause-ready : goal.returns-in_ok-meet-in-Collision-clause-ready
 returns-in_ok-meet-in-Collision-clause-ready c es place h =
-    reach_still _ es _ c.args.at Collision _ (rw c.in-Collision.is at place.here) nothing_collision (c.in_ok-meet-in-Collision.ensures.ready es c.args.at h)
+    reach_still es c.args.at Collision _ (rw c.in-Collision.is at place.here) nothing_collision (c.in_ok-meet-in-Collision.ensures.ready es c.args.at h)
 
 pub returns-in_ok-meet-in-Garbled-clause-back : goal.returns-in_ok-meet-in-Garbled-clause-back
 returns-in_ok-meet-in-Garbled-clause-back c es place h =
@@ -29,7 +29,7 @@ returns-in_ok-meet-in-Garbled-clause-back c es place h =
 
 pub returns-in_ok-meet-in-Garbled-clause-ready : goal.returns-in_ok-meet-in-Garbled-clause-ready
 returns-in_ok-meet-in-Garbled-clause-ready c es place h =
-    reach_still _ es _ c.args.at Garbled _ (rw c.in-Garbled.is at place.here) nothing_garbled (c.in_ok-meet-in-Garbled.ensures.ready es c.args.at h)
+    reach_still es c.args.at Garbled _ (rw c.in-Garbled.is at place.here) nothing_garbled (c.in_ok-meet-in-Garbled.ensures.ready es c.args.at h)
 
 -- an entry that silences no UID, wakes none, and requires no tags
 abbrev IsIdle : Entry → Type 0
@@ -53,4 +53,4 @@ returns-in-Silent-clause-back c es place h =
 
 pub returns-in-Silent-clause-ready : goal.returns-in-Silent-clause-ready
 returns-in-Silent-clause-ready c es place h =
-    reach_past _ es _ c.args.at c.args.entry.now _ place.here (idle c).0 (idle c).1 h
+    reach_past es c.args.at c.args.entry.now _ place.here (idle c).0 (idle c).1 h

@@ -4,25 +4,21 @@ use Rattle.vic_walk.proofs.MarkLaws.{below_count, marked_without, marks_without}
 use Rattle.vic_walk.proofs.marks.Marks.take.Goals as goal
 
 pub clear-requires : goal.clear-requires
-clear-requires c = let lt = below_count _ _ _ _ c.self.view_is c.requires in let room = c.self.invariant.place_room in omega (arith, lt, room)
+clear-requires c = let lt = below_count _ _ _ _ c.self.view_is c.requires in let room = c.self.invariant.room in omega (arith, lt, room)
 
-pub clear_noted-requires-clause-room : goal.clear_noted-requires-clause-room
-clear_noted-requires-clause-room c = let lt = below_count _ _ _ _ c.self.view_is c.requires in let room = c.self.invariant.word_room in omega (arith, lt, room)
-
-pub clear_noted-requires-clause-notes_room : goal.clear_noted-requires-clause-notes_room
-clear_noted-requires-clause-notes_room c = let lt = below_count _ _ _ _ c.self.view_is c.requires in let room = c.self.invariant.group_room in omega (arith, lt, room)
+pub clear-requires-then-clear : goal.clear-requires-then-clear
+clear-requires-then-clear c = let lt = below_count _ _ _ _ c.self.view_is c.requires in let i = c.self.invariant in let room = i.room in let noted = i.noted.room in omega (arith, lt, room, noted)
 
 pub invariant_of-self : goal.invariant_of-self
 invariant_of-self c =
-    let place = c.clear.ensures in
-    let words = c.clear_noted.ensures in
-    marks_without _ _ _ _ _ _ _ _ place.cleared (noted_emptied _ _ _ _ _ place.cleared (c.if-clear.ensures.empty refl) words.cleared c.self.invariant.places_noted) words.noted place.size words.size words.notes_size c.self.invariant
+    let places = c.clear.ensures in
+    let words = c.clear-then-clear.ensures in
+    marks_without _ _ _ _ _ _ places.cleared (noted_emptied _ _ _ _ _ places.cleared (c.if-clear.ensures.empty refl) words.cleared places.size words.size c.self.invariant.noted) places.size c.self.invariant
 
 pub invariant_of-self-else-clear : goal.invariant_of-self-else-clear
 invariant_of-self-else-clear c =
-    let place = c.clear.ensures in
-    let i = c.self.invariant in
-    marks_without _ _ _ _ _ _ _ _ place.cleared (noted_left _ _ _ _ place.cleared (c.if-clear.ensures.left refl) i.places_noted) i.words_noted place.size refl refl i
+    let places = c.clear.ensures in
+    marks_without _ _ _ _ _ _ places.cleared (noted_left _ _ _ _ places.cleared (c.if-clear.ensures.left refl) places.size c.self.invariant.noted) places.size c.self.invariant
 
 pub returns-then-clear : goal.returns-then-clear
 returns-then-clear c = marked_without _ _ _ _ (below_count _ _ _ _ c.self.view_is c.requires) c.clear.ensures.cleared ∙ ap (λ m. set m c.args.place false) c.self.view_is

@@ -6,20 +6,20 @@ pub returns-in_ok-pass_request-in-Sent-clause-walk : goal.returns-in_ok-pass_req
 returns-in_ok-pass_request-in-Sent-clause-walk c es i e place h =
     let k = rw c.in-Sent.is at place.here in
     let w = c.in_ok-pass_request-in-Sent.ensures in
-    walk_unread _ es i _ c.args.self.now _ k (sent_none c.in-Sent.request) (w.ready es _ i k place.borders place.cut (ready_of _ es i _ h)) w.heard w.ends h
+    walk_unread _ es i _ c.args.self.now _ k (sent_none c.in-Sent.request) (w.ready es _ i k place.borders place.cut (ready_of _ es i _ h)) refl refl h
 
 pub returns-in-FieldCycle-clause-walk : goal.returns-in-FieldCycle-clause-walk
 returns-in-FieldCycle-clause-walk c es i e place h =
     let k = rw c.in-FieldCycle.is at place.here in
     let w = c.wake.ensures in
-    walk_unread _ es i _ c.args.self.now _ k cycle_none (ready_woken _ es _ i (i + 1) c.args.self.now _ (λ u. cycle_wakes es i u k) w.lasting w.room w.quiet (ready_of _ es i _ h)) w.heard w.ends h
+    walk_unread _ es i _ c.args.self.now _ k cycle_none (ready_woken _ es _ i (i + 1) c.args.self.now.open _ (λ u. cycle_wakes es i u k) w.lasting w.room w.quiet (ready_of _ es i _ h)) refl refl h
 
 pub returns-in-Silent-clause-walk : goal.returns-in-Silent-clause-walk
 returns-in-Silent-clause-walk c es i e place h =
     let k = rw c.in-Silent.is at place.here in
     let span = c.span_of.ensures.inside es i _ place (rw c.in-Silent.is refl) in
     let r = c.rule_out.ensures in
-    walk_read _ es i _ c.args.self.now _ (silent_rules_out _ es i c.span_of.result k span) (rw e at r.ruled_out) (λ u p is at. rw (r.heard, k) refl) (rw r.heard refl) h
+    walk_read _ es i _ c.args.self.now _ (silent_rules_out _ es i c.span_of.result k span) (rw e at r.ruled_out) (λ u p is at. rw (r.heard, k) refl) h
 
 pub returns-in-Silent-clause-fine : goal.returns-in-Silent-clause-fine
 returns-in-Silent-clause-fine c es i place h b =
@@ -35,7 +35,7 @@ returns-in-Heard-clause-walk c es i e place h =
     let is : IsUid r.uid = rw c.uid.ensures.value at c.key.ensures.is_uid in
     let own : IsPartOf c.args.parts.now (mirror r.uid) c.at_or_after-own.result = rw (c.key.ensures.value, c.uid.ensures.value) at c.at_or_after-own.ensures in
     let w = c.hear.ensures in
-    walk_read _ es i _ c.args.self.now _ (heard_rules_out _ es i c.at_or_after-own.result r c.span_of-span.result k is own place.borders place.cut span) (rw e at w.ruled_out) (λ u p is_u at. rw (w.heard p, heard_part _ es i u p r.uid c.at_or_after-own.result (heard_only es i r k) place.borders place.cut is is_u own at) refl) w.room h
+    walk_read _ es i _ c.args.self.now _ (heard_rules_out _ es i c.at_or_after-own.result r c.span_of-span.result k is own place.borders place.cut span) (rw e at w.ruled_out) (λ u p is_u at. rw (w.heard p, heard_part _ es i u p r.uid c.at_or_after-own.result (heard_only es i r k) place.borders place.cut is is_u own at) refl) h
 
 pub returns-in-Heard-clause-fine : goal.returns-in-Heard-clause-fine
 returns-in-Heard-clause-fine c es i place h b =
@@ -53,7 +53,7 @@ returns-in-Captured-clause-walk c es i e place h =
     let is : IsUid r.uid = rw c.uid-in-Captured.ensures.value at c.key-in-Captured.ensures.is_uid in
     let own : IsPartOf c.args.parts.now (mirror r.uid) c.at_or_after-own-in-Captured.result = rw (c.key-in-Captured.ensures.value, c.uid-in-Captured.ensures.value) at c.at_or_after-own-in-Captured.ensures in
     let w = c.hear_among.ensures in
-    walk_read _ es i _ c.args.self.now _ (captured_rules_out _ es i r k) (nothing_ruled_out _ _ (i + 1) w.lasting w.ends w.quiet) (λ u p is_u at. rw (w.heard p, heard_part _ es i u p r.uid c.at_or_after-own-in-Captured.result (captured_only es i r k) place.borders place.cut is is_u own at) refl) w.room h
+    walk_read _ es i _ c.args.self.now _ (captured_rules_out _ es i r k) (nothing_ruled_out _ _ (i + 1) w.open w.ends) (λ u p is_u at. rw (w.heard p, heard_part _ es i u p r.uid c.at_or_after-own-in-Captured.result (captured_only es i r k) place.borders place.cut is is_u own at) refl) h
 
 pub returns-in-Captured-clause-fine : goal.returns-in-Captured-clause-fine
 returns-in-Captured-clause-fine c es i place h b =

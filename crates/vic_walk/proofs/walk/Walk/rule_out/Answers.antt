@@ -5,4 +5,4 @@ use Rattle.vic_walk.proofs.walk.Walk.rule_out.Goals as goal
 pub loop-part-preserved : goal.loop-part-preserved
 loop-part-preserved c =
     let inv = c.loop-part.invariant in
-    rw c.has-lost.ensures (ruled_out_next c.args.self.now c.loop-part.self _ c.args.span c.loop-part.from c.args.end c.in-Some.part c.loop-part.lost c.in-Some.ensures.first c.in-Some.ensures.within (omega (arith, c.in-Some.ensures.within, c.requires.within, inv.room)) (omega (arith, inv.places, inv.room, c.requires.ends)) c.take.ensures refl refl refl inv)
+    rw c.has-lost.ensures (ruled_out_next c.args.self.now c.loop-part.self _ c.args.span c.loop-part.from c.args.end c.in-Some.part c.loop-part.lost c.in-Some.ensures.first c.in-Some.ensures.within (omega (arith, c.in-Some.ensures.within, c.requires, inv.room)) c.take.ensures refl refl refl inv)

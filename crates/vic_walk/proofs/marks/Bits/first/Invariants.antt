@@ -1,0 +1,7 @@
+use Rattle.vic_walk.specs.Marked.{NoneBetween}
+use Rattle.vic_walk.specs.inner.Bits.{is_set}
+use Rattle.std.proofs.Common.{◌*◌}
+use Rattle.vic_walk.proofs.marks.Bits.first.Given as goal
+
+abbrev pub invariant-loop-number : goal.invariant-loop-number
+invariant-loop-number l = NoneBetween (is_set l.self) l.from (l.number * 64)

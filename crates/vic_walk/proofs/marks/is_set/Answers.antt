@@ -1,6 +1,0 @@
-use Rattle.std.proofs.Common.{ap, ◌∙◌, ◌/◌, ◌%◌, ◌^◌, nat_eq}
-use Rattle.std.proofs.lemmas.Nat.Bits.{shr_and_one}
-use Rattle.vic_walk.proofs.marks.is_set.Goals as goal
-
-pub returns : goal.returns
-returns c = ap (λ b. nat_eq b 1) (shr_and_one c.word_at.result (c.args.bit % 64)) ∙ ap (λ w. nat_eq (w / 2 ^ (c.args.bit % 64) % 2) 1) c.word_at.ensures
