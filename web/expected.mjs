@@ -109,7 +109,7 @@ function refuseSwallowed(table) {
   for (const { row, cells } of [{ row: 1, cells: table.heads }, ...table.rows]) {
     const lines = cells.map((cell) => cell.split(/[\r\n]+/)).filter((it) => it.length > 1).flat();
     if (lines.flatMap((line) => line.split(table.separator)).some(isUid)) {
-      throw new Wrong(`${table.name}, row ${row}: a cell in quotes has a UID and a line end in it: is a quote missing?`);
+      throw new Wrong(`${table.name}, row ${row}: a cell in quotes has a UID and a line end in it: perhaps a quote is missing`);
     }
   }
   return table;

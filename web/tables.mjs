@@ -72,7 +72,7 @@ function cellsIn(name, text, separator) {
     if (quoted) at += quoted[0].length;
     let end = at;
     while (end < text.length && text[end] !== separator && text[end] !== "\n" && text[end] !== "\r") end++;
-    if (quoted && end > at) throw new Wrong(`${name}, row ${rows.length + 1}: text follows a cell in quotes: is a quote missing?`);
+    if (quoted && end > at) throw new Wrong(`${name}, row ${rows.length + 1}: text follows a cell in quotes: perhaps a quote is missing`);
     cells.push(quoted ? quoted[1].replace(/""/g, '"') : text.slice(at, end));
     at = end + 1;
     if (text[end] === separator) {

@@ -159,7 +159,7 @@ class Catalogues(Command):
         self.assertEqual([it.replace("\\x3b", ";") for it in cell.split("; ")], [one, other])
 
     def test_a_quote_that_swallows_rows(self):
-        is_missing = "a cell in quotes has {} and a line end in it: is a quote missing?"
+        is_missing = "a cell in quotes has {} and a line end in it: perhaps a quote is missing"
         for content in ('uid\ttitle\nE0040100000000A1\t"Surely\n{}\tRuler 12"\n',
                         'uid,title\rE0040100000000A1,"Surely\r{},b\rx,Ruler 12"\r'):
             name = self.catalogue(content.format("e0:04:01:00:00:00:00:b2"))

@@ -18,7 +18,7 @@ COLUMN = "uid"
 #: name itself, once more often than that one.
 #: Where an earlier run has written them they are replaced, and its unexpected tags left out.
 ADDED, TWIN, UNEXPECTED = ("state", "certain in", "may be in"), " (found)", "unexpected"
-SWALLOWED = "a cell in quotes has {} and a line end in it: is a quote missing?"
+SWALLOWED = "a cell in quotes has {} and a line end in it: perhaps a quote is missing"
 NAMES_IT = "name the one with the UIDs uid, or say by --column NAME which it is"
 NAMES_KEY = "--column NAME names the one by which --tags has the UIDs"
 
