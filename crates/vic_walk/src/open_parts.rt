@@ -62,8 +62,8 @@ impl OpenParts {
         ensures room { length self.new.lasting ≡ length self.old.lasting }
         ensures quiet { (p : ℕ) → has self.new.quiet.items p ≡ false }
     {
-        for part in &self.quiet {
-            self.lasting.put(*part);
+        for place in &self.quiet {
+            self.lasting.put(*place);
         }
         self.quiet.clear();
     }

@@ -8,26 +8,26 @@ same_self p = grind (arith, nat_tests)
 pub put-requires : goal.put-requires
 put-requires c =
     let ps = c.args.self.now.quiet.items in
-    let at = c.loop-part.part-index in
-    let within : at < length ps = rw c.deref-part-items.ensures.value at c.loop-part-test.true in
+    let at = c.loop-place.place-index in
+    let within : at < length ps = rw c.deref-place-items.ensures.value at c.loop-place-test.true in
     let short = c.args.self.now.listed (get_or ps at 0) (list_any_at (nat_eq (get_or ps at 0)) ps at 0 within (same_self _)) in
-    rw c.deref-part-items.ensures.value (omega (arith, short, c.loop-part.invariant.room))
+    rw c.deref-place-items.ensures.value (omega (arith, short, c.loop-place.invariant.room))
 
-pub loop-part-preserved : goal.loop-part-preserved
-loop-part-preserved c =
+pub loop-place-preserved : goal.loop-place-preserved
+loop-place-preserved c =
     let ps = c.args.self.now.quiet.items in
-    let at = c.loop-part.part-index in
+    let at = c.loop-place.place-index in
     let q = get_or ps at 0 in
-    let marks = c.loop-part.self.1.0 in
-    let put = rw c.deref-part-items.ensures.value at c.put.ensures in
-    let within : at < length ps = rw c.deref-part-items.ensures.value at c.loop-part-test.true in
+    let marks = c.loop-place.self.1.0 in
+    let put = rw c.deref-place-items.ensures.value at c.put.ensures in
+    let within : at < length ps = rw c.deref-place-items.ensures.value at c.loop-place-test.true in
     let short = c.args.self.now.listed q (list_any_at (nat_eq q) ps at 0 within (same_self q)) in
     record {
       marked = λ p. rw (put, list_any_more (nat_eq p) ps at 0 within) (elim (cases_eq p q) [
-        | inl here ↦ rw (here, marked_at marks q true (omega (arith, short, c.loop-part.invariant.room)), same_self q) (grind (arith, nat_tests))
+        | inl here ↦ rw (here, marked_at marks q true (omega (arith, short, c.loop-place.invariant.room)), same_self q) (grind (arith, nat_tests))
         | inr other ↦
             let no : nat_eq p q ≡ false = grind (arith, nat_tests) in
-            rw (marked_else marks q p true other, no, c.loop-part.invariant.marked p) (grind (arith, nat_tests))
+            rw (marked_else marks q p true other, no, c.loop-place.invariant.marked p) (grind (arith, nat_tests))
       ]);
-      room = rw put (length-set _ _ _ ∙ c.loop-part.invariant.room);
+      room = rw put (length-set _ _ _ ∙ c.loop-place.invariant.room);
     }
