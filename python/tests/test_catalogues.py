@@ -213,10 +213,18 @@ class Catalogues(Command):
         tags = self.write("tags.csv", b"uid,code\nE0040100000000A1,x17\nE0040100000000B2,x17\n")
         said = here("csv", catalogue, both, options=["--tags", tags, "--column", "Barcode"])
         self.assertEqual((said[0].count(";there;"), said[2]), (2, 0))
-        # what was written is a catalogue again, of one row for both tags
-        again = here("csv", self.catalogue(said[0]), both,
-                     options=["--tags", tags, "--column", "Barcode"])
-        self.assertEqual(again, said)
+
+    def test_what_was_written_with_tags_is_a_catalogue_again(self):
+        """A row with several tags is there once, and each row without a tag, even if it is equal
+        to another, or its number to a barcode."""
+        tags = self.write("tags.csv", b"uid,code\nE0040100000000A1,2\nE0040100000000B2,2\n")
+        name, options = self.catalogue("code\n5\n2\n5\n"), ["--tags", tags]
+        first = here("csv", name, self.both(), options=options)
+        self.assertEqual([row.split(",")[:2] for row in first[0].splitlines()[1:]],
+                         [["5", ""], ["2", "E0040100000000A1"], ["2", "E0040100000000B2"],
+                          ["5", ""]])
+        self.catalogue(first[0])
+        self.assertEqual(here("csv", name, self.both(), options=options), first)
 
     def test_places(self):
         catalogue = self.catalogue("uid,shelf\nE0040100000000A1,North\nE0040100000000B2,South\n")

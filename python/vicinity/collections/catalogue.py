@@ -136,11 +136,11 @@ def _without(table: Table, columns: Sequence[int]) -> Table:
 
 def _untagged(table: Table, uid_at: int) -> Table:
     """A table without the UIDs that an earlier run has added: rows that had several, each once."""
-    rows = dict[tuple[str, ...], tuple[int, list[str]]]()
+    rows: dict[object, tuple[int, list[str]]] = {}
     for row, cells in table.rows:
-        # those without a UID are rows of the catalogue, even if they are equal
         others = tuple(cells[:uid_at] + cells[uid_at + 1:])
-        rows.setdefault(others if cells[uid_at].strip() else (str(row),), (row, cells))
+        # those without a UID are rows of the catalogue, even if they are equal
+        rows.setdefault(others if cells[uid_at].strip() else row, (row, cells))
     return _without(table._replace(rows=list(rows.values())), [uid_at])
 
 
