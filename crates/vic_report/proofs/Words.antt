@@ -1,17 +1,17 @@
 -- The words of proofs, from one place: what files name from outside of the crate, and the definitions that several of them name.
-pub use Rattle.std.proofs.Common.{All, Bool, Equal, Err, Greater, Less, List, MatchOption, None, Ok, OnOk, Option, Result, Some, [], add-one, ap, arith, cond, false, filter, get_or, if◌then◌else◌, inl, inr, leb, length, length-append, ltb-true, map, nat_cmp, nat_eq, nat_le, not, option_map, refl, rules, slice_get, subst, suc, sym, take, true, zero, ℕ, ⊎_elim, ◌&&◌, ◌*◌, ◌++◌, ◌+◌, ◌-◌, ◌<◌, ◌||◌, ◌↔◌, ◌∙◌, ◌∷◌, ◌≡◌, ◌≤◌}
+pub use Rattle.std.proofs.Common.{All, Bool, Equal, Err, Greater, Less, List, MatchOption, MatchResult, None, Ok, OnOk, Option, Result, Some, [], add-one, ap, arith, cond, false, filter, get_or, if◌then◌else◌, inl, inr, is_ok, leb, length, length-append, ltb-true, map, nat_cmp, nat_eq, nat_le, ne_eqb, not, option_map, refl, rules, slice_get, subst, suc, sym, take, true, zero, ℕ, ⊎_elim, ◌&&◌, ◌*◌, ◌++◌, ◌+◌, ◌-◌, ◌<◌, ◌==◌, ◌||◌, ◌↔◌, ◌∙◌, ◌∷◌, ◌≡◌, ◌≤◌}
 pub use Rattle.std.proofs.lemmas.Bool.{and_from, and_parts, cases_Bool, cases_eq, cases_lt, cond_both, eq-eqb, eqb-true, false≢true, le-leb, leb-false, leb-true, not-true, not_from_false, true_from_ne_false}
 pub use Rattle.std.proofs.lemmas.Bool.Decides.{nat_tests}
 pub use Rattle.std.proofs.lemmas.Cmp.{ranked}
 pub use Rattle.std.proofs.lemmas.List.{get_or-map, get_or_default, length-map, map-append, map_push, take_all, take_more}
-pub use Rattle.std.proofs.lemmas.List.Elements.{All-get_or, All-push, filter_agree, filter_passes}
+pub use Rattle.std.proofs.lemmas.List.Elements.{All-from_get_or, All-get_or, All-push, filter_agree, filter_passes}
 pub use Rattle.std.proofs.lemmas.List.Filters.{dedup_is}
-pub use Rattle.std.proofs.lemmas.List.Kept.{AllPairs-filter}
-pub use Rattle.std.proofs.lemmas.List.Sorted.{answers_always, list_any-IsPermutation}
+pub use Rattle.std.proofs.lemmas.List.Kept.{AllPairs-filter, AllPairs-from_increasing}
+pub use Rattle.std.proofs.lemmas.List.Sorted.{answers_always, list_any-IsPermutation, searched}
 pub use Rattle.std.proofs.lemmas.Map.Keys.{IsStrictlyIncreasing-dedup}
 pub use Rattle.std.proofs.lemmas.Option.{get_or_from_slice_get, slice_get-map, slice_get_read, slice_get_within}
 pub use Rattle.std.specs.List.{AllPairs, HoldsAt, list_any}
-pub use Rattle.std.specs.List.Sorted.{IsNonDecreasingBy, IsPartitionPoint, IsStrictlyIncreasing}
+pub use Rattle.std.specs.List.Sorted.{IsBinarySearchResult, IsNonDecreasingBy, IsPartitionPoint, IsStrictlyIncreasing}
 pub use Rattle.std.specs.Ordering.{ordering_index}
 pub use Rattle.vic_frame.specs.Masks.{BitMask}
 pub use Rattle.vic_frame.specs.Uids.{IsUid, has}
@@ -30,7 +30,7 @@ pub use Rattle.vic_log.specs.Slots.{Forces, ManyReplies, SomeReply, is_open, rea
 pub use Rattle.vic_log.specs.declared.entry.Entry.{Entry}
 pub use Rattle.vic_log.specs.declared.entry.Entry.TheVariants.{Captured, Collision, FieldCycle, Garbled, Heard, Listed, Sent, Unknown}
 pub use Rattle.vic_log.specs.declared.entry.LogLine.{LogLine}
-pub use Rattle.vic_tree.proofs.GatheringLaws.{found_among, has_dedup}
+pub use Rattle.vic_tree.proofs.GatheringLaws.{has_dedup}
 pub use Rattle.vic_tree.specs.OpenSet.{SameUids, has_key, without_keys}
 pub use Rattle.vic_tree.specs.Ranges.{is_open_in}
 pub use Rattle.vic_tree.specs.declared.open_masks.OpenMasks.{OpenMasks}
@@ -55,3 +55,4 @@ pub use Rattle.vic_report.specs.Reports.{AreFindings, AreOpenMasks, IsReport, Is
 pub use Rattle.vic_report.specs.declared.shown.ShownUid.{ShownUid}
 pub use Rattle.vic_report.specs.inner.KeptLogs.{IsKeptLog, KeepsLine, SameQuiet, one_slot, with_slot}
 pub use Rattle.vic_report.specs.inner.SlotLines.{AreSlotLinesTo}
+pub use Rattle.std.proofs.lemmas.List.Folds.{list_any_at, list_any_none}

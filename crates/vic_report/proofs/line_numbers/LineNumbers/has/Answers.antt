@@ -1,4 +1,5 @@
-use Rattle.vic_report.proofs.Words.{◌∙◌, ap, found_among, has}
+use Rattle.vic_report.proofs.Words.{◌∙◌, ap, has}
+use Rattle.vic_report.proofs.Searching.{found_among}
 use Rattle.vic_report.proofs.line_numbers.LineNumbers.has.Goals as goal
 
 pub returns : goal.returns
