@@ -264,6 +264,7 @@ class Collection(Command):
         said, errors, status = within("compare", "old.json", "new.json")
         self.assertEqual((errors, status), (b"", 1))
         self.assertEqual(said.decode(), "".join([
+            "not counted to the end S39.log\n",
             "no longer provable E004015000000061 from S02.log: B00061, Title, 61, S02\n",
             "no longer provable E004015000000455: B00455, Title, 455, S10\n",
             "no longer provable E004015000001013: B01013, Title, 1013, S21\n",

@@ -1,7 +1,8 @@
 """Surveys of logs for other machines, and what has changed between two answers."""
 import json
+import os
 
-from cases import LIST_A, LIST_B, Command, here, log, within
+from cases import ALL, HEARD_A, LIST_A, LIST_B, Command, here, log, within
 
 
 class Surveys(Command):
@@ -19,6 +20,8 @@ class Surveys(Command):
                    {**told, "weakest": {"mask_len": 1, "mask_value": "2"}},
                    *[{**told, "certain": [{"uid": "E0040100000000A1", "line": line}]}
                      for line in (-1, 1.5, "3", True, float("inf"), 1 << 32)],
+                   *[{**told, key: of} for key in ("open", "certain") for of in ({}, "", None)],
+                   {**told, "margin": 0},
                    {key: told[key] for key in told if key != "open"}]
         for content in (good[:-9], b"x\n", *[json.dumps(it).encode() for it in changed]):
             name = self.write("surveys", good.replace(b"1.log", b"x.log") + content)
@@ -28,6 +31,19 @@ class Surveys(Command):
         name = self.write("surveys", good + good)
         self.assertIn(b"line 2: there is another survey of",
                       within("reconcile", "--expected", listed, "--surveys", name)[1])
+
+    def test_a_log_and_its_survey_are_not_both_used(self):
+        """One of them may be of an earlier count."""
+        name, again = self.names[1], os.path.join(self.folder, ".", "1.log")
+        words = ["--expected", self.write("listed", log(LIST_A)), "--surveys",
+                 self.write("surveys", within("survey", name)[0])]
+        self.assertEqual(within("reconcile", *words), (b"complete 1\n", b"", 0))
+        for one in name, again:
+            said, errors, status = within("reconcile", one, *words)
+            self.assertEqual((said, status), (b"", 3))
+            self.assertIn(b"1.log as well", errors)
+            more = self.write("more", within("survey", one)[0])
+            self.assertEqual(within("reconcile", *words, more)[2], 3)
 
     def test_surveys(self):
         listed = self.write("listed", log(LIST_A))
@@ -66,6 +82,8 @@ class Surveys(Command):
                 "may_be_in": []}
         told = {"schema": 1, "items": [item], "logs": [], "set_aside": []}
         changed = [{**told, "schema": 2}, {**told, "logs": [{"file": 1}]},
+                   *({**told, key: of} for key in ("items", "logs", "set_aside")
+                     for of in ({}, "")),
                    {**told, "items": [{"uid": "x"}]},
                    *({**told, "items": [{**item, **of}]} for of in (
                        {"uid": "x"}, {"state": "lost"}, {"columns": 1}, {"certain_in": [1]},
@@ -101,6 +119,20 @@ class Surveys(Command):
                  answer("new", "monday", ["y/a"], both)]
         self.assertEqual(within(*words),
                          (b"moved E0040100000000A1 from monday/x/a to monday/y/a\n", b"", 1))
+
+    def test_a_log_that_is_not_counted_to_the_end(self):
+        """Though its item is still there: others may be, which are not expected."""
+        listed = self.write("listed", log(LIST_A))
+        name = self.write("a.log", log(ALL + HEARD_A))
+        old = self.write("old", here("json", listed, name)[0].encode())
+        self.write("a.log", log(b"T 260104012214\n" + HEARD_A))
+        said, _, status = here("json", listed, name)
+        self.assertEqual(json.loads(said)["kind"], "unsettled")
+        new = self.write("new", said.encode())
+        said = f"not counted to the end {name}\n".encode()
+        self.assertEqual(within("compare", old, new), (said, b"", 1))
+        self.assertEqual(within("compare", new, old), (b"", b"", 0))
+        self.assertEqual(within("compare", new, new), (b"", b"", 0))
 
     def test_changes(self):
         def answer(name, *items):

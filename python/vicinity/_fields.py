@@ -109,6 +109,13 @@ def number_of(value: object) -> int:
     return value
 
 
+def list_of(value: object) -> list[Any]:
+    """A value that is a list. Raises ValueError if it isn't one."""
+    if not isinstance(value, list):
+        raise ValueError
+    return value
+
+
 def refusal(name: str, answer: Judged) -> str:
     """The line of the program for a text that is refused or impossible; else why there is none."""
     if isinstance(answer, str):

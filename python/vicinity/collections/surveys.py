@@ -13,7 +13,7 @@ from typing import Any, Callable, Iterator, Mapping, NamedTuple, Optional, Seque
 
 from .._answers import FindingKind, Kind, Mask, Survey, Weakest
 from .._calls import margin_listed, report, survey, with_captures
-from .._fields import (SCHEMA, Judged, answer_of, captured_of, fields, margin_fields,
+from .._fields import (SCHEMA, Judged, answer_of, captured_of, fields, list_of, margin_fields,
                        mask_fields, mask_of, number_of, object_of)
 from .._process import NO_ANSWER, NoAnswer, counted, read, shown, tried
 from ..frames import parse_uid, uid_text
@@ -178,11 +178,18 @@ def records(files: Sequence[tuple[str, bytes]]) -> list[Log]:
             except (ValueError, KeyError, TypeError, AttributeError):
                 raise Wrong(f"{shown(name)}, line {number}: "
                             "it isn't a survey as `survey` writes it") from None
-            if log.name in found:
+            if found.setdefault(os.path.normpath(log.name), log) is not log:
                 raise Wrong(f"{shown(name)}, line {number}: "
                             f"there is another survey of {shown(log.name)}")
-            found[log.name] = log
     return list(found.values())
+
+
+def refuse_twice(recorded: Sequence[Log], names: Sequence[str]) -> None:
+    """Refuses a log of which there is a survey as well: one of both is of an earlier count."""
+    surveyed = {os.path.normpath(log.name) for log in recorded}
+    for name in names:
+        if os.path.normpath(name) in surveyed:
+            raise Wrong(f"there is a survey of {shown(name)} as well: give one of both")
 
 
 def _recorded(said: dict[str, Any]) -> Log:
@@ -200,8 +207,11 @@ def _recorded(said: dict[str, Any]) -> Log:
             fields(answer_of(other)) if "kind" in other else mask_fields(mask_of(other)))}
     if answer.status > 1:
         return Log(name, answer, captured=captured)
-    pairs = sorted((parse_uid(it["uid"]), number_of(it["line"])) for it in said["certain"])
+    pairs = sorted((parse_uid(it["uid"]), number_of(it["line"])) for it in list_of(said["certain"]))
+    masks = [mask_of(it) for it in list_of(said["open"])]
     weakest = (Weakest(number_of(said["margin"]), mask_of(said["weakest"]))
                if "margin" in said else None)
-    return Log(name, answer, [uid for uid, _ in pairs], [mask_of(it) for it in said["open"]],
-               [line for _, line in pairs], captured, weakest)
+    if weakest is not None and (weakest.margin > 0) == bool(masks):
+        raise ValueError  # what was never missed is open, and nothing else
+    return Log(name, answer, [uid for uid, _ in pairs], masks, [line for _, line in pairs],
+               captured, weakest)

@@ -6,7 +6,7 @@ import json
 import os
 from typing import Any, Callable, Mapping, NamedTuple
 
-from .._fields import SCHEMA
+from .._fields import SCHEMA, list_of
 from .._process import REFUSED, complain, read, shown, write
 from ..collections.collection import State
 from ..collections.tables import Wrong
@@ -50,8 +50,11 @@ def compare(asked: argparse.Namespace) -> int:
                if (what := _change(was, now, name))]
     changes.sort(key=lambda it: (CHANGES.index(it.what), it.uid))
     aside, counted = set(map(name, old_aside)), set(map(name, new_logs))
+    to_ask = {name(log) for log, is_open in old_logs.items() if is_open}
     logs = [("newly set aside", log) for log in new_aside if name(log) not in aside]
     logs += [("no longer counted", log) for log in old_logs if name(log) not in counted]
+    logs += [("not counted to the end", log) for log, is_open in new_logs.items()
+             if is_open and log not in new_aside and name(log) not in to_ask]
     status = int(bool(changes or logs))
     if asked.form == "json":
         said = {"schema": SCHEMA, "status": status, "changes": list(map(_object, changes)),
@@ -62,28 +65,29 @@ def compare(asked: argparse.Namespace) -> int:
     return status
 
 
-def _answer(name: str) -> tuple[Mapping[str, Said], list[str], list[str]]:
-    """The answer of `reconcile` in a file: its items by their UIDs, its logs,
-    and those of them that are set aside. Raises Wrong."""
+def _answer(name: str) -> tuple[Mapping[str, Said], Mapping[str, bool], list[str]]:
+    """The answer of `reconcile` in a file: its items by their UIDs, its logs, with whether anything
+    is left to ask in their fields, and those of them that are set aside. Raises Wrong."""
     try:
         said = json.loads(read(name))
         items = {uid_text(parse_uid(it["uid"])): it
-                 for it in said["items"] if it["uid"] is not None}
+                 for it in list_of(said["items"]) if it["uid"] is not None}
         for item in items.values():
             State(item["state"]), item["columns"].values(), _names(item["certain_in"])
         if said["schema"] != SCHEMA:
             raise ValueError
-        logs, aside = (_names([it["file"] for it in said[key]]) for key in ("logs", "set_aside"))
-        return items, logs, aside
+        logs, aside = (_names([it["file"] for it in list_of(said[key])])
+                       for key in ("logs", "set_aside"))
+        return items, dict(zip(logs, (bool(it.get("open")) for it in said["logs"]))), aside
     except (ValueError, KeyError, TypeError, AttributeError):
         raise Wrong(f"{shown(name)} isn't an answer as `reconcile --json` writes it") from None
 
 
 def _names(said: Any) -> list[str]:
     """Names of logs. Raises ValueError if they aren't."""
-    if not isinstance(said, list) or not all(isinstance(name, str) for name in said):
+    if not all(isinstance(name, str) for name in list_of(said)):
         raise ValueError
-    return said
+    return list_of(said)
 
 
 def _change(old: Said, new: Said, name: Callable[[str], str]) -> str:

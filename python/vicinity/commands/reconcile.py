@@ -12,7 +12,7 @@ from .._process import (REFUSED, NoAnswer, complain, counted, names_of, read, te
 from ..collections.catalogue import How, catalogue
 from ..collections.collection import Collection
 from ..collections.places import Places, places_of
-from ..collections.surveys import Log, Surveys, record, records, survey_file
+from ..collections.surveys import Log, Surveys, record, records, refuse_twice, survey_file
 from ..collections.tables import Wrong
 from .forms import FORMS, notes, set_aside, small_margin
 
@@ -29,6 +29,7 @@ def reconcile(asked: argparse.Namespace) -> int:
         files = {what: (name, read(name)) for what, name in given.items() if name is not None}
         how = How(asked.column, asked.place, asked.encoding, files.get("tags"))
         expected, recorded = catalogue(*files["catalogue"], how), records(said)
+        refuse_twice(recorded, names)
         places = Places() if asked.place is None else places_of(
             expected, [*(log.name for log in recorded), *names], files.get("places"),
             asked.encoding)
