@@ -14,12 +14,12 @@ BARE = "#!/bin/sh\nexec /usr/bin/python3 -ISB \"$@\"\n"
 
 @pytest.fixture
 def check(release):
-    """Runs it over a folder with these variables besides: its status, and the lines printed."""
-    def ask(folder, **environment):
+    """Runs it over folders with these variables besides: its status, and the lines printed."""
+    def ask(*folders, **environment):
         found = {"PYTHONPATH": "python", "LIBVICINITY": str(release / "libvicinity.so")}
         script = Program("/bin/bash", TOP / "examples/nightly/check-shelves",
                          **found | environment)
-        said = script.run(str(folder))
+        said = script.run(*map(str, folders))
         return said.status, said.out.decode().splitlines()
     return ask
 
@@ -35,6 +35,21 @@ def written(folder, *logs):
 def test_the_worst_status(check, tmp_path, logs, status):
     found, lines = check(written(tmp_path, *logs))
     assert (found, len(lines)) == (status, sum(log != COMPLETE for log in logs))
+
+
+def test_each_folder_counts(check, tmp_path):
+    for name, log in [("good", COMPLETE), ("bad", OPEN)]:
+        (tmp_path / name).mkdir()
+        written(tmp_path / name, log)
+    status, lines = check(tmp_path / "good", tmp_path / "bad")
+    assert (status, len(lines)) == (1, 1)
+    assert check(tmp_path / "bad", tmp_path / "good") == (status, lines)
+
+
+@pytest.mark.parametrize("words", [[], ["-d"]])
+def test_without_a_folder(check, words):
+    """A word that find would take for an option is the name of a folder too."""
+    assert check(*words) == (NO_ANSWER, [])
 
 
 def test_a_log_is_found_by_its_ending_in_any_case_and_by_links(check, tmp_path):
@@ -77,3 +92,6 @@ def test_without_the_library(check, tmp_path):
 def test_without_a_log(check, tmp_path, folder):
     (tmp_path / "empty").mkdir()
     assert check(tmp_path / folder) == (NO_ANSWER, [])
+    (tmp_path / "full").mkdir()
+    full = written(tmp_path / "full", COMPLETE)
+    assert check(full, tmp_path / folder) == check(tmp_path / folder, full) == (NO_ANSWER, [])
