@@ -4,8 +4,9 @@
 
 SCHEDULER is the address of a Dask scheduler, such as tcp://shelf:8786, or a number of workers on
 this machine, which listen on its loopback alone. EXPECTED is a log with U lines alone. Each worker
-needs the package vicinity and reads its own logs, a batch at a time: only what a batch says
-together travels. The answer is the first line, and its status that of the program.
+needs the package vicinity, and has to see the same files under the same names. It reads logs a
+batch at a time: only what a batch says together travels. The answer is the first line, and its
+status that of the program.
 
 A log that can't be read, is refused or impossible, or ends the process that reads it, is named
 after the findings. It says nothing of its field: anything may be there, and the answer isn't
