@@ -7,6 +7,7 @@ import os
 import platform
 import pty
 import re
+import signal
 import subprocess
 import sys
 import tty
@@ -119,6 +120,26 @@ def test_an_example_of_which_standard_input_breaks_off_has_no_answer(example, la
         assert example(language, LIBRARIES[0]).run(stdin=broken)[::2] == (b"", 4)
 
 
+@pytest.mark.parametrize("language", ["c", "python"])
+def test_an_example_of_one_log_takes_no_more(example, language):
+    """In the other languages further files are logs to reconcile."""
+    check, whole = example(language, LIBRARIES[0]), TOP / "examples/whole-shelf.log"
+    for second in TOP / "examples/unfinished-count.log", whole, TOP / "nowhere", "":
+        out, err, status = check.run(whole, second)
+        assert (out, status) == (b"", 4) and re.fullmatch(rb"usage: check.*\n", err)
+
+
+@pytest.mark.parametrize("language", ["c", "python"])
+def test_an_example_that_cannot_write_has_no_answer(example, language):
+    check, whole = example(language, LIBRARIES[0]), TOP / "examples/whole-shelf.log"
+    with open("/dev/full", "wb") as full:
+        _, err, status = check.run(whole, stdout=full)
+        assert (err.count(b"\n"), status) == (1, 4)
+        assert check.run(whole, stdout=full, stderr=full).status == 4
+    # standard output is closed
+    assert check.run(whole, preexec_fn=lambda: os.close(1)).status == 4
+
+
 @pytest.mark.parametrize("by", LIBRARIES)
 @pytest.mark.parametrize("language", ["c", "python"])
 def test_a_reader_loop(example, language, by):
@@ -131,6 +152,46 @@ def test_a_reader_loop(example, language, by):
     assert rounds[0] < rounds[1]
     for word in "abc", "-1", "5x", "":
         assert loop.run(word)[::2] == (b"", 4)
+
+
+@pytest.mark.parametrize("language", ["c", "python"])
+def test_a_reader_loop_that_does_not_reach_its_margin(example, language):
+    """Its limit of rounds comes first, though the list is complete."""
+    loop, margin = example(language, LIBRARIES[0], "reader_loop"), ["--margin"] * (language != "c")
+    out, err, status = loop.run("3", *margin, "20000")
+    assert (out[:29], status) == (b"complete 3 after 20000 rounds", 1)
+    assert re.fullmatch(rb"stopped at the limit of 20000 rounds, with margin 199\d\d\n", err)
+
+
+def broken_off(folder, tmp_path, lines):
+    """reader_loop.c, with these lines where its chip would fill the slots of an Inventory."""
+    source = (TOP / "examples/c/reader_loop.c").read_text()
+    filled = "    for (uint32_t k = 0; k < request.slots; k++) {\n"
+    assert source.count(filled) == 1
+    (tmp_path / "loop.c").write_text(source.replace(filled, lines + filled))
+    return linked(folder, tmp_path / "loop", tmp_path / "loop.c")
+
+
+@pytest.mark.parametrize(("rounds", "said"), [
+    (1, b"unsettled 5 04"), (2, b"unsettled 56 9E3779B97F4A7C"), (8, b"complete 3")])
+def test_a_reader_loop_whose_chip_stops_hears_no_silence(folder, tmp_path, rounds, said):
+    """From some round on no slot is reached, and the margin rises no more."""
+    loop = broken_off(folder, tmp_path, f"    if (rounds >= {rounds})\n        return 0;\n")
+    out, err, status = loop.run("3", "5")
+    assert (out.partition(b" after 20000 rounds")[0], status) == (said, 1)
+    assert re.search(rb"with margin [0-4]\n$", err)
+
+
+@pytest.mark.parametrize("slots", [2, 16, 1 << 31])
+def test_a_reader_loop_whose_chip_tells_of_too_many_slots_ends(folder, tmp_path, slots):
+    """All of them are silent, in a round of one slot."""
+    loop = broken_off(folder, tmp_path, f"""    if (request.slots == 1) {{
+        for (uint32_t k = 0; k < SLOTS; k++)
+            held[k].letter = 'S';
+        return {slots}u;
+    }}
+""")
+    assert loop.run("3")[::2] == (b"", -signal.SIGABRT)
 
 
 @pytest.mark.parametrize("seed", "123")

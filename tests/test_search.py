@@ -1,6 +1,7 @@
 """The search of reader_loop.py in simulated fields, in which strong replies hide weaker ones, noise
 covers slots, and weak tags miss requests."""
 import random
+from collections.abc import Callable
 
 import pytest
 
@@ -29,7 +30,7 @@ def test_it_finds_all_tags_under_capture_and_noise(chances, fields, rounds):
     rounds on average."""
     taken = 0
     for search in searches(chances, fields):
-        assert search.run().is_complete and search.heard == search.field.uids
+        assert search.run().answer.is_complete and search.heard == search.field.uids
         taken += search.rounds
     assert taken < fields * rounds
 
@@ -39,7 +40,7 @@ def test_a_tag_that_is_missing_was_overlooked():
     that didn't answer where they were asked."""
     missing = complete = 0
     for search in searches(Chances(capture=0.3, miss=0.5, noise=0.05)):
-        if search.run().is_complete:
+        if search.run().answer.is_complete:
             complete += 1
             missing += len(search.field.uids - search.heard)
             assert search.field.uids - search.heard <= search.field.overlooked
@@ -49,15 +50,60 @@ def test_a_tag_that_is_missing_was_overlooked():
 
 def test_it_asks_until_the_margin_is_reached():
     for search in searches(Chances(capture=0.3), 20):
-        assert search.run(4).is_complete
-        assert search.check().weakest.margin == 4 and search.calls <= 3
+        answer, weakest = search.run(4)
+        assert answer.is_complete and weakest.margin == 4 and search.calls <= 3
 
 
 def test_a_greater_margin_leaves_fewer_tags_missing():
     """In as many fields as docs/READERS.md says."""
-    missing = [sum(search.run(margin).is_complete and search.heard != search.field.uids
+    missing = [sum(search.run(margin).answer.is_complete and search.heard != search.field.uids
                    for search in searches(Chances(miss=0.5))) for margin in (1, 2, 3, 5)]
     assert missing == [144, 48, 20, 3]
+
+
+def test_it_ends_at_the_limit_of_rounds(monkeypatch):
+    """The margin that it says is the one that it reached."""
+    monkeypatch.setattr(reader_loop, "MOST_ROUNDS", 30)
+    for search in searches(Chances(), 20):
+        answer, weakest = search.run(50)
+        assert answer.is_complete and 10 < weakest.margin < 30 == search.rounds
+
+
+class BrokenOff(Field):
+    """A reader that breaks each round off after so many slots, by the number of the round."""
+    slots: Callable[[int], int]
+    sent = 0
+
+    def transceive(self, frame):
+        held = super().transceive(frame)
+        self.sent += bool(held)
+        return held[:self.slots(self.sent)]
+
+
+def broken_off(slots, fields):
+    for search in searches(Chances(), fields):
+        search.field.__class__, search.field.slots = BrokenOff, slots
+        yield search
+
+
+@pytest.mark.parametrize("rest", [0, 1, 5])
+def test_slots_that_were_not_reached_are_no_silence(monkeypatch, rest):
+    """From some round on, at most so many slots are reached: what is complete has all tags."""
+    monkeypatch.setattr(reader_loop, "MOST_ROUNDS", 100)
+    complete = 0
+    for last in range(20):
+        for search in broken_off(lambda number: 16 if number <= last else rest, 10):
+            answer, weakest = search.run(5)
+            complete += answer.is_complete
+            assert not answer.is_complete or search.heard == search.field.uids
+            assert rest > 0 or weakest.margin <= last
+    assert complete > 0
+
+
+def test_it_finds_all_tags_if_rounds_break_off():
+    rng = random.Random(1)
+    for search in broken_off(lambda _: rng.choice((0, 1, 5, 16, 16, 16)), 100):
+        assert search.run().answer.is_complete and search.heard == search.field.uids
 
 
 def test_without_its_last_rounds_it_is_not_complete():

@@ -53,7 +53,7 @@ static struct slot listen(const struct vicinity_mask *mask)
     return held;
 }
 
-/* Sends a request, and returns how many slots it opened and what they held. */
+/* Sends a request, and returns how many slots were reached and what they held. */
 static uint32_t transceive(const struct vicinity_frame *frame, struct slot held[SLOTS])
 {
     struct vicinity_request request;
@@ -112,27 +112,29 @@ static int is_unread(char letter)
     return letter == 'C' || letter == 'D';
 }
 
-/* One round over a mask, noted in the log. Returns the letter of its last slot. */
+/* One round over a mask, noted in the log. Returns the letter of its last slot: N if it wasn't reached. */
 static char ask(uint32_t slots, const struct vicinity_mask *mask)
 {
     struct vicinity_frame frame;
     struct slot held[SLOTS];
     if (vicinity_write_inventory(LINK, slots, mask->len, mask->value, &frame))
         abort();
-    transceive(&frame, held);
+    const uint32_t reached = transceive(&frame, held);
+    if (reached > slots)
+        abort();
     note('T', &frame);
-    for (uint32_t k = 0; k < slots; k++) {
+    for (uint32_t k = 0; k < reached; k++) {
         const struct vicinity_frame none = {0};
         note(held[k].letter, held[k].letter == 'H' ? &held[k].reply : &none);
     }
-    for (uint32_t k = 0; k < slots; k++) {
+    for (uint32_t k = 0; k < reached; k++) {
         if (held[k].letter == 'H')
             silence(&held[k].reply);
         if (slots == SLOTS && is_unread(held[k].letter) && masks < MOST_TAGS * SLOTS)
             vicinity_slot_mask(slots, mask->len, mask->value, k, &to_ask[masks++]);
     }
     rounds++;
-    return held[slots - 1].letter;
+    return reached == slots ? held[slots - 1].letter : 'N';
 }
 
 /* Asks the tags of a mask in sixteen slots, and those of each slot that wasn't read. */
@@ -153,8 +155,8 @@ static void find(const struct vicinity_mask *mask, char letter)
             ask_on(mask);
 }
 
-/* The search, until the margin is reached. */
-static void find_all(size_t margin, struct vicinity_answer *answer)
+/* The search, until the margin or MOST_ROUNDS is reached. Returns the margin. */
+static size_t find_all(size_t margin, struct vicinity_answer *answer)
 {
     const struct vicinity_mask all = {0};
     struct vicinity_weakest weakest;
@@ -163,7 +165,7 @@ static void find_all(size_t margin, struct vicinity_answer *answer)
         vicinity_margin_listed((const uint8_t *)text, len, heard, count, answer, &weakest);
         calls++;
         if (rounds >= MOST_ROUNDS)
-            return;
+            return weakest.margin;
         if (answer->kind == VICINITY_UNSETTLED) {
             const struct vicinity_mask named = {0, answer->mask_len, answer->mask_value};
             cycle();
@@ -172,7 +174,7 @@ static void find_all(size_t margin, struct vicinity_answer *answer)
             for (size_t lacking = margin - weakest.margin; lacking > 0; lacking--)
                 find(&all, 'N');
         } else {
-            return;
+            return weakest.margin;
         }
     }
 }
@@ -200,8 +202,13 @@ int main(int argc, char **argv)
         transceive(&frame, NULL);
         note('T', &frame);
     }
-    find_all(margin, &answer);
+    const size_t reached = find_all(margin, &answer);
+    const int is_done = answer.kind == VICINITY_COMPLETE && reached >= margin;
     printf("%.*s after %zu rounds, %zu field cycles and %zu calls of the checker\n",
            (int)strcspn(answer.text, "\n"), answer.text, rounds, cycles, calls);
-    return answer.kind == VICINITY_COMPLETE && count == tags ? 0 : 1;
+    if (!is_done && rounds >= MOST_ROUNDS)
+        fprintf(stderr, "stopped at the limit of %d rounds, with margin %zu\n", MOST_ROUNDS, reached);
+    if (fflush(stdout) || ferror(stdout))
+        return 4;
+    return is_done && count == tags ? 0 : 1;
 }

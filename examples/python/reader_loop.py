@@ -57,7 +57,7 @@ class Field:
         self.ready = set(self.uids)
 
     def transceive(self, frame: bytes) -> list[Slot]:
-        """Sends a request, and returns each slot."""
+        """Sends a request, and returns each slot that was reached."""
         request = vicinity.read_request(frame)
         mask = request.mask if request.slots else vicinity.Mask(64, request.uid)
         asked = sorted(uid for uid in self.ready if lies_in(uid, mask))
@@ -99,7 +99,8 @@ class Search:
         return slots
 
     def ask(self, slots: int, mask: vicinity.Mask) -> list[str]:
-        """One round. Silences each tag that was heard, and returns the letter of each slot."""
+        """One round. Silences each tag that was heard, and returns the letter of each slot: N if
+        it wasn't reached."""
         self.rounds += 1
         held = self.send(vicinity.write_inventory(LINK, slots, mask))
         for _, reply in held:
@@ -107,7 +108,7 @@ class Search:
                 uid = vicinity.read_response(reply).uid
                 self.send(vicinity.write_stay_quiet(LINK, uid))
                 self.heard.add(uid)
-        return [letter for letter, _ in held]
+        return [letter for letter, _ in held] + ["N"] * (slots - len(held))
 
     def ask_on(self, mask: vicinity.Mask) -> None:
         """Asks the tags of a mask in sixteen slots, and those of each slot that wasn't read."""
@@ -130,11 +131,13 @@ class Search:
         self.calls += 1
         return vicinity.margin_listed(b"".join(self.lines), self.heard)
 
-    def run(self, margin: int = 1) -> vicinity.Answer:
-        """Searches until the margin is reached, and returns the checker's answer."""
+    def run(self, margin: int = 1) -> vicinity.Margin:
+        """Searches until the margin or MOST_ROUNDS is reached, and returns the checker's answer
+        and margin."""
         self.find(ALL)
-        answer, weakest = self.check()
+        found = self.check()
         while self.rounds < MOST_ROUNDS:
+            answer, weakest = found
             if answer.kind is vicinity.Kind.UNSETTLED:
                 self.field.cycle()
                 self.lines.append(vicinity.write_line("F"))
@@ -144,8 +147,8 @@ class Search:
                     self.find(ALL, "N")
             else:
                 break
-            answer, weakest = self.check()
-        return answer
+            found = self.check()
+        return found
 
 
 class Words(argparse.ArgumentParser):
@@ -173,10 +176,15 @@ def main() -> int:
     if uids:
         # a tag is silenced before it was heard
         search.send(vicinity.write_stay_quiet(LINK, min(uids)))
-    answer = search.run(given.margin)
+    answer, weakest = search.run(given.margin)
+    margin = weakest.margin if weakest else 0
+    is_done = answer.is_complete and margin >= given.margin
     print(f"{answer} after {search.rounds} rounds and {len(search.lines)} lines,"
           f" {search.calls} calls of the checker")
-    return 0 if answer.is_complete and search.heard == uids else 1
+    if not is_done and search.rounds >= MOST_ROUNDS:
+        print(f"stopped at the limit of {MOST_ROUNDS} rounds, with margin {margin}",
+              file=sys.stderr)
+    return 0 if is_done and search.heard == uids else 1
 
 
 if __name__ == "__main__":
