@@ -13,6 +13,8 @@
  *   bytes. `needed` points to one number, and any other pointer to a struct to one struct.
  * - All pointers are aligned, and none is NULL. Only a pointer before a length, count or room of 0
  *   may be any, NULL included: nothing is there.
+ * - A `text` that UIDs follow, as of vicinity_check_listed, ends with LF: otherwise its last line
+ *   may swallow the first of them, and the answer is about fewer.
  * - What is written overlaps nothing else that is passed.
  * - While the call runs, no other thread writes what it reads, or reads or writes what it writes.
  * - malloc, realloc and free belong to one allocator, which aligns to 16 bytes.
@@ -99,7 +101,10 @@ enum vicinity_refusal {
     VICINITY_WRONG_LETTER = 207 /* no line begins with it */
 };
 
-/* Fields that a kind does not use are 0. A struct of zeros is VICINITY_NO_ANSWER, not complete. */
+/*
+ * Fields that a kind does not use are 0. A struct of zeros is VICINITY_NO_ANSWER, not complete: its
+ * status 0 says nothing.
+ */
 struct vicinity_answer {
     uint32_t kind;       /* enum vicinity_kind */
     uint32_t status;     /* the exit status of `vicinity check`: 0 to 3, or 4 for no answer */

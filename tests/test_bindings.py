@@ -129,15 +129,20 @@ def test_an_example_of_one_log_takes_no_more(example, language):
         assert (out, status) == (b"", 4) and re.fullmatch(rb"usage: check.*\n", err)
 
 
-@pytest.mark.parametrize("language", ["c", "python"])
-def test_an_example_that_cannot_write_has_no_answer(example, language):
+@pytest.mark.parametrize("language", ["c", "cpp", "go", "rust", "python"])
+def test_an_example_that_cannot_write_has_no_answer(example, language, tmp_path):
+    """Nor a refusal."""
     check, whole = example(language, LIBRARIES[0]), TOP / "examples/whole-shelf.log"
+    refused = tmp_path / "refused.log"
+    refused.write_bytes(b"uid\n")
     with open("/dev/full", "wb") as full:
-        _, err, status = check.run(whole, stdout=full)
-        assert (err.count(b"\n"), status) == (1, 4)
-        assert check.run(whole, stdout=full, stderr=full).status == 4
-    # standard output is closed
-    assert check.run(whole, preexec_fn=lambda: os.close(1)).status == 4
+        for log in whole, refused:
+            _, err, status = check.run(log, stdout=full)
+            assert err and status == 4
+        assert check.run(whole, stdout=full, stderr=full).status
+    # standard output is closed, which Rust's std takes for success
+    if language != "rust":
+        assert check.run(whole, preexec_fn=lambda: os.close(1)).status == 4
 
 
 @pytest.mark.parametrize("by", LIBRARIES)

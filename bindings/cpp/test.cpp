@@ -3,6 +3,7 @@
 
 #include <cstdlib>
 #include <iostream>
+#include <utility>
 
 static int passed;
 
@@ -37,6 +38,13 @@ static void try_answers()
     IS(vicinity::check(SILENT).is_complete());
     IS(vicinity::check(SILENT).line_text() == "complete 0");
     IS(!vicinity::check("").is_complete());
+    // what no call returned, or what was moved away, is no answer
+    IS(vicinity::Answer().status == 4 && !vicinity::Answer().is_complete());
+    vicinity::Answer one = vicinity::check(SILENT), other(std::move(one));
+    IS(other.is_complete() && one.status == 4 && !one.is_complete());
+    one = std::move(other);
+    IS(one.is_complete() && other.status == 4 && !other.is_complete());
+    IS(!vicinity::Mask({65, 0}).holds(A));
     IS(vicinity::explain(ONE).population == std::vector<std::uint64_t>{A});
     IS(vicinity::report(ONE).findings.size() == 1);
     IS(vicinity::finding_text(vicinity::report(ONE).findings[0]) == "unlisted E0040100000000A1");
@@ -83,6 +91,8 @@ static void try_many()
     IS(vicinity::reconcile({A}, {one, one}).answer.is_complete());
     IS(vicinity::reconcile({A, B}, {one}).answer.line_text() == "absent E0040100000000B2");
     IS(thrown<vicinity::NoLogs>([] { vicinity::reconcile({}, {}); }) == "no logs");
+    vicinity::Survey read = vicinity::survey(ONE), kept(std::move(read));
+    IS(thrown<vicinity::NoLogs>([&] { vicinity::reconcile({A}, {kept, read}); }) == "no logs");
     IS(thrown<vicinity::NoLogs>([] { vicinity::reconcile({}, {vicinity::Survey()}); }) ==
        "no logs");
     IS(thrown<vicinity::Refused>([&] {

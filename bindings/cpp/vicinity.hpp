@@ -18,6 +18,7 @@
 #include <new>
 #include <stdexcept>
 #include <string>
+#include <utility>
 #include <vector>
 
 namespace vicinity
@@ -91,7 +92,11 @@ struct Mask {
     std::uint32_t len;
     std::uint64_t value;
 
-    bool holds(std::uint64_t uid) const { return len == 0 || (uid ^ value) << (64 - len) == 0; }
+    // Whether the UID is one of them. No UID has more than 64 bits.
+    bool holds(std::uint64_t uid) const
+    {
+        return len == 0 || (len <= 64 && (uid ^ value) << (64 - len) == 0);
+    }
 
     // As the program writes it, and as `vicinity spell` takes it.
     std::string text() const
@@ -107,6 +112,19 @@ struct Mask {
 
 // The answer to a text. Its fields are those of struct vicinity_answer.
 struct Answer : vicinity_answer {
+    // No answer: the kind is VICINITY_NO_ANSWER and the status 4. So is one that was moved away, and
+    // with it a Survey: without its masks it would say that nothing else can be there.
+    Answer() noexcept : vicinity_answer() { status = 4; }
+    Answer(const Answer &) = default;
+    Answer &operator=(const Answer &) = default;
+    Answer(Answer &&from) noexcept : Answer() { std::swap<vicinity_answer>(*this, from); }
+    Answer &operator=(Answer &&from) noexcept
+    {
+        Answer moved(std::move(from));
+        std::swap<vicinity_answer>(*this, moved);
+        return *this;
+    }
+
     // Whether the list is complete.
     bool is_complete() const { return kind == VICINITY_COMPLETE; }
 

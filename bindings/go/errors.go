@@ -5,8 +5,8 @@ import (
 	"fmt"
 )
 
-// outOfMemory is the status of a call whose memory was refused.
-const outOfMemory = 4
+// noAnswer is the status of what has no answer, as a call whose memory was refused.
+const noAnswer = 4
 
 // ErrOutOfMemory means that there is no answer because memory ran out.
 var ErrOutOfMemory = errors.New("vicinity: out of memory")

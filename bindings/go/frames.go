@@ -36,7 +36,7 @@ type Mask struct {
 
 // Holds reports whether a UID lies in the mask.
 func (mask Mask) Holds(uid UID) bool {
-	return (uint64(uid)^mask.Value)<<(64-mask.Len) == 0
+	return mask.Len <= 64 && (uint64(uid)^mask.Value)<<(64-mask.Len) == 0
 }
 
 // String returns the mask as the program writes it, and as `vicinity spell` takes it.

@@ -23,10 +23,11 @@ const HeaderLine = C.VICINITY_HEADER_LINE
 // firstRoom is how many elements a buffer has at first.
 const firstRoom = 64
 
-// Answer is the answer to a text. Fields that the kind doesn't use are zero.
+// Answer is the answer to a text. Fields that the kind doesn't use are zero. The zero Answer is none, though its Status is 0:
+// ask IsComplete.
 type Answer struct {
 	Kind   Kind
-	Status int // the exit status of the program: 0 is complete
+	Status int // the exit status of the program: 0 is complete, 4 no answer
 	Count  uint32
 	Line   uint32
 	Fault  Fault
@@ -192,11 +193,11 @@ func SurveyOf(text []byte) (Survey, error) {
 		found, err := answer(&told)
 		switch {
 		case err != nil:
-			return Survey{}, err
+			return Survey{Answer: found}, err
 		case found.Kind == Refused:
-			return Survey{}, &RefusedError{found.Line, found.Fault}
+			return Survey{Answer: found}, &RefusedError{found.Line, found.Fault}
 		case found.Kind == Impossible:
-			return Survey{}, &ImpossibleError{found.Line}
+			return Survey{Answer: found}, &ImpossibleError{found.Line}
 		case int(count) <= len(uids) && int(open) <= len(masks):
 			survey := Survey{Answer: found, Certain: uids[:count]}
 			for _, mask := range masks[:open] {
@@ -212,13 +213,13 @@ func SurveyOf(text []byte) (Survey, error) {
 // The surveys are one at least, each once or more. A UID that is expected twice is a *RefusedError.
 func Reconcile(expected []UID, surveys []Survey) (Answer, []Finding, error) {
 	if len(surveys) == 0 {
-		return Answer{}, nil, ErrNoLogs
+		return Answer{Status: noAnswer}, nil, ErrNoLogs
 	}
 	var certain []UID
 	var masks []C.struct_vicinity_mask
 	for _, survey := range surveys {
 		if kind := survey.Answer.Kind; kind < Complete || kind > Doubtful {
-			return Answer{}, nil, ErrNoLogs // it is none that SurveyOf returned
+			return Answer{Status: noAnswer}, nil, ErrNoLogs // it is none that SurveyOf returned
 		}
 		certain = append(certain, survey.Certain...)
 		for _, mask := range survey.OpenMasks {
@@ -231,7 +232,7 @@ func Reconcile(expected []UID, surveys []Survey) (Answer, []Finding, error) {
 	})
 	found, err := answer(&told)
 	if err == nil && found.Kind == Refused {
-		return Answer{}, nil, &RefusedError{found.Line, found.Fault}
+		return found, nil, &RefusedError{found.Line, found.Fault}
 	}
 	return found, findings(list), err
 }
@@ -244,7 +245,7 @@ func Simulate(text []byte) ([]byte, error) {
 		var needed C.size_t
 		status := C.vicinity_simulate(bytes(text), size(text), bytes(room), size(room), &needed)
 		switch {
-		case status == outOfMemory:
+		case status == noAnswer:
 			return nil, ErrOutOfMemory
 		case int(needed) > len(room):
 			room = make([]byte, needed)
@@ -300,7 +301,7 @@ func numbers(uids []UID) *C.uint64_t {
 
 func answer(told *C.struct_vicinity_answer) (Answer, error) {
 	if told.kind == C.VICINITY_NO_ANSWER {
-		return Answer{}, ErrOutOfMemory
+		return Answer{Status: noAnswer}, ErrOutOfMemory
 	}
 	return Answer{
 		Kind:   Kind(told.kind),

@@ -20,8 +20,16 @@ func ExampleCheck() {
 }
 
 func ExampleReconcile() {
-	expected, _ := Listed([]byte("vicinity-log 1\r\n# shelf 3\r\nU e0040100000000a1\r\nU E0040100000000B2\r\n"))
-	survey, _ := SurveyOf([]byte(one))
+	expected, err := Listed([]byte("vicinity-log 1\r\n# shelf 3\r\nU e0040100000000a1\r\nU E0040100000000B2\r\n"))
+	if err != nil {
+		fmt.Println(err) // without a list, nothing is expected
+		return
+	}
+	survey, err := SurveyOf([]byte(one))
+	if err != nil {
+		fmt.Println(err) // without its masks, nothing else could be there
+		return
+	}
 	answer, findings, err := Reconcile(expected, []Survey{survey})
 	fmt.Println(answer, err)
 	for _, it := range findings {
@@ -49,6 +57,29 @@ func TestListedRefuses(t *testing.T) {
 	}
 	if _, err := Listed([]byte(one)); !errors.Is(err, NotListed) {
 		t.Error(err)
+	}
+}
+
+// Whoever forgets the error of what has no answer ends with no status of a complete list.
+func TestNothingHasTheStatusOfACompleteListBesides(t *testing.T) {
+	good, err := SurveyOf([]byte(one))
+	if err != nil {
+		t.Fatal(err)
+	}
+	refused, _ := SurveyOf([]byte("nothing"))
+	impossible, _ := SurveyOf([]byte(silent + "T 260100F60A\nC\n"))
+	twice, _, _ := Reconcile([]UID{a, a}, []Survey{good})
+	none, _, _ := Reconcile(nil, nil)
+	after, _, _ := Reconcile(nil, []Survey{good, refused})
+	for wanted, found := range map[int][]Answer{2: {impossible.Answer}, 3: {refused.Answer, twice}, 4: {none, after}} {
+		for _, it := range found {
+			if it.Status != wanted || it.IsComplete() {
+				t.Error(it, wanted)
+			}
+		}
+	}
+	if (Answer{}).IsComplete() || (Mask{Len: 65}).Holds(a) {
+		t.Error("of nothing")
 	}
 }
 

@@ -23,10 +23,17 @@ static std::string read(const std::string &name, std::FILE *opened)
     return text;
 }
 
+// An answer that can't be written is none.
+static int show(const std::string &line, int status)
+{
+    if (!(std::cout << line << '\n').flush())
+        throw std::runtime_error("cannot write");
+    return status;
+}
+
 static int show(const vicinity::Answer &answer)
 {
-    std::cout << answer.line_text() << '\n';
-    return static_cast<int>(answer.status);
+    return show(answer.line_text(), static_cast<int>(answer.status));
 }
 
 static int check(const std::string &text)
@@ -59,11 +66,9 @@ static int run(const std::vector<std::string> &texts)
         return texts.size() == 1 ? check(texts[0])
                                  : reconcile(texts[0], {texts.begin() + 1, texts.end()});
     } catch (const vicinity::Refused &refused) {
-        std::cout << refused.what() << '\n';
-        return 3;
+        return show(refused.what(), 3);
     } catch (const vicinity::Impossible &impossible) {
-        std::cout << impossible.what() << '\n';
-        return 2;
+        return show(impossible.what(), 2);
     }
 }
 

@@ -23,7 +23,9 @@ func check(text []byte) (int, error) {
 	if err != nil {
 		return 0, err
 	}
-	fmt.Println(answer)
+	if _, err := fmt.Println(answer); err != nil {
+		return 0, err
+	}
 	for _, uid := range population {
 		fmt.Fprintln(os.Stderr, "U", uid)
 	}
@@ -59,7 +61,9 @@ func reconcile(list []byte, logs []string) (int, error) {
 	if err != nil {
 		return 0, err
 	}
-	fmt.Println(answer)
+	if _, err := fmt.Println(answer); err != nil {
+		return 0, err
+	}
 	for _, it := range findings {
 		if it.Kind == vicinity.FindingUnsettled {
 			fmt.Fprintln(os.Stderr, it.Kind, it.Mask)
@@ -90,12 +94,14 @@ func main() {
 	var impossible *vicinity.ImpossibleError
 	switch {
 	case errors.As(err, &refused):
-		fmt.Println(refused)
 		status = 3
+		_, err = fmt.Println(refused)
 	case errors.As(err, &impossible):
-		fmt.Println(impossible)
 		status = 2
-	case err != nil:
+		_, err = fmt.Println(impossible)
+	}
+	// also of what can't be written there is no answer
+	if err != nil {
 		fmt.Fprintln(os.Stderr, err)
 		status = 4
 	}

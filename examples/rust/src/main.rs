@@ -4,7 +4,8 @@
 
 use std::error::Error;
 use std::ffi::OsString;
-use std::io::Read;
+use std::fmt::Display;
+use std::io::{Read, Write};
 use std::process::ExitCode;
 use vicinity::{Answer, SurveyError, TextError};
 
@@ -71,20 +72,20 @@ fn main() -> ExitCode {
     if !vicinity::fits() {
         return ExitCode::from(4);
     }
-    match run(&files) {
-        Ok(answer) => {
-            println!("{answer}");
-            ExitCode::from(answer.status())
-        }
-        Err(error) => match status_of(&*error) {
-            Some(status) => {
-                println!("{error}");
-                ExitCode::from(status)
-            }
-            None => {
-                eprintln!("{error}");
-                ExitCode::from(4)
-            }
-        },
-    }
+    let ended = run(&files).and_then(|answer| shown(&answer, answer.status()));
+    ended
+        .or_else(|error| match status_of(&*error) {
+            Some(status) => shown(&error, status),
+            None => Err(error),
+        })
+        .unwrap_or_else(|error| {
+            eprintln!("{error}");
+            ExitCode::from(4)
+        })
+}
+
+/// Shows an answer. One that can't be written is none.
+fn shown(answer: &dyn Display, status: u8) -> Result<ExitCode, Box<dyn Error>> {
+    writeln!(std::io::stdout(), "{answer}")?;
+    Ok(ExitCode::from(status))
 }
