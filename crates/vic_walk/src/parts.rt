@@ -309,6 +309,7 @@ fn push_block(
 }
 
 /// Adds two borders. A walk asks for the first, and maybe for the other.
+#[inline(always)]
 fn push_both(borders: &mut Gathered, from: u64, end: u64, with_end: bool) -> Result<(), AllocError>
     requires from { IsBorder from }
     requires end { IsBorder end }
