@@ -326,6 +326,13 @@ def test_cpp_header(standard, folder):
          "vicinity.hpp", "-x", "c++", "/dev/null")
 
 
+@pytest.mark.parametrize("header", ("vicinity.h", "vicinity.hpp"))
+def test_cpp_header_after_those_of_qt(header):
+    """They have macros: that of the field `slots`, which stays, would take it from its struct."""
+    made("g++", *CPP, *STRICT, "-Iinclude", "-Dslots=", "-Dsignals=public", "-Demit=",
+         "-fsyntax-only", "-include", header, "-x", "c++", "/dev/null")
+
+
 def test_cpp_library(folder, tmp_path):
     tests = linked(folder, tmp_path / "test", *CPP, "-fsanitize=address,undefined",
                    "-fno-sanitize-recover=all", "bindings/cpp/test.cpp", compiler="g++")
