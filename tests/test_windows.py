@@ -1,6 +1,7 @@
 """The library and the commands for Windows, under wine. tests/test_rows.py and
 tests/test_reconcile.py ask them for the rows of tests/data/rows. Nothing here says how Windows
 itself behaves."""
+import pty
 import re
 
 import pytest
@@ -101,6 +102,12 @@ def test_a_full_disk(released, tmp_path):
         with open("/dev/full", "wb") as full:
             said = released.run(*words, given=LOG, stdout=full, cwd=tmp_path)
         assert said == (b"", b"vicinity: write failed\n", 4)
+
+
+def test_a_console_keeps_its_code_page(built, windows_release):
+    _, console = pty.openpty()
+    streams = dict.fromkeys(("stdin", "stdout", "stderr"), console)
+    assert built("code_page").run(cwd=windows_release, **streams).status == 0
 
 
 def test_a_pattern_stands_for_its_files(released, tmp_path):
