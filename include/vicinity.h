@@ -33,6 +33,8 @@
 #include <stdint.h>
 
 #ifdef __cplusplus
+#pragma push_macro("slots") /* which Qt has */
+#undef slots
 extern "C" {
 #endif
 
@@ -418,6 +420,7 @@ uint32_t vicinity_write_line(uint8_t letter, const uint8_t *bytes, size_t len, u
 
 #ifdef __cplusplus
 }
+#pragma pop_macro("slots")
 #endif
 
 #endif

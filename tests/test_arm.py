@@ -7,7 +7,7 @@ import re
 import pytest
 
 from helpers.lines import biglog
-from helpers.program import TOP, Program, linked
+from helpers.program import TOP, Program, linked, told
 
 LOGS = sorted(TOP.glob("examples/*.log"))
 # A search for so many tags has over 100,000 lines.
@@ -45,6 +45,16 @@ def test_the_example_answers_as_the_program(both, program, request, log):
 def test_the_reader_loop_answers_as_here(both):
     there, here = (one.run("40") for one in both("examples/c/reader_loop.c"))
     assert there == here and there.status == 0
+
+
+def test_the_example_in_go(arm_release, program, tmp_path):
+    """Built as the README of the bindings says."""
+    told("go", "build", "-buildvcs=false", "-o", tmp_path / "check", cwd=TOP / "examples/go",
+         CGO_ENABLED="1", GOARCH="arm64", CC="aarch64-linux-gnu-gcc",
+         CGO_CFLAGS=f"-I{arm_release}", CGO_LDFLAGS=f"-L{arm_release} -static")
+    check = Program("qemu-aarch64-static", tmp_path / "check")
+    for log in LOGS:
+        assert check.run(log)[::2] == program.run("check", log)[::2]
 
 
 @pytest.mark.slow

@@ -15,6 +15,7 @@ import tty
 import pytest
 
 from helpers.frames import hex_of
+from helpers.memory import shim
 from helpers.program import STRICT, TOP, Program, compiled, linked, told
 from helpers.rows import LIBRARIES
 
@@ -143,6 +144,19 @@ def test_an_example_that_cannot_write_has_no_answer(example, language, tmp_path)
     # standard output is closed, which Rust's std takes for success
     if language != "rust":
         assert check.run(whole, preexec_fn=lambda: os.close(1)).status == 4
+
+
+@pytest.mark.parametrize("language", ["c", "cpp", "go", "rust"])
+def test_an_example_that_is_refused_memory_has_no_answer(example, language, tmp_path):
+    """An allocation of C, each in turn: those of the library, and of the program where it is in C
+    or C++."""
+    check, whole = example(language, LIBRARIES[0]), TOP / "examples/whole-shelf.log"
+    refuse, statuses = shim("refuse", tmp_path), set()
+    for number in range(1, 80):
+        said = check.run(whole, env={**os.environ, "LD_PRELOAD": refuse, "REFUSED": str(number)})
+        assert said[::2] == (b"complete 4\n", 0) or said.out == b"" and said.status not in (0, 1)
+        statuses.add(said.status)
+    assert 4 in statuses
 
 
 @pytest.mark.parametrize("by", LIBRARIES)
@@ -324,6 +338,13 @@ def test_rust_library(rust_target):
 def test_cpp_header(standard, folder):
     made("g++", *CPP, f"-std={standard}", *STRICT, f"-I{folder}", "-fsyntax-only", "-include",
          "vicinity.hpp", "-x", "c++", "/dev/null")
+
+
+@pytest.mark.parametrize("header", ("vicinity.h", "vicinity.hpp"))
+def test_cpp_header_after_those_of_qt(header):
+    """They have macros: that of the field `slots`, which stays, would take it from its struct."""
+    made("g++", *CPP, *STRICT, "-Iinclude", "-Dslots=", "-Dsignals=public", "-Demit=",
+         "-fsyntax-only", "-include", header, "-x", "c++", "/dev/null")
 
 
 def test_cpp_library(folder, tmp_path):

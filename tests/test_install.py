@@ -72,6 +72,12 @@ def test_pkg_config_knows_the_version(pkg_config):
     assert pkg_config("--modversion") == [VERSION]
 
 
+def test_pkg_config_knows_any_prefix(release, tmp_path):
+    assert release and install("--prefix", "/opt/R&D|x", "--destdir", tmp_path) == 0
+    known = tmp_path / "opt/R&D|x/lib/pkgconfig/vicinity.pc"
+    assert known.read_text().splitlines()[:2] == ["prefix=/opt/R&D|x", "libdir=${prefix}/lib"]
+
+
 @pytest.mark.parametrize("source", EXAMPLES, ids=lambda source: source.stem)
 def test_an_example_with_the_shared_object_and_with_the_archive(root, pkg_config, tmp_path, source):
     compiled(tmp_path / "shared", source, *pkg_config("--cflags", "--libs"))

@@ -47,3 +47,10 @@ def test_each_allocation_is_refused(native, tmp_path):
     wrapped = "-Wl,--wrap=malloc,--wrap=realloc,--wrap=free"
     refused = linked(native.path.parent, tmp_path / "refused", "tests/c/calls_refused.c", wrapped)
     assert refused.run(*LOGS).status == 0
+
+
+def test_the_archive_with_another_c_library(native, program, tmp_path):
+    commands = linked(native.path.parent, tmp_path / "vicinity", "-std=c99", "-static",
+                      *TOP.glob("commands/*.c"), compiler="musl-gcc")
+    for log in LOGS:
+        assert commands.run("report", log) == program.run("report", log)

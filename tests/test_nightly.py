@@ -46,7 +46,7 @@ def test_each_folder_counts(check, tmp_path):
     assert check(tmp_path / "bad", tmp_path / "good") == (status, lines)
 
 
-@pytest.mark.parametrize("words", [[], ["-d"]])
+@pytest.mark.parametrize("words", [[], ["-d"], ["!"], ["("]])
 def test_without_a_folder(check, words):
     """A word that find would take for an option is the name of a folder too."""
     assert check(*words) == (NO_ANSWER, [])

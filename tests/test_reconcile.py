@@ -1,10 +1,12 @@
 """Reconciles logs with lists of what is expected, by the program and the commands in C: the rows of
 tests/data/rows/reconciliations, and files that fail."""
+import re
 import subprocess
 
 import pytest
 
 from helpers.lines import log_of, reconciled_rows
+from helpers.program import TOP, Program
 from helpers.rows import PROGRAMS
 
 # The names of the logs, in their order.
@@ -70,3 +72,13 @@ def test_what_is_before_a_text_that_would_end_the_run(reconcile, tmp_path, befor
 def test_a_full_disk(reconcile):
     with open("/dev/full", "wb") as full:
         assert reconcile("EXPECTED", "a", stdout=full) == (b"", b"vicinity: write failed\n", 4)
+
+
+def test_a_catalogue_that_is_not_there(program, tmp_path):
+    """What COLLECTIONS makes a list of. Of an empty one this shelf would be complete."""
+    page = (TOP / "docs/COLLECTIONS.md").read_text()
+    made = re.search(r"^\$ (sed .* > expected\.log)$", page, re.M)[1]
+    (tmp_path / "a").write_bytes(log_of("I1 S"))
+    Program("/bin/sh", "-c", made).run(cwd=tmp_path)
+    said = program.run("reconcile", "expected.log", "a", cwd=tmp_path)
+    assert said == (b"refused at line 1 of expected.log: Header\n", b"", 3)

@@ -1,6 +1,7 @@
 """The library and the commands for Windows, under wine. tests/test_rows.py and
 tests/test_reconcile.py ask them for the rows of tests/data/rows. Nothing here says how Windows
 itself behaves."""
+import pty
 import re
 
 import pytest
@@ -10,7 +11,7 @@ from helpers.lines import biglog, log_of
 from helpers.program import MAKE, TOP, Program, told
 
 CC = ("x86_64-w64-mingw32-gcc", "-O2", "-Wall", "-Wextra", "-Werror",
-      "-D__USE_MINGW_ANSI_STDIO=1", f"-I{TOP}/include", TOP / "tests/c/binary.c")
+      "-D__USE_MINGW_ANSI_STDIO=1", f"-I{TOP}/include")
 LOGS = sorted(str(log) for log in (TOP / "examples").glob("*.log"))
 LOG, EMPTY = log_of("I1 RA UA"), log_of("")
 READ = (b"complete 1\n", b"", 0)
@@ -35,7 +36,7 @@ def built(windows_release, wine, tmp_path_factory):
 
     def build(name, *words):
         made = folder / f"{name}.exe"
-        told(*CC, f"tests/c/{name}.c", *words, "-o", made)
+        told(*CC, "tests/c/binary.c", f"tests/c/{name}.c", *words, "-o", made)
         return Program(*wine.words, made)
     return build
 
@@ -83,6 +84,14 @@ def test_bytes_are_read_as_they_are(released, tmp_path):
     assert released.run("check", given=LOG + b"\x1a\n") == refused
 
 
+def test_the_example_reads_bytes_too(wine, windows_release, tmp_path):
+    """It is linked with the DLL itself. What comes before the byte 26 is complete."""
+    (tmp_path / "vicinity.dll").write_bytes((windows_release / "vicinity.dll").read_bytes())
+    told(*CC, "examples/c/check.c", tmp_path / "vicinity.dll", "-o", tmp_path / "check.exe")
+    said = Program(*wine.words, tmp_path / "check.exe").run(given=LOG + b"\x1a\n")
+    assert said == (b"refused at line 5: UnknownEntry\r\n", b"", 3)
+
+
 def test_a_folder_is_not_read(released):
     assert released.run("check", ".") == (b"", b"vicinity: read failed\n", 4)
 
@@ -93,6 +102,12 @@ def test_a_full_disk(released, tmp_path):
         with open("/dev/full", "wb") as full:
             said = released.run(*words, given=LOG, stdout=full, cwd=tmp_path)
         assert said == (b"", b"vicinity: write failed\n", 4)
+
+
+def test_a_console_keeps_its_code_page(built, windows_release):
+    _, console = pty.openpty()
+    streams = dict.fromkeys(("stdin", "stdout", "stderr"), console)
+    assert built("code_page").run(cwd=windows_release, **streams).status == 0
 
 
 def test_a_pattern_stands_for_its_files(released, tmp_path):

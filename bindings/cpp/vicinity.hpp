@@ -337,13 +337,13 @@ inline Margin margin_listed(const std::string &text, const std::vector<std::uint
 inline std::vector<std::uint32_t> overlooked(const std::string &text,
                                              const std::vector<std::uint64_t> &uids)
 {
-    std::vector<std::uint32_t> slots(uids.size());
+    std::vector<std::uint32_t> places(uids.size());
     Answer answer{};
     vicinity_overlooked(detail::bytes(text), text.size(), uids.data(), uids.size(), &answer,
-                        slots.data(), slots.size());
+                        places.data(), places.size());
     if (detail::answered(answer).kind == VICINITY_REFUSED)
         throw Refused(answer.line, answer.fault);
-    return slots;
+    return places;
 }
 
 // The UIDs, in rising order, of a text that only lists UIDs: a list of what is expected. Any other
@@ -434,11 +434,11 @@ inline std::string simulate(const std::string &text)
 
 // ---- frames and lines: each is a WrongFrame where it can't be made or read
 
-inline std::vector<std::uint8_t> write_inventory(std::uint32_t link, std::uint32_t slots,
+inline std::vector<std::uint8_t> write_inventory(std::uint32_t link, std::uint32_t slot_count,
                                                  Mask mask = Mask{0, 0})
 {
     vicinity_frame told;
-    vicinity_write_inventory(link, slots, mask.len, mask.value, &told);
+    vicinity_write_inventory(link, slot_count, mask.len, mask.value, &told);
     return detail::frame(told);
 }
 
@@ -480,10 +480,10 @@ inline vicinity_reply read_response(const std::vector<std::uint8_t> &frame)
 }
 
 // The mask of a slot, counted from 0, of an Inventory request: which UIDs answer in it.
-inline Mask slot_mask(std::uint32_t slots, Mask mask, std::uint32_t slot)
+inline Mask slot_mask(std::uint32_t slot_count, Mask mask, std::uint32_t slot)
 {
     vicinity_mask told;
-    detail::refuse(vicinity_slot_mask(slots, mask.len, mask.value, slot, &told));
+    detail::refuse(vicinity_slot_mask(slot_count, mask.len, mask.value, slot, &told));
     return {told.len, told.value};
 }
 

@@ -7,6 +7,10 @@
 #include <iostream>
 #include <memory>
 #include <stdexcept>
+#ifdef _WIN32
+#include <fcntl.h>
+#include <io.h>
+#endif
 
 // An error of reading must not look like the end of the text, as it does to a stream.
 static std::string read(const std::string &name, std::FILE *opened)
@@ -77,6 +81,9 @@ int main(int argc, char **argv)
     std::vector<std::string> texts;
     if (!vicinity::fits())
         return 4;
+#ifdef _WIN32 // as text, standard input would end at a byte 26
+    _setmode(_fileno(stdin), _O_BINARY);
+#endif
     try {
         for (int i = 1; i < argc; i++)
             texts.push_back(read(argv[i], std::fopen(argv[i], "rb")));

@@ -23,9 +23,6 @@ func check(text []byte) (int, error) {
 	if err != nil {
 		return 0, err
 	}
-	if _, err := fmt.Println(answer); err != nil {
-		return 0, err
-	}
 	for _, uid := range population {
 		fmt.Fprintln(os.Stderr, "U", uid)
 	}
@@ -37,7 +34,8 @@ func check(text []byte) (int, error) {
 		fmt.Fprintln(os.Stderr, "margin", weakest.Margin)
 		fmt.Fprintln(os.Stderr, "weakest", weakest.Mask)
 	}
-	return answer.Status, nil
+	_, err = fmt.Println(answer)
+	return answer.Status, err
 }
 
 func reconcile(list []byte, logs []string) (int, error) {

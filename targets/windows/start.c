@@ -64,8 +64,11 @@ int wmain(int count, wchar_t **wide)
         fputs("vicinity: out of memory\n", stderr);
         return NO_ANSWER;
     }
+    UINT before = GetConsoleOutputCP();
     SetConsoleOutputCP(CP_UTF8);
     for (int stream = 0; stream <= 2; stream++)
         _setmode(stream, _O_BINARY);
-    return vicinity_main(count, words);
+    int status = vicinity_main(count, words);
+    SetConsoleOutputCP(before);
+    return status;
 }
