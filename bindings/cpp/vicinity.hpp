@@ -337,13 +337,13 @@ inline Margin margin_listed(const std::string &text, const std::vector<std::uint
 inline std::vector<std::uint32_t> overlooked(const std::string &text,
                                              const std::vector<std::uint64_t> &uids)
 {
-    std::vector<std::uint32_t> places(uids.size());
+    std::vector<std::uint32_t> slot_counts(uids.size());
     Answer answer{};
     vicinity_overlooked(detail::bytes(text), text.size(), uids.data(), uids.size(), &answer,
-                        places.data(), places.size());
+                        slot_counts.data(), slot_counts.size());
     if (detail::answered(answer).kind == VICINITY_REFUSED)
         throw Refused(answer.line, answer.fault);
-    return places;
+    return slot_counts;
 }
 
 // The UIDs, in rising order, of a text that only lists UIDs: a list of what is expected. Any other
