@@ -237,6 +237,21 @@ class Streams(Command):
             self.assertEqual((errors, status),
                              (b"vicinity: cannot read -: Bad file descriptor\n", 4))
 
+    def test_a_pipe_that_is_not_waited_for(self):
+        """Its first half would be complete."""
+        for form in FORMS:
+            read, write = os.pipe()
+            os.set_blocking(read, False)
+            with open(write, "wb", buffering=0) as pipe:
+                pipe.write(COMPLETE)
+                ran = subprocess.run([sys.executable, "-m", "vicinity", *form, "-"], stdin=read,
+                                     stdout=subprocess.PIPE, stderr=subprocess.PIPE)
+            os.close(read)
+            self.assertEqual(ran.returncode, 4)
+            self.assertNotIn(b"complete 0", ran.stdout)
+            self.assertEqual(ran.stderr, b"vicinity: cannot read -: "
+                                         b"Resource temporarily unavailable\n")
+
     def test_an_interrupt_is_no_traceback(self):
         ran = subprocess.Popen([sys.executable, "-m", "vicinity", self.names[0], "-"],
                                stdin=subprocess.PIPE, stdout=subprocess.PIPE,
