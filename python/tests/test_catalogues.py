@@ -4,11 +4,13 @@ import csv
 import io
 import json
 import re
+from unittest import mock
 
-from cases import (A, ALL, FORMS_OF_RECONCILE, HEARD_A, HEARD_B, LIST_A, NOTHING, SIXTEEN, Command,
-                   here, log)
+from cases import (A, ALL, FORMS_OF_RECONCILE, HEARD_A, HEARD_B, LIST_A, LIST_B, NOTHING, SIXTEEN,
+                   Command, here, log)
 from helpers.records import drawn_in
 import vicinity
+from vicinity import _process
 from vicinity.collections.catalogue import How, catalogue
 from vicinity.collections.tables import Wrong
 
@@ -73,7 +75,9 @@ class Catalogues(Command):
                 (b"", "\t", "\r\n", "windows-1252", ["--encoding", "windows-1252"]),
                 (b"\xff\xfe", ";", "\r\n", "utf-16-le", []),
                 (b"\xfe\xff", ",", "\n", "utf-16-be", []),
-                (b"", "|", "\n", "utf-16-le", ["--encoding", "utf-16"])):
+                (b"", "|", "\n", "utf-16-le", ["--encoding", "utf-16"]),
+                (b"", ",", "\n", "utf-32-le", ["--encoding", "utf-32"]),
+                (b"", ",", "\r\n", "utf-8", ["--encoding", "utf-8-sig"])):
             for first in ("", f"sep={separator}{end}"):
                 for quote in ("", '"'):
                     def line(*cells):
@@ -91,6 +95,27 @@ class Catalogues(Command):
                                          (before + wanted.encode(encoding), "", 0),
                                          (given, options))
                         self.write("catalogue.csv", said)
+
+    def test_a_file_that_is_longer_than_any_log(self):
+        """A log is read no further, but of a catalogue every row counts."""
+        row = b"E0040100000000B2,Of the end\n"
+        for content in (b"uid,title\nE0040100000000A1,a\n" + b",b\n" * 100 + row,
+                        b"# .\n" * 100 + LIST_B):
+            name = self.catalogue(log(content) if b"#" in content else content)
+            with mock.patch.object(_process, "MOST_BYTES", 100):
+                said, _, status = here("lines", name, self.names[1])
+            self.assertEqual((said.splitlines()[0], status), ("absent E0040100000000B2", 1))
+
+    def test_names_that_the_locale_lacks(self):
+        plain = {"LC_ALL": "C", "PYTHONUTF8": "0", "PYTHONCOERCECLOCALE": "0"}
+        words = ["--expected", self.catalogue("uid,Ort\nE0040100000000A1,K\u00f6ln\n"),
+                 "--place", "Ort", "--places", self.write("places.csv", "place,log\n"
+                                                          "K\u00f6ln,0.log\n".encode())]
+        wanted = f"misplaced E0040100000000A1 in {self.names[1]}, belongs to K\u00f6ln\n"
+        self.assertEqual(self.ask(*words, *self.names[:2], **plain), (wanted.encode(), b"", 1))
+        said, errors, status = self.ask(*words, self.names[1], **plain)
+        self.assertEqual((said, status), (b"", 3))
+        self.assertIn("such as K\u00f6ln;".encode(), errors)
 
     def test_names_that_another_encoding_lacks(self):
         name = self.write("\u6f22.log", log(ALL + HEARD_A))
