@@ -106,6 +106,13 @@ class Catalogues(Command):
                 said, _, status = here("lines", name, self.names[1])
             self.assertEqual((said.splitlines()[0], status), ("absent E0040100000000B2", 1))
 
+    def test_a_cell_with_another_end_of_line_is_quoted(self):
+        for end, other in ("\n", "\r"), ("\r", "\n"), ("\r\n", "\r"), ("\r\n", "\n"):
+            name = self.catalogue(f'uid,title{end}E0040100000000A1,"a{other}b"{end}')
+            said = here("csv", name, self.names[1])[0]
+            self.assertEqual(said, f"uid,title,state,certain in,may be in{end}"
+                             f'E0040100000000A1,"a{other}b",there,{self.names[1]},{end}')
+
     def test_names_that_the_locale_lacks(self):
         plain = {"LC_ALL": "C", "PYTHONUTF8": "0", "PYTHONCOERCECLOCALE": "0"}
         words = ["--expected", self.catalogue("uid,Ort\nE0040100000000A1,K\u00f6ln\n"),

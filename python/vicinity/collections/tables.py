@@ -51,9 +51,11 @@ class Form(NamedTuple):
         yield self.mark + self.first.encode(self.encoding)
         for cells in rows:
             line = io.StringIO()
-            csv.writer(line, delimiter=self.separator, lineterminator=self.line_end,
+            # a cell is quoted if one of these is in it, whatever ends the lines
+            csv.writer(line, delimiter=self.separator, lineterminator="\r\n",
                        quoting=self.quoting).writerow(cells)
-            yield line.getvalue().encode(self.encoding, "backslashreplace")
+            text = line.getvalue().removesuffix("\r\n") + self.line_end
+            yield text.encode(self.encoding, "backslashreplace")
 
 
 class Table(NamedTuple):
