@@ -285,10 +285,13 @@ class Reconcile(Command):
     def test_no_log_at_all(self):
         listed = self.write("listed", log(LIST_A))
         empty = self.write("empty", b"")
-        for words in ([], ["--logs-from", empty], ["--logs-from", "-"], ["--"]):
+        for words, why in (([], "name at least one"), (["--"], "name at least one"),
+                           (["--logs-from", empty], f"{empty} names none"),
+                           (["--logs-from", empty, self.names[1]], f"{empty} names none"),
+                           (["--logs-from", "-"], "- names none")):
             said, errors, status = self.ask("--expected", listed, *words, given=b"")
             self.assertEqual((said, status), (b"", 4), words)
-            self.assertIn(b"no logs: name at least one", errors)
+            self.assertIn(f"no logs: {why}".encode(), errors)
         full = self.write("full", command("survey", self.names[1])[0])
         for files in ([empty], [full, empty]):
             said, errors, status = self.ask("--expected", listed, self.names[0],

@@ -15,7 +15,7 @@ import locale
 import os
 import signal
 import sys
-from typing import Any, Callable, Generator, Iterable, NoReturn, Sequence, TypeVar, Union
+from typing import Any, Callable, Generator, Iterable, NoReturn, Optional, Sequence, TypeVar, Union
 
 # Within these bytes, a longer log has a line that is too long, or too many lines:
 # 1,000,000 lines of 130 bytes, plus one.
@@ -110,13 +110,16 @@ def tried(name: str, call: Callable[[bytes], T]) -> Union[T, str]:
 
 
 def names_of(asked: argparse.Namespace, are_needed: bool = True) -> list[str]:
-    """The names of logs among the words, and those in a file, separated by NUL if there is any,
-    else by line ends."""
+    """The names of logs among the words, and those in files, separated by NUL if there is any,
+    else by line ends. Each of these files has to name one."""
     names = list(asked.names)
-    if asked.logs_from is not None:
-        listed = read(asked.logs_from)
+    for file in asked.logs_from:
+        listed = read(file)
         separator = b"\0" if b"\0" in listed else b"\n"
-        names += map(os.fsdecode, filter(None, listed.split(separator)))
+        within = list(map(os.fsdecode, filter(None, listed.split(separator))))
+        if not within:
+            raise NoAnswer(f"no logs: {shown(file)} names none")
+        names += within
     if are_needed and not names:
         raise NoAnswer("no logs: name at least one, or a file that lists them by --logs-from")
     return names
@@ -199,9 +202,24 @@ def has_unicode() -> bool:
     return locale.nl_langinfo(locale.CODESET).upper() in ("UTF-8", "UTF8")
 
 
+class Once(argparse.Action):
+    """An option that may be given once: of two values, one would be ignored."""
+
+    def __call__(self, parser: argparse.ArgumentParser, asked: argparse.Namespace, value: Any,
+                 option: Optional[str] = None) -> None:
+        if option in vars(asked).setdefault("once", []):
+            raise argparse.ArgumentError(self, "it is given twice")
+        asked.once += [option] * (option is not None)
+        setattr(asked, self.dest, value)
+
+
 class Words(argparse.ArgumentParser):
     """The arguments of a command. Its options may be anywhere before `--`;
     what comes after is names."""
+
+    def __init__(self, **given: Any):
+        super().__init__(**given)
+        self.register("action", None, Once)
 
     def parse(self, words: Sequence[str]) -> argparse.Namespace:
         at = words.index("--") if "--" in words else len(words)
