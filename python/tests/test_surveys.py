@@ -45,6 +45,9 @@ class Surveys(Command):
             self.assertIn(b"1.log as well", errors)
             more = self.write("more", within("survey", one)[0])
             self.assertEqual(within("reconcile", *words, more)[2], 3)
+        said, errors, status = within("reconcile", os.path.relpath(name), *words)
+        self.assertEqual((said, status), (b"", 3))
+        self.assertIn(b"1.log as well", errors)
 
     def test_surveys(self):
         listed = self.write("listed", log(LIST_A))

@@ -211,9 +211,9 @@ def records(files: Sequence[tuple[str, bytes]]) -> list[Log]:
 
 def refuse_twice(recorded: Sequence[Log], names: Sequence[str]) -> None:
     """Refuses a log of which there is a survey as well: one of both is of an earlier count."""
-    surveyed = {os.path.normpath(log.name) for log in recorded}
-    for name in names:
-        if os.path.normpath(name) in surveyed:
+    surveyed = {os.path.abspath(log.name) for log in recorded}
+    for name in names if surveyed else ():
+        if os.path.abspath(name) in surveyed:
             raise Wrong(f"there is a survey of {shown(name)} as well: give one of both")
 
 
