@@ -168,6 +168,20 @@ class Catalogues(Command):
                 self.assertEqual((said.splitlines()[0], status),
                                  ("unlisted E0040100000000B2", 1), (own, first))
 
+    def test_a_result_that_lacks_one_of_its_columns_is_refused(self):
+        """Its unexpected tag would be expected, and the answer complete."""
+        name = self.catalogue("uid,title\nE0040100000000A1,a\n")
+        rows = [*csv.reader(io.StringIO(here("csv", name, self.both())[0]))]
+        self.assertEqual([row[2] for row in rows], ["state", "there", "unexpected"])
+        for left in ((2,), (3,), (4,), (2, 3), (2, 4), (3, 4)):
+            name = self.catalogue("".join(
+                ",".join(row[at] for at in (0, 1, *left)) + "\n" for row in rows))
+            said, errors, status = here("lines", name, self.both())
+            self.assertEqual((said, status), ("", 3), left)
+            self.assertIn(f"row {3 if left == (2,) else 1}: of the columns state", errors)
+        name = self.catalogue("uid,state\nE0040100000000A1,worn\n")
+        self.assertEqual(here("lines", name, self.names[1]), ("complete 1\n", "", 0))
+
     def test_rows_without_a_tag(self):
         name = self.catalogue("title,uid\na,\nb,E0040100000000A1\nc, \n")
         self.assertEqual(here("lines", name, self.names[1]),
