@@ -445,6 +445,23 @@ def test_fleet_without_logs(fleet, texts):
     assert fleet(*texts(list="vicinity-log 1\n"))[::2] == (b"", 4)
 
 
+@pytest.mark.parametrize("scheduler", ["0", "", "shelf", "-1"])
+def test_fleet_without_workers(in_python, texts, scheduler):
+    """There is no answer; a status of 1 would be one."""
+    words = texts(list="vicinity-log 1\n", silent=SILENT)
+    said = in_python.run(TOP / "examples/python/fleet.py", scheduler, *words)
+    assert said[::2] == (b"", 4)
+
+
+@pytest.mark.parametrize("redirected", [">/dev/full", ">&-"])
+def test_answer_of_a_fleet_that_cannot_be_written(in_python, texts, redirected):
+    words = [*in_python.words, TOP / "examples/python/fleet.py", "1",
+             *texts(list="vicinity-log 1\n", silent=SILENT)]
+    said = subprocess.run(["sh", "-c", f'"$@" {redirected}', "sh", *words],
+                          env={**os.environ, **in_python.environment})
+    assert said.returncode == 4
+
+
 # A fleet in which the log of this name ends the process that reads it: always, or once.
 KILLING = """
 import os, signal, sys

@@ -108,6 +108,8 @@ def test_a_cell_in_quotes_may_have_anything_but_a_row(drop):
         "complete", {"title": f'a "b", \nnot {UID_B},\nwhich is lost'})
 
 
+BOTH = "\n".join(["vicinity-log 1", "T 060100CD09", "S", READ_A, READ_B, *"S" * 13, QUIET_A,
+                  QUIET_B, "T 260100F60A", "S", ""])
 # The columns of a result of `reconcile --csv`, by those that the catalogue has itself.
 FOUND = {
     "none": "uid,state,certain in,may be in",
@@ -125,10 +127,17 @@ def test_what_was_unexpected_is_not_expected_the_next_time(drop, name):
     rows = {UID_A: "there", UID_B: "unexpected"}
     cells = [[{"uid": uid, state: said}.get(head, "worn" if head == "state" else "")
               for head in heads] for uid, said in rows.items()]
-    both = "\n".join(["vicinity-log 1", "T 060100CD09", "S", READ_A, READ_B, *"S" * 13, QUIET_A,
-                      QUIET_B, "T 260100F60A", "S", ""])
-    said = drop({"both.log": both, "found.csv": "\n".join(map(",".join, [heads, *cells]))})
+    said = drop({"both.log": BOTH, "found.csv": "\n".join(map(",".join, [heads, *cells]))})
     assert (said["kind"], said["uid"]) == ("unlisted", UID_B)
+
+
+@pytest.mark.parametrize("left", [(1,), (2,), (3,), (1, 2), (1, 3), (2, 3)], ids=str)
+def test_a_result_that_lacks_one_of_its_columns_is_refused(drop, left):
+    rows = [["uid", "state", "certain in", "may be in"], [UID_A, "there", "both.log", ""],
+            [UID_B, "unexpected", "both.log", ""]]
+    cut = "\n".join(",".join(row[at] for at in (0, *left)) for row in rows)
+    said = drop({"both.log": BOTH, "found.csv": cut})
+    assert said["error"].startswith("found.csv: of the columns state, certain in and may be in")
 
 
 @pytest.mark.parametrize(("table", "head"), [

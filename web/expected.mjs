@@ -17,6 +17,8 @@ const MOST_HEADS = 12;
 /** The columns that `reconcile --csv` has added, what stands behind such a name once more than behind the catalogue's own, and the state of
  *  rows that it has. */
 const ADDED = ["state", "certain in", "may be in"], TWIN = " (found)", UNEXPECTED = "unexpected";
+const CUT = "of the columns state, certain in and may be in, which reconcile --csv has written, one is missing: leave all three, or delete " +
+  "them and the rows of unexpected tags";
 
 /**
  * @param {Library} library
@@ -62,12 +64,17 @@ function found(heads) {
 }
 
 /**
- * A table without what an earlier run has added.
+ * A table without what an earlier run has added. One that lacks a part of that is refused: its unexpected tags would be expected.
  * @param {import("./tables.mjs").Table} table
  */
 function withoutAdded(table) {
-  const added = ADDED.map((name) => lastAdded(table.heads, name));
-  if (added.includes(-1)) return table;
+  const added = ADDED.map((name) => lastAdded(table.heads, name)), [state] = added;
+  if (added.includes(-1)) {
+    const isCut = table.heads.some((head) => ADDED.indexOf(head.toLowerCase()) > 0) ||
+      table.rows.some(({ cells }) => cells[state]?.trim() === UNEXPECTED);
+    if (isCut) throw new Wrong(`${table.name}: ${CUT}`);
+    return table;
+  }
   const kept = (/** @type {string[]} */ cells) => cells.filter((_, at) => !added.includes(at));
   return { ...table, heads: kept(table.heads), rows: table.rows.filter(({ cells }) => cells[added[0]].trim() !== UNEXPECTED)
     .map(({ row, cells }) => ({ row, cells: kept(cells) })) };

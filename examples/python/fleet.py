@@ -97,6 +97,8 @@ def client_of(scheduler: str) -> Client:
 
 
 def main(scheduler: str, expected: str, names: list[str]) -> int:
+    # before Dask opens anything, which would get the number of a stream that is closed
+    out = open(1, "w", closefd=False, errors="surrogateescape")
     with open(expected, "rb") as file:
         uids = vicinity.listed(file.read())
     with client_of(scheduler) as client:
@@ -104,14 +106,13 @@ def main(scheduler: str, expected: str, names: list[str]) -> int:
     nothing = vicinity.survey(vicinity.HEADER_LINE)  # nobody was asked: anything may be there
     told = vicinity.Survey(nothing.answer, list(certain), list(masks))
     report = vicinity.reconcile(uids, [told, nothing] if silent else [told])
-    print(report)
-    for name in sorted(silent):
-        print(f"{name}: {silent[name]}")
+    why = (f"{name}: {silent[name]}" for name in sorted(silent))
+    print(report, *why, sep="\n", file=out, flush=True)  # or a full disk would be noticed at exit
     return report.answer.status
 
 
 if __name__ == "__main__":
-    if len(sys.argv) < 4:
+    if len(sys.argv) < 4 or sys.argv[1].strip("0") == "":
         print(__doc__, file=sys.stderr)
         sys.exit(NO_ANSWER)
     try:
@@ -119,6 +120,6 @@ if __name__ == "__main__":
     except vicinity.ListFault as fault:
         print(fault)
         sys.exit(fault.answer.status)
-    except (OSError, ImportError, MemoryError) as error:
-        print(error, file=sys.stderr)
+    except Exception as error:  # Python itself would end with 1, which means 'not complete'
+        print(f"{type(error).__name__}: {error}", file=sys.stderr)
         sys.exit(NO_ANSWER)

@@ -4,11 +4,13 @@ import csv
 import io
 import json
 import re
+from unittest import mock
 
-from cases import (A, ALL, FORMS_OF_RECONCILE, HEARD_A, HEARD_B, LIST_A, NOTHING, SIXTEEN, Command,
-                   here, log)
+from cases import (A, ALL, FORMS_OF_RECONCILE, HEARD_A, HEARD_B, LIST_A, LIST_B, NOTHING, SIXTEEN,
+                   Command, here, log)
 from helpers.records import drawn_in
 import vicinity
+from vicinity import _process
 from vicinity.collections.catalogue import How, catalogue
 from vicinity.collections.tables import Wrong
 
@@ -73,7 +75,9 @@ class Catalogues(Command):
                 (b"", "\t", "\r\n", "windows-1252", ["--encoding", "windows-1252"]),
                 (b"\xff\xfe", ";", "\r\n", "utf-16-le", []),
                 (b"\xfe\xff", ",", "\n", "utf-16-be", []),
-                (b"", "|", "\n", "utf-16-le", ["--encoding", "utf-16"])):
+                (b"", "|", "\n", "utf-16-le", ["--encoding", "utf-16"]),
+                (b"", ",", "\n", "utf-32-le", ["--encoding", "utf-32"]),
+                (b"", ",", "\r\n", "utf-8", ["--encoding", "utf-8-sig"])):
             for first in ("", f"sep={separator}{end}"):
                 for quote in ("", '"'):
                     def line(*cells):
@@ -91,6 +95,34 @@ class Catalogues(Command):
                                          (before + wanted.encode(encoding), "", 0),
                                          (given, options))
                         self.write("catalogue.csv", said)
+
+    def test_a_file_that_is_longer_than_any_log(self):
+        """A log is read no further, but of a catalogue every row counts."""
+        row = b"E0040100000000B2,Of the end\n"
+        for content in (b"uid,title\nE0040100000000A1,a\n" + b",b\n" * 100 + row,
+                        b"# .\n" * 100 + LIST_B):
+            name = self.catalogue(log(content) if b"#" in content else content)
+            with mock.patch.object(_process, "MOST_BYTES", 100):
+                said, _, status = here("lines", name, self.names[1])
+            self.assertEqual((said.splitlines()[0], status), ("absent E0040100000000B2", 1))
+
+    def test_a_cell_with_another_end_of_line_is_quoted(self):
+        for end, other in ("\n", "\r"), ("\r", "\n"), ("\r\n", "\r"), ("\r\n", "\n"):
+            name = self.catalogue(f'uid,title{end}E0040100000000A1,"a{other}b"{end}')
+            said = here("csv", name, self.names[1])[0]
+            self.assertEqual(said, f"uid,title,state,certain in,may be in{end}"
+                             f'E0040100000000A1,"a{other}b",there,{self.names[1]},{end}')
+
+    def test_names_that_the_locale_lacks(self):
+        plain = {"LC_ALL": "C", "PYTHONUTF8": "0", "PYTHONCOERCECLOCALE": "0"}
+        words = ["--expected", self.catalogue("uid,Ort\nE0040100000000A1,K\u00f6ln\n"),
+                 "--place", "Ort", "--places", self.write("places.csv", "place,log\n"
+                                                          "K\u00f6ln,0.log\n".encode())]
+        wanted = f"misplaced E0040100000000A1 in {self.names[1]}, belongs to K\u00f6ln\n"
+        self.assertEqual(self.ask(*words, *self.names[:2], **plain), (wanted.encode(), b"", 1))
+        said, errors, status = self.ask(*words, self.names[1], **plain)
+        self.assertEqual((said, status), (b"", 3))
+        self.assertIn("such as K\u00f6ln;".encode(), errors)
 
     def test_names_that_another_encoding_lacks(self):
         name = self.write("\u6f22.log", log(ALL + HEARD_A))
@@ -135,6 +167,20 @@ class Catalogues(Command):
                 said, _, status = here("lines", name, self.both())
                 self.assertEqual((said.splitlines()[0], status),
                                  ("unlisted E0040100000000B2", 1), (own, first))
+
+    def test_a_result_that_lacks_one_of_its_columns_is_refused(self):
+        """Its unexpected tag would be expected, and the answer complete."""
+        name = self.catalogue("uid,title\nE0040100000000A1,a\n")
+        rows = [*csv.reader(io.StringIO(here("csv", name, self.both())[0]))]
+        self.assertEqual([row[2] for row in rows], ["state", "there", "unexpected"])
+        for left in ((2,), (3,), (4,), (2, 3), (2, 4), (3, 4)):
+            name = self.catalogue("".join(
+                ",".join(row[at] for at in (0, 1, *left)) + "\n" for row in rows))
+            said, errors, status = here("lines", name, self.both())
+            self.assertEqual((said, status), ("", 3), left)
+            self.assertIn(f"row {3 if left == (2,) else 1}: of the columns state", errors)
+        name = self.catalogue("uid,state\nE0040100000000A1,worn\n")
+        self.assertEqual(here("lines", name, self.names[1]), ("complete 1\n", "", 0))
 
     def test_rows_without_a_tag(self):
         name = self.catalogue("title,uid\na,\nb,E0040100000000A1\nc, \n")

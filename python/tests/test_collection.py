@@ -4,6 +4,8 @@ import csv
 import io
 import json
 import os
+import subprocess
+import sys
 import unittest
 from hashlib import sha256
 from unittest import mock
@@ -283,10 +285,13 @@ class Reconcile(Command):
     def test_no_log_at_all(self):
         listed = self.write("listed", log(LIST_A))
         empty = self.write("empty", b"")
-        for words in ([], ["--logs-from", empty], ["--logs-from", "-"], ["--"]):
+        for words, why in (([], "name at least one"), (["--"], "name at least one"),
+                           (["--logs-from", empty], f"{empty} names none"),
+                           (["--logs-from", empty, self.names[1]], f"{empty} names none"),
+                           (["--logs-from", "-"], "- names none")):
             said, errors, status = self.ask("--expected", listed, *words, given=b"")
             self.assertEqual((said, status), (b"", 4), words)
-            self.assertIn(b"no logs: name at least one", errors)
+            self.assertIn(f"no logs: {why}".encode(), errors)
         full = self.write("full", command("survey", self.names[1])[0])
         for files in ([empty], [full, empty]):
             said, errors, status = self.ask("--expected", listed, self.names[0],
@@ -339,6 +344,55 @@ class Reconcile(Command):
             self.write("a.log", text)
             with self.assertRaisesRegex(NoAnswer, "a.log has changed since"):
                 list(forms.as_lines(found))
+
+    def test_a_log_that_changes_and_has_the_same_answer(self):
+        """What is said of the first is never said beside the second."""
+        listed = self.write("listed", log(LIST_A + LIST_B))
+        name = self.write("a.log", log(ALL + HEARD_A))
+        found = Collection(catalogue(listed, log(LIST_A + LIST_B)), surveys.Surveys([name]))
+        self.assertEqual(found.overlooked(), {B: 1})
+        [told] = drawn_in("".join(forms.as_page(found)))[0]["logs"]
+        self.assertEqual(told["object"]["lines"], 3)
+        self.write("a.log", log(ALL + HEARD_A + ALL + HEARD_A))
+        self.assertEqual(vicinity.survey(log((ALL + HEARD_A) * 2)),
+                         vicinity.survey(log(ALL + HEARD_A)))
+        self.assertEqual(found.overlooked(), {})
+        [told] = drawn_in("".join(forms.as_page(found)))[0]["logs"]
+        self.assertNotIn("object", told)
+        unexpected = Collection(catalogue("", log(b"")), surveys.Surveys([name]))
+        self.write("a.log", log(b"\n" + ALL + HEARD_A))  # the reply is in another line
+        with self.assertRaisesRegex(NoAnswer, "a.log has changed since"):
+            list(forms.as_lines(unexpected))
+
+    def test_a_file_whose_name_is_that_of_standard_input(self):
+        self.write("-", NOTHING)
+        for jobs in "1", "2":
+            ran = subprocess.run(
+                [sys.executable, "-m", "vicinity", "reconcile", "--jobs", jobs, "--expected",
+                 self.catalogue("uid\n"), "-"], cwd=self.folder, capture_output=True,
+                input=log(ALL + HEARD_A))
+            self.assertEqual((ran.stdout, ran.stderr, ran.returncode),
+                             (b"unlisted E0040100000000A1\nby line 3 of -\n", b"", 1))
+
+    def test_closed_streams_are_no_pipes_between_processes(self):
+        words = ["reconcile", "--jobs", "2", "--expected", self.catalogue("uid\n"), "--csv"]
+        said, errors, status = command(*words, self.names[0], "-", redirected="<&-")
+        self.assertEqual((said, status), (b"uid,state,certain in,may be in\n", 4))
+        self.assertIn(b"cannot read -: Bad file descriptor", errors)
+        self.assertEqual(command(*words, *self.names[:2], redirected="<&- >&- 2>&-"),
+                         (b"", b"", 4))
+
+    def test_processes_end_with_the_one_that_began_them(self):
+        """What reads their output would wait for ever."""
+        pipe = os.path.join(self.folder, "pipe")
+        os.mkfifo(pipe)
+        names = [self.write("long.log", log((ALL + b"S\n") * 100_000))] * 20
+        ran = subprocess.Popen([sys.executable, "-m", "vicinity", "reconcile", "--jobs", "2",
+                                "--expected", self.write("listed", log(b"")), *names, pipe],
+                               stdout=subprocess.PIPE)
+        with open(pipe, "wb"):  # it reads the last log, and others are still read
+            ran.kill()
+            self.assertEqual(ran.communicate(timeout=20), (b"", None))
 
     def test_jobs_keep_the_order(self):
         names = [self.write(f"{number}.log", NOTHING if number % 3 else log(ALL + HEARD_A))

@@ -153,6 +153,28 @@ class Words(Command):
         self.assertEqual(within("check", "--tab", self.names[0])[::2], (b"", 4))
         self.assertEqual(within("show", "--asc", self.names[0])[::2], (b"", 4))
 
+    def test_an_option_that_is_given_twice(self):
+        """None of its values is ignored."""
+        listed = self.write("listed", log(LIST_A))
+        for words in (["check", "--margin", "2", "--margin", "1", self.names[0]],
+                      ["reconcile", "--expected", listed, "--expected", listed, self.names[1]],
+                      ["reconcile", "--expected", listed, self.names[1], "--jobs=1", "--jobs=1"],
+                      ["misread", "--miss", "1", "--miss", "0", self.names[1]]):
+            said, errors, status = within(*words)
+            self.assertEqual((said, status), (b"", 4))
+            self.assertIn(b": it is given twice\nusage: ", errors)
+        one, other = (self.write(name, os.fsencode(self.names[number]))
+                      for name, number in (("one", 2), ("other", 0)))
+        self.assertEqual(within("--logs-from", one, "--logs-from", other),
+                         within(self.names[2], self.names[0]))
+        # of another field, in which two slots weren't asked
+        rest = self.write("rest.log", log(SIXTEEN + b"S\n" * 14))
+        words = ["reconcile", "--expected", listed]
+        for name in rest, self.names[1]:
+            words += ["--surveys", self.write(f"{len(words)}", within("survey", name)[0])]
+        said = f"unsettled 4 0E\nopen 4 0E in {rest}\nopen 4 0F in {rest}\n"
+        self.assertEqual(within(*words), (said.encode(), b"", 1))
+
     def test_logs_that_are_named_in_a_file(self):
         wanted = within(*self.names)
         for listed in ("\0".join(self.names), "\n".join(self.names)):
@@ -236,6 +258,21 @@ class Streams(Command):
             said, errors, status = command(*form, "-", redirected="<&-")
             self.assertEqual((errors, status),
                              (b"vicinity: cannot read -: Bad file descriptor\n", 4))
+
+    def test_a_pipe_that_is_not_waited_for(self):
+        """Its first half would be complete."""
+        for form in FORMS:
+            read, write = os.pipe()
+            os.set_blocking(read, False)
+            with open(write, "wb", buffering=0) as pipe:
+                pipe.write(COMPLETE)
+                ran = subprocess.run([sys.executable, "-m", "vicinity", *form, "-"], stdin=read,
+                                     stdout=subprocess.PIPE, stderr=subprocess.PIPE)
+            os.close(read)
+            self.assertEqual(ran.returncode, 4)
+            self.assertNotIn(b"complete 0", ran.stdout)
+            self.assertEqual(ran.stderr, b"vicinity: cannot read -: "
+                                         b"Resource temporarily unavailable\n")
 
     def test_an_interrupt_is_no_traceback(self):
         ran = subprocess.Popen([sys.executable, "-m", "vicinity", self.names[0], "-"],

@@ -29,7 +29,7 @@ class Package:
         module, written = MODULES[asks], []
         asked = words()[1][asks].parse(operands or ["-"])
         with mock.patch.object(module, "write", written.extend):
-            with mock.patch.object(answers, "read", lambda _: given):
+            with mock.patch.object(answers, "read_log", lambda _: given):
                 status = getattr(module, asked.does.partition(".")[2])(asked)
         said = b"".join(it if isinstance(it, bytes) else it.encode() for it in written)
         return Said(said, b"", status)

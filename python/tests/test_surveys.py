@@ -23,7 +23,8 @@ class Surveys(Command):
                    *[{**told, key: of} for key in ("open", "certain") for of in ({}, "", None)],
                    {**told, "margin": 0},
                    {key: told[key] for key in told if key != "open"}]
-        for content in (good[:-9], b"x\n", *[json.dumps(it).encode() for it in changed]):
+        for content in (good[:-9], b"x\n", b"[" * 100_000,
+                        *[json.dumps(it).encode() for it in changed]):
             name = self.write("surveys", good.replace(b"1.log", b"x.log") + content)
             said, errors, status = within("reconcile", "--expected", listed, "--surveys", name)
             self.assertEqual((said, status), (b"", 3), content)
@@ -44,6 +45,9 @@ class Surveys(Command):
             self.assertIn(b"1.log as well", errors)
             more = self.write("more", within("survey", one)[0])
             self.assertEqual(within("reconcile", *words, more)[2], 3)
+        said, errors, status = within("reconcile", os.path.relpath(name), *words)
+        self.assertEqual((said, status), (b"", 3))
+        self.assertIn(b"1.log as well", errors)
 
     def test_surveys(self):
         listed = self.write("listed", log(LIST_A))
@@ -88,7 +92,8 @@ class Surveys(Command):
                    *({**told, "items": [{**item, **of}]} for of in (
                        {"uid": "x"}, {"state": "lost"}, {"columns": 1}, {"certain_in": [1]},
                        {"certain_in": "a"}))]
-        for content in (b"", b"[]", b"{}", *(json.dumps(it).encode() for it in changed)):
+        for content in (b"", b"[]", b"{}", b"[" * 100_000,
+                        *(json.dumps(it).encode() for it in changed)):
             for names in ([good, self.write("bad", content)], [self.write("bad", content), good]):
                 said, errors, status = within("compare", *names)
                 self.assertEqual((said, status), (b"", 3))

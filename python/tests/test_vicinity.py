@@ -1,6 +1,8 @@
 """The package over the library that LIBVICINITY names, or the installed one."""
 import ctypes
 import os
+import pathlib
+import pickle
 import re
 import subprocess
 import sys
@@ -34,7 +36,8 @@ class Frames(unittest.TestCase):
         with self.assertRaisesRegex(vicinity.FrameFault,
                                     "Crc: the CRC doesn't match the bytes before it") as raised:
             vicinity.read_request(bytes.fromhex("260100F60B"))
-        self.assertIs(raised.exception.fault, Fault.FRAME_CRC)
+        fault = pickle.loads(pickle.dumps(raised.exception))  # as from another process
+        self.assertEqual((str(fault), fault.fault), (str(raised.exception), Fault.FRAME_CRC))
         with self.assertRaisesRegex(TypeError,
                                     "'E0040100000000A1' isn't a number, but str; parse_uid reads"):
             vicinity.write_line("U", uid="E0040100000000A1")
@@ -129,6 +132,9 @@ class Calls(unittest.TestCase):
         self.assertIn("<title>unlisted E0040100000000A1: a &lt;b&gt;</title>", page)
         self.assertNotIn("a <b>", page)
         self.assertEqual(page, vicinity.page(bytearray(text), "a <b>"))
+        self.assertEqual(page, vicinity.page(text, pathlib.PurePath("a <b>")))
+        self.assertIn(r"<title>unlisted E0040100000000A1: a\n\xff</title>".encode(),
+                      vicinity.page(text, os.fsdecode(b"a\n\xff")).encode())
         shown = page._repr_html_()
         self.assertRegex(shown, r'\A<iframe srcdoc="[^"]*" style="[^"]*"></iframe>\Z')
         self.assertIn("&lt;!doctype html&gt;", shown)
@@ -157,6 +163,18 @@ class Calls(unittest.TestCase):
         for wrong in (-1, 1 << 64):
             with self.assertRaises(OverflowError):
                 vicinity.check_listed(heard, [wrong])
+
+    def test_a_text_is_no_list_of_numbers(self):
+        """Nor is that of a list, which would be none if it is empty."""
+        silent, there = log(ALL + b"S\n"), vicinity.survey(log(ALL + b"S\n"))
+        for text in (b"", log(LIST_A), b"\xa1\0\0\0\0\1\4\xe0", ""):
+            for uids in (text,) if isinstance(text, str) else (
+                    text, bytearray(text), memoryview(text)):
+                for call in (vicinity.check_listed, vicinity.report_listed, vicinity.overlooked):
+                    with self.assertRaisesRegex(TypeError, "UIDs are numbers, not (b|m|str)"):
+                        call(silent, uids)
+                with self.assertRaisesRegex(TypeError, "listed reads those of a list"):
+                    vicinity.reconcile(uids, [there])
 
     def test_report(self):
         for lines, text in (

@@ -63,7 +63,7 @@ def words() -> tuple[Words, Mapping[str, Words]]:
     survey = add("survey", "reconcile.survey", "what each log says of its field, an object a line, "
                  "for reconcile --surveys", "LOG", 0, ANY)
     for command in (check, report, reconcile, survey):
-        command.add_argument("--logs-from", metavar="FILE",
+        command.add_argument("--logs-from", metavar="FILE", action="append", default=[],
                              help="a file that lists more logs, separated by NUL or line ends")
     for command in (check, reconcile):
         command.add_argument("--margin", metavar="K", type=_number(MOST_MARGIN), default=0,
@@ -110,7 +110,7 @@ def _of_collections(reconcile: Words) -> None:
              "of the CSV files, if they aren't UTF-8: windows-1252, utf-16-le, ..")):
         catalogue.add_argument(option, metavar=metavar, help=what, required=option == "--expected")
     logs = reconcile.add_argument_group("the logs")
-    logs.add_argument("--surveys", metavar="FILE", nargs="+", default=[],
+    logs.add_argument("--surveys", metavar="FILE", nargs="+", action="extend", default=[],
                       help="what `survey` has written of logs, here or on other machines")
     logs.add_argument("--strict", action="store_true",
                       help="end at the first log that is impossible, refused or unreadable, "

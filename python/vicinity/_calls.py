@@ -39,6 +39,9 @@ def _text_and_list(text: BytesLike, uids: Iterable[int]) -> Sequence[Any]:
 
 def _numbers(uids: Iterable[int]) -> ctypes.Array[ctypes.c_uint64]:
     """UIDs as a C array. Raises OverflowError if a number doesn't fit into 64 bits."""
+    if isinstance(uids, (str, bytes, bytearray, memoryview)):
+        raise TypeError(f"UIDs are numbers, not {type(uids).__name__}: "
+                        "listed reads those of a list, parse_uid one")
     numbers = array("Q", uids)
     place = ctypes.c_uint64 * len(numbers)
     # what an empty array points to isn't aligned
@@ -293,6 +296,7 @@ class Page(str):
 def page(text: BytesLike, name: str = "") -> Page:
     """The page of a log, as `python3 -m vicinity page` writes it: the answer, what to do,
     what was found, and the rounds. `name` is the name of the log. Raises what `check` raises."""
-    from .pages.log import of_log  # drawing is loaded only here
+    from ._process import shown  # drawing is loaded only here
+    from .pages.log import of_log
 
-    return Page("".join(of_log(bytes_of(text), name)[1]))
+    return Page("".join(of_log(bytes_of(text), shown(name))[1]))

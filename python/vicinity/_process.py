@@ -9,13 +9,15 @@ or sys.stderr, so a closed or full stream is noticed at once, and no traceback i
 from __future__ import annotations
 
 import argparse
+import errno
+import io
 import locale
 import os
 import signal
 import sys
-from typing import Any, Callable, Generator, Iterable, NoReturn, Sequence, TypeVar, Union
+from typing import Any, Callable, Generator, Iterable, NoReturn, Optional, Sequence, TypeVar, Union
 
-# Within these bytes, a longer text has a line that is too long, or too many lines:
+# Within these bytes, a longer log has a line that is too long, or too many lines:
 # 1,000,000 lines of 130 bytes, plus one.
 MOST_BYTES = 1_000_000 * 130 + 1
 PIECE = 1 << 16
@@ -40,6 +42,7 @@ def run(command: Callable[[], int]) -> int:
         for file in (0, 1):  # line ends stay as they are
             msvcrt.setmode(file, os.O_BINARY)
     try:
+        _hold_closed()
         return command()
     except NoAnswer as why:
         return complain(str(why))
@@ -52,19 +55,29 @@ def run(command: Callable[[], int]) -> int:
         return complain(shown(f"{type(error).__name__}: {error}"))
 
 
+def _hold_closed() -> None:
+    """Puts what can't be read, or written, where standard streams are closed:
+    else the next file to be opened, or a pipe between processes, would be taken for one."""
+    for stream, wrong_way in enumerate((os.O_WRONLY, os.O_RDONLY, os.O_RDONLY)):
+        try:
+            os.fstat(stream)
+        except OSError:
+            os.open(os.devnull, wrong_way)  # it gets the lowest number that is free
+
+
 def complain(why: str) -> int:
     """Writes to standard error why there is no answer, if it can, and returns the status."""
     _note("vicinity: ", why, "\n")
     return NO_ANSWER
 
 
-def read(name: str) -> bytes:
-    """The contents of a file, as far as they can matter; - is standard input."""
+def read(name: str, most: int = sys.maxsize) -> bytes:
+    """The contents of a file, or so many bytes of them; - is standard input."""
     try:
         with open(os.dup(0) if name == "-" else name, "rb", buffering=0) as file:
-            pieces, left, wanted = [], MOST_BYTES, max(PIECE, os.fstat(file.fileno()).st_size)
+            pieces, left, wanted = [], most, max(PIECE, os.fstat(file.fileno()).st_size)
             # a file in one piece: joining pieces takes the memory twice
-            while left > 0 and (piece := file.read(min(wanted, left))):
+            while left > 0 and (piece := _piece(file, min(wanted, left))):
                 pieces.append(piece)
                 left, wanted = left - len(piece), PIECE
             return b"".join(pieces)
@@ -72,10 +85,24 @@ def read(name: str) -> bytes:
         raise NoAnswer(f"cannot read {shown(name)}: {error.strerror}") from None
 
 
+def _piece(file: io.FileIO, most: int) -> bytes:
+    """The next bytes of a file, none at its end. Where a pipe isn't waited for, it may say
+    that there are none yet."""
+    piece = file.read(most)
+    if piece is None:
+        raise BlockingIOError(errno.EAGAIN, os.strerror(errno.EAGAIN))
+    return piece
+
+
+def read_log(name: str) -> bytes:
+    """The contents of a log, as far as they can matter."""
+    return read(name, MOST_BYTES)
+
+
 def tried(name: str, call: Callable[[bytes], T]) -> Union[T, str]:
-    """What a call returns for the contents of a file, or why there is no answer."""
+    """What a call returns for the contents of a log, or why there is no answer."""
     try:
-        return call(read(name))
+        return call(read_log(name))
     except NoAnswer as why:
         return str(why)
     except MemoryError:
@@ -83,13 +110,16 @@ def tried(name: str, call: Callable[[bytes], T]) -> Union[T, str]:
 
 
 def names_of(asked: argparse.Namespace, are_needed: bool = True) -> list[str]:
-    """The names of logs among the words, and those in a file, separated by NUL if there is any,
-    else by line ends."""
+    """The names of logs among the words, and those in files, separated by NUL if there is any,
+    else by line ends. Each of these files has to name one."""
     names = list(asked.names)
-    if asked.logs_from is not None:
-        listed = read(asked.logs_from)
+    for file in asked.logs_from:
+        listed = read(file)
         separator = b"\0" if b"\0" in listed else b"\n"
-        names += map(os.fsdecode, filter(None, listed.split(separator)))
+        within = list(map(os.fsdecode, filter(None, listed.split(separator))))
+        if not within:
+            raise NoAnswer(f"no logs: {shown(file)} names none")
+        names += within
     if are_needed and not names:
         raise NoAnswer("no logs: name at least one, or a file that lists them by --logs-from")
     return names
@@ -121,7 +151,11 @@ def shown(name: Union[str, bytes]) -> str:
     """A name on one line, without anything that a terminal would interpret: a backslash is `\\\\`,
     a tab `\\t`, a line end `\\n`, and each byte of another character that can't be printed,
     or that isn't UTF-8, `\\x` and two hex digits."""
-    text = os.fsencode(name).replace(b"\\", b"\\\\").decode("utf-8", "backslashreplace")
+    try:
+        encoded = os.fsencode(name)
+    except UnicodeEncodeError:  # no name of a file, but of a place or of another machine's log
+        encoded = str(name).encode("utf-8", "surrogatepass")
+    text = encoded.replace(b"\\", b"\\\\").decode("utf-8", "backslashreplace")
     return "".join(it if it.isprintable() else {"\t": "\\t", "\n": "\\n"}.get(it) or
                    "".join(f"\\x{byte:02x}" for byte in it.encode()) for it in text)
 
@@ -168,9 +202,24 @@ def has_unicode() -> bool:
     return locale.nl_langinfo(locale.CODESET).upper() in ("UTF-8", "UTF8")
 
 
+class Once(argparse.Action):
+    """An option that may be given once: of two values, one would be ignored."""
+
+    def __call__(self, parser: argparse.ArgumentParser, asked: argparse.Namespace, value: Any,
+                 option: Optional[str] = None) -> None:
+        if option in vars(asked).setdefault("once", []):
+            raise argparse.ArgumentError(self, "it is given twice")
+        asked.once += [option] * (option is not None)
+        setattr(asked, self.dest, value)
+
+
 class Words(argparse.ArgumentParser):
     """The arguments of a command. Its options may be anywhere before `--`;
     what comes after is names."""
+
+    def __init__(self, **given: Any):
+        super().__init__(**given)
+        self.register("action", None, Once)
 
     def parse(self, words: Sequence[str]) -> argparse.Namespace:
         at = words.index("--") if "--" in words else len(words)

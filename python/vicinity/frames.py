@@ -36,6 +36,10 @@ class FrameFault(ValueError):
         super().__init__(f"{fault.word}: {fault.wrong}")
         self.fault = fault
 
+    def __reduce__(self) -> tuple[type[FrameFault], tuple[Fault]]:
+        """How it travels between processes."""
+        return FrameFault, (self.fault,)
+
 
 def uid_text(uid: int) -> str:
     """A UID as 16 hex digits, E0 first."""

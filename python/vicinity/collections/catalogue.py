@@ -18,6 +18,8 @@ COLUMN = "uid"
 #: name itself, once more often than that one.
 #: Where an earlier run has written them they are replaced, and its unexpected tags left out.
 ADDED, TWIN, UNEXPECTED = ("state", "certain in", "may be in"), " (found)", "unexpected"
+CUT = ("of the columns state, certain in and may be in, which reconcile --csv has written, one is "
+       "missing: leave all three, or delete them and the rows of unexpected tags")
 SWALLOWED = "a cell in quotes has {} and a line end in it: perhaps a quote is missing"
 NAMES_IT = "name the one with the UIDs uid, or say by --column NAME which it is"
 NAMES_KEY = "--column NAME names the one by which --tags has the UIDs"
@@ -106,11 +108,23 @@ def twins(head: str, name: str) -> int:
 def _without_added(table: Table) -> tuple[Table, bool]:
     """A table without what an earlier run has added, wherever it is now, and whether it had."""
     if not all(any(twins(head, name) >= 0 for head in table.heads) for name in ADDED):
+        _refuse_cut(table)
         return table, False
     added = [max(range(len(table.heads)), key=lambda at: (twins(table.heads[at], name), at))
              for name in ADDED]
     rows = [row for row in table.rows if row[1][added[0]].strip() != UNEXPECTED]
     return _without(table._replace(rows=rows), added), True
+
+
+def _refuse_cut(table: Table) -> None:
+    """Refuses what an earlier run has written if not all of its columns are there:
+    its unexpected tags would be expected."""
+    states = [at for at, head in enumerate(table.heads) if twins(head, ADDED[0]) >= 0]
+    if any(head.casefold() in ADDED[1:] for head in table.heads):
+        table.wrong(1, CUT)
+    for row, cells in table.rows:
+        if any(cells[at].strip() == UNEXPECTED for at in states):
+            table.wrong(row, CUT)
 
 
 def _table(name: str, text: bytes, encoding: Optional[str]) -> Table:

@@ -7,7 +7,6 @@ from typing import Iterable, Iterator, Mapping, NamedTuple, Optional, Sequence
 
 from .._answers import FindingKind, Mask, Weakest
 from .._calls import margin_listed, overlooked, reconcile_parts
-from .._process import NoAnswer, shown
 from .catalogue import Catalogue
 from .masks import Under, are_all, without
 from .places import Places
@@ -121,17 +120,14 @@ class Collection:
 
     def overlooked(self) -> dict[int, int]:
         """In how many slots each missing tag was overlooked, in the field of the log in which these
-        were fewest; nothing if a log isn't there any more."""
+        were fewest; nothing if a log isn't there any more, or has changed."""
         missing = [item.uid for item in self.of(State.MISSING) if item.uid is not None]
         least: list[int] = []
         for index in range(len(self.logs) if missing else 0):
             text = self.read.text(index)
             if text is None:
                 return {}
-            try:
-                found = overlooked(text, missing)
-            except ValueError:
-                raise self._changed(index) from None
+            found = overlooked(text, missing)
             least = [min(pair) for pair in zip(least, found)] if least else found
         return dict(zip(missing, least))
 
@@ -144,13 +140,8 @@ class Collection:
         found: dict[int, tuple[int, int]] = {}
         for index, uids in sorted(by_log.items()):
             lines = self.read.shown_by(index)
-            if not lines.keys() >= set(uids):
-                raise self._changed(index)
             found.update((uid, (index, lines[uid])) for uid in uids)
         return found
-
-    def _changed(self, index: int) -> NoAnswer:
-        return NoAnswer(f"{shown(self.logs[index].name)} has changed since it was read first")
 
     def _items(self) -> Iterator[Item]:
         """Each row of the catalogue, in its order, and then the unexpected UIDs.

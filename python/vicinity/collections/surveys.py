@@ -9,13 +9,16 @@ import signal
 from concurrent.futures import ProcessPoolExecutor
 from contextlib import ExitStack, closing
 from functools import partial
+from multiprocessing import parent_process
+from threading import Thread
 from typing import Any, Callable, Iterator, Mapping, NamedTuple, Optional, Sequence
+from zlib import crc32
 
 from .._answers import FindingKind, Kind, Mask, Survey, Weakest
 from .._calls import margin_listed, report, survey, with_captures
 from .._fields import (SCHEMA, Judged, answer_of, captured_of, fields, list_of, margin_fields,
                        mask_fields, mask_of, number_of, object_of)
-from .._process import NO_ANSWER, NoAnswer, counted, read, shown, tried
+from .._process import NO_ANSWER, NoAnswer, counted, read_log, shown, tried
 from ..frames import parse_uid, uid_text
 from .tables import Wrong
 
@@ -46,6 +49,8 @@ class Log(NamedTuple):
     weakest: Optional[Weakest] = None
     """The margin against its certain UIDs alone, if that is known. With more UIDs on the list
     it isn't less."""
+    seen: tuple[int, int] = (0, 0)
+    """The length and a checksum of the text."""
 
     @property
     def status(self) -> int:
@@ -58,12 +63,19 @@ class Log(NamedTuple):
 def survey_file(name: str, keep: Callable[[bytes], object] = bool, has_lines: bool = False) -> Log:
     """What the log in a file says, if asked for with the lines that show it;
     its text is given to `keep`, too."""
-    log = tried(name, lambda text: _survey(name, text, keep, has_lines))
+    def of_text(text: bytes) -> Log:
+        keep(text)
+        return _survey(name, text, has_lines)._replace(seen=_seen(text))
+
+    log = tried(name, of_text)
     return Log(name, log) if isinstance(log, str) else log
 
 
-def _survey(name: str, text: bytes, keep: Callable[[bytes], object], has_lines: bool) -> Log:
-    keep(text)
+def _seen(text: bytes) -> tuple[int, int]:
+    return len(text), crc32(text)
+
+
+def _survey(name: str, text: bytes, has_lines: bool) -> Log:
     found = survey(text)
     if found.answer.kind is Kind.REFUSED:
         return Log(name, found.answer)
@@ -109,9 +121,7 @@ class Surveys:
         made: Iterator[Log] = map(survey_file, there)
         with ExitStack() as stack:
             if jobs > 1 and there:
-                # where a process ends by an interrupt, it says nothing
-                pool = ProcessPoolExecutor(min(jobs, len(there)), initializer=signal.signal,
-                                           initargs=(signal.SIGINT, signal.SIG_DFL))
+                pool = ProcessPoolExecutor(min(jobs, len(there)), initializer=_begin)
                 stack.callback(pool.shutdown, cancel_futures=True)
                 made = pool.map(survey_file, there,
                                 chunksize=max(1, min(SHARE, len(there) // (jobs * TURNS))))
@@ -125,15 +135,30 @@ class Surveys:
         log = self.all[index]
         if log.lines is not None:
             return dict(zip(log.certain, log.lines))
-        return certain_lines(self._texts.get(index) or read(log.name))
+        text = self._texts.get(index) or read_log(log.name)
+        if _seen(text) != log.seen:
+            raise NoAnswer(f"{shown(log.name)} has changed since it was read first")
+        return certain_lines(text)
 
     def text(self, index: int) -> Optional[bytes]:
-        """The text of a log, unless it came as a record, or can't be read again."""
-        name = self.all[index].name
-        if index in self._texts or index < self._first or not _is_lasting(name):
+        """The text of a log, unless it came as a record, can't be read again, or has changed."""
+        log = self.all[index]
+        if index in self._texts or index < self._first or not _is_lasting(log.name):
             return self._texts.get(index)
-        text = tried(name, bytes)
-        return None if isinstance(text, str) else text
+        text = tried(log.name, bytes)
+        return None if isinstance(text, str) or _seen(text) != log.seen else text
+
+
+def _begin() -> None:
+    """What a process of many does first. An interrupt ends it without a word,
+    and it ends with the one that wants its surveys."""
+    signal.signal(signal.SIGINT, signal.SIG_DFL)
+    Thread(target=_end_with, args=[parent_process()], daemon=True).start()
+
+
+def _end_with(other: Any) -> None:
+    other.join()
+    os._exit(NO_ANSWER)
 
 
 def without_list(text: bytes) -> bytes:
@@ -151,7 +176,7 @@ def certain_lines(text: bytes) -> Mapping[int, int]:
 def _is_lasting(name: str) -> bool:
     """Whether a file can be read again, also by another process: not if it is a pipe,
     or one that this process has open."""
-    return os.path.isfile(name) and not name.startswith(("/dev/", "/proc/"))
+    return name != "-" and os.path.isfile(name) and not name.startswith(("/dev/", "/proc/"))
 
 
 def record(log: Log) -> str:
@@ -175,7 +200,7 @@ def records(files: Sequence[tuple[str, bytes]]) -> list[Log]:
         for number, line in enumerate(content.splitlines(), 1):
             try:
                 log = _recorded(json.loads(line))
-            except (ValueError, KeyError, TypeError, AttributeError):
+            except (ValueError, KeyError, TypeError, AttributeError, RecursionError):
                 raise Wrong(f"{shown(name)}, line {number}: "
                             "it isn't a survey as `survey` writes it") from None
             if found.setdefault(os.path.normpath(log.name), log) is not log:
@@ -186,9 +211,9 @@ def records(files: Sequence[tuple[str, bytes]]) -> list[Log]:
 
 def refuse_twice(recorded: Sequence[Log], names: Sequence[str]) -> None:
     """Refuses a log of which there is a survey as well: one of both is of an earlier count."""
-    surveyed = {os.path.normpath(log.name) for log in recorded}
-    for name in names:
-        if os.path.normpath(name) in surveyed:
+    surveyed = {os.path.abspath(log.name) for log in recorded}
+    for name in names if surveyed else ():
+        if os.path.abspath(name) in surveyed:
             raise Wrong(f"there is a survey of {shown(name)} as well: give one of both")
 
 

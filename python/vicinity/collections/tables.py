@@ -6,6 +6,7 @@ import codecs
 import csv
 import io
 import re
+from collections import Counter
 from contextlib import suppress
 from typing import Iterable, Iterator, NamedTuple, NoReturn, Optional, Sequence
 
@@ -16,6 +17,8 @@ SEPARATORS = ",;\t|"
 #: With which bytes a file begins that says its encoding.
 MARKS = {codecs.BOM_UTF8: "utf-8", codecs.BOM_UTF16_LE: "utf-16-le",
          codecs.BOM_UTF16_BE: "utf-16-be"}
+#: Encodings that put such bytes before every text, and what they are without.
+WITHOUT_MARK = {"utf-8-sig": "utf-8", "utf-16": "utf-16-le", "utf-32": "utf-32-le"}
 #: With which bytes files of spreadsheet programs begin: .xlsx and .ods, and .xls.
 SPREADSHEETS = b"PK\x03\x04", b"\xd0\xcf\x11\xe0"
 #: A first line for spreadsheets, which names the separator.
@@ -48,9 +51,11 @@ class Form(NamedTuple):
         yield self.mark + self.first.encode(self.encoding)
         for cells in rows:
             line = io.StringIO()
-            csv.writer(line, delimiter=self.separator, lineterminator=self.line_end,
+            # a cell is quoted if one of these is in it, whatever ends the lines
+            csv.writer(line, delimiter=self.separator, lineterminator="\r\n",
                        quoting=self.quoting).writerow(cells)
-            yield line.getvalue().encode(self.encoding, "backslashreplace")
+            text = line.getvalue().removesuffix("\r\n") + self.line_end
+            yield text.encode(self.encoding, "backslashreplace")
 
 
 class Table(NamedTuple):
@@ -104,7 +109,7 @@ def read_table(name: str, text: bytes, encoding: Optional[str]) -> Table:
     table = Table(name, form, [], [])
     rows = _rows(table, content)
     table.heads.extend(head.strip() for head in next(rows, []))
-    twice = [it for it in table.heads if it and table.heads.count(it) > 1]
+    twice = [it for it, times in Counter(table.heads).items() if it and times > 1]
     if twice:
         table.wrong(1, f"two columns are named {shown(twice[0])}")
     width = len(table.heads)
@@ -124,7 +129,7 @@ def _decoded(name: str, text: bytes, encoding: Optional[str]) -> tuple[Form, str
         "".encode(named, "backslashreplace")  # base64 and idna, among others, don't take any text
     except (LookupError, UnicodeError):
         raise Wrong(f"no encoding is named {shown(encoding or '')}") from None
-    named, text = "utf-16-le" if named == "utf-16" else named, text[len(mark):]
+    named, text = WITHOUT_MARK.get(named, named), text[len(mark):]
     try:
         content = text.decode(named)
         if "\0" in content:

@@ -9,7 +9,7 @@ from typing import Any
 from .._calls import check, explain, if_captured, margin, simulate
 from .._fields import NOT_COMPLETE, object_of, small, small_fields
 from .._native import library
-from .._process import NO_ANSWER, complain, names_of, read, shown, tried, write
+from .._process import NO_ANSWER, complain, names_of, read_log, shown, tried, write
 from ..frames import uid_text
 
 
@@ -64,7 +64,7 @@ def report_all(asked: argparse.Namespace) -> int:
 
 def explain_one(asked: argparse.Namespace) -> int:
     """Writes what `vicinity explain` writes, and returns the status."""
-    answer, population = explain(read(asked.names[0]))
+    answer, population = explain(read_log(asked.names[0]))
     has_one = answer.status == 1
     write([f"{answer}\n", f"population {len(population)}\n" * has_one,
            *(f"U {uid_text(uid)}\n" for uid in population)])
@@ -73,13 +73,13 @@ def explain_one(asked: argparse.Namespace) -> int:
 
 def margin_one(asked: argparse.Namespace) -> int:
     """Writes what `vicinity margin` writes, and returns the status."""
-    found = margin(read(asked.names[0]))
+    found = margin(read_log(asked.names[0]))
     write([f"{found}\n"])
     return found.answer.status
 
 
 def simulate_one(asked: argparse.Namespace) -> int:
     """Writes what `vicinity simulate` writes, and returns the status."""
-    made = simulate(read(asked.names[0]))
+    made = simulate(read_log(asked.names[0]))
     write([made.text])
     return made.status

@@ -79,7 +79,7 @@ def _answer(name: str) -> tuple[Mapping[str, Said], Mapping[str, bool], list[str
         logs, aside = (_names([it["file"] for it in list_of(said[key])])
                        for key in ("logs", "set_aside"))
         return items, dict(zip(logs, (bool(it.get("open")) for it in said["logs"]))), aside
-    except (ValueError, KeyError, TypeError, AttributeError):
+    except (ValueError, KeyError, TypeError, AttributeError, RecursionError):
         raise Wrong(f"{shown(name)} isn't an answer as `reconcile --json` writes it") from None
 
 

@@ -124,9 +124,7 @@ def _objects(found: Collection) -> Iterator[tuple[int, dict[str, Any]]]:
         room -= len(text)
         if room < 0:
             break
-        told = Told(text)
-        if told.answer == log.answer:
-            yield index, page_object(shown(os.path.basename(log.name)), told)
+        yield index, page_object(shown(os.path.basename(log.name)), Told(text))
 
 
 def _object(found: Collection) -> dict[str, Any]:

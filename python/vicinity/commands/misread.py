@@ -9,7 +9,7 @@ from io import BytesIO
 from typing import Iterator, Mapping, NamedTuple, Sequence
 
 from .._calls import HEADER, check, listed, simulate
-from .._process import REFUSED, read, write
+from .._process import REFUSED, read_log, write
 from ..frames import read_response, write_line, write_response
 
 OUTCOMES = frozenset(b"SCRDHN")
@@ -42,7 +42,7 @@ class Reader(NamedTuple):
 def misread(asked: argparse.Namespace) -> int:
     """Writes what a reader would have written, and returns 0;
     of a text that is refused the refusal, and 3."""
-    text = read(asked.names[0])
+    text = read_log(asked.names[0])
     answer, lines = check(text), list(BytesIO(text))
     requests = b"".join(line for line in lines if line[0] not in OUTCOMES and line[:1] != b"U")
     made = simulate(requests)
