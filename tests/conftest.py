@@ -5,6 +5,7 @@ Each is built when a test first asks for it, unless it is there and is newer tha
 that asks for what this machine can't build or run is skipped, and says what tests/setup would
 install.
 """
+import fcntl
 import os
 import random
 import sys
@@ -113,11 +114,30 @@ def vicinity(release):
 
 
 @pytest.fixture(scope="session")
-def commands(release, tmp_path_factory):
+def once(tmp_path_factory):
+    """Makes something in a folder of this name, once for all processes of a run."""
+    top = tmp_path_factory.getbasetemp()
+    top = top.parent if "PYTEST_XDIST_WORKER" in os.environ else top
+
+    def make_in(name, make):
+        folder, new = top / name, top / f"{name}.new"
+        with open(top / f"{name}.lock", "w") as lock:
+            fcntl.flock(lock, fcntl.LOCK_EX)
+            if not folder.exists():
+                new.mkdir(exist_ok=True)
+                make(new)
+                new.rename(folder)
+        return folder
+    return make_in
+
+
+@pytest.fixture(scope="session")
+def commands(release, once):
     """The commands in C, with a look at each access to memory, and at what is left of it."""
     watched = ("-fsanitize=address,undefined", "-fno-sanitize-recover=all")
-    return linked(release, tmp_path_factory.mktemp("commands") / "vicinity", "-std=c99", "-O2",
-                  *TOP.glob("commands/*.c"), *watched)
+    return Program(once("commands", lambda folder: linked(
+        release, folder / "vicinity", "-std=c99", "-O2", *TOP.glob("commands/*.c"), *watched))
+        / "vicinity")
 
 
 @pytest.fixture(scope="session")

@@ -7,6 +7,7 @@ import os
 import platform
 import pty
 import re
+import shutil
 import signal
 import subprocess
 import sys
@@ -37,7 +38,8 @@ def go_environment(folder):
     return {"CGO_CFLAGS": f"-I{folder} -DMADE_OF={made_of}", "CGO_LDFLAGS": f"-L{folder}"}
 
 
-def rust_environment(library, target):
+def rust_environment(library, once):
+    target = once(f"rust-{library.name}", lambda _: None)
     return {"VICINITY_LIB": str(library), "RUSTFLAGS": "-D warnings",
             "CARGO_TARGET_DIR": str(target)}
 
@@ -49,33 +51,37 @@ def folder(release):
 
 
 @pytest.fixture(scope="session")
-def rust_target(folder, tmp_path_factory):
-    return rust_environment(folder, tmp_path_factory.mktemp("rust"))
+def rust_target(folder, once):
+    return rust_environment(folder, once)
 
 
 @pytest.fixture(scope="session")
-def example(request, tmp_path_factory):
-    """Builds an example in a language over a library, once."""
+def example(request, once):
+    """An example in a language over a library."""
+    def build(folder, language, library, name):
+        source, program = TOP / "examples" / language, folder / "program"
+        if language == "c":
+            linked(library, program, source / f"{name}.c")
+        elif language == "cpp":
+            linked(library, program, *CPP, source / f"{name}.cpp", compiler="g++")
+        elif language == "go":
+            made("go", "build", "-o", program, cwd=source, **go_environment(library))
+        else:
+            environment = rust_environment(library, once)
+            made("cargo", "build", "--offline", "--locked", cwd=source, **environment)
+            shutil.copy(f"{environment['CARGO_TARGET_DIR']}/debug/vicinity-check", program)
+
     @functools.lru_cache(None)
-    def build(language, library, name="check"):
+    def of(language, library, name="check"):
         if language == "commands":
             return Program(*request.getfixturevalue("commands").words, "reconcile")
-        one, made_in = request.getfixturevalue(library), tmp_path_factory.mktemp(language)
-        source, program = TOP / "examples" / language, made_in / "program"
+        path = request.getfixturevalue(library).path
         if language == "python":
-            return Program(sys.executable, source / f"{name}.py", LIBVICINITY=str(one.path),
-                           **PYTHON)
-        if language == "c":
-            return linked(one.path.parent, program, source / f"{name}.c")
-        if language == "cpp":
-            return linked(one.path.parent, program, *CPP, source / f"{name}.cpp", compiler="g++")
-        if language == "go":
-            made("go", "build", "-o", program, cwd=source, **go_environment(one.path.parent))
-            return Program(program)
-        made("cargo", "build", "--offline", "--locked", cwd=source,
-             **rust_environment(one.path.parent, made_in))
-        return Program(made_in / "debug/vicinity-check")
-    return build
+            return Program(sys.executable, TOP / f"examples/python/{name}.py",
+                           LIBVICINITY=str(path), **PYTHON)
+        return Program(once(f"{language}-{library}-{name}", lambda folder: build(
+            folder, language, path.parent, name)) / "program")
+    return of
 
 
 @pytest.fixture(scope="session")

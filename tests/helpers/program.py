@@ -32,7 +32,7 @@ class Program:
         has more for subprocess.run, as other streams."""
         first, *more = self.words
         streams = {"stdout": subprocess.PIPE, "stderr": subprocess.PIPE, "cwd": TOP,
-                   "env": {**os.environ, **self.environment}, **how}
+                   "env": {**os.environ, **self.environment} if self.environment else None, **how}
         if "stdin" not in how:
             streams["input"] = given
         done = subprocess.run([name or first, *more, *words], executable=first, check=False,
