@@ -5,6 +5,7 @@ Each is built when a test first asks for it, unless it is there and is newer tha
 that asks for what this machine can't build or run is skipped, and says what tests/setup would
 install.
 """
+import contextlib
 import fcntl
 import os
 import random
@@ -19,11 +20,11 @@ os.environ["PYTHONDONTWRITEBYTECODE"] = "1"
 
 from helpers.library import Library  # noqa: E402
 from helpers.program import (  # noqa: E402
-    MAKE, TOP, Program, build, linked, needs, program_of, told)
+    MAKE, TOP, Commands, Program, build, linked, many, needs, program_of)
 from helpers.rows import LIBRARIES, OfLibrary, OfProgram  # noqa: E402
 from helpers.texts import texts as all_texts  # noqa: E402
 from helpers.wasm import WasmLibrary  # noqa: E402
-from helpers.wine import Commands, wine_in  # noqa: E402
+from helpers.wine import wine_in  # noqa: E402
 
 OUT = TOP / "out"
 # For each text there are so many lines of answers at least.
@@ -132,12 +133,26 @@ def once(tmp_path_factory):
 
 
 @pytest.fixture(scope="session")
-def commands(release, once):
+def running(tmp_path_factory):
+    """Runs commands that were made in a folder, all in one process, by what starts them."""
+    with contextlib.ExitStack() as at_end:
+        def run(made, program, *words):
+            one = Commands(Program(*words, made), program, tmp_path_factory.mktemp("many"))
+            at_end.enter_context(one.process)
+            return one
+        yield run
+
+
+@pytest.fixture(scope="session")
+def commands(release, once, running):
     """The commands in C, with a look at each access to memory, and at what is left of it."""
     watched = ("-fsanitize=address,undefined", "-fno-sanitize-recover=all")
-    return Program(once("commands", lambda folder: linked(
-        release, folder / "vicinity", "-std=c99", "-O2", *TOP.glob("commands/*.c"), *watched))
-        / "vicinity")
+
+    def make(folder):
+        linked(release, folder / "vicinity", "-std=c99", "-O2", *TOP.glob("commands/*.c"), *watched)
+        many(folder, ["cc", *watched], release / "libvicinity.a")
+    made = once("commands", make)
+    return running(made / "many", Program(made / "vicinity"))
 
 
 @pytest.fixture(scope="session")
@@ -149,9 +164,11 @@ def arm_release(pytestconfig):
 
 
 @pytest.fixture(scope="session")
-def arm(arm_release):
+def arm(arm_release, once, running):
     """The commands in C for 64-bit ARM, under an emulator."""
-    return Program(*ARM, arm_release / "vicinity")
+    made = once("arm", lambda folder: many(folder, ["aarch64-linux-gnu-gcc"],
+                                           arm_release / "libvicinity.a"))
+    return running(made / "many", Program(*ARM, arm_release / "vicinity"), *ARM)
 
 
 @pytest.fixture(scope="session")
@@ -188,19 +205,14 @@ def wine():
 
 
 @pytest.fixture(scope="session")
-def windows(wine, windows_release, tmp_path_factory):
-    """The commands in C for Windows, all runs in one process."""
-    folder = tmp_path_factory.mktemp("windows")
-    compiler = "x86_64-w64-mingw32-gcc", "-O2", "-D__USE_MINGW_ANSI_STDIO=1", f"-I{TOP}/include"
-    told(*compiler, "-c", "-Dmain=vicinity_main", "-Dopen=open_utf8", *TOP.glob("commands/*.c"),
-         cwd=folder)
-    made = folder / "many.exe"
-    told(*compiler, "tests/c/many.c", "targets/windows/start.c", *folder.glob("*.o"),
-         "release/heap.c", OUT / "module/windows.o", "-o", made)
-    commands = Commands(Program(*wine.words, made),
-                        Program(*wine.words, windows_release / "vicinity.exe"), folder)
-    with commands.process:
-        yield commands
+def windows(wine, windows_release, once, running):
+    """The commands in C for Windows."""
+    made = once("windows", lambda folder: many(
+        folder, ["x86_64-w64-mingw32-gcc", "-D__USE_MINGW_ANSI_STDIO=1"],
+        "targets/windows/start.c", "release/heap.c", OUT / "module/windows.o",
+        renamed=["-Dopen=open_utf8"]))
+    return running(made / "many.exe", Program(*wine.words, windows_release / "vicinity.exe"),
+                   *wine.words)
 
 
 @pytest.fixture(scope="session")

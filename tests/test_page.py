@@ -252,6 +252,24 @@ def page(browser, file):
     one.end()
 
 
+@pytest.fixture
+def shown(browser, file):
+    """Shows a log in place of the one before; after another test, on a page that is new."""
+    one = Screen(browser)
+
+    def show(log):
+        before, now = one.run("return window.shown"), sha256(log).hexdigest()
+        if before is None:
+            one.open(file)
+        if before != now:
+            one.drop(log=log)
+            one.until(".record code", now)
+            one.run("window.shown = arguments[0]", now)
+        return one
+    yield show
+    one.end()
+
+
 def type_in(page, text):
     """Types a text; whether the answer to the one before is then still shown, but pale."""
     return page.run(TYPE, text) == "true"
@@ -266,25 +284,21 @@ def test_one_small_file_that_fetches_nothing(file):
 
 
 @pytest.mark.parametrize(("names", "headline"), LOGS, ids=[names for names, _ in LOGS])
-def test_a_log_is_dropped(page, program, names, headline):
+def test_a_log_is_dropped(shown, program, names, headline):
     log = log_of(names)
-    page.drop(log=log)
+    page = shown(log)
     page.until("h1", headline)
     assert page.texts(".record code")[0] == program.run("check", given=log).out.decode().strip()
 
 
 @pytest.mark.parametrize(("names", "read", "listed"), LIGHTS, ids=[row[0] for row in LIGHTS])
-def test_the_two_lights(page, names, read, listed):
-    page.drop(log=log_of(names))
-    page.until(".lights", read)
-    assert page.texts(".lights dd") == [read, listed]
+def test_the_two_lights(shown, names, read, listed):
+    assert shown(log_of(names)).texts(".lights dd") == [read, listed]
 
 
 @pytest.mark.parametrize("names", READ)
-def test_everybody_can_read_it(page, names):
-    page.drop(log=log_of(names))
-    page.until(".banner h1", "")
-    page.is_readable()
+def test_everybody_can_read_it(shown, names):
+    shown(log_of(names)).is_readable()
 
 
 @pytest.mark.parametrize("log", [UNFINISHED, LONG, BITS], ids=["short", "long", "bits"])
@@ -382,8 +396,8 @@ def test_a_foreign_text_is_told_from_a_log(page, text, words):
 
 
 @pytest.mark.parametrize(("text", "words"), UNUSABLE)
-def test_a_log_that_cannot_be_used(page, text, words):
-    page.drop(log=text.encode())
+def test_a_log_that_cannot_be_used(shown, text, words):
+    page = shown(text.encode())
     page.until("h1", "This log can't be used. Line ")
     page.until("#told", words)
     page.media("print")
@@ -408,9 +422,9 @@ def third(*lines):
 
 
 @pytest.mark.parametrize("name", THIRD)
-def test_a_log_of_version_3(page, program, name):
+def test_a_log_of_version_3(shown, program, name):
     lines, headline, words = THIRD[name]
-    page.drop(log=third(*lines))
+    page = shown(third(*lines))
     page.until("h1", headline)
     page.until("#told", words)
     answer = program.run("check", given=third(*lines)).out.decode().strip()
@@ -443,9 +457,8 @@ def test_what_is_left_to_ask_under_a_reply(page):
 
 
 @pytest.mark.parametrize(("names", "words", "ask"), HIDDEN, ids=[row[0] for row in HIDDEN])
-def test_whether_it_also_holds_if_replies_were_hidden(page, names, words, ask):
-    page.drop(log=log_of(names))
-    page.until(".banner h1", "")
+def test_whether_it_also_holds_if_replies_were_hidden(shown, names, words, ask):
+    page = shown(log_of(names))
     said = [it.partition("hid a weaker one, the answer ")[2] for it in page.texts(".holds p")]
     assert [it for it in said if it] == ([words] if words else [])
     assert page.texts(".copy") == ["\n".join(log_lines(ask)[1:])] * bool(ask)
@@ -485,9 +498,9 @@ def test_a_contradiction_that_hidden_replies_explain(page):
 @pytest.mark.parametrize(("names", "holds"), [
     ("I1 RA QA I1 S UA", True), ("I16 S RA RB S13 UA UB", False), ("I1 S", True), ("I1 RA", True),
     ("I1 S UA", True), ("I1 RA UB", False), ("I1 C", True)])
-def test_what_is_not_needed_is_not_taken_for_granted(page, names, holds):
+def test_what_is_not_needed_is_not_taken_for_granted(shown, names, holds):
     """That no reply was hidden, where what is said also holds if one was."""
-    page.drop(log=log_of(names))
+    page = shown(log_of(names))
     page.until("details:last-of-type", "What this takes for granted (7)")
     said = page.run("return [...document.querySelectorAll('details:last-of-type li')]"
                     ".map((it) => it.textContent)")
@@ -497,10 +510,9 @@ def test_what_is_not_needed_is_not_taken_for_granted(page, names, holds):
 
 @pytest.mark.parametrize(("names", "conditions"), [
     ("I1 RA UA", 1), ("I1 S", 1), ("I1 RA", 1), ("I1 C UA", 0), ("I1 RA I1 S", 0)])
-def test_what_a_complete_answer_is_said_of(page, names, conditions):
-    page.drop(log=log_of(names))
-    page.until(".banner h1", "")
-    assert page.said().count("tags that had power, heard the reader, and were heard") == conditions
+def test_what_a_complete_answer_is_said_of(shown, names, conditions):
+    said = shown(log_of(names)).said()
+    assert said.count("tags that had power, heard the reader, and were heard") == conditions
 
 
 @pytest.mark.parametrize(("version", "letters"), [
@@ -553,8 +565,8 @@ def test_a_header_with_a_comma_is_no_table(page):
 
 
 @pytest.mark.parametrize(("names", "words", "never"), SAID)
-def test_what_is_said_besides(page, names, words, never):
-    page.drop(log=log_of(names))
+def test_what_is_said_besides(shown, names, words, never):
+    page = shown(log_of(names))
     page.until("#told", words)
     assert never not in page.said()
 

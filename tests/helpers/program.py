@@ -46,6 +46,37 @@ class Program:
         return said.out.decode()
 
 
+class Commands:
+    """The commands in C, all runs in one process (tests/c/many.c): a start takes long. A run with
+    streams or an environment of its own is a start of `program`."""
+
+    def __init__(self, many, program, folder):
+        self.program, self.words, self.folder = program, program.words, folder
+        for name in "in", "out", "err":
+            (folder / name).touch()
+        self.process = subprocess.Popen([*many.words, folder], stdin=subprocess.PIPE,
+                                        stdout=subprocess.PIPE, stderr=subprocess.DEVNULL)
+
+    def run(self, *words, given=b"", name="vicinity", cwd=TOP, **how):
+        if how and how != {"stdin": subprocess.DEVNULL}:
+            return self.program.run(*words, given=given, cwd=cwd, **how)
+        (self.folder / "in").write_bytes(given)
+        run = [f"-{os.fsencode(word).hex()}".encode() for word in (cwd, name, *words)]
+        self.process.stdin.write(b" ".join(run) + b"\n")
+        self.process.stdin.flush()
+        status = self.process.stdout.readline()
+        out, err = ((self.folder / name).read_bytes() for name in ("out", "err"))
+        assert status, f"it has ended: {err.decode()}"
+        return Said(out, err, int(status))
+
+
+def many(folder, compiler, *words, renamed=()):
+    """Makes the commands in C to be run many times in one process."""
+    told(*compiler, f"-I{TOP}/include", "-O2", "-c", "-Dmain=vicinity_main", *renamed,
+         *TOP.glob("commands/*.c"), cwd=folder)
+    told(*compiler, "-O2", "tests/c/many.c", *folder.glob("*.o"), *words, "-o", folder / "many")
+
+
 def told(*words, cwd=TOP, **environment):
     """What a tool writes, which finds nothing wrong. Without the tool the test is skipped."""
     needs(str(words[0]))
