@@ -30,6 +30,8 @@ OUT = TOP / "out"
 # For each text there are so many lines of answers at least.
 ANSWERS = 7
 ARM = ("qemu-aarch64-static", "-L", "/usr/aarch64-linux-gnu")
+# How many tests a process has before it at most.
+MOST_BEFORE = 4
 
 
 def pytest_addoption(parser):
@@ -37,6 +39,25 @@ def pytest_addoption(parser):
                      help="write what is compared with the sources anew")
     parser.addoption("--logs", type=int, help="how many random logs are judged, of a new seed")
     parser.addoption("--seed", type=int, help="the seed of these random logs")
+
+
+@pytest.hookimpl(trylast=True)
+def pytest_collection_modifyitems(config, items):
+    """Processes that share the tests begin with those that take long, so that none ends with one
+    alone."""
+    if hasattr(config, "workerinput"):
+        items.sort(key=lambda item: item.get_closest_marker("slow") is None)
+
+
+@pytest.hookimpl(optionalhook=True)
+def pytest_xdist_make_scheduler(config, log):
+    """Each process has few tests before it, so that the next ones are for whoever is free."""
+    from xdist.scheduler import LoadScheduling
+
+    class FewAtOnce(LoadScheduling):
+        def _send_tests(self, node, num):
+            super()._send_tests(node, min(num, MOST_BEFORE - len(self.node2pending[node])))
+    return FewAtOnce(config, log)
 
 
 def pytest_terminal_summary(terminalreporter):
