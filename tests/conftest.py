@@ -19,6 +19,7 @@ sys.dont_write_bytecode = True
 os.environ["PYTHONDONTWRITEBYTECODE"] = "1"
 
 from helpers.library import Library  # noqa: E402
+from helpers.lines import biglog  # noqa: E402
 from helpers.program import (  # noqa: E402
     MAKE, TOP, Commands, Program, build, linked, many, needs, program_of)
 from helpers.rows import LIBRARIES, OfLibrary, OfProgram  # noqa: E402
@@ -151,6 +152,13 @@ def once(tmp_path_factory):
                 new.rename(folder)
         return folder
     return make_in
+
+
+@pytest.fixture(scope="session")
+def million(once):
+    """The file of a session of 115,600 tags, which has a million lines."""
+    return once("million", lambda folder: (folder / "log").write_bytes(
+        biglog("session", 115_600))) / "log"
 
 
 @pytest.fixture(scope="session")

@@ -782,12 +782,9 @@ def test_a_log_is_edited(page):
     page.until(".banner", "log (edited)")
 
 
-def test_a_long_judging_is_stopped(page, tmp_path):
-    with open(tmp_path / "log", "wb") as file:
-        made = [TOP / "tools/biglog.py", "session", "115600"]
-        subprocess.run(made, stdout=file, check=True)
+def test_a_long_judging_is_stopped(page, million):
     page.run(STOP)
-    page.driver.find_element("id", "files").send_keys(str(tmp_path / "log"))
+    page.driver.find_element("id", "files").send_keys(str(million))
     page.until(".error", "no answer (stopped)")
     page.drop(log=log_of("I1 RA UA"))
     page.until("h1", "The one listed tag is here")
@@ -833,13 +830,9 @@ def test_a_trial_of_one_of_several_is_not_counted(page):
     page.until("#each", "Complete: 0 of 2.")
 
 
-def test_a_session_of_a_million_lines_does_not_freeze_the_page(page, tmp_path):
-    log = tmp_path / "large.log"
-    with open(log, "wb") as file:
-        made = [TOP / "tools/biglog.py", "session", "115600"]
-        subprocess.run(made, stdout=file, check=True)
+def test_a_session_of_a_million_lines_does_not_freeze_the_page(page, million):
     page.run("window.ticks = 0; setInterval(() => window.ticks++, 20)")
-    page.driver.find_element("id", "files").send_keys(str(log))
+    page.driver.find_element("id", "files").send_keys(str(million))
     page.until("h1", "All 115,600 listed tags are here")
     # the page went on meanwhile
     assert page.run("return window.ticks") > 20
