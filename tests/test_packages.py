@@ -48,6 +48,7 @@ def packages(request, once):
     return of
 
 
+@pytest.mark.slow  # the packages are made for it, and taken by all others
 @pytest.mark.parametrize("target", TARGETS)
 def test_names_and_fields(packages, target):
     """They have the version, which between two releases is none that was released."""
