@@ -53,9 +53,7 @@ def pytest_collection_modifyitems(config, items):
 @pytest.hookimpl(optionalhook=True)
 def pytest_xdist_make_scheduler(config, log):
     """Each process has few tests before it, so that the next ones are for whoever is free."""
-    from xdist.scheduler import LoadScheduling
-
-    class FewAtOnce(LoadScheduling):
+    class FewAtOnce(pytest.importorskip("xdist.scheduler").LoadScheduling):
         def _send_tests(self, node, num):
             super()._send_tests(node, min(num, MOST_BEFORE - len(self.node2pending[node])))
     return FewAtOnce(config, log)
