@@ -96,20 +96,16 @@ def clone(tmp_path):
     return Clone(tmp_path)
 
 
-@pytest.fixture(scope="session")
-def built_once(tmp_path_factory):
-    """The folder of a clone in which the program is built."""
-    folder = tmp_path_factory.mktemp("built")
+def build_in(folder):
     clone = Clone(folder)
     clone.add(FOR_BUILDING)
     assert clone.build().status == 0
-    return folder
 
 
 @pytest.fixture
-def built(built_once, tmp_path):
-    """A copy of it."""
-    shutil.copytree(built_once, tmp_path, symlinks=True, dirs_exist_ok=True)
+def built(once, tmp_path):
+    """A copy of a clone in which the program is built."""
+    shutil.copytree(once("clone", build_in), tmp_path, symlinks=True, dirs_exist_ok=True)
     clone = Clone(tmp_path)
     assert clone.ask() == (b"built here\n", b"", 0)
     return clone

@@ -115,8 +115,7 @@ SAID = (
     ("I1 RA QA I1 S UB UZ", "for the 2 items below. If one is here", "for the item below"),
     ("I1 RA QA I1 S UB", "The tags here that aren't listed belong elsewhere, or the list", "Then"),
     ("MB S", "one that no earlier round asked would go unnoticed", "stronger replies"),
-    ("MB S I1 S", "check the antenna", "Notes"),
-    ("I1 UA", "no slot was logged", "ended before"),
+    ("MB S I1 S", "check the antenna", "Notes"), ("I1 UA", "no slot was logged", "ended before"),
     ("I16 " * 30, "In 30 rounds 480 slots weren't reached: most of these UIDs were asked in "
      "lines 28, 29, 30 and 31.", "round of line 2,"),
     ("UA UA", "Count again, in a new log.", "UIDs listed"),

@@ -70,8 +70,7 @@ def run(release):
         environment = dict(os.environ, PYTHONPATH=str(TOP / "python"), COLUMNS=str(columns),
                            LIBVICINITY=str(release / "libvicinity.so"))
         return subprocess.run([*before, sys.executable, "-m", "vicinity", *words], env=environment,
-                              capture_output=True,
-                              check=False, cwd=TOP, **more)
+                              capture_output=True, check=False, cwd=TOP, **more)
     return run_in
 
 

@@ -21,8 +21,7 @@ class Surveys(Command):
                    *[{**told, "certain": [{"uid": "E0040100000000A1", "line": line}]}
                      for line in (-1, 1.5, "3", True, float("inf"), 1 << 32)],
                    *[{**told, key: of} for key in ("open", "certain") for of in ({}, "", None)],
-                   {**told, "margin": 0},
-                   {key: told[key] for key in told if key != "open"}]
+                   {**told, "margin": 0}, {key: told[key] for key in told if key != "open"}]
         for content in (good[:-9], b"x\n", *[json.dumps(it).encode() for it in changed]):
             name = self.write("surveys", good.replace(b"1.log", b"x.log") + content)
             said, errors, status = within("reconcile", "--expected", listed, "--surveys", name)
