@@ -5,6 +5,8 @@ Each is built when a test first asks for it, unless it is there and is newer tha
 that asks for what this machine can't build or run is skipped, and says what tests/setup would
 install.
 """
+import contextlib
+import fcntl
 import os
 import random
 import sys
@@ -17,17 +19,20 @@ sys.dont_write_bytecode = True
 os.environ["PYTHONDONTWRITEBYTECODE"] = "1"
 
 from helpers.library import Library  # noqa: E402
+from helpers.lines import biglog  # noqa: E402
 from helpers.program import (  # noqa: E402
-    MAKE, TOP, Program, build, linked, needs, program_of, told)
+    MAKE, TOP, Commands, Program, build, linked, many, needs, program_of)
 from helpers.rows import LIBRARIES, OfLibrary, OfProgram  # noqa: E402
 from helpers.texts import texts as all_texts  # noqa: E402
 from helpers.wasm import WasmLibrary  # noqa: E402
-from helpers.wine import Commands, wine_in  # noqa: E402
+from helpers.wine import wine_in  # noqa: E402
 
 OUT = TOP / "out"
 # For each text there are so many lines of answers at least.
 ANSWERS = 7
 ARM = ("qemu-aarch64-static", "-L", "/usr/aarch64-linux-gnu")
+# How many tests a process has before it at most.
+MOST_BEFORE = 4
 
 
 def pytest_addoption(parser):
@@ -35,6 +40,23 @@ def pytest_addoption(parser):
                      help="write what is compared with the sources anew")
     parser.addoption("--logs", type=int, help="how many random logs are judged, of a new seed")
     parser.addoption("--seed", type=int, help="the seed of these random logs")
+
+
+@pytest.hookimpl(trylast=True)
+def pytest_collection_modifyitems(config, items):
+    """Processes that share the tests begin with those that take long, so that none ends with one
+    alone."""
+    if hasattr(config, "workerinput"):
+        items.sort(key=lambda item: item.get_closest_marker("slow") is None)
+
+
+@pytest.hookimpl(optionalhook=True)
+def pytest_xdist_make_scheduler(config, log):
+    """Each process has few tests before it, so that the next ones are for whoever is free."""
+    class FewAtOnce(pytest.importorskip("xdist.scheduler").LoadScheduling):
+        def _send_tests(self, node, num):
+            super()._send_tests(node, min(num, MOST_BEFORE - len(self.node2pending[node])))
+    return FewAtOnce(config, log)
 
 
 def pytest_terminal_summary(terminalreporter):
@@ -113,11 +135,51 @@ def vicinity(release):
 
 
 @pytest.fixture(scope="session")
-def commands(release, tmp_path_factory):
+def once(tmp_path_factory):
+    """Makes something in a folder of this name, once for all processes of a run."""
+    top = tmp_path_factory.getbasetemp()
+    top = top.parent if "PYTEST_XDIST_WORKER" in os.environ else top
+
+    def make_in(name, make):
+        folder, new = top / name, top / f"{name}.new"
+        with open(top / f"{name}.lock", "w") as lock:
+            fcntl.flock(lock, fcntl.LOCK_EX)
+            if not folder.exists():
+                new.mkdir(exist_ok=True)
+                make(new)
+                new.rename(folder)
+        return folder
+    return make_in
+
+
+@pytest.fixture(scope="session")
+def million(once):
+    """The file of a session of 115,600 tags, which has a million lines."""
+    return once("million", lambda folder: (folder / "log").write_bytes(
+        biglog("session", 115_600))) / "log"
+
+
+@pytest.fixture(scope="session")
+def running(tmp_path_factory):
+    """Runs commands that were made in a folder, all in one process, by what starts them."""
+    with contextlib.ExitStack() as at_end:
+        def run(made, program, *words):
+            one = Commands(Program(*words, made), program, tmp_path_factory.mktemp("many"))
+            at_end.enter_context(one.process)
+            return one
+        yield run
+
+
+@pytest.fixture(scope="session")
+def commands(release, once, running):
     """The commands in C, with a look at each access to memory, and at what is left of it."""
     watched = ("-fsanitize=address,undefined", "-fno-sanitize-recover=all")
-    return linked(release, tmp_path_factory.mktemp("commands") / "vicinity", "-std=c99", "-O2",
-                  *TOP.glob("commands/*.c"), *watched)
+
+    def make(folder):
+        linked(release, folder / "vicinity", "-std=c99", "-O2", *TOP.glob("commands/*.c"), *watched)
+        many(folder, ["cc", *watched], release / "libvicinity.a")
+    made = once("commands", make)
+    return running(made / "many", Program(made / "vicinity"))
 
 
 @pytest.fixture(scope="session")
@@ -129,9 +191,11 @@ def arm_release(pytestconfig):
 
 
 @pytest.fixture(scope="session")
-def arm(arm_release):
+def arm(arm_release, once, running):
     """The commands in C for 64-bit ARM, under an emulator."""
-    return Program(*ARM, arm_release / "vicinity")
+    made = once("arm", lambda folder: many(folder, ["aarch64-linux-gnu-gcc"],
+                                           arm_release / "libvicinity.a"))
+    return running(made / "many", Program(*ARM, arm_release / "vicinity"), *ARM)
 
 
 @pytest.fixture(scope="session")
@@ -168,19 +232,14 @@ def wine():
 
 
 @pytest.fixture(scope="session")
-def windows(wine, windows_release, tmp_path_factory):
-    """The commands in C for Windows, all runs in one process."""
-    folder = tmp_path_factory.mktemp("windows")
-    compiler = "x86_64-w64-mingw32-gcc", "-O2", "-D__USE_MINGW_ANSI_STDIO=1", f"-I{TOP}/include"
-    told(*compiler, "-c", "-Dmain=vicinity_main", "-Dopen=open_utf8", *TOP.glob("commands/*.c"),
-         cwd=folder)
-    made = folder / "many.exe"
-    told(*compiler, "tests/c/many.c", "targets/windows/start.c", *folder.glob("*.o"),
-         "release/heap.c", OUT / "module/windows.o", "-o", made)
-    commands = Commands(Program(*wine.words, made),
-                        Program(*wine.words, windows_release / "vicinity.exe"), folder)
-    with commands.process:
-        yield commands
+def windows(wine, windows_release, once, running):
+    """The commands in C for Windows."""
+    made = once("windows", lambda folder: many(
+        folder, ["x86_64-w64-mingw32-gcc", "-D__USE_MINGW_ANSI_STDIO=1"],
+        "targets/windows/start.c", "release/heap.c", OUT / "module/windows.o",
+        renamed=["-Dopen=open_utf8"]))
+    return running(made / "many.exe", Program(*wine.words, windows_release / "vicinity.exe"),
+                   *wine.words)
 
 
 @pytest.fixture(scope="session")

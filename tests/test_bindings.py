@@ -7,6 +7,7 @@ import os
 import platform
 import pty
 import re
+import shutil
 import signal
 import subprocess
 import sys
@@ -38,51 +39,50 @@ def go_environment(folder):
     return {"CGO_CFLAGS": f"-I{folder} -DMADE_OF={made_of}", "CGO_LDFLAGS": f"-L{folder}"}
 
 
-def rust_environment(library, target):
+def rust_environment(library, once):
+    target = once(f"rust-{library.name}", lambda _: None)
     return {"VICINITY_LIB": str(library), "RUSTFLAGS": "-D warnings",
             "CARGO_TARGET_DIR": str(target)}
 
 
 @pytest.fixture(scope="session")
-def folder(release):
-    """The folder with the library and its header."""
-    return release
+def rust_target(release, once):
+    return rust_environment(release, once)
 
 
 @pytest.fixture(scope="session")
-def rust_target(folder, tmp_path_factory):
-    return rust_environment(folder, tmp_path_factory.mktemp("rust"))
+def example(request, once):
+    """An example in a language over a library."""
+    def build(folder, language, library, name):
+        source, program = TOP / "examples" / language, folder / "program"
+        if language == "c":
+            linked(library, program, source / f"{name}.c")
+        elif language == "cpp":
+            linked(library, program, *CPP, source / f"{name}.cpp", compiler="g++")
+        elif language == "go":
+            made("go", "build", "-o", program, cwd=source, **go_environment(library))
+        else:
+            environment = rust_environment(library, once)
+            made("cargo", "build", "--offline", "--locked", cwd=source, **environment)
+            shutil.copy(f"{environment['CARGO_TARGET_DIR']}/debug/vicinity-check", program)
 
-
-@pytest.fixture(scope="session")
-def example(request, tmp_path_factory):
-    """Builds an example in a language over a library, once."""
     @functools.lru_cache(None)
-    def build(language, library, name="check"):
+    def of(language, library, name="check"):
         if language == "commands":
             return Program(*request.getfixturevalue("commands").words, "reconcile")
-        one, made_in = request.getfixturevalue(library), tmp_path_factory.mktemp(language)
-        source, program = TOP / "examples" / language, made_in / "program"
+        path = request.getfixturevalue(library).path
         if language == "python":
-            return Program(sys.executable, source / f"{name}.py", LIBVICINITY=str(one.path),
-                           **PYTHON)
-        if language == "c":
-            return linked(one.path.parent, program, source / f"{name}.c")
-        if language == "cpp":
-            return linked(one.path.parent, program, *CPP, source / f"{name}.cpp", compiler="g++")
-        if language == "go":
-            made("go", "build", "-o", program, cwd=source, **go_environment(one.path.parent))
-            return Program(program)
-        made("cargo", "build", "--offline", "--locked", cwd=source,
-             **rust_environment(one.path.parent, made_in))
-        return Program(made_in / "debug/vicinity-check")
-    return build
+            return Program(sys.executable, TOP / f"examples/python/{name}.py",
+                           LIBVICINITY=str(path), **PYTHON)
+        return Program(once(f"{language}-{library}-{name}", lambda folder: build(
+            folder, language, path.parent, name)) / "program")
+    return of
 
 
 @pytest.fixture(scope="session")
-def in_python(folder):
+def in_python(release):
     """Debian's Python, which has Dask, with the package over the library."""
-    return Program("/usr/bin/python3", LIBVICINITY=str(folder / "libvicinity.so.1"), **PYTHON,
+    return Program("/usr/bin/python3", LIBVICINITY=str(release / "libvicinity.so.1"), **PYTHON,
                    **PATIENT)
 
 
@@ -182,29 +182,29 @@ def test_a_reader_loop_that_does_not_reach_its_margin(example, language):
     assert re.fullmatch(rb"stopped at the limit of 20000 rounds, with margin 199\d\d\n", err)
 
 
-def broken_off(folder, tmp_path, lines):
+def broken_off(release, tmp_path, lines):
     """reader_loop.c, with these lines where its chip would fill the slots of an Inventory."""
     source = (TOP / "examples/c/reader_loop.c").read_text()
     filled = "    for (uint32_t k = 0; k < request.slots; k++) {\n"
     assert source.count(filled) == 1
     (tmp_path / "loop.c").write_text(source.replace(filled, lines + filled))
-    return linked(folder, tmp_path / "loop", tmp_path / "loop.c")
+    return linked(release, tmp_path / "loop", tmp_path / "loop.c")
 
 
 @pytest.mark.parametrize(("rounds", "said"), [
     (1, b"unsettled 5 04"), (2, b"unsettled 56 9E3779B97F4A7C"), (8, b"complete 3")])
-def test_a_reader_loop_whose_chip_stops_hears_no_silence(folder, tmp_path, rounds, said):
+def test_a_reader_loop_whose_chip_stops_hears_no_silence(release, tmp_path, rounds, said):
     """From some round on no slot is reached, and the margin rises no more."""
-    loop = broken_off(folder, tmp_path, f"    if (rounds >= {rounds})\n        return 0;\n")
+    loop = broken_off(release, tmp_path, f"    if (rounds >= {rounds})\n        return 0;\n")
     out, err, status = loop.run("3", "5")
     assert (out.partition(b" after 20000 rounds")[0], status) == (said, 1)
     assert re.search(rb"with margin [0-4]\n$", err)
 
 
 @pytest.mark.parametrize("slots", [2, 16, 1 << 31])
-def test_a_reader_loop_whose_chip_tells_of_too_many_slots_ends(folder, tmp_path, slots):
+def test_a_reader_loop_whose_chip_tells_of_too_many_slots_ends(release, tmp_path, slots):
     """All of them are silent, in a round of one slot."""
-    loop = broken_off(folder, tmp_path, f"""    if (request.slots == 1) {{
+    loop = broken_off(release, tmp_path, f"""    if (request.slots == 1) {{
         for (uint32_t k = 0; k < SLOTS; k++)
             held[k].letter = 'S';
         return {slots}u;
@@ -321,8 +321,8 @@ def test_file_that_is_not_there(program_over_many, texts):
 
 # ---- the libraries' own tests
 
-def test_go_library(folder):
-    place = {"cwd": TOP / "bindings/go", **go_environment(folder)}
+def test_go_library(release):
+    place = {"cwd": TOP / "bindings/go", **go_environment(release)}
     made("go", "vet", "./...", **place)
     assert made("gofmt", "-l", TOP / "bindings/go", TOP / "examples/go") == ""
     assert "ok" in made("go", "test", "-count=1", "./...", **place)
@@ -335,8 +335,8 @@ def test_rust_library(rust_target):
 
 
 @pytest.mark.parametrize("standard", ("c++11", "c++14", "c++17", "c++20"))
-def test_cpp_header(standard, folder):
-    made("g++", *CPP, f"-std={standard}", *STRICT, f"-I{folder}", "-fsyntax-only", "-include",
+def test_cpp_header(standard, release):
+    made("g++", *CPP, f"-std={standard}", *STRICT, f"-I{release}", "-fsyntax-only", "-include",
          "vicinity.hpp", "-x", "c++", "/dev/null")
 
 
@@ -347,8 +347,8 @@ def test_cpp_header_after_those_of_qt(header):
          "-fsyntax-only", "-include", header, "-x", "c++", "/dev/null")
 
 
-def test_cpp_library(folder, tmp_path):
-    tests = linked(folder, tmp_path / "test", *CPP, "-fsanitize=address,undefined",
+def test_cpp_library(release, tmp_path):
+    tests = linked(release, tmp_path / "test", *CPP, "-fsanitize=address,undefined",
                    "-fno-sanitize-recover=all", "bindings/cpp/test.cpp", compiler="g++")
     assert tests.told().endswith(" passed\n")
 
@@ -360,20 +360,21 @@ def fence(language, page):
     return re.search(rf"```{language}\n(.*?)```", page.read_text(), re.S)[1]
 
 
-def test_readme_of_cpp(folder, tmp_path):
+def test_readme_of_cpp(release, tmp_path):
     (tmp_path / "check.cpp").write_text(fence("cpp", TOP / "bindings/cpp/README.md"))
-    check = linked(folder, tmp_path / "check", *CPP, tmp_path / "check.cpp", compiler="c++")
+    check = linked(release, tmp_path / "check", *CPP, tmp_path / "check.cpp", compiler="c++")
     assert check.told() == "complete 0\n"
 
 
-def test_readme_of_go(folder, tmp_path):
+def test_readme_of_go(release, tmp_path):
     page = TOP / "bindings/go/README.md"
     module = fence("text", page).replace("/usr/share/doc/libvicinity-dev", str(TOP))
     (tmp_path / "go.mod").write_text(f"module first\n\ngo 1.19\n\n{module}")
     (tmp_path / "main.go").write_text(
         'package main\n\nimport (\n"fmt"\n\n"vicinity"\n)\n\nfunc main() {\n'
         + fence("go", page) + "}\n")
-    assert made("go", "run", ".", cwd=tmp_path, **go_environment(folder)) == "complete 0 <nil>\n1\n"
+    said = made("go", "run", ".", cwd=tmp_path, **go_environment(release))
+    assert said == "complete 0 <nil>\n1\n"
 
 
 def test_readme_of_rust(rust_target, tmp_path):
@@ -533,11 +534,11 @@ def listening(session):
 # ---- the library itself
 
 @pytest.fixture(params=("shared", "static"))
-def check(request, folder, tmp_path):
+def check(request, release, tmp_path):
     """A program that is linked with the shared library or with the archive."""
-    how = {"shared": [f"-L{folder}", "-lvicinity", f"-Wl,-rpath,{folder}"],
-           "static": [folder / "libvicinity.a"]}
-    return compiled(tmp_path / "check", f"-I{folder}", "examples/c/check.c", *how[request.param])
+    how = {"shared": [f"-L{release}", "-lvicinity", f"-Wl,-rpath,{release}"],
+           "static": [release / "libvicinity.a"]}
+    return compiled(tmp_path / "check", f"-I{release}", "examples/c/check.c", *how[request.param])
 
 
 @pytest.mark.skipif(platform.machine() != "x86_64", reason="the level of x86-64 processors")
@@ -550,7 +551,7 @@ def test_processor(check, processor, status, said):
     assert (ended, said in (out + err).decode()) == (status, True)
 
 
-def test_library_that_is_too_old(folder, tmp_path):
+def test_library_that_is_too_old(release, tmp_path):
     """What needs a call of a later release is told the version that the library lacks, before it
     runs. The library without that version stands for the one of before."""
     symbols = (TOP / "release/exports.map").read_text().partition("\n\n")[0]
@@ -558,11 +559,12 @@ def test_library_that_is_too_old(folder, tmp_path):
     (tmp_path / "listed.c").write_text(
         '#include "vicinity.h"\n#include <stdio.h>\nint main(void) { struct vicinity_answer told; '
         'size_t n; vicinity_listed(NULL, 0, &told, NULL, 0, &n); puts(told.text); return 0; }\n')
-    compiled(tmp_path / "listed", f"-I{folder}", tmp_path / "listed.c", f"-L{folder}", "-lvicinity")
+    compiled(tmp_path / "listed", f"-I{release}", tmp_path / "listed.c", f"-L{release}",
+             "-lvicinity")
     made("cc", "-shared", "-o", tmp_path / "libvicinity.so.1", "-Wl,-soname,libvicinity.so.1",
-         "-Wl,--whole-archive", folder / "libvicinity.a", "-Wl,--no-whole-archive",
+         "-Wl,--whole-archive", release / "libvicinity.a", "-Wl,--no-whole-archive",
          f"-Wl,--version-script={tmp_path / 'old.map'}")
-    for place, status, said in ((folder, 0, "refused at line 1: Header"),
+    for place, status, said in ((release, 0, "refused at line 1: Header"),
                                 (tmp_path, 1, "version `VICINITY_1.2' not found")):
         out, err, ended = Program(tmp_path / "listed", LD_LIBRARY_PATH=str(place)).run()
         assert (ended, said in (out + err).decode()) == (status, True)

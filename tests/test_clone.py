@@ -48,10 +48,14 @@ def script(path, text):
 
 
 class Clone:
-    """A clone, on a machine with few tools."""
+    """A clone, on a machine with few tools. Where none is there, it is made."""
 
     def __init__(self, folder):
         self.top, self.tools, self.kit = folder / "clone", folder / "tools", folder / "kit"
+        if not self.top.exists():
+            self.make()
+
+    def make(self):
         for made in self.top, self.tools, self.kit / "bin":
             made.mkdir(parents=True)
         copy(self.top)
@@ -92,11 +96,17 @@ def clone(tmp_path):
     return Clone(tmp_path)
 
 
-@pytest.fixture
-def built(clone):
-    """A clone in which the program is built."""
+def build_in(folder):
+    clone = Clone(folder)
     clone.add(FOR_BUILDING)
     assert clone.build().status == 0
+
+
+@pytest.fixture
+def built(once, tmp_path):
+    """A copy of a clone in which the program is built."""
+    shutil.copytree(once("clone", build_in), tmp_path, symlinks=True, dirs_exist_ok=True)
+    clone = Clone(tmp_path)
     assert clone.ask() == (b"built here\n", b"", 0)
     return clone
 

@@ -67,8 +67,7 @@ def ask(pair):
 OPERANDS = ([], [""], ["-"], ["-x"], ["--x"], ["--"], ["--", "-"], ["--", "-x"], ["--", "--"],
             ["x", "--"], ["x", "y"],
             ["--", "x", "--"], ["x", "-y"], ["--help"], ["-h"], ["x", "--help"], ["--", "--help"],
-            ["26"], ["0" * 128],
-            ["0" * 129], *([name] for name in (*NO_UTF8, *UTF8)))
+            ["26"], ["0" * 128], ["0" * 129], *([name] for name in (*NO_UTF8, *UTF8)))
 
 
 @pytest.mark.parametrize("command", [*COMMANDS, "reconcile", "frame", "spell"])
@@ -79,8 +78,7 @@ def test_words_after_a_command(ask, command):
 
 def test_words_that_are_no_command(ask):
     for words in ([], [""], ["--"], ["--", "check"], ["Check"], ["help"], ["--help"], ["-h"],
-                  ["--version"], ["-V"], ["-"],
-                  *([name] for name in (*NO_UTF8, *UTF8))):
+                  ["--version"], ["-V"], ["-"], *([name] for name in (*NO_UTF8, *UTF8))):
         ask(words)
 
 

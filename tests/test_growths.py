@@ -46,8 +46,7 @@ IMPOSSIBLE, PARTS = 2000, 5
 HOSTILE = ("quiet-polls", "quiet-answers", "nest-singles-late", "nest-scattered-late",
            "nest-unmet-late", "eight-replies",
            "eight-replies-late", "replies-listed", "all-heard-hidden", "all-silent", "sixteen-late",
-           "listed-scattered",
-           "session-late", "one-slot", "captured", "captured-turns")
+           "listed-scattered", "session-late", "one-slot", "captured", "captured-turns")
 HOSTILE_SIZE = 500
 # The calls of crates/growths, in their order: what it writes when nothing is refused.
 CALLS = [line.rpartition(" ")[0]

@@ -43,8 +43,7 @@ HEADER = b"vicinity-log 1\n"
 @pytest.fixture
 def answer(library):
     """The line of `vicinity_check`, and the population of `vicinity_explain`."""
-    def ask(version, lines):
-        text = text_of(version, lines)
+    def ask(text):
         told = library.told(AnswerStruct, "check", text)
         again, needed, room = library.into(ROOM, "explain", text)
         line = told.text.decode().rstrip("\n")
@@ -56,8 +55,8 @@ def answer(library):
 @pytest.fixture
 def report(program):
     """The lines of `vicinity report`, which ends with the status of the first."""
-    def ask(version, lines):
-        out, err, status = program.run("report", given=text_of(version, lines))
+    def ask(text):
+        out, err, status = program.run("report", given=text)
         told = out.decode().splitlines()
         assert (err, status) == (b"", STATUSES.get(told[0].split()[0], 1))
         return told
@@ -72,11 +71,9 @@ def test_random_logs(answer, report, logs, part):
     for _ in range(number):
         version = 3 if part % 4 == 3 else rng.randint(1, 2)
         case = Case(version, *random_log(rng, version))
-        lines = case.lines
         seen[case.answer.split()[0]] += 1
-        wrong = (case.wrong_answer(*answer(version, lines))
-                 or case.wrong_report(report(version, lines)))
-        assert not wrong, f"seed {seed}:\n{text_of(version, lines).decode()}"
+        wrong = case.wrong_answer(*answer(case.text)) or case.wrong_report(report(case.text))
+        assert not wrong, f"seed {seed}:\n{case.text.decode()}"
     if number >= NUMBER // PARTS:
         assert not [kind for kind in KINDS if seen[kind] * 1000 < LEAST_SHARE * number]
 
@@ -109,12 +106,11 @@ def test_what_the_page_adds(wasm_module, logs):
     versions = (rng.randint(1, 3) for _ in range(PAGE_PARTS * number))
     cases = [Case(version, *random_log(rng, version)) for version in versions]
     cases += [Case(version, [], lines) for version, lines in map(contradicted, [rng] * number)]
-    texts = [text_of(case.version, case.lines) for case in cases]
-    given, seen = b"".join(b"%d\n%s" % (len(text), text) for text in texts), set()
-    for case, text, line in zip(cases, texts, node.told(given=given).splitlines(), strict=True):
+    given, seen = b"".join(b"%d\n%s" % (len(it.text), it.text) for it in cases), set()
+    for case, line in zip(cases, node.told(given=given).splitlines(), strict=True):
         told = json.loads(line)
         for name, (is_made, is_so) in claims(case, told).items():
-            assert is_so or not is_made, f"{name}: {told['headline']}\n{text.decode()}"
+            assert is_so or not is_made, f"{name}: {told['headline']}\n{case.text.decode()}"
             seen |= {(name, "made")} if is_made else set()
             seen |= {(name, "not so")} if not is_so else set()
     assert number < NUMBER // PARTS or len(seen) == 2 * CLAIMS

@@ -1,6 +1,5 @@
 """The Debian packages: what they have, and that they are the same again; installed, upgraded and
 purged in a root of their own; and those in dist/."""
-import fcntl
 import os
 import re
 import shutil
@@ -36,26 +35,20 @@ DEPENDS = ("apt-cache", "depends", "--recurse", "--installed", "--no-recommends"
 
 
 @pytest.fixture(scope="session")
-def packages(request, tmp_path_factory):
-    """The folder of the packages for a kind of machine, with what they have in `unpacked`. It is
-    made once for all processes of a run."""
-    top = tmp_path_factory.getbasetemp()
-    top = top.parent if "PYTEST_XDIST_WORKER" in os.environ else top
-
+def packages(request, once):
+    """The folder of the packages for a kind of machine, with what they have in `unpacked`."""
     def of(target):
+        def make(folder):
+            subprocess.run([TOP / "release/dist", folder, target], check=True)
+            for deb in folder.glob("*.deb"):
+                told("dpkg-deb", "-x", deb, folder / "unpacked")
         needs("dpkg-buildpackage", "dh", "dh_python3")
         request.getfixturevalue("release" if target == "amd64" else "arm_release")
-        made = top / target
-        with open(top / "packages.lock", "w") as lock:
-            fcntl.flock(lock, fcntl.LOCK_EX)
-            if not made.exists():
-                subprocess.run([TOP / "release/dist", made, target], check=True)
-                for deb in made.glob("*.deb"):
-                    told("dpkg-deb", "-x", deb, made / "unpacked")
-        return made
+        return once(f"packages-{target}", make)
     return of
 
 
+@pytest.mark.slow  # the packages are made for it, and taken by all others
 @pytest.mark.parametrize("target", TARGETS)
 def test_names_and_fields(packages, target):
     """They have the version, which between two releases is none that was released."""

@@ -115,8 +115,7 @@ SAID = (
     ("I1 RA QA I1 S UB UZ", "for the 2 items below. If one is here", "for the item below"),
     ("I1 RA QA I1 S UB", "The tags here that aren't listed belong elsewhere, or the list", "Then"),
     ("MB S", "one that no earlier round asked would go unnoticed", "stronger replies"),
-    ("MB S I1 S", "check the antenna", "Notes"),
-    ("I1 UA", "no slot was logged", "ended before"),
+    ("MB S I1 S", "check the antenna", "Notes"), ("I1 UA", "no slot was logged", "ended before"),
     ("I16 " * 30, "In 30 rounds 480 slots weren't reached: most of these UIDs were asked in "
      "lines 28, 29, 30 and 31.", "round of line 2,"),
     ("UA UA", "Count again, in a new log.", "UIDs listed"),
@@ -252,6 +251,24 @@ def page(browser, file):
     one.end()
 
 
+@pytest.fixture
+def shown(browser, file):
+    """Shows a log in place of the one before; after another test, on a page that is new."""
+    one = Screen(browser)
+
+    def show(log):
+        before, now = one.run("return window.shown"), sha256(log).hexdigest()
+        if before is None:
+            one.open(file)
+        if before != now:
+            one.drop(log=log)
+            one.until(".record code", now)
+            one.run("window.shown = arguments[0]", now)
+        return one
+    yield show
+    one.end()
+
+
 def type_in(page, text):
     """Types a text; whether the answer to the one before is then still shown, but pale."""
     return page.run(TYPE, text) == "true"
@@ -266,25 +283,21 @@ def test_one_small_file_that_fetches_nothing(file):
 
 
 @pytest.mark.parametrize(("names", "headline"), LOGS, ids=[names for names, _ in LOGS])
-def test_a_log_is_dropped(page, program, names, headline):
+def test_a_log_is_dropped(shown, program, names, headline):
     log = log_of(names)
-    page.drop(log=log)
+    page = shown(log)
     page.until("h1", headline)
     assert page.texts(".record code")[0] == program.run("check", given=log).out.decode().strip()
 
 
 @pytest.mark.parametrize(("names", "read", "listed"), LIGHTS, ids=[row[0] for row in LIGHTS])
-def test_the_two_lights(page, names, read, listed):
-    page.drop(log=log_of(names))
-    page.until(".lights", read)
-    assert page.texts(".lights dd") == [read, listed]
+def test_the_two_lights(shown, names, read, listed):
+    assert shown(log_of(names)).texts(".lights dd") == [read, listed]
 
 
 @pytest.mark.parametrize("names", READ)
-def test_everybody_can_read_it(page, names):
-    page.drop(log=log_of(names))
-    page.until(".banner h1", "")
-    page.is_readable()
+def test_everybody_can_read_it(shown, names):
+    shown(log_of(names)).is_readable()
 
 
 @pytest.mark.parametrize("log", [UNFINISHED, LONG, BITS], ids=["short", "long", "bits"])
@@ -382,8 +395,8 @@ def test_a_foreign_text_is_told_from_a_log(page, text, words):
 
 
 @pytest.mark.parametrize(("text", "words"), UNUSABLE)
-def test_a_log_that_cannot_be_used(page, text, words):
-    page.drop(log=text.encode())
+def test_a_log_that_cannot_be_used(shown, text, words):
+    page = shown(text.encode())
     page.until("h1", "This log can't be used. Line ")
     page.until("#told", words)
     page.media("print")
@@ -408,9 +421,9 @@ def third(*lines):
 
 
 @pytest.mark.parametrize("name", THIRD)
-def test_a_log_of_version_3(page, program, name):
+def test_a_log_of_version_3(shown, program, name):
     lines, headline, words = THIRD[name]
-    page.drop(log=third(*lines))
+    page = shown(third(*lines))
     page.until("h1", headline)
     page.until("#told", words)
     answer = program.run("check", given=third(*lines)).out.decode().strip()
@@ -443,9 +456,8 @@ def test_what_is_left_to_ask_under_a_reply(page):
 
 
 @pytest.mark.parametrize(("names", "words", "ask"), HIDDEN, ids=[row[0] for row in HIDDEN])
-def test_whether_it_also_holds_if_replies_were_hidden(page, names, words, ask):
-    page.drop(log=log_of(names))
-    page.until(".banner h1", "")
+def test_whether_it_also_holds_if_replies_were_hidden(shown, names, words, ask):
+    page = shown(log_of(names))
     said = [it.partition("hid a weaker one, the answer ")[2] for it in page.texts(".holds p")]
     assert [it for it in said if it] == ([words] if words else [])
     assert page.texts(".copy") == ["\n".join(log_lines(ask)[1:])] * bool(ask)
@@ -485,9 +497,9 @@ def test_a_contradiction_that_hidden_replies_explain(page):
 @pytest.mark.parametrize(("names", "holds"), [
     ("I1 RA QA I1 S UA", True), ("I16 S RA RB S13 UA UB", False), ("I1 S", True), ("I1 RA", True),
     ("I1 S UA", True), ("I1 RA UB", False), ("I1 C", True)])
-def test_what_is_not_needed_is_not_taken_for_granted(page, names, holds):
+def test_what_is_not_needed_is_not_taken_for_granted(shown, names, holds):
     """That no reply was hidden, where what is said also holds if one was."""
-    page.drop(log=log_of(names))
+    page = shown(log_of(names))
     page.until("details:last-of-type", "What this takes for granted (7)")
     said = page.run("return [...document.querySelectorAll('details:last-of-type li')]"
                     ".map((it) => it.textContent)")
@@ -497,10 +509,9 @@ def test_what_is_not_needed_is_not_taken_for_granted(page, names, holds):
 
 @pytest.mark.parametrize(("names", "conditions"), [
     ("I1 RA UA", 1), ("I1 S", 1), ("I1 RA", 1), ("I1 C UA", 0), ("I1 RA I1 S", 0)])
-def test_what_a_complete_answer_is_said_of(page, names, conditions):
-    page.drop(log=log_of(names))
-    page.until(".banner h1", "")
-    assert page.said().count("tags that had power, heard the reader, and were heard") == conditions
+def test_what_a_complete_answer_is_said_of(shown, names, conditions):
+    said = shown(log_of(names)).said()
+    assert said.count("tags that had power, heard the reader, and were heard") == conditions
 
 
 @pytest.mark.parametrize(("version", "letters"), [
@@ -553,8 +564,8 @@ def test_a_header_with_a_comma_is_no_table(page):
 
 
 @pytest.mark.parametrize(("names", "words", "never"), SAID)
-def test_what_is_said_besides(page, names, words, never):
-    page.drop(log=log_of(names))
+def test_what_is_said_besides(shown, names, words, never):
+    page = shown(log_of(names))
     page.until("#told", words)
     assert never not in page.said()
 
@@ -770,12 +781,9 @@ def test_a_log_is_edited(page):
     page.until(".banner", "log (edited)")
 
 
-def test_a_long_judging_is_stopped(page, tmp_path):
-    with open(tmp_path / "log", "wb") as file:
-        made = [TOP / "tools/biglog.py", "session", "115600"]
-        subprocess.run(made, stdout=file, check=True)
+def test_a_long_judging_is_stopped(page, million):
     page.run(STOP)
-    page.driver.find_element("id", "files").send_keys(str(tmp_path / "log"))
+    page.driver.find_element("id", "files").send_keys(str(million))
     page.until(".error", "no answer (stopped)")
     page.drop(log=log_of("I1 RA UA"))
     page.until("h1", "The one listed tag is here")
@@ -821,13 +829,9 @@ def test_a_trial_of_one_of_several_is_not_counted(page):
     page.until("#each", "Complete: 0 of 2.")
 
 
-def test_a_session_of_a_million_lines_does_not_freeze_the_page(page, tmp_path):
-    log = tmp_path / "large.log"
-    with open(log, "wb") as file:
-        made = [TOP / "tools/biglog.py", "session", "115600"]
-        subprocess.run(made, stdout=file, check=True)
+def test_a_session_of_a_million_lines_does_not_freeze_the_page(page, million):
     page.run("window.ticks = 0; setInterval(() => window.ticks++, 20)")
-    page.driver.find_element("id", "files").send_keys(str(log))
+    page.driver.find_element("id", "files").send_keys(str(million))
     page.until("h1", "All 115,600 listed tags are here")
     # the page went on meanwhile
     assert page.run("return window.ticks") > 20

@@ -11,10 +11,12 @@ import random
 import re
 import subprocess
 import sys
+from pathlib import Path
 
 import pytest
 
 from helpers import random_logs
+from helpers.lines import biglog
 from helpers.program import TOP, needs
 from helpers.records import drawn_in
 from helpers.screen import Screen
@@ -68,8 +70,7 @@ def run(release):
         environment = dict(os.environ, PYTHONPATH=str(TOP / "python"), COLUMNS=str(columns),
                            LIBVICINITY=str(release / "libvicinity.so"))
         return subprocess.run([*before, sys.executable, "-m", "vicinity", *words], env=environment,
-                              capture_output=True,
-                              check=False, cwd=TOP, **more)
+                              capture_output=True, check=False, cwd=TOP, **more)
     return run_in
 
 
@@ -201,38 +202,34 @@ def test_random_pictures(vicinity):
     assert kinds >= {"complete", "impossible", "unsettled", "unlisted"}
 
 
-def session_of(tags, shape="session"):
-    """A session that tools/biglog.py makes."""
-    return subprocess.run([sys.executable, os.path.join(TOP, "tools/biglog.py"), shape, str(tags)],
-                          capture_output=True).stdout
+def half_of(text):
+    return text[:len(text) // 2].rpartition(b"\n")[0]
 
 
-def long_sessions():
-    """Long texts by their names, and how many lines they have."""
-    search = session_of(11_500)
-    absent = "".join(f"U {0xE004 << 48 | number:016X}\n" for number in range(99_997))
-    heard = b"T 260108B08019\nR 0000B0A10000000104E0EBE5\n"
-    silenced = b"vicinity-log 1\n" + heard + b"T 2202B0A10000000104E0EA8A\n"
-    silent = silenced + b"T 260100F60A\nS\n" * 499_997
-    yield "a search", search, 100_000
-    yield "a search cut in half", search[:len(search) // 2].rpartition(b"\n")[0], 100_000
-    yield "all of a list absent", b"vicinity-log 1\nT 260100F60A\nS\n" + absent.encode(), 100_000
-    yield "a long search", session_of(115_000), 1_000_000
-    yield "many open rounds", silent, 1_000_000
+def absent(number):
+    """A list of so many tags, none of which answered."""
+    listed = "".join(f"U {0xE004 << 48 | tag:016X}\n" for tag in range(number))
+    return b"vicinity-log 1\nT 260100F60A\nS\n" + listed.encode()
 
 
-LONG = ("a search", "a search cut in half", "all of a list absent", "a long search",
-        "many open rounds")
+# One tag is silenced, and all is silent, time after time.
+OPEN = b"vicinity-log 1\nT 260108B08019\nR 0000B0A10000000104E0EBE5\nT 2202B0A10000000104E0EA8A\n"
+# Long texts by their names, and how many lines they have.
+LONG = {"a search": (lambda _: biglog("session", 11_500), 100_000),
+        "a search cut in half": (lambda _: half_of(biglog("session", 11_500)), 100_000),
+        "all of a list absent": (lambda _: absent(99_997), 100_000),
+        "a long search": (Path.read_bytes, 1_000_000),
+        "many open rounds": (lambda _: OPEN + b"T 260100F60A\nS\n" * 499_997, 1_000_000)}
 
 
 @pytest.mark.slow
 @pytest.mark.parametrize("form", ["show", "page"])
 @pytest.mark.parametrize("name", LONG)
-def test_long_pictures(run, tmp_path, name, form):
+def test_long_pictures(run, million, tmp_path, name, form):
     """Their size, time and memory are bounded."""
     needs("time")
-    text, lines = next(it[1:] for it in long_sessions() if it[0] == name)
-    took = tmp_path / "took"
+    make, lines = LONG[name]
+    text, took = make(million), tmp_path / "took"
     done = run(form, "-", input=text, before=["time", "-q", "-f", "%U %S %M", "-o", took])
     seconds, more, peak = map(float, took.read_text().split())
     assert done.returncode in (0, 1)
@@ -302,13 +299,13 @@ def long_conflict(vicinity):
 @pytest.fixture(scope="module")
 def sessions(vicinity):
     """Longer sessions, by their names."""
-    whole = session_of(1200)
+    whole = biglog("session", 1200)
     lines = whole.split(b"\n")
     heard = [number for number, line in enumerate(lines) if line.startswith(b"R")]
     return {"whole": whole, "half": b"\n".join(lines[:5000]) + b"\n",
             "lost": b"\n".join([*lines[:heard[600]], b"S", *lines[heard[600] + 1:]]),
             "unlisted": b"\n".join(line for line in lines if not line.startswith(b"U")),
-            "woke": session_of(1200, "session-late"), "empty": b"vicinity-log 1\nT 260100F60A\nS\n",
+            "woke": biglog("session-late", 1200), "empty": b"vicinity-log 1\nT 260100F60A\nS\n",
             "conflict": long_conflict(vicinity)}
 
 

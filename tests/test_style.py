@@ -32,8 +32,8 @@ CHECKS = [("shellcheck", "-x", *SHELL), ("flake8", *PYTHON),
           ("tsc", "-p", "web"),
           (*MYPY, "--strict", "examples/python/check.py", "examples/python/reader_loop.py"),
           # Dask has no types
-          (*MYPY, "--strict", "--allow-untyped-calls", "--ignore-missing-imports",
-           "examples/python/fleet.py"),
+          pytest.param((*MYPY, "--strict", "--allow-untyped-calls", "--ignore-missing-imports",
+                        "examples/python/fleet.py"), marks=pytest.mark.slow),
           (*MYPY, "tests", "tools/biglog.py", "tools/measure.py")]
 
 

@@ -8,7 +8,7 @@ import pytest
 from vicinity._native import AnswerStruct, WeakestStruct
 
 from helpers.library import CALLS, LISTING, U32, masks, uids
-from helpers.lines import biglog, log_of
+from helpers.lines import log_of
 from helpers.program import MAKE, TOP, Program, told
 from helpers.wasm import WasmLibrary
 
@@ -20,8 +20,6 @@ const it = new WebAssembly.Module(require("fs").readFileSync(process.argv[1]));
 const exported = WebAssembly.Module.exports(it).map((one) => one.name);
 console.log(JSON.stringify([WebAssembly.Module.imports(it), exported]));
 """
-# A session of this many tags has a million lines.
-LARGE = 115_600
 UID_A, UID_B = 0xE0040100000000A1, 0xE0040100000000B2
 # How many bytes the buffer has of a call that lists something.
 ROOM = 2048
@@ -75,9 +73,9 @@ def test_every_number_in_a_browser(browser, wasm_module, texts, answered, tmp_pa
     assert given.encode() == answered
 
 
-def test_a_session_of_a_million_lines(wasm, program, tmp_path):
+def test_a_session_of_a_million_lines(wasm, program, million, tmp_path):
     """With the tags that it lists, without the last of them, and cut off."""
-    text = biglog("session", LARGE)
+    text = million.read_bytes()
     lines = text.splitlines(keepends=True)
     assert 990_000 < len(lines) <= 1_000_000
     for log in text, b"".join(lines[:-1]), b"".join(lines[:len(lines) // 2]):

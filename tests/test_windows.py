@@ -7,7 +7,7 @@ import re
 import pytest
 
 from helpers.library import CALLS
-from helpers.lines import biglog, log_of
+from helpers.lines import log_of
 from helpers.program import MAKE, TOP, Program, told
 
 CC = ("x86_64-w64-mingw32-gcc", "-O2", "-Wall", "-Wextra", "-Werror",
@@ -16,8 +16,6 @@ LOGS = sorted(str(log) for log in (TOP / "examples").glob("*.log"))
 LOG, EMPTY = log_of("I1 RA UA"), log_of("")
 READ = (b"complete 1\n", b"", 0)
 NAMES = ("shelf 3.log", "Größe.log", "полка.log", "日本の棚.log", "😀.log")
-# A session of this many tags has a million lines.
-LARGE = 115_600
 # The table of what a DLL exports.
 EXPORTED = re.compile(r"^\t\[ *\d+\] (?:\+base\[ *\d+\] +[0-9a-f]+ )?(vicinity_\w+)", re.M)
 
@@ -118,10 +116,9 @@ def test_a_pattern_stands_for_its_files(released, tmp_path):
     assert said == (b"complete 2\n", b"", 0)
 
 
-def test_a_session_of_a_million_lines(released, program, tmp_path):
-    (tmp_path / "log").write_bytes(biglog("session", LARGE))
+def test_a_session_of_a_million_lines(released, program, million):
     for command in "check", "explain", "report":
-        words = {"cwd": tmp_path}
+        words = {"cwd": million.parent}
         assert released.run(command, "log", **words) == program.run(command, "log", **words)
 
 

@@ -69,6 +69,8 @@ def third(lines):
 
 
 NOTHING = log(ALL + b"S\n")
+#: The words of each command.
+WORDS = words()[1]
 
 
 def frame(content):
@@ -130,7 +132,7 @@ def here(form, expected, *logs, options=()):
     """What the command writes, also to standard error, and its status,
     without a process of its own."""
     given = ["--expected", expected, f"--{form}", *options, "--", *logs]
-    asked = words()[1]["reconcile"].parse(given)
+    asked = WORDS["reconcile"].parse(given)
     with mock.patch.multiple(reconcile, write=mock.DEFAULT, complain=mock.DEFAULT) as calls:
         status = reconcile.reconcile(asked)
         said = [piece for call in calls["write"].call_args_list for piece in call[0][0]]

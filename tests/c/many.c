@@ -1,16 +1,24 @@
-/* Runs the commands in C for Windows many times in one process:  many FOLDER
+/* Runs the commands in C many times in one process:  many FOLDER
  *
  * A line of standard input is a run: the folder in which it runs, the name of the program and the words after it, each as a
  * dash and its bytes in hex. The run's standard input is the file `in` of FOLDER, and what it writes goes to `out` and
  * `err`; its status is a line of standard output. */
 #include <fcntl.h>
-#include <io.h>
 #include <stdio.h>
 #include <stdlib.h>
 #include <string.h>
 #include <unistd.h>
 
-enum { LINE = 1 << 16, WORDS = 64 };
+#ifndef O_BINARY
+#define O_BINARY 0
+#endif
+#ifdef __SANITIZE_ADDRESS__
+#include <sanitizer/lsan_interface.h>
+#else
+#define __lsan_do_recoverable_leak_check() 0
+#endif
+
+enum { LINE = 1 << 16, WORDS = 64, LEAK = 99 };
 
 int vicinity_main(int count, char **words);
 
@@ -32,7 +40,7 @@ static int replace(int stream, const char *folder, const char *name, int flags)
     char path[FILENAME_MAX];
     snprintf(path, sizeof path, "%s/%s", folder, name);
     int file = open(path, flags | O_BINARY);
-    return file >= 0 && dup2(file, stream) == 0 && close(file) == 0;
+    return file >= 0 && dup2(file, stream) >= 0 && close(file) == 0;
 }
 
 int main(int count, char **given)
@@ -47,7 +55,8 @@ int main(int count, char **given)
         if (chdir(words[0]) || !replace(0, given[1], "in", O_RDONLY) ||
             !replace(1, given[1], "out", O_WRONLY | O_TRUNC) || !replace(2, given[1], "err", O_WRONLY | O_TRUNC))
             return 1;
-        fprintf(told, "%d\n", vicinity_main(count - 1, words + 1));
+        int status = vicinity_main(count - 1, words + 1);
+        fprintf(told, "%d\n", __lsan_do_recoverable_leak_check() ? LEAK : status);
         fflush(told);
         count = 2;
     }

@@ -52,8 +52,9 @@ def divided(masks, length=0, value=0):
     if not longer:
         yield length, value
     else:
-        for half in (length + 1, value), (length + 1, value + 2**length):
-            yield from divided([mask for mask in longer if lies_in(mask[1], *half)], *half)
+        for bit in 0, 1:
+            half = [mask for mask in longer if mask[1] >> length & 1 == bit]
+            yield from divided(half, length + 1, value + bit * 2**length)
 
 
 def greatest(masks):
@@ -104,7 +105,7 @@ def answers(slot, uid):
 def fits(line, there, its_own):
     """Whether a line can be what is written of a slot in which these answer. Sets of UIDs are the
     bits of a number; `its_own` is the UID of a reply."""
-    number = bin(there).count("1")
+    number = there.bit_count()
     if isinstance(line, Reply):
         return there & its_own != 0 and (line.captured or number == 1)
     return line == UNKNOWN or (number == 0 if line == SILENT else number >= LEAST[line])

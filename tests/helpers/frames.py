@@ -7,15 +7,14 @@ from random import Random
 Made = tuple[str, str, tuple[int, ...]]
 
 
-def reflected(number: int, bits: int) -> int:
-    """A number whose bits stand in the opposite order."""
-    return int(f"{number:0{bits}b}"[::-1], 2)
+# Each byte with its bits in the opposite order.
+REFLECTED = bytes(int(f"{byte:08b}"[::-1], 2) for byte in range(256))
 
 
 def with_crc(body: Sequence[int]) -> bytes:
     """The frame of some bytes: ISO/IEC 13239, 16-bit FCS, each byte's lowest bit first."""
-    register = binascii.crc_hqx(bytes(reflected(byte, 8) for byte in body), 0xFFFF)
-    return bytes(body) + (reflected(register, 16) ^ 0xFFFF).to_bytes(2, "little")
+    register = binascii.crc_hqx(bytes(body).translate(REFLECTED), 0xFFFF) ^ 0xFFFF
+    return bytes(body) + register.to_bytes(2, "big").translate(REFLECTED)
 
 
 def hex_of(body: Sequence[int]) -> str:

@@ -8,10 +8,12 @@ the report (reports.py). The population that the library shows has to be one of 
 answer. The other logs leave any UID, and one population of all that silence and replies leave is
 tried.
 """
+import functools
+
 from helpers import reports
 from helpers.air import (COLLISION, FIELD_CYCLE, GARBLED, SILENT, UNKNOWN, Ask, Reply, answers,
                          as_mask, fits, is_slot, lies_in, slots_of)
-from helpers.random_logs import LEFT
+from helpers.random_logs import LEFT, text_of
 from helpers.reports import Known, Report
 
 ALL = 2**LEFT - 1
@@ -22,19 +24,20 @@ class Judge:
 
     def __init__(self, uids):
         self.uids = sorted(uids)
+        self.bits = {uid: 1 << place for place, uid in enumerate(self.uids)}
 
     def slots(self, lines):
         return slots_of(lines)
 
     def those(self, holds):
-        return sum(1 << place for place, uid in enumerate(self.uids) if holds(uid))
+        return sum(bit for uid, bit in self.bits.items() if holds(uid))
 
     def judge(self, lines):
         """What is known of a log."""
         left = range(ALL + 1)
         for slot in self.slots(lines):
-            would = self.those(lambda uid: answers(slot, uid))
-            its_own = self.those(lambda uid: slot.line in (Reply(uid), Reply(uid, True)))
+            would = self.those(functools.partial(answers, slot))
+            its_own = self.bits.get(slot.line.uid, 0) if isinstance(slot.line, Reply) else 0
             can_be = {them: fits(slot.line, them, its_own)
                       for them in ({them & would for them in left} if would else (0,))}
             if not all(can_be.values()):
@@ -177,6 +180,10 @@ class Case:
         self.known = Judge(uids).judge(lines) if uids else reports.known_of(lines)
         self.report = Report(lines, self.known)
         self.answer = self.report.answer()
+
+    @functools.cached_property
+    def text(self):
+        return text_of(self.version, self.lines)
 
     def wrong_answer(self, given, shown):
         """Why an answer, and the population that is shown, are wrong, if so."""

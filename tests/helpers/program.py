@@ -32,7 +32,7 @@ class Program:
         has more for subprocess.run, as other streams."""
         first, *more = self.words
         streams = {"stdout": subprocess.PIPE, "stderr": subprocess.PIPE, "cwd": TOP,
-                   "env": {**os.environ, **self.environment}, **how}
+                   "env": {**os.environ, **self.environment} if self.environment else None, **how}
         if "stdin" not in how:
             streams["input"] = given
         done = subprocess.run([name or first, *more, *words], executable=first, check=False,
@@ -44,6 +44,37 @@ class Program:
         said = self.run(*words, **how)
         assert said.status == 0, said.err.decode()
         return said.out.decode()
+
+
+class Commands:
+    """The commands in C, all runs in one process (tests/c/many.c): a start takes long. A run with
+    streams or an environment of its own is a start of `program`."""
+
+    def __init__(self, many, program, folder):
+        self.program, self.words, self.folder = program, program.words, folder
+        for name in "in", "out", "err":
+            (folder / name).touch()
+        self.process = subprocess.Popen([*many.words, folder], stdin=subprocess.PIPE,
+                                        stdout=subprocess.PIPE, stderr=subprocess.DEVNULL)
+
+    def run(self, *words, given=b"", name="vicinity", cwd=TOP, **how):
+        if how and how != {"stdin": subprocess.DEVNULL}:
+            return self.program.run(*words, given=given, cwd=cwd, **how)
+        (self.folder / "in").write_bytes(given)
+        run = [f"-{os.fsencode(word).hex()}".encode() for word in (cwd, name, *words)]
+        self.process.stdin.write(b" ".join(run) + b"\n")
+        self.process.stdin.flush()
+        status = self.process.stdout.readline()
+        out, err = ((self.folder / name).read_bytes() for name in ("out", "err"))
+        assert status, f"it has ended: {err.decode()}"
+        return Said(out, err, int(status))
+
+
+def many(folder, compiler, *words, renamed=()):
+    """Makes the commands in C to be run many times in one process."""
+    told(*compiler, f"-I{TOP}/include", "-O2", "-c", "-Dmain=vicinity_main", *renamed,
+         *TOP.glob("commands/*.c"), cwd=folder)
+    told(*compiler, "-O2", "tests/c/many.c", *folder.glob("*.o"), *words, "-o", folder / "many")
 
 
 def told(*words, cwd=TOP, **environment):

@@ -53,8 +53,9 @@ class Parts:
         start = len(self.masks)
         longer = [mask for mask in masks if mask[0] > length]
         if longer:
-            for half in (length + 1, value), (length + 1, value + 2**length):
-                self.divide([mask for mask in longer if lies_in(mask[1], *half)], *half)
+            for bit in 0, 1:
+                half = [mask for mask in longer if mask[1] >> length & 1 == bit]
+                self.divide(half, length + 1, value + bit * 2**length)
         else:
             more = min(2, UID_BITS - length)
             self.masks += [(length + more, value + high * 2**length) for high in range(2**more)]

@@ -60,10 +60,11 @@ class Screen:
     """The page that a browser shows."""
 
     def __init__(self, browser):
-        self.browser, self.driver = browser, browser.driver
+        self.browser, self.driver, self.is_opened = browser, browser.driver, False
 
     def open(self, file):
         """Opens a page anew, and waits until it is drawn."""
+        self.is_opened = True
         self.browser.console()
         self.driver.get_log("performance")
         self.driver.get(f"file://{file}")
@@ -76,7 +77,7 @@ class Screen:
         asked = [json.loads(entry["message"])["message"] for entry in logged]
         kinds = {it["params"]["request"]["url"].partition(":")[0] for it in asked
                  if it["method"] == "Network.requestWillBeSent"}
-        assert "file" in kinds and kinds <= {"file", "blob", "data"}
+        assert kinds <= {"file", "blob", "data"} and ("file" in kinds or not self.is_opened)
         assert self.browser.console() == []
 
     def run(self, script, *given):

@@ -1,10 +1,9 @@
 """Programs for Windows, under wine."""
 import contextlib
 import fcntl
-import os
 import subprocess
 
-from helpers.program import TOP, Program, Said
+from helpers.program import Program
 
 HOUR = 3600
 NOWHERE = {"stdin": subprocess.DEVNULL, "stdout": subprocess.DEVNULL, "stderr": subprocess.DEVNULL}
@@ -29,25 +28,3 @@ def wine_in(prefix):
         with contextlib.suppress(BlockingIOError):
             fcntl.flock(users, fcntl.LOCK_EX | fcntl.LOCK_NB)
             subprocess.run([*words, "wineserver", "-k"], check=False, **NOWHERE)
-
-
-class Commands:
-    """The commands, all runs in one process (tests/c/many.c): a start takes long. A run with a
-    stream of its own is a start of `program`."""
-
-    def __init__(self, many, program, folder):
-        self.program, self.folder = program, folder
-        for name in "in", "out", "err":
-            (folder / name).touch()
-        self.process = subprocess.Popen([*many.words, folder], stdin=subprocess.PIPE,
-                                        stdout=subprocess.PIPE, stderr=subprocess.DEVNULL)
-
-    def run(self, *words, given=b"", name="vicinity", cwd=TOP, **how):
-        if "stdout" in how:
-            return self.program.run(*words, given=given, cwd=cwd, **how)
-        (self.folder / "in").write_bytes(given)
-        run = [f"-{os.fsencode(word).hex()}".encode() for word in (cwd, name, *words)]
-        self.process.stdin.write(b" ".join(run) + b"\n")
-        self.process.stdin.flush()
-        status = int(self.process.stdout.readline())
-        return Said(*((self.folder / name).read_bytes() for name in ("out", "err")), status)
