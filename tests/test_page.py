@@ -414,6 +414,18 @@ def test_a_spreadsheet_is_told_from_a_log(page, program, tmp_path, start):
     assert page.driver.find_element("id", "text").get_property("value") == ""
 
 
+def test_a_packed_file_is_no_catalogue(page, tmp_path):
+    """Alone it may have logs in it, to be unpacked; in a collection it is a log that isn't one."""
+    page.drop(log=log_of("I1 RA"))
+    page.until("h1", "1 tag is here")
+    page.choose(tmp_path, {"logs.zip": b"PK\x03\x04"})
+    page.until(".steps", "If it is a ZIP file with logs in it, unpack it, and open the logs.")
+    page.choose(tmp_path, {"Thumbs.db": b"\xD0\xCF\x11\xE0\xA1\xB1\x1A\xE1", "books.csv": OF_A,
+                           "A.log": log_of("I1 RA QA I1 S")})
+    page.until("h1", "Count 1 log again.")
+    assert page.texts(".logs summary")[0].startswith("Thumbs.db: isn't a log (line 1)")
+
+
 def third(*lines):
     """The text of a log of version 3."""
     return text_of(["vicinity-log 3", *lines])
@@ -1398,6 +1410,25 @@ def test_the_answer_to_an_earlier_text_goes_if_judging_takes_long(page):
     assert page.driver.title == "log (edited) .."
     page.until("#status", "Judging log (edited) ..")
     assert (page.said(), page.texts("h1")) == ("", [])
+
+
+def test_what_is_shown_of_a_log_stays_while_another_is_judged(page):
+    """What is unfolded, and the focus."""
+    page.run("""
+      const post = Worker.prototype.postMessage;
+      Worker.prototype.postMessage = function (it) {
+        if (it.name !== "two") post.call(this, it);
+        else window.free = () => post.call(this, it);
+      };
+    """)
+    page.drop(one=log_of("I1 RA QA I1 S UA"), two=log_of("I1 S UA"))
+    page.until("#logs", "one ✓")
+    page.press("#logs button")
+    page.run("document.querySelector('#told details').open = true")
+    page.run("document.querySelector('#told summary').focus()")
+    page.run("window.free()")
+    page.until("#logs", "two ! 0 of 1")
+    assert page.run("return document.activeElement.parentElement.open")
 
 
 def test_many_logs_do_not_freeze_the_page(page):

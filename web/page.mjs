@@ -27,7 +27,7 @@ const PAUSE = 250, PATIENCE = 400;
 const MOST_BYTES = 256_000_000, TOO_LARGE = "it has more than 256 MB";
 const NO_FILE = "it can't be read: open it again, or, if it is a folder, the files in it";
 const PASTE = "Paste a log here", NO_DROP = "No file was dropped, so nothing has changed: save it as a file, and open that.";
-const TOGETHER = "Press one to see it. For one answer about all of them, open them together with a catalogue (CSV).";
+const TOGETHER = "Press one to see it. For one answer about all of them, open them together with one catalogue (CSV).";
 const OPEN_AGAIN = "Open it again, together with the other logs and the catalogue.";
 
 const field = /** @type {HTMLTextAreaElement} */ (at("text")), files = /** @type {HTMLInputElement} */ (at("files"));
@@ -46,7 +46,7 @@ let answered;
 /** @type {number | undefined} */
 let patience;
 /**
- * When several logs are drawn next: the more there are, the less often.
+ * When the answers to several logs are drawn next: the more there are, the less often.
  * @type {number | undefined}
  */
 let drawing;
@@ -64,7 +64,7 @@ async function ask(entry) {
   Object.assign(entry, await work.ask(entry.given ? { given: entry.given } : { name: entry.name, text: entry.text }));
   if (!work.isBusy && !pending) quiet();
   if (entry === entries[current]) show();
-  else if (entries.includes(entry)) drawing ??= window.setTimeout(show, entries.length);
+  else if (entries.includes(entry)) drawing ??= window.setTimeout(overview, entries.length);
 }
 
 /**
@@ -185,8 +185,6 @@ function edit() {
 
 /** Shows the answers to all logs, if there are several, and what is told of one. */
 function show() {
-  clearTimeout(drawing);
-  drawing = undefined;
   document.body.classList.toggle("empty", !entries.length);
   const entry = pending ?? entries[current];
   overview();
@@ -217,6 +215,8 @@ function show() {
 
 /** Shows several logs with what each says. Of all together nothing is said but how many are complete, once all are judged. */
 function overview() {
+  clearTimeout(drawing);
+  drawing = undefined;
   const many = entries.length, isOne = many < 2 || pending !== undefined;
   several.hidden = isOne;
   if (isOne || list.childElementCount !== many) list.replaceChildren(...isOne ? [] : entries.map((_, index) => item(index)));
@@ -258,7 +258,8 @@ function titleOfEntry({ told, collection, name }) {
  */
 function headed(title) {
   document.title = title;
-  at("said").textContent = document.querySelector("#each h1, #told h1")?.textContent ?? "";
+  const said = at("said"), words = document.querySelector("#each h1, #told h1")?.textContent ?? "";
+  if (said.textContent !== words) said.textContent = words;
 }
 
 /** @param {number} index */
