@@ -832,6 +832,22 @@ def test_several_logs(page):
     assert page.run("return document.activeElement.textContent").startswith("two ")
 
 
+@pytest.mark.parametrize("number", [0, 30, -1])
+def test_the_answer_to_one_of_many_logs_is_seen_when_it_is_pressed(page, number):
+    """With its name in the list, which is higher than a screen."""
+    page.drop_files({f"{number}.log": log_of("I1 RA UA") for number in range(60)})
+    page.until("h1", "Complete: 60 of 60.")
+    page.run("document.querySelectorAll('#logs button')[59].scrollIntoView()")
+    page.press("#logs button", number)
+    seen = page.run("""
+      return [document.activeElement, document.querySelector(".banner h1")].map((it) => {
+        const { top, bottom } = it.getBoundingClientRect();
+        return document.elementFromPoint(60, (top + bottom) / 2) === it || it.contains(
+          document.elementFromPoint(200, (top + bottom) / 2));
+      });""")
+    assert seen == [True, True]
+
+
 def test_a_trial_of_one_of_several_is_not_counted(page):
     page.drop(one=log_of("I1 C UA"), two=log_of("I1 S"))
     page.until("h1", "Complete: 1 of 2.")
@@ -1256,7 +1272,7 @@ def test_no_answer_stands_beside_another_log_of_the_same_name(page):
     page.run("""
       const post = Worker.prototype.postMessage;
       let posted = 0;
-      Worker.prototype.postMessage = function (it) { if (it.module || !posted++) post.call(this, it); };
+      Worker.prototype.postMessage = function (it) { if (!posted++) post.call(this, it); };
     """)
     page.run(DROP, [["log", log_of(names).decode()] for names in ("I1 RA QA I1 S UA", "I1 S UA")])
     page.until("#logs", "The one listed tag is here")
@@ -1327,7 +1343,9 @@ def test_nothing_is_shown_while_a_file_is_read(page, is_stopped):
     page.wait(lambda: page.run("return 'go' in window"))
     if is_stopped:
         page.press("#stop")
-        page.until(".error", "slow.log: no answer (it wasn't read).")
+        page.until(".error", "slow.log: no answer (stopped).")
+        page.drop(**{"books.csv": OF_A})
+        page.until(".error", "books.csv: no answer (slow.log is lacking: stopped).")
         page.drop(log=log_of("I1 S UA"))
     else:
         page.run("window.go()")
@@ -1382,10 +1400,25 @@ def test_a_browser_that_runs_no_script_of_the_page(page, file, tmp_path):
     """As where a server forbids it, or an old one."""
     assert page.driver.find_elements("id", "old") == []
     blocked = tmp_path / "blocked.html"
-    blocked.write_text(file.read_text().replace('<script type="module">', '<script type="module">;'))
+    script = '<script type="module">'
+    blocked.write_text(file.read_text().replace(script, script + ";"))
     page.open(blocked)
     page.wait(page.driver.find_element("id", "old").is_displayed)
     assert "Here that is off or blocked, or the browser is from before" in page.texts("#old")[0]
+    assert "Content Security Policy" in page.browser.console()[0]
+
+
+def test_a_page_that_was_saved_is_read_without_its_script(page, tmp_path):
+    page.drop(log=log_of("I1 RA QA I1 S UA"))
+    page.until("h1", "The one listed tag is here, and no other.")
+    file = saved(page, tmp_path / "saved")
+    page.open(file)
+    assert (page.texts("h1"), page.texts("#old")) == (
+        ["The one listed tag is here, and no other."], [])
+    file.write_text(file.read_text().replace('<script type="module">', '<script type="module">;'))
+    page.open(file)
+    page.wait(page.driver.find_element("id", "old").is_displayed)
+    assert "The one listed tag is here, and no other." in page.texts("#old")[0]
     assert "Content Security Policy" in page.browser.console()[0]
 
 

@@ -148,8 +148,11 @@ function opened(taken) {
   take([{ name: expected.name, text: new Uint8Array(), given, ...lacking(given) }]);
 }
 
-/** @param {Entry} entry */
-const isLacking = ({ error }) => error && error !== STOPPED;
+/**
+ * Without its text; what was stopped while it was judged has one.
+ * @param {Entry} entry
+ */
+const isLacking = ({ error, text }) => error && (error !== STOPPED || !text.length);
 
 /**
  * Without one of its files nothing is said of a collection.
@@ -172,7 +175,7 @@ async function read(file) {
     const stopped = new Promise((_, no) => signal.addEventListener("abort", no));
     return { name, text: new Uint8Array(await Promise.race([file.arrayBuffer(), stopped])) };
   } catch {
-    return { name, text, error: signal.aborted ? "it wasn't read" : NO_FILE };
+    return { name, text, error: signal.aborted ? STOPPED : NO_FILE };
   }
 }
 
@@ -270,6 +273,7 @@ function item(index) {
     edit();
     show();
     button.focus();
+    button.scrollIntoView({ block: "nearest" });
   });
   return el("li", {}, button);
 }
