@@ -1107,6 +1107,22 @@ def test_the_title_of_an_item_is_said_as_it_is(page):
         "Move US$& $' $1 (tag E0040100000000A1) nearer to the antenna")
 
 
+def test_an_item_of_a_catalogue_with_many_columns_is_read_in_lines(page):
+    """As a library system exports it: no column has room for a word. On paper too."""
+    columns = [f"column {number}" for number in range(20)]
+    page.drop(**{"books.csv": f"uid,title,{','.join(columns)},shelf\nE0040100000000A1,Emma,"
+                 f"{','.join(['available'] * 20)},A\n".encode(), "A.log": log_of("I1 S")})
+    page.until("h1", "1 item missing.")
+    for kind in "", "print":
+        page.media(kind)
+        row, line = page.run("""
+          const row = document.querySelector(".items tbody tr");
+          return [row, row.querySelector("th")].map((it) => it.getBoundingClientRect().height)""")
+        assert row < 8 * line
+    cell = "document.querySelectorAll('.items td')[3]"
+    assert page.run(f"return getComputedStyle({cell}, '::before').content") == '"column 2: "'
+
+
 def test_a_place_that_is_not_in_the_catalogue(page):
     """What is found there is told by it."""
     page.drop(**{"catalogue.csv": b"uid,title,shelf\nE0040100000000A1,Walden,one\n",
