@@ -1113,12 +1113,17 @@ def test_an_item_of_a_catalogue_with_many_columns_is_read_in_lines(page):
     page.drop(**{"books.csv": f"uid,title,{','.join(columns)},shelf\nE0040100000000A1,Emma,"
                  f"{','.join(['available'] * 20)},A\n".encode(), "A.log": log_of("I1 S")})
     page.until("h1", "1 item missing.")
-    for kind in "", "print":
+    for kind, width in ("print", 780), ("", 1000):
         page.media(kind)
-        row, line = page.run("""
-          const row = document.querySelector(".items tbody tr");
-          return [row, row.querySelector("th")].map((it) => it.getBoundingClientRect().height)""")
-        assert row < 8 * line
+        size = {"width": width, "height": 900, "deviceScaleFactor": 1, "mobile": False}
+        page.driver.execute_cdp_cmd("Emulation.setDeviceMetricsOverride", size)
+        lines = page.run("""
+          return [...document.querySelectorAll(".items td[data-head^=column]")].map((it) => {
+            const range = document.createRange();
+            range.selectNodeContents(it);
+            return range.getClientRects().length;
+          })""")
+        assert lines == [1] * 20
     cell = "document.querySelectorAll('.items td')[3]"
     assert page.run(f"return getComputedStyle({cell}, '::before').content") == '"column 2: "'
 
