@@ -177,6 +177,18 @@ def test_no_table_of_places_is_silently_unused(drop, places, why):
     assert said["error"].startswith(why)
 
 
+def test_a_table_of_places_may_have_some_without_a_log(drop):
+    """Without these it is refused, and says so."""
+    files = {"books.csv": f"uid,title,shelf\n{UID_A},Emma,South\n{UID_B},Walden,North\n",
+             "shelf.log": SHELF}
+    said = drop({**files, "places.csv": "place,log\nSouth,shelf.log\n"})
+    assert said["error"] == (
+        "places.csv: no column of books.csv has a place of it in most rows: shelf has one in 1 of "
+        "2. Add the places that it lacks, written as there, also those without a log")
+    said = drop({**files, "places.csv": "place,log\nSouth,shelf.log\nNorth,\n"})
+    assert (said["kind"], said["uid"], said["counts"]["there"]) == ("absent", UID_B, 1)
+
+
 def test_a_table_of_places_has_its_columns(drop):
     """Where commas separate them."""
     said = drop({"books.csv": f"uid,shelf\n{UID_A},A\n", "shelf.log": SHELF,

@@ -214,9 +214,19 @@ const post = Worker.prototype.postMessage;
 Worker.prototype.postMessage = function (it) { if (it.module) post.call(this, it); };
 window.free = () => { Worker.prototype.postMessage = post; };
 """
+# What a browser does that runs no worker, and one that has no room for a text; each once.
+WORKERLESS = {
+    "the worker is blocked": "{ queueMicrotask(() => this.onerror(new ErrorEvent('error'))); }",
+    "nothing is sent to it": "{ throw new DOMException('', 'DataCloneError'); }"}
+ONCE = """
+const post = Worker.prototype.postMessage;
+Worker.prototype.postMessage = function (it) {
+  Worker.prototype.postMessage = post;
+"""
 # Why the second of two logs has no answer, with what makes it so.
+UNREADABLE = "it can't be read: open it again, or, if it is a folder, the files in it"
 UNANSWERED = {
-    "it can't be read": """
+    UNREADABLE: """
 File.prototype.arrayBuffer = function () {
   return this.name === "two" ? Promise.reject(new Error()) : Blob.prototype.arrayBuffer.call(this);
 };
@@ -280,6 +290,8 @@ def test_one_small_file_that_fetches_nothing(file):
     assert "content=\"default-src 'none';" in text
     assert not re.search(r"connect-src|img-src|unsafe-inline|\b(?:src|href)=",
                          text.partition("<script type=\"text/plain\"")[0])
+    # Safari doesn't know it before 2023, and would run nothing
+    assert "(?<" not in text
 
 
 @pytest.mark.parametrize(("names", "headline"), LOGS, ids=[names for names, _ in LOGS])
@@ -413,6 +425,18 @@ def test_a_spreadsheet_is_told_from_a_log(page, program, tmp_path, start):
     assert answer.startswith("refused at line 1: ") and page.texts(".banner code") == [answer]
     assert "UTF-16" not in page.said()
     assert page.driver.find_element("id", "text").get_property("value") == ""
+
+
+def test_a_packed_file_is_no_catalogue(page, tmp_path):
+    """Alone it may have logs in it, to be unpacked; in a collection it is a log that isn't one."""
+    page.drop(log=log_of("I1 RA"))
+    page.until("h1", "1 tag is here")
+    page.choose(tmp_path, {"logs.zip": b"PK\x03\x04"})
+    page.until(".steps", "If it is a ZIP file with logs in it, unpack it, and open the logs.")
+    page.choose(tmp_path, {"Thumbs.db": b"\xD0\xCF\x11\xE0\xA1\xB1\x1A\xE1", "books.csv": OF_A,
+                           "A.log": log_of("I1 RA QA I1 S")})
+    page.until("h1", "Count 1 log again.")
+    assert page.texts(".logs summary")[0].startswith("Thumbs.db: isn't a log (line 1)")
 
 
 def third(*lines):
@@ -712,7 +736,7 @@ def test_a_file_that_cannot_be_read(page):
     page.until("h1", "The one listed tag is here")
     page.run("File.prototype.arrayBuffer = () => Promise.reject(new Error())")
     page.drop(folder=b"")
-    page.until(".error", "folder: no answer (it can't be read).")
+    page.until(".error", f"folder: no answer ({UNREADABLE}).")
     assert page.driver.title == page.run(
         "return document.getElementById('said').textContent") == page.texts(".error")[0]
     assert "listed tag" not in page.said()
@@ -814,6 +838,22 @@ def test_several_logs(page):
     page.until("h1", "1 didn't answer")
     assert len(page.texts("h1")) == 1 and said in page.texts("#each")[0]
     assert page.run("return document.activeElement.textContent").startswith("two ")
+
+
+@pytest.mark.parametrize("number", [0, 30, -1])
+def test_the_answer_to_one_of_many_logs_is_seen_when_it_is_pressed(page, number):
+    """With its name in the list, which is higher than a screen."""
+    page.drop_files({f"{number}.log": log_of("I1 RA UA") for number in range(60)})
+    page.until("h1", "Complete: 60 of 60.")
+    page.run("document.querySelectorAll('#logs button')[59].scrollIntoView()")
+    page.press("#logs button", number)
+    seen = page.run("""
+      return [document.activeElement, document.querySelector(".banner h1")].map((it) => {
+        const { top, bottom } = it.getBoundingClientRect();
+        return document.elementFromPoint(60, (top + bottom) / 2) === it || it.contains(
+          document.elementFromPoint(200, (top + bottom) / 2));
+      });""")
+    assert seen == [True, True]
 
 
 def test_a_trial_of_one_of_several_is_not_counted(page):
@@ -1071,6 +1111,27 @@ def test_the_title_of_an_item_is_said_as_it_is(page):
         "Move US$& $' $1 (tag E0040100000000A1) nearer to the antenna")
 
 
+def test_an_item_of_a_catalogue_with_many_columns_is_read_in_lines(page):
+    """As a library system exports it: no column has room for a word. On paper too."""
+    columns = [f"column {number}" for number in range(20)]
+    page.drop(**{"books.csv": f"uid,title,{','.join(columns)},shelf\nE0040100000000A1,Emma,"
+                 f"{','.join(['available'] * 20)},A\n".encode(), "A.log": log_of("I1 S")})
+    page.until("h1", "1 item missing.")
+    for kind, width in ("print", 780), ("", 1000):
+        page.media(kind)
+        size = {"width": width, "height": 900, "deviceScaleFactor": 1, "mobile": False}
+        page.driver.execute_cdp_cmd("Emulation.setDeviceMetricsOverride", size)
+        lines = page.run("""
+          return [...document.querySelectorAll(".items td[data-head^=column]")].map((it) => {
+            const range = document.createRange();
+            range.selectNodeContents(it);
+            return range.getClientRects().length;
+          })""")
+        assert lines == [1] * 20
+    cell = "document.querySelectorAll('.items td')[3]"
+    assert page.run(f"return getComputedStyle({cell}, '::before').content") == '"column 2: "'
+
+
 def test_a_place_that_is_not_in_the_catalogue(page):
     """What is found there is told by it."""
     page.drop(**{"catalogue.csv": b"uid,title,shelf\nE0040100000000A1,Walden,one\n",
@@ -1291,6 +1352,158 @@ def test_a_file_that_is_read_slowly_does_not_replace_a_later_one(page, is_exampl
     page.wait(lambda: page.run("return 'go' in window"))
     page.run("window.go()")
     page.until(".banner", "example.log")
+
+
+@pytest.mark.parametrize("is_stopped", [False, True])
+def test_nothing_is_shown_while_a_file_is_read(page, is_stopped):
+    """No answer to another one, nor a field whose text the file would replace."""
+    page.drop(log=log_of("I1 RA UA"))
+    page.until("h1", "The one listed tag is here")
+    page.run(SLOW)
+    page.drop(**{"slow.log": log_of("I1 S UA")})
+    assert (page.said(), page.texts("h1"), page.driver.title) == ("", [], "slow.log ..")
+    assert page.run("return document.getElementById('said').textContent") == ""
+    assert not any(page.driver.find_element("id", it).is_displayed() for it in ("text", "save"))
+    page.until("#status", "Reading slow.log ..")
+    page.wait(lambda: page.run("return 'go' in window"))
+    if is_stopped:
+        page.press("#stop")
+        page.until(".error", "slow.log: no answer (stopped).")
+        page.drop(**{"books.csv": OF_A})
+        page.until(".error", "books.csv: no answer (slow.log is lacking: stopped).")
+        page.drop(log=log_of("I1 S UA"))
+    else:
+        page.run("window.go()")
+    page.until("h1", "0 of 1 listed tag is here")
+    assert page.texts("#status") == [""]
+
+
+def test_the_logs_before_are_not_shown_while_a_file_is_read(page):
+    page.drop(one=log_of("I1 RA UA"), two=log_of("I1 RA QA I1 S UA"))
+    page.until("h1", "Complete: 2 of 2.")
+    page.run(SLOW)
+    page.drop(**{"slow.log": log_of("I1 S UA"), "books.csv": b"uid\n"})
+    assert (page.texts("h1"), page.texts("#logs button"), page.driver.title) == (
+        [], [], "2 files ..")
+
+
+def test_a_file_that_is_too_large_replaces_the_answer_before(page):
+    page.drop(log=log_of("I1 RA UA"))
+    page.until("h1", "The one listed tag is here")
+    page.run(DROP.replace("[text]", "[new Uint8Array(256_000_001)]"), [["large.log", ""]])
+    page.until(".error", "large.log: no answer (it has more than 256 MB).")
+
+
+def test_a_text_that_is_dropped(page):
+    """Nothing is silently ignored. What is dropped into the field is typed there."""
+    page.drop(log=log_of("I1 RA UA"))
+    page.until("h1", "The one listed tag is here")
+    size = {"width": 1200, "height": 900, "deviceScaleFactor": 1, "mobile": False}
+    page.driver.execute_cdp_cmd("Emulation.setDeviceMetricsOverride", size)
+    text = {"items": [{"mimeType": "text/plain", "data": "#"}], "dragOperationsMask": 1}
+    for where, selector, words in (("#told", "#status", "No file was dropped, so nothing has "),
+                                   ("#text", "h1", "This log can't be used. Line ")):
+        x, y = page.run("const it = document.querySelector(arguments[0]).getBoundingClientRect();"
+                        "return [it.left + 60, it.top + 40]", where)
+        for kind in "dragEnter", "dragOver", "drop":
+            page.driver.execute_cdp_cmd("Input.dispatchDragEvent", {
+                "type": kind, "x": x, "y": y, "data": text})
+        page.until(selector, words)
+
+
+@pytest.mark.parametrize("why", WORKERLESS)
+def test_a_browser_that_runs_no_worker(page, why):
+    """It says so. Then the next log is judged, by another worker."""
+    page.run(f"{ONCE}{WORKERLESS[why]} }};")
+    page.drop(log=log_of("I1 RA UA"))
+    page.until(".error", "log: no answer (this browser doesn't run what judges it).")
+    page.drop(log=log_of("I1 RA UA"))
+    page.until("h1", "The one listed tag is here")
+
+
+def test_a_browser_that_runs_no_script_of_the_page(page, file, tmp_path):
+    """As where a server forbids it, or an old one."""
+    assert page.driver.find_elements("id", "old") == []
+    blocked = tmp_path / "blocked.html"
+    script = '<script type="module">'
+    blocked.write_text(file.read_text().replace(script, script + ";"))
+    page.open(blocked)
+    page.wait(page.driver.find_element("id", "old").is_displayed)
+    assert "Here that is off or blocked, or the browser is from before" in page.texts("#old")[0]
+    assert "Content Security Policy" in page.browser.console()[0]
+
+
+def test_a_page_that_was_saved_is_read_without_its_script(page, tmp_path):
+    page.drop(log=log_of("I1 RA QA I1 S UA"))
+    page.until("h1", "The one listed tag is here, and no other.")
+    file = saved(page, tmp_path / "saved")
+    page.open(file)
+    assert (page.texts("h1"), page.texts("#old")) == (
+        ["The one listed tag is here, and no other."], [])
+    file.write_text(file.read_text().replace('<script type="module">', '<script type="module">;'))
+    page.open(file)
+    page.wait(page.driver.find_element("id", "old").is_displayed)
+    assert "The one listed tag is here, and no other." in page.texts("#old")[0]
+    assert "Content Security Policy" in page.browser.console()[0]
+
+
+def test_what_is_judged_of_another_log_is_ended(page):
+    """The next answer doesn't wait for it."""
+    page.run(HOLD)
+    page.drop(one=log_of("I1 RA UA"))
+    page.until("#status", "Judging one ..")
+    page.run("window.free()")
+    page.run("Worker.prototype.terminate = () => { window.isEnded = true; }")
+    page.drop(two=log_of("I1 S UA"))
+    page.until("h1", "0 of 1 listed tag is here")
+    assert page.run("return window.isEnded")
+
+
+def test_the_answer_to_an_earlier_text_goes_if_judging_takes_long(page):
+    """The title doesn't have it from the first key on."""
+    page.drop(log=log_of("I1 RA UA"))
+    page.until("h1", "The one listed tag is here")
+    page.run(HOLD)
+    assert type_in(page, log_of("I1 S UA").decode())
+    assert page.driver.title == "log (edited) .."
+    page.until("#status", "Judging log (edited) ..")
+    assert (page.said(), page.texts("h1")) == ("", [])
+
+
+def test_what_is_shown_of_a_log_stays_while_another_is_judged(page):
+    """What is unfolded, and the focus."""
+    page.run("""
+      const post = Worker.prototype.postMessage;
+      Worker.prototype.postMessage = function (it) {
+        if (it.name !== "two") post.call(this, it);
+        else window.free = () => post.call(this, it);
+      };
+    """)
+    page.drop(one=log_of("I1 RA QA I1 S UA"), two=log_of("I1 S UA"))
+    page.until("#logs", "one ✓")
+    page.press("#logs button")
+    page.run("document.querySelector('#told details').open = true")
+    page.run("document.querySelector('#told summary').focus()")
+    page.run("window.free()")
+    page.until("#logs", "two ! 0 of 1")
+    assert page.run("return document.activeElement.parentElement.open")
+
+
+def test_many_logs_do_not_freeze_the_page(page):
+    """Nor is the focus lost while they are judged."""
+    page.run("""
+      window.longest = 0;
+      let last = performance.now();
+      setInterval(() => {
+        window.longest = Math.max(window.longest, performance.now() - last);
+        last = performance.now();
+      }, 10);
+    """)
+    page.drop_files({f"{number}.log": log_of("I1 RA QA I1 S UA") for number in range(400)})
+    page.run("document.querySelector('#logs button').focus()")
+    page.until("h1", "Complete: 400 of 400.")
+    assert page.run("return document.activeElement.textContent").startswith("0.log ✓ The one")
+    assert page.run("return window.longest") < 3000
 
 
 def test_a_drop_without_files_changes_nothing(page):

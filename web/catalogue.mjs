@@ -1,5 +1,5 @@
 /** Which of several files is the catalogue, which one says the places of logs, and which are logs. */
-import { isSpreadsheet, LINE_END, SAYS_SEPARATOR } from "./tables.mjs";
+import { LINE_END, SAYS_SEPARATOR, TABLE } from "./tables.mjs";
 
 /** @typedef {{name: string, text: Uint8Array}} Given a file */
 
@@ -44,11 +44,10 @@ function headsOf(file) {
 export const isLog = (file) => startOf(file).startsWith(HEADER) || LISTS.test(startOf(file));
 
 /**
- * Whether a file is meant as a table: its name says so, or it has a column of UIDs, or is a spreadsheet.
+ * Whether a file is meant as a table: its name says so, or it has a column of UIDs. A ZIP file may have logs in it.
  * @param {Given} file
  */
-export const looksLikeTable = (file) => !isLog(file) && (/\.(csv|tsv)$/i.test(file.name) || headsOf(file).heads.includes(OF_UIDS)
-  || isSpreadsheet(startOf(file)));
+export const looksLikeTable = (file) => !isLog(file) && (TABLE.test(file.name) || headsOf(file).heads.includes(OF_UIDS));
 
 /**
  * Whether a log is meant as a list, also if it isn't one: it must not be silently taken for the log of a field.

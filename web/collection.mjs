@@ -299,7 +299,7 @@ function saidOf({ list, certain, open, more_open, object }) {
   if (list.status === CANNOT_BE_READ) return `can't be read: ${list.error ?? ""}`;
   const told = object && tell(object);
   if (list.kind === KIND.REFUSED) {
-    const isCut = object && !object.ended && list.line === object.lines;
+    const isCut = object && !object.ended && object.lines > 1 && list.line === object.lines;
     return `${isCut ? "is cut off" : "isn't a log"} (line ${list.line}), so nothing is known of its field${isCut ? ": copy it again first" : ""}`;
   }
   const proved = `${count(certain, "tag")} proved`;

@@ -31,15 +31,16 @@ export function toLine(line, ...words) {
   return el("button", { type: "button", class: "to-line", "data-line": String(line), ...name }, ...words.length ? words : [`line ${line}`]);
 }
 
-/** A line in a sentence, with its word if it is one alone. */
-const LINE = /(\bline \d+|(?<=\blines (?:\d+(?:, | and ))*)\d+)/i;
+/** Lines in a sentence: one with its word, or several. Safari knows no lookbehind before 2023. */
+const LINE = /\bline \d+|\blines \d+(?:(?:, | and )\d+)*/gi;
 
 /**
  * A sentence in which each line that it names is a button.
  * @param {string} sentence
  */
 export function linked(sentence) {
-  const parts = sentence.split(LINE), mark = (/** @type {string} */ part) => part.match(/^[,.:;]/)?.[0] ?? "";
+  const parts = sentence.replace(LINE, (it) => /^lines/i.test(it) ? it.replace(/\d+/g, "\0$&\0") : `\0${it}\0`).split("\0");
+  const mark = (/** @type {string} */ part) => part.match(/^[,.:;]/)?.[0] ?? "";
   // what follows a line stays with it
   return parts.map((part, at) => at % 2 ? el("span", { class: "kept" }, toLine(Number(part.match(/\d+/)), part), mark(parts[at + 1]))
     : at ? part.slice(mark(part).length) : part);

@@ -10,7 +10,7 @@ import { pageOf, save } from "./saving.mjs";
 import { isSpreadsheet } from "./tables.mjs";
 import { Trial } from "./trial.mjs";
 import { headOf, titleOf, view } from "./view.mjs";
-import { count, EDITED, TRIAL } from "./words.mjs";
+import { count, EDITED, printable, TRIAL } from "./words.mjs";
 import { STOPPED, Work } from "./work.mjs";
 
 /** @typedef {import("./work.mjs").Done} Done */
@@ -18,13 +18,16 @@ import { STOPPED, Work } from "./work.mjs";
 /** @typedef {{expected: Entry, places: Entry | null, logs: Entry[]}} Collection */
 /**
  * A log, with what it was before a line was tried, or a collection, which has no text.
- * @typedef {Given & Done & {before?: Entry, given?: Collection, pause?: number}} Entry
+ * @typedef {Given & Done & {before?: Entry, given?: Collection, pause?: number, words?: string}} Entry
  */
 
 /** How long after the last key a text is judged, and how long a judging goes on before it can be stopped, in ms. */
 const PAUSE = 250, PATIENCE = 400;
-const PASTE = "Paste a log here";
-const TOGETHER = "Press one to see it. For one answer about all of them, open them together with a catalogue (CSV).";
+/** Larger files are no logs, and no text for each browser. */
+const MOST_BYTES = 256_000_000, TOO_LARGE = "it has more than 256 MB";
+const NO_FILE = "it can't be read: open it again, or, if it is a folder, the files in it";
+const PASTE = "Paste a log here", NO_DROP = "No file was dropped, so nothing has changed: save it as a file, and open that.";
+const TOGETHER = "Press one to see it. For one answer about all of them, open them together with one catalogue (CSV).";
 const OPEN_AGAIN = "Open it again, together with the other logs and the catalogue.";
 
 const field = /** @type {HTMLTextAreaElement} */ (at("text")), files = /** @type {HTMLInputElement} */ (at("files"));
@@ -42,36 +45,64 @@ let current = 0;
 let answered;
 /** @type {number | undefined} */
 let patience;
-/** What is opened, after all that was opened before it. */
+/**
+ * When the answers to several logs are drawn next: the more there are, the less often.
+ * @type {number | undefined}
+ */
+let drawing;
+/** What is opened, after all that was opened before it; and until it is read, the last of these, of which nothing is known yet. */
 let opening = Promise.resolve();
+/** @type {Entry | undefined} */
+let pending;
+let stopping = new AbortController();
 
 const work = new Work(at("worker").textContent ?? "", at("module").textContent ?? "");
 
 /** @param {Entry} entry */
 async function ask(entry) {
+  wait(`Judging ${entry.name} ..`);
+  Object.assign(entry, await work.ask(entry.given ? { given: entry.given } : { name: entry.name, text: entry.text }));
+  if (!work.isBusy && !pending) quiet();
+  if (entry === entries[current]) show();
+  else if (entries.includes(entry)) drawing ??= window.setTimeout(overview, entries.length);
+}
+
+/**
+ * What takes long can be stopped. The answer to an earlier text isn't shown any longer then.
+ * @param {string} words
+ */
+function wait(words) {
   clearTimeout(patience);
   patience = window.setTimeout(() => {
     stop.hidden = false;
-    status.textContent = `Judging ${entry.name} ..`;
+    status.textContent = words;
+    if (shown.getAttribute("aria-busy") === "false") return;
+    answered = undefined;
+    show();
   }, PATIENCE);
-  Object.assign(entry, await work.ask(entry.given ? { given: entry.given } : { name: entry.name, text: entry.text }));
-  if (!work.isBusy) quiet();
-  show();
 }
 
-/** Nothing is being judged. */
+/** Nothing is being read or judged. */
 function quiet() {
   clearTimeout(patience);
   stop.hidden = true;
   status.textContent = "";
 }
 
-stop.addEventListener("click", () => work.stop());
+stop.addEventListener("click", () => {
+  stopping.abort();
+  stopping = new AbortController();
+  work.stop();
+});
 
 // The logs
 
-/** @param {Entry[]} taken */
+/**
+ * What is still judged of others isn't needed any more.
+ * @param {Entry[]} taken
+ */
 function take(taken) {
+  if (work.isBusy) work.stop();
   entries = taken;
   current = taken.length > 1 ? -1 : 0;
   entries.filter((entry) => !entry.error).forEach(ask);
@@ -80,13 +111,24 @@ function take(taken) {
 }
 
 /**
- * Files are taken in the order in which they were opened, however long each is read.
+ * Files are taken in the order in which they were opened, however long each is read. Until then nothing is shown.
  * @param {Iterable<File>} chosen
  */
 function open(chosen) {
-  const reading = Promise.all([...chosen].map(read)), next = async () => opened(await reading);
-  opening = opening.then(next, next);
-  return opening;
+  const all = [...chosen], reading = Promise.all(all.map(read)), name = all.length === 1 ? all[0].name : count(all.length, "file");
+  if (!all.length) return;
+  /** @type {Entry} */
+  const mine = pending = { name, text: new Uint8Array() };
+  wait(`Reading ${name} ..`);
+  show();
+  opening = opening.then(async () => {
+    const taken = await reading;
+    if (pending === mine) {
+      pending = undefined;
+      quiet();
+    }
+    opened(taken);
+  }).catch(({ message }) => take([{ ...mine, error: message }]));
 }
 
 /**
@@ -106,8 +148,11 @@ function opened(taken) {
   take([{ name: expected.name, text: new Uint8Array(), given, ...lacking(given) }]);
 }
 
-/** @param {Entry} entry */
-const isLacking = ({ error }) => error && error !== STOPPED;
+/**
+ * Without its text; what was stopped while it was judged has one.
+ * @param {Entry} entry
+ */
+const isLacking = ({ error, text }) => error && (error !== STOPPED || !text.length);
 
 /**
  * Without one of its files nothing is said of a collection.
@@ -124,10 +169,13 @@ function lacking({ expected, places, logs }) {
  * @returns {Promise<Entry>}
  */
 async function read(file) {
+  const { name } = file, { signal } = stopping, text = new Uint8Array();
+  if (file.size > MOST_BYTES) return { name, text, error: TOO_LARGE };
   try {
-    return { name: file.name, text: new Uint8Array(await file.arrayBuffer()) };
+    const stopped = new Promise((_, no) => signal.addEventListener("abort", no));
+    return { name, text: new Uint8Array(await Promise.race([file.arrayBuffer(), stopped])) };
   } catch {
-    return { name: file.name, text: new Uint8Array(), error: "it can't be read" };
+    return { name, text, error: signal.aborted ? STOPPED : NO_FILE };
   }
 }
 
@@ -141,10 +189,10 @@ function edit() {
 /** Shows the answers to all logs, if there are several, and what is told of one. */
 function show() {
   document.body.classList.toggle("empty", !entries.length);
-  const entry = entries[current];
+  const entry = pending ?? entries[current];
   overview();
   saves.hidden = !entry?.told && !entry?.collection;
-  beside.hidden = entry?.given !== undefined || current < 0;
+  beside.hidden = !!pending || entry?.given !== undefined || current < 0;
   if (entry?.error) {
     const words = unanswered(entry.name, entry.error);
     shown.replaceChildren(el("h1", { class: "error" }, words), ...entry.given ? [el("p", {}, kept(entry.given.logs))] : []);
@@ -158,7 +206,7 @@ function show() {
     shown.replaceChildren(...collectionView(entry.collection));
     headed(titleOfEntry(entry));
   }
-  // until a text is judged, what is shown is that of another one
+  // until a text is read and judged, what is shown is that of another one
   const old = entry !== undefined && !entry.told && !entry.collection && !entry.error;
   shown.setAttribute("aria-busy", String(old));
   if (old && answered !== entry) {
@@ -170,13 +218,18 @@ function show() {
 
 /** Shows several logs with what each says. Of all together nothing is said but how many are complete, once all are judged. */
 function overview() {
-  several.hidden = entries.length < 2;
-  list.replaceChildren(...several.hidden ? [] : entries.map(item));
-  if (several.hidden) return;
-  const many = entries.length, isJudged = entries.every(({ told, error }) => told ?? error);
+  clearTimeout(drawing);
+  drawing = undefined;
+  const many = entries.length, isOne = many < 2 || pending !== undefined;
+  several.hidden = isOne;
+  if (isOne || list.childElementCount !== many) list.replaceChildren(...isOne ? [] : entries.map((_, index) => item(index)));
+  each.replaceChildren();
+  if (isOne) return;
+  list.querySelectorAll("button").forEach(label);
+  const isJudged = entries.every(({ told, error }) => told ?? error);
   const whole = entries.filter(({ told, name }) => told?.object.kind === KIND.COMPLETE && !TRIAL.test(name)).length;
   const words = `${count(many, "log")}, each with its own answer.${isJudged ? ` Complete: ${whole.toLocaleString("en")} of ${many.toLocaleString("en")}.` : ""}`;
-  each.replaceChildren(el(current < 0 ? "h1" : "p", {}, words), el("p", { class: "hint" }, TOGETHER));
+  each.append(el(current < 0 ? "h1" : "p", {}, words), el("p", { class: "hint" }, TOGETHER));
   if (current >= 0) return;
   shown.replaceChildren();
   headed(words);
@@ -208,23 +261,40 @@ function titleOfEntry({ told, collection, name }) {
  */
 function headed(title) {
   document.title = title;
-  at("said").textContent = document.querySelector("#each h1, #told h1")?.textContent ?? "";
+  const said = at("said"), words = document.querySelector("#each h1, #told h1")?.textContent ?? "";
+  if (said.textContent !== words) said.textContent = words;
 }
 
-/**
- * @param {Entry} entry
- * @param {number} index
- */
-function item(entry, index) {
-  const said = entry.told && headOf(entry.told), words = said ? `${said.sign} ${said.headline}` : entry.error ?? "..";
-  const button = el("button", { type: "button", "aria-pressed": String(index === current) }, el("b", {}, entry.name), ` ${words}`);
+/** @param {number} index */
+function item(index) {
+  const button = el("button", { type: "button" });
   button.addEventListener("click", () => {
     current = index;
     edit();
     show();
-    list.querySelectorAll("button")[index].focus();
+    button.focus();
+    button.scrollIntoView({ block: "nearest" });
   });
   return el("li", {}, button);
+}
+
+/**
+ * Says on its button what a log says. The button stays, with the focus that it may have.
+ * @param {HTMLElement} button
+ * @param {number} index
+ */
+function label(button, index) {
+  const entry = entries[index], { told, error = ".." } = entry, words = entry.words ?? (told ? saidBy(told) : error);
+  if (told) entry.words = words;
+  button.setAttribute("aria-pressed", String(index === current));
+  const name = printable(entry.name);
+  if (button.textContent !== `${name} ${words}`) button.replaceChildren(el("b", {}, name), ` ${words}`);
+}
+
+/** @param {import("./told.mjs").Told} told */
+function saidBy(told) {
+  const { sign, headline } = headOf(told);
+  return `${sign} ${headline}`;
 }
 
 /**
@@ -240,8 +310,10 @@ function changed(name, pause, before) {
   const entry = { name, text: new TextEncoder().encode(field.value), before };
   entries[current] = entry;
   answered = entry;
+  saves.hidden = true;
+  document.title = `${name} ..`;
   overview();
-  entry.pause = window.setTimeout(() => ask(entry), pause);
+  entry.pause = window.setTimeout(() => { if (entries.includes(entry)) ask(entry); }, pause);
 }
 
 field.addEventListener("input", () => {
@@ -277,18 +349,27 @@ function bytesIn(id) {
 
 // How logs come
 
-files.addEventListener("change", async () => {
-  await open(files.files ?? []);
+files.addEventListener("change", () => {
+  open(files.files ?? []);
   // so that the same file, changed meanwhile, can be chosen again
   files.value = "";
 });
 at("example").addEventListener("click", () => {
   open([new File([at("sample").textContent ?? ""], "example.log")]);
 });
-document.addEventListener("dragover", (event) => event.preventDefault());
+/**
+ * Whether a text is dragged into the field, where it is typed.
+ * @param {DragEvent} event
+ */
+const isTyped = ({ target, dataTransfer }) => target === field && !field.readOnly && !dataTransfer?.types.includes("Files");
+document.addEventListener("dragover", (event) => { if (!isTyped(event)) event.preventDefault(); });
 document.addEventListener("drop", (event) => {
+  if (isTyped(event)) return;
   event.preventDefault();
-  open(event.dataTransfer?.files ?? []);
+  const dropped = event.dataTransfer?.files ?? [];
+  open(dropped);
+  if (!dropped.length) status.textContent = NO_DROP;
 });
 unfoldOnPaper();
 show();
+at("old").remove();

@@ -7,6 +7,8 @@ import { printable } from "./words.mjs";
 /** @typedef {import("./expected.mjs").Catalogue} Catalogue */
 /** @typedef {Map<string, number[]>} ByKey positions of logs, by names in lower case */
 
+const ADD_PLACES = "Add the places that it lacks, written as there, also those without a log";
+
 /** @param {string} cell */
 const keyOf = (cell) => cell.trim().toLowerCase();
 
@@ -28,12 +30,13 @@ const add = (to, key, more) => to.set(key, [...to.get(key) ?? [], ...more]);
  */
 export function placesOf(catalogue, file, names) {
   const byName = logsByName(names), [spelled, belongs] = [new Map(), /** @type {Map<string, string>} */ (new Map())];
-  const logs = file ? logsByTable(file, byName, spelled) : byName, at = placeColumn(catalogue, logs);
-  if (file && at < 0 && catalogue.entries.length) {
-    const why = `no column of ${catalogue.name} has a place of it in most rows. Add the places that it lacks, written as there`;
-    throw new Wrong(`${file.name}: ${why}`);
+  const logs = file ? logsByTable(file, byName, spelled) : byName, { best, rows } = placeColumn(catalogue, logs);
+  const { name, heads, entries } = catalogue, at = 2 * rows > entries.length ? best : -1;
+  if (file && at < 0 && entries.length) {
+    const some = rows ? `: ${printable(heads[best])} has one in ${rows} of ${entries.length}` : "";
+    throw new Wrong(`${file.name}: no column of ${name} has a place of it in most rows${some}. ${ADD_PLACES}`);
   }
-  for (const { cells: { [at]: cell = "" } } of catalogue.entries) if (cell.trim()) belongs.set(keyOf(cell), cell.trim());
+  for (const { cells: { [at]: cell = "" } } of entries) if (cell.trim()) belongs.set(keyOf(cell), cell.trim());
   for (const [key, place] of belongs) refuseTwo(place, file ? [] : logs.get(key) ?? [], names);
   if (belongs.size && ![...belongs.keys()].some((key) => logs.get(key)?.length)) {
     throw new Wrong(`no log is of any place of the catalogue, such as ${printable([...belongs.values()][0])}; ${saysPlaces(file)}`);
@@ -90,12 +93,12 @@ function logsByTable(file, byName, spelled) {
 }
 
 /**
- * The column of a catalogue that says where items belong: the one of which most rows name a place, if they are most of all.
+ * The column of a catalogue of which the most rows name a place, and how many: if most of all do, it says where items belong.
  * @param {Catalogue} catalogue
  * @param {ByKey} places
  */
 function placeColumn({ heads, uidAt, entries }, places) {
   const named = (/** @type {number} */ at) => at === uidAt ? 0 : entries.filter(({ cells }) => places.has(keyOf(cells[at]))).length;
   const best = heads.reduce((one, _, at) => named(at) > named(one) ? at : one, 0);
-  return 2 * named(best) > entries.length ? best : -1;
+  return { best, rows: named(best) };
 }

@@ -22,3 +22,4 @@ if ("items" in object) {
   document.title = titleOf(told);
 }
 unfoldOnPaper();
+at("old").remove();

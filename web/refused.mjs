@@ -2,7 +2,7 @@
 import { advice } from "./faults.mjs";
 import { crcOf, CRC_DIGITS } from "./frames.mjs";
 import { KIND } from "./kinds.mjs";
-import { isSpreadsheet, SAVE_AS_CSV } from "./tables.mjs";
+import { isSpreadsheet, SAVE_AS_CSV, TABLE } from "./tables.mjs";
 
 /** @typedef {import("./told.mjs").Told} Told */
 
@@ -15,8 +15,6 @@ const NAME = "In its first row, name the column of tag numbers (16 characters, 0
 const NAMED = [`${NAME}.`, ...BOTH], SAVED = [`${NAME}, and save it as CSV.`, ...BOTH];
 /** A first line in which a column has this name. */
 const HAS_UID = /(?:^|[,;\t|"])uid(?:$|[,;\t|"])/i;
-/** How the name of a spreadsheet ends. */
-const SHEET = /\.(xlsx?|ods|numbers)$/i;
 const UNPACK = "If it is a ZIP file with logs in it, unpack it, and open the logs.";
 const ANOTHER = "Choose another file, or count again.";
 /** How a text begins that somebody meant as a log: with a header, or with a line of it. */
@@ -31,7 +29,7 @@ export function refused(told) {
   if (told.counts.lines === 0) return { headline: "The text is empty.", shelf: [ANOTHER], causes: [] };
   if (isSpreadsheet(told.faulty)) {
     return { headline: `This file isn't a log, but a spreadsheet: ${SAVE_AS_CSV}.`, causes: [],
-      shelf: [...SAVED, ...SHEET.test(told.object.file) ? [] : [UNPACK]] };
+      shelf: [...SAVED, ...TABLE.test(told.object.file) ? [] : [UNPACK]] };
   }
   const foreign = isForeign(told);
   if (foreign && isTable(told.faulty)) {

@@ -3,6 +3,8 @@
 /** What would end the element in which an object stands. */
 const MARKUP = /</g;
 const TEXT_MARKUP = /[&<]/g;
+/** How long a file is there to be saved, in ms: Safari reads it after the click. */
+const KEPT = 40_000;
 
 /**
  * A page's template with an object in it, a title, and the text for whom no script draws it.
@@ -28,5 +30,5 @@ export function save(page, name) {
   link.href = URL.createObjectURL(new Blob([page], { type: "text/html" }));
   link.download = name;
   link.click();
-  URL.revokeObjectURL(link.href);
+  setTimeout(() => URL.revokeObjectURL(link.href), KEPT);
 }

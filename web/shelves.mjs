@@ -5,8 +5,8 @@ import { listing, printable } from "./words.mjs";
 /** @typedef {import("./collection.mjs").Item} Item */
 /** @typedef {(item: Item) => string} Cell */
 
-/** How many rows of a table are drawn, and how many places are named. */
-const MOST_ROWS = 2000;
+/** How many rows of a table are drawn, of how many columns it has at most one for each, and how many places are named. */
+const MOST_ROWS = 2000, MOST_COLUMNS = 8;
 export const MOST_NAMES = 3;
 /** How many characters a name has at most that says no more than which shelf it is. */
 const MOST_BARE = 4;
@@ -101,7 +101,7 @@ export function shelved(list, shelf, where = {}, toDo) {
   // what is at the head stands on each sheet of paper again
   const head = el("thead", {}, el("tr", {}, heads.map((it) => el("th", { scope: "col" }, printable(it)))),
     ...groups.size === 1 && !isOne ? [named([...groups.keys()][0], "colgroup")] : []);
-  return list.length ? [el("table", { class: "items" }, head, ...bodies), ...more] : [];
+  return list.length ? [el("table", { class: heads.length > MOST_COLUMNS ? "items many" : "items" }, head, ...bodies), ...more] : [];
 }
 
 /**

@@ -13,7 +13,9 @@ const QUOTED = /"((?:[^"]|"")*)"/y;
 
 /** How a file of a spreadsheet program begins, read as UTF-8: packed as ZIP (.xlsx, .ods, .numbers), or as OLE has it (.xls). */
 const SPREADSHEET = /^(?:PK\x03\x04|\uFFFD\uFFFD\x11[\u0871\uFFFD])/;
-/** What to do with such a file. */
+/** How the name of a table ends. */
+export const TABLE = /\.(csv|tsv|xlsx?|ods|numbers)$/i;
+/** What to do with a spreadsheet. */
 export const SAVE_AS_CSV = "save it as CSV";
 
 /**

@@ -4,13 +4,15 @@
 /** @typedef {import("./collection.mjs").CollectionObject} CollectionObject */
 /** @typedef {{told?: Told, collection?: CollectionObject, error?: string}} Done */
 
-/** Why there is no answer to what was ended. */
-export const STOPPED = "stopped";
+/** Why there is no answer to what was ended, or where no worker runs. */
+export const STOPPED = "stopped", FAILED = "this browser doesn't run what judges it";
 
 export class Work {
   #requested = 0;
   /** @type {Map<number, (done: any) => void>} */
   #waiting = new Map();
+  /** @type {Worker | null} */
+  #worker = null;
 
   /**
    * @param {string} code the worker's script
@@ -19,17 +21,26 @@ export class Work {
   constructor(code, module) {
     this.code = URL.createObjectURL(new Blob([code], { type: "text/javascript" }));
     this.module = Uint8Array.from(atob(module), (letter) => letter.charCodeAt(0));
-    this.worker = this.#begin();
+    this.#begin();
   }
 
   #begin() {
+    try {
+      this.#worker = this.#begun();
+    } catch {
+      this.#worker = null;
+    }
+  }
+
+  #begun() {
     const worker = new Worker(this.code);
-    worker.postMessage({ module: this.module });
     worker.onmessage = ({ data: { id, ...done } }) => {
       const answer = this.#waiting.get(id);
       this.#waiting.delete(id);
       answer?.(done);
     };
+    worker.onerror = () => this.stop(FAILED);
+    worker.postMessage({ module: this.module });
     return worker;
   }
 
@@ -40,16 +51,25 @@ export class Work {
    * @returns {Promise<Done>}
    */
   ask(what) {
-    const id = ++this.#requested;
-    this.worker.postMessage({ id, ...what });
-    return new Promise((answer) => { this.#waiting.set(id, answer); });
+    const id = ++this.#requested, asked = new Promise((answer) => { this.#waiting.set(id, answer); });
+    if (!this.#worker) this.#begin();
+    try {
+      /** @type {Worker} */ (this.#worker).postMessage({ id, ...what });
+    } catch {
+      this.stop(FAILED);
+    }
+    return asked;
   }
 
-  /** Ends what is being done, which has no answer then. */
-  stop() {
-    this.worker.terminate();
-    for (const answer of this.#waiting.values()) answer({ error: STOPPED });
+  /**
+   * Ends what is being done, which has no answer then. One that fails isn't begun again before it is asked.
+   * @param {string} [error]
+   */
+  stop(error = STOPPED) {
+    this.#worker?.terminate();
+    if (error === STOPPED) this.#begin();
+    else this.#worker = null;
+    for (const answer of this.#waiting.values()) answer({ error });
     this.#waiting.clear();
-    this.worker = this.#begin();
   }
 }

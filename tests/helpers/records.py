@@ -8,5 +8,5 @@ def drawn_in(page):
     """The object that a page draws, and the text for whom no script draws it."""
     (said,) = re.findall(
         r'(?s)<script type="application/json" id="object">(.*?)</script>', page)
-    (plain,) = re.findall("(?s)<noscript><pre>(.*?)</pre></noscript>", page)
+    (plain,) = re.findall('(?s)<pre id="old">(.*?)</pre>', page)
     return json.loads(said), html.unescape(plain)
