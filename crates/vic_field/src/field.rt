@@ -15,7 +15,8 @@ use crate::quiet::QuietPlaces;
 use crate::row::Row;
 use std::alloc::{AllocError, Global};
 use std::marker::Model;
-use vic_frame::{Mask, Request, Uid, low_bits_first, without_top_byte};
+use vic_frame::low_bits_first::{KeyBlock, key};
+use vic_frame::{Mask, Request, Uid};
 
 /// Why a field doesn't take one more tag.
 #[derive(Clone, Copy, Debug, PartialEq, Eq)]
@@ -92,7 +93,7 @@ impl Field {
         if self.holds(uid) {
             return Err(AddFault::Already);
         }
-        self.row.put(low_bits_first::key(uid))?;
+        self.row.put(key(uid))?;
         Ok(())
     }
 
@@ -100,7 +101,7 @@ impl Field {
     fn holds(&self, uid: Uid) -> bool
         ensures { result ≡ has (uids self.now) uid }
     {
-        self.row.holds(low_bits_first::key(uid))
+        self.row.holds(key(uid))
     }
 
     /// What the tags do when a request is sent: a Stay Quiet makes the tag with its UID Quiet, if
@@ -119,7 +120,7 @@ impl Field {
     fn quiet(&mut self, uid: Uid)
         ensures { HasSilenced (λ u. u == uid) self.old self.new }
     {
-        self.row.silence(low_bits_first::key(uid));
+        self.row.silence(key(uid));
     }
 
     /// Makes every tag Ready, as a field that is switched off and on does. Allocates no memory.
@@ -139,10 +140,9 @@ impl Field {
         ensures population { IsPopulation (uids self.now) }
     {
         let row = &self.row;
-        let Some(mask) = without_top_byte(mask) else {
+        let Some(block) = KeyBlock::of(mask) else {
             return Outcome::Silent;
         };
-        let (first, last) = low_bits_first::key_range(&mask);
-        hear(row, first, last)
+        hear(row, block.first.number(), block.last().number())
     }
 }

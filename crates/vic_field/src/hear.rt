@@ -7,7 +7,7 @@ ghost use Rattle.vic_field.specs.Tags.{heard};
 
 use crate::outcome::Outcome;
 use crate::row::Row;
-use vic_frame::low_bits_first;
+use vic_frame::low_bits_first::uid_at;
 
 /// What a reader hears of the Ready tags from the key `first` to the key `last`.
 pub(crate) fn hear(row: &Row, first: u64, last: u64) -> Outcome
@@ -18,6 +18,6 @@ pub(crate) fn hear(row: &Row, first: u64, last: u64) -> Outcome
     };
     match row.next_ready(one + 1, last) {
         Some(_) => Outcome::Several,
-        None => Outcome::Lone(low_bits_first::uid_at(row.keys[one])),
+        None => Outcome::Lone(uid_at(row.keys[one])),
     }
 }

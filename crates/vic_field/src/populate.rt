@@ -38,7 +38,7 @@ fn push_listed(keys: &mut Vec<u64>, item: &Entry) -> Result<(), AllocError>
         → AreKeysOf (us ++ listed (item.now ∷ [])) keys.new.items) }
 {
     match *item {
-        Entry::Listed(uid) => keys.push(low_bits_first::key(uid))?,
+        Entry::Listed(uid) => keys.push(low_bits_first::key(uid).number())?,
         Entry::Sent(_)
         | Entry::Silent
         | Entry::Collision

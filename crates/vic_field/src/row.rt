@@ -4,12 +4,12 @@ ghost use Rattle.std.specs.Prelude.{◌≡◌, true, false, None, IfSome, OnOk, 
 ghost use Rattle.std.proofs.Props.{props};
 ghost use Rattle.vic_field.specs.Keys.{AreKeys};
 ghost use Rattle.vic_field.specs.Places.{HasRoomFor};
-ghost use Rattle.vic_frame.specs.LowBitsFirst.{IsKey};
 ghost use Rattle.vic_frame.specs.Uids.{has};
 
 use crate::index::Index;
 use crate::quiet::QuietPlaces;
 use std::alloc::AllocError;
+use vic_frame::low_bits_first::UidKey;
 
 /// A set of tags by their keys, each Ready or Quiet.
 #[derive(Drop)]
@@ -77,9 +77,10 @@ impl Row {
     }
 
     /// Makes the tag with this key Quiet, if it is there.
-    pub(crate) fn silence(&mut self, key: u64)
+    pub(crate) fn silence(&mut self, key: UidKey)
         ensures { entries self.new ≡ with_quiet key (entries self.old) }
     {
+        let key = key.number();
         let place = self.place_of(key);
         if place < self.keys.len() && self.keys[place] == key {
             self.quiet.add(place);
@@ -94,20 +95,21 @@ impl Row {
     }
 
     /// Whether the tag with this key is there.
-    pub(crate) fn holds(&self, key: u64) -> bool
+    pub(crate) fn holds(&self, key: UidKey) -> bool
         ensures { result ≡ has self.now.keys.items key }
     {
+        let key = key.number();
         let place = self.place_of(key);
         place < self.keys.len() && self.keys[place] == key
     }
 
     /// Adds the tag with this key, which isn't there yet. It is Ready.
-    pub(crate) fn put(&mut self, key: u64) -> Result<(), AllocError>
-        requires small { IsKey key }
-        requires fresh { has self.old.keys.items key ≡ false }
+    pub(crate) fn put(&mut self, key: UidKey) -> Result<(), AllocError>
+        requires { has self.old.keys.items key ≡ false }
         ensures more { OnOk result (HasMore key (entries self.old) (entries self.new)) }
         ensures unchanged { OnErr result (entries self.new ≡ entries self.old) }
     {
+        let key = key.number();
         let place = self.place_of(key);
         let quiet = self.quiet.with_gap(place, self.keys.len() + 1)?;
         self.keys.insert(place, key)?;

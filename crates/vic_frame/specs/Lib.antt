@@ -2,6 +2,7 @@ pub mod Uids
 pub mod Masks
 pub mod MaskLaws
 pub mod LowBitsFirst
+pub mod KeyBlocks
 pub mod Bytes
 pub mod Crc
 pub mod Requests

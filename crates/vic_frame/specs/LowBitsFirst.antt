@@ -1,7 +1,6 @@
 -- UIDs by their low bits, lowest first (profile). In that order the UIDs of a mask are consecutive.
-use Rattle.std.specs.Prelude.{◌≡◌, ℕ, zero, suc, ◌+◌, ◌-◌, ◌*◌, ◌/◌, ◌^◌, ◌%◌, ◌<◌, ◌≤◌, Bool, false, ◌&&◌, Option, Some, None, nat_le}
+use Rattle.std.specs.Prelude.{◌≡◌, ℕ, zero, suc, ◌+◌, ◌-◌, ◌*◌, ◌/◌, ◌^◌, ◌%◌, ◌<◌, ◌≤◌, Bool, ◌&&◌, nat_le}
 use Rattle.vic_frame.specs.declared.uid.TheConstants.{UID_BITS}
-use Rattle.vic_frame.specs.declared.low_bits_first.KeyBlock.{KeyBlock}
 use Rattle.vic_frame.specs.declared.request.Request.{Request}
 use Rattle.vic_frame.specs.declared.request.Request.TheVariants.{Inventory, StayQuiet}
 use Rattle.vic_frame.specs.Uids.{uid_from_low_bits}
@@ -31,11 +30,6 @@ uid_of k = uid_from_low_bits (mirror k)
 -- the key is in the block, beginning at `first`, of a mask of that many bits
 abbrev pub is_in_block : ℕ → ℕ → ℕ → Bool
 is_in_block first len k = nat_le first k && nat_le k (first + (2 ^ (UID_BITS - len) - 1))
-
--- the key is in the block, if there is one
-abbrev pub is_in_some_block : Option KeyBlock → ℕ → Bool
-is_in_some_block (Some b) k = is_in_block b.first b.len k
-is_in_some_block None k = false
 
 -- the keys from `first` on are the block of some mask of that many bits
 pub record IsBlock (first len : ℕ) : Type 0 where

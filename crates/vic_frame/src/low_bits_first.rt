@@ -3,49 +3,124 @@
 //! In this order the UIDs of a mask are consecutive, so a sorted set finds them as one range. A
 //! UID's key is its 56 low bits reversed, a number below `2^56`: in this order the keys rise.
 
-ghost use Rattle.std.specs.Prelude.{◌≡◌, ℕ, ◌+◌, ◌-◌, ◌^◌, ◌≤◌, ◌&&◌, IfSome, nat_le};
+ghost use Rattle.std.specs.Prelude.{◌≡◌, ℕ, ◌+◌, ◌-◌, ◌^◌, ◌≤◌};
 ghost use Rattle.vic_frame.specs.Uids.{IsUid};
 ghost use Rattle.vic_frame.specs.Masks.{lies_in, slot_of_sixteen};
-ghost use Rattle.vic_frame.specs.LowBitsFirst.{IsBlock, IsKey, is_in_block, is_in_some_block, mirror, mirror_bits, uid_of};
+ghost use Rattle.vic_frame.specs.LowBitsFirst.{IsBlock, IsKey, is_in_block, mirror, mirror_bits, uid_of};
 
 use crate::mask::{Mask, without_top_byte};
 use crate::uid::{UID_BITS, Uid};
+use std::marker::Model;
+
+/// The place of a UID in the order: a number below `2^56`.
+#[derive(Clone, Copy)]
+pub struct UidKey {
+    number: u64,
+}
+
+impl Model for UidKey {
+    ghost use Rattle.std.specs.Prelude.{ℕ};
+    ghost use Rattle.vic_frame.specs.LowBitsFirst.{IsKey};
+
+    ghost Value = { ℕ };
+
+    ghost view = { λ a. a.number };
+
+    ghost invariant = { λ a. IsKey a.number };
+
+    ghost inverse = { λ n. record { number = n } };
+}
+
+impl UidKey {
+    /// The first key.
+    pub fn least() -> UidKey
+        ensures { result ≡ 0 }
+    {
+        UidKey { number: 0 }
+    }
+
+    /// Its number.
+    #[inline(always)]
+    pub fn number(self) -> u64
+        ensures value { result ≡ self }
+        ensures small { IsKey self }
+    {
+        self.number
+    }
+}
 
 /// The keys of the UIDs in a mask of at most 56 bits, which are consecutive.
 #[derive(Clone, Copy)]
 pub struct KeyBlock {
     /// The first one.
-    pub first: u64,
+    pub first: UidKey,
     /// How many bits the mask has: there are `2^(56 - len)` keys.
     pub len: u8,
+    pub ghost block: { IsBlock first len },
 }
 
 impl KeyBlock {
-    /// The last one.
-    pub fn last(&self) -> u64
-        requires { IsBlock self.now.first self.now.len }
-        ensures { result ≡ self.now.first + (2 ^ (UID_BITS - self.now.len) - 1) }
+    ghost use Rattle.vic_frame.specs.KeyBlocks.{is_in_some_block};
+
+    /// The keys of the UIDs in a mask; `None` if the mask holds no UID.
+    pub fn of(mask: &Mask) -> Option<KeyBlock>
+        ensures { (u : ℕ) → IsUid u
+            → lies_in mask.now u ≡ is_in_some_block result (mirror u) }
     {
-        self.first + ((1 << (UID_BITS - self.len)) - 1)
+        match without_top_byte(mask) {
+            Some(low) => Some(KeyBlock {
+                first: first_key(&low),
+                len: low.len(),
+            }),
+            None => None,
+        }
     }
 
-    /// Whether a key is one of them.
-    pub fn holds(&self, key: u64) -> bool
-        requires { IsBlock self.now.first self.now.len }
-        ensures { result ≡ is_in_block self.now.first self.now.len key }
+    /// The keys of the UIDs in slot `k` of sixteen, for a mask of at most 52 bits whose first key
+    /// is known. The first key in the slot differs from it in the slot's four bits.
+    #[inline(always)]
+    pub fn of_slot(mask: &Mask, first: UidKey, k: u8) -> KeyBlock
+        requires short { mask.now.len + 4 ≤ UID_BITS }
+        requires slot { k ≤ 15 }
+        requires first { first ≡ mirror mask.now.value }
+        ensures { (u : ℕ) → lies_in (slot_of_sixteen mask.now k) u
+            ≡ is_in_block result.first result.len (mirror u) }
     {
-        self.first <= key && key <= self.last()
+        let len = mask.len() + 4;
+        let four_bits = turn_byte(k) / 16;
+        KeyBlock {
+            first: UidKey {
+                number: first.number() + (u64::from(four_bits) << (UID_BITS - len)),
+            },
+            len,
+        }
+    }
+
+    /// The last one.
+    #[inline(always)]
+    pub fn last(&self) -> UidKey
+        ensures { result ≡ self.now.first + (2 ^ (UID_BITS - self.now.len) - 1) }
+    {
+        UidKey {
+            number: self.first.number + ((1 << (UID_BITS - self.len)) - 1),
+        }
     }
 }
 
 /// The key of a UID. Different UIDs have different keys.
-pub fn key(uid: Uid) -> u64
+pub fn key(uid: Uid) -> UidKey
     ensures value { result ≡ mirror uid }
-    ensures small { IsKey result }
     ensures back { uid_of result ≡ uid }
     ensures is_uid { IsUid uid }
 {
     turn_round(uid.number())
+}
+
+/// The key of the first UID in a mask that holds one.
+pub fn first_key(mask: &Mask) -> UidKey
+    ensures { result ≡ mirror mask.now.value }
+{
+    turn_round(mask.value())
 }
 
 /// The UID with a key below `2^56`.
@@ -55,22 +130,7 @@ pub fn uid_at(key: u64) -> Uid
     ensures back { mirror result ≡ key }
     ensures is_uid { IsUid result }
 {
-    Uid::from_low_bits(turn_round(key))
-}
-
-/// The first and the last key of the UIDs of a mask of at most 56 bits: a UID lies in the mask if
-/// and only if its key is between them, inclusive. `keys_of` answers for a mask of any length.
-pub fn key_range(mask: &Mask) -> (u64, u64)
-    requires { mask.now.len ≤ UID_BITS }
-    ensures first { result.0 ≡ mirror mask.now.value }
-    ensures last { result.1 ≡ mirror mask.now.value + (2 ^ (UID_BITS - mask.now.len) - 1) }
-    ensures forward { result.0 ≤ result.1 }
-    ensures inside { (u : ℕ) →
-        lies_in mask.now u ≡ (nat_le result.0 (mirror u) && nat_le (mirror u) result.1) }
-{
-    let first = turn_round(mask.value());
-    let more = (1 << (UID_BITS - mask.len())) - 1;
-    (first, first + more)
+    Uid::from_low_bits(turn_round(key).number())
 }
 
 /// The mask of `len` bits, at most 56, whose first UID has the key `first`: a multiple of
@@ -81,54 +141,12 @@ pub fn mask_of_keys(first: u64, len: u8) -> Mask
     ensures first { mirror result.value ≡ first }
     ensures inside { (u : ℕ) → lies_in result u ≡ is_in_block first len (mirror u) }
 {
-    Mask::of_bits(len, turn_round(first))
-}
-
-/// The key of the first UID in a mask that holds one.
-pub fn first_key(mask: &Mask) -> u64
-    ensures { result ≡ mirror mask.now.value }
-{
-    turn_round(mask.value())
-}
-
-/// The keys of the UIDs in a mask; `None` if the mask holds no UID.
-pub fn keys_of(mask: &Mask) -> Option<KeyBlock>
-    ensures block { IfSome result (λ b. IsBlock b.first b.len) }
-    ensures inside { (u : ℕ) → IsUid u
-        → lies_in mask.now u ≡ is_in_some_block result (mirror u) }
-{
-    match without_top_byte(mask) {
-        Some(low) => Some(KeyBlock {
-            first: first_key(&low),
-            len: low.len(),
-        }),
-        None => None,
-    }
-}
-
-/// The keys of the UIDs in slot `k` of sixteen, for a mask of at most 52 bits whose first key is
-/// known. The first key in the slot differs from it in the slot's four bits.
-#[inline(always)]
-pub fn keys_of_slot(mask: &Mask, first: u64, k: u8) -> KeyBlock
-    requires short { mask.now.len + 4 ≤ UID_BITS }
-    requires slot { k ≤ 15 }
-    requires first { first ≡ mirror mask.now.value }
-    ensures block { IsBlock result.first result.len }
-    ensures inside { (u : ℕ) → lies_in (slot_of_sixteen mask.now k) u
-        ≡ is_in_block result.first result.len (mirror u) }
-{
-    let len = mask.len() + 4;
-    let four_bits = turn_byte(k) / 16;
-    KeyBlock {
-        first: first + (u64::from(four_bits) << (UID_BITS - len)),
-        len,
-    }
+    Mask::of_bits(len, turn_round(first).number())
 }
 
 /// The 56 low bits of a number in reverse order, so that the lowest becomes the highest.
-fn turn_round(number: u64) -> u64
-    ensures value { result ≡ mirror number }
-    ensures small { IsKey result }
+fn turn_round(number: u64) -> UidKey
+    ensures { result ≡ mirror number }
 {
     let mut turned = 0;
     let mut rest = number;
@@ -136,7 +154,7 @@ fn turn_round(number: u64) -> u64
         turned = turned * 256 + u64::from(turn_byte((rest % 256) as u8));
         rest /= 256;
     }
-    turned
+    UidKey { number: turned }
 }
 
 /// A byte with its bits reversed.

@@ -1,7 +1,8 @@
 //! The inventory rounds of a log, followed from entry to entry.
 
 ghost use Rattle.std.specs.Prelude.{◌≡◌, ℕ, ◌+◌, ◌≤◌, IfSome, List, Some, slice_get};
-ghost use Rattle.vic_frame.specs.LowBitsFirst.{IsBlock, is_in_some_block, mirror};
+ghost use Rattle.vic_frame.specs.KeyBlocks.{is_in_some_block};
+ghost use Rattle.vic_frame.specs.LowBitsFirst.{mirror};
 ghost use Rattle.vic_frame.specs.Masks.{lies_in, slot_of_sixteen};
 ghost use Rattle.vic_frame.specs.Requests.{IsValid};
 ghost use Rattle.vic_frame.specs.Slots.{slot_mask};
@@ -13,7 +14,7 @@ ghost use Rattle.vic_log.specs.Rounds.{lies_in_some, mask_at};
 
 use crate::entry::Entry;
 use std::marker::Model;
-use vic_frame::low_bits_first::{KeyBlock, first_key, keys_of, keys_of_slot};
+use vic_frame::low_bits_first::{KeyBlock, UidKey, first_key};
 use vic_frame::{Mask, Request, UID_BITS};
 
 /// An open round (ISO/IEC 15693-3, inventory sequence). Only contracts mention it: it is the value
@@ -32,7 +33,7 @@ pub struct OpenRound {
 pub struct KeyedRound {
     request: Request,
     next: u8,
-    first: u64,
+    first: UidKey,
 }
 
 impl Model for KeyedRound {
@@ -57,7 +58,7 @@ impl KeyedRound {
     {
         let first = match request {
             Request::Inventory { mask, .. } => first_key(&mask),
-            Request::StayQuiet { .. } => 0,
+            Request::StayQuiet { .. } => UidKey::least(),
         };
         KeyedRound {
             request,
@@ -86,8 +87,7 @@ impl KeyedRound {
     /// The keys of the UIDs in its next slot; `None` if it has no more slots, or no UID lies in it.
     #[inline(always)]
     fn keys(&self) -> Option<KeyBlock>
-        ensures block { IfSome result (λ b. IsBlock b.first b.len) }
-        ensures inside { (u : ℕ) → IsValid self.now.request → IsUid u
+        ensures { (u : ℕ) → IsValid self.now.request → IsUid u
             → is_in_some_block result (mirror u)
             ≡ lies_in_some (slot_mask self.now.request self.now.next) u }
     {
@@ -103,7 +103,7 @@ impl KeyedRound {
                         len: mask.len(),
                     })
                 } else {
-                    keys_of(&mask)
+                    KeyBlock::of(&mask)
                 }
             }
             Request::StayQuiet { .. } => None,
@@ -114,9 +114,8 @@ impl KeyedRound {
 /// The keys of the UIDs in slot `k` of sixteen of a mask whose first key is known; `None` if there
 /// is no such slot, or no UID lies in it.
 #[inline(always)]
-fn keys_in_slot(mask: &Mask, first: u64, k: u8) -> Option<KeyBlock>
+fn keys_in_slot(mask: &Mask, first: UidKey, k: u8) -> Option<KeyBlock>
     requires { first ≡ mirror mask.now.value }
-    ensures block { IfSome result (λ b. IsBlock b.first b.len) }
     ensures none { 16 ≤ k → result ≡ None }
     ensures inside { (u : ℕ) → mask.now.len ≤ 60 → k ≤ 15 → IsUid u
         → is_in_some_block result (mirror u) ≡ lies_in (slot_of_sixteen mask.now k) u }
@@ -125,10 +124,10 @@ fn keys_in_slot(mask: &Mask, first: u64, k: u8) -> Option<KeyBlock>
         return None;
     }
     if mask.len() + 4 <= UID_BITS {
-        return Some(keys_of_slot(mask, first, k));
+        return Some(KeyBlock::of_slot(mask, first, k));
     }
     match mask.slot(k) {
-        Some(slot) => keys_of(&slot),
+        Some(slot) => KeyBlock::of(&slot),
         None => None,
     }
 }
@@ -173,8 +172,7 @@ impl RoundCursor {
     /// in it.
     #[inline(always)]
     pub fn keys(&self) -> Option<KeyBlock>
-        ensures block { IfSome result (λ b. IsBlock b.first b.len) }
-        ensures inside { (es : List EntryValue) (i u : ℕ) → AreValid es
+        ensures { (es : List EntryValue) (i u : ℕ) → AreValid es
             → IsCursorAt es i self.now → IsUid u
             → is_in_some_block result (mirror u) ≡ lies_in_some (mask_at es i) u }
     {

@@ -31,7 +31,7 @@ fn worked_registers(rt: HostRuntime) {
 const KEYS: [(u64, u64); 3] = [(Z, 0), (Y, 1), (A, 0x85_0000_0000_8020)];
 
 fn has_key(rt: &impl Abort, number: u64, expected: u64) -> Result<(), Fail> {
-    assert!(rt; key(uid(number)?) == expected, "{number}");
+    assert!(rt; key(uid(number)?).number() == expected, "{number}");
     Ok(())
 }
 

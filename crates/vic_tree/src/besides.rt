@@ -10,7 +10,7 @@ ghost use Rattle.vic_tree.specs.inner.Ranges.{IsFreeInRanges, is_left};
 use crate::blocks::widest_with;
 use crate::gather_keys::gather_keys;
 use crate::key_range::KeyRange;
-use crate::ranges::from_key;
+use crate::ranges::Ranges;
 use crate::runs::Runs;
 use crate::sorted_keys::{KeysAhead, SortedKeys};
 use arrayvec::ArrayVec;
@@ -20,10 +20,9 @@ use vic_frame::{Mask, Uid};
 /// Appends what is left of some ranges when some keys are removed, as ranges.
 pub(crate) fn push_left(
     out: &mut Vec<KeyRange>,
-    ranges: &[KeyRange],
+    ranges: &Ranges<'_>,
     removed: &SortedKeys,
 ) -> Result<(), AllocError>
-    requires { AreRanges ranges.now }
     ensures { OnOk result ((left : List (ℕ × ℕ)) × (out.new.items ≡ out.old.items ++ left)
         × AreRanges left × ((k : ℕ) → in_ranges left k ≡ is_left ranges.now removed.now k)) }
 {
@@ -39,15 +38,14 @@ pub(crate) fn push_left(
 pub(crate) fn gather_left(
     out: &mut ArrayVec<Uid, 3>,
     except: &[Uid],
-    ranges: &[KeyRange],
+    ranges: &Ranges<'_>,
     range: KeyRange,
 )
-    requires ranges { AreRanges ranges.now }
     ensures { Gathers (IsFreeInRanges ranges.now range.0 range.1 (has except.now))
         out.old.items out.new.items }
 {
     let first = range.first();
-    let mut left = Runs::new(first, from_key(ranges, first), KeysAhead::none());
+    let mut left = Runs::new(first, &ranges.from_key(first), KeysAhead::none());
     while let Some(run) = left.next_run() {
         if range.last() < run.first() || out.is_full() {
             return;
@@ -58,8 +56,7 @@ pub(crate) fn gather_left(
 }
 
 /// The widest mask in what is left of some ranges when some keys are removed.
-pub(crate) fn widest_left(ranges: &[KeyRange], removed: &SortedKeys) -> Option<Mask>
-    requires ranges { AreRanges ranges.now }
+pub(crate) fn widest_left(ranges: &Ranges<'_>, removed: &SortedKeys) -> Option<Mask>
     ensures found { IfSome result
         (IsWidest (without_keys (is_open_in ranges.now) removed.now)) }
     ensures none { IfNone result

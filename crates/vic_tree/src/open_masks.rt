@@ -10,10 +10,11 @@ ghost use Rattle.vic_frame.specs.Masks.{BitMask};
 ghost use Rattle.vic_tree.specs.OpenSet.{without_keys};
 ghost use Rattle.vic_tree.specs.OpenMasks.{AreAll, AreFirst, IsOpenMask};
 ghost use Rattle.vic_tree.specs.inner.KeptMasks.{Adds, AreKept, IsMaximalAt, IsMaximalIn, Keeps};
-ghost use Rattle.vic_tree.specs.Ranges.{AreRanges, is_open_in};
+ghost use Rattle.vic_tree.specs.Ranges.{is_open_in};
 
 use crate::blocks::{least_len, size_of_block};
 use crate::key_range::KeyRange;
+use crate::ranges::Ranges;
 use crate::runs::Runs;
 use crate::sorted_keys::SortedKeys;
 use arrayvec::ArrayVec;
@@ -43,8 +44,7 @@ pub struct OpenMasks {
 
 /// The first open masks of what is left of some ranges when some keys are removed, found without
 /// memory from the heap.
-pub(crate) fn open_masks_left(ranges: &[KeyRange], removed: &SortedKeys) -> OpenMasks
-    requires ranges { AreRanges ranges.now }
+pub(crate) fn open_masks_left(ranges: &Ranges<'_>, removed: &SortedKeys) -> OpenMasks
     ensures first { AreFirst MAX_OPEN_MASKS
         (IsOpenMask (without_keys (is_open_in ranges.now) removed.now)) result.masks.items }
     ensures more { result.more ≡ true ↔ (m : BitMask)
@@ -97,10 +97,9 @@ fn keep_in_run(kept: &mut ArrayVec<Mask, BUFFER>, run: KeyRange)
 /// All open masks of what is left of some ranges when some keys are removed.
 pub(crate) fn all_open_masks_left(
     alloc: Global,
-    ranges: &[KeyRange],
+    ranges: &Ranges<'_>,
     removed: &SortedKeys,
 ) -> Result<Vec<Mask>, AllocError>
-    requires ranges { AreRanges ranges.now }
     ensures { IfOk result (λ masks. AreAll
         (IsOpenMask (without_keys (is_open_in ranges.now) removed.now)) masks.items) }
 {

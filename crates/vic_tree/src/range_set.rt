@@ -13,12 +13,12 @@ use crate::besides::{gather_left, push_left, widest_left};
 use crate::key_range::KeyRange;
 use crate::open_masks::{MAX_OPEN_MASKS, OpenMasks, all_open_masks_left, open_masks_left};
 use crate::open_set::OpenSet;
-use crate::ranges::{complement, complement_in_order, is_in, is_in_first, skip_to};
+use crate::ranges::{Ranges, complement, complement_in_order, is_in_first, skip_to};
 use crate::sorted_keys::SortedKeys;
 use arrayvec::ArrayVec;
 use std::alloc::{AllocError, Global};
 use std::marker::Model;
-use vic_frame::low_bits_first::{key, keys_of};
+use vic_frame::low_bits_first::{KeyBlock, key};
 use vic_frame::{Mask, Uid};
 
 /// A set of UIDs as ranges of their keys in the order of low bits first, in which the UIDs of a
@@ -50,11 +50,11 @@ impl OpenSet for RangeSet {
     }
 
     fn settle(&mut self, mask: &Mask, except: &[Uid]) -> Result<(), AllocError> {
-        let Some(block) = keys_of(mask) else {
+        let Some(block) = KeyBlock::of(mask) else {
             return Ok(());
         };
-        let range = KeyRange::new(block.first, block.last());
-        match ranges_after(self.alloc, &self.ranges, range, except) {
+        let range = KeyRange::new(block.first.number(), block.last().number());
+        match ranges_after(self.alloc, &self.in_order(), range, except) {
             Ok(left) => {
                 self.ranges = left;
                 Ok(())
@@ -72,20 +72,20 @@ impl OpenSet for RangeSet {
     }
 
     fn has(&self, uid: Uid) -> bool {
-        is_in(&self.ranges, key(uid))
+        self.in_order().has(key(uid).number())
     }
 
     fn up_to_three(&self, mask: &Mask, except: &[Uid]) -> ArrayVec<Uid, 3> {
         let mut found = ArrayVec::new();
-        if let Some(block) = keys_of(mask) {
-            let range = KeyRange::new(block.first, block.last());
-            gather_left(&mut found, except, &self.ranges, range);
+        if let Some(block) = KeyBlock::of(mask) {
+            let range = KeyRange::new(block.first.number(), block.last().number());
+            gather_left(&mut found, except, &self.in_order(), range);
         }
         found
     }
 
     fn widest(&self) -> Option<Mask> {
-        widest_left(&self.ranges, &SortedKeys::none(self.alloc))
+        widest_left(&self.in_order(), &SortedKeys::none(self.alloc))
     }
 
     fn has_each(&self, alloc: Global, keys: &SortedKeys) -> Result<Vec<bool>, AllocError> {
@@ -100,18 +100,27 @@ impl OpenSet for RangeSet {
     }
 
     fn widest_besides(self, keys: &SortedKeys) -> Result<Option<Mask>, AllocError> {
-        Ok(widest_left(&self.ranges, keys))
+        Ok(widest_left(&self.in_order(), keys))
     }
 }
 
 impl RangeSet {
+    /// Its ranges.
+    fn in_order(&self) -> Ranges<'_>
+        ensures { result ≡ self.now }
+    {
+        Ranges {
+            ranges: &self.ranges,
+        }
+    }
+
     /// The set without the UIDs with some keys.
     pub fn besides(&self, alloc: Global, keys: &SortedKeys) -> Result<RangeSet, AllocError>
         ensures { IfOk result (λ set. SameUids (is_open_in set)
             (without_keys (is_open_in self.now) keys.now)) }
     {
         let mut ranges = Vec::new(alloc);
-        push_left(&mut ranges, &self.ranges, keys)?;
+        push_left(&mut ranges, &self.in_order(), keys)?;
         Ok(RangeSet { ranges, alloc })
     }
 
@@ -124,7 +133,7 @@ impl RangeSet {
             × IsOpenMask (without_keys (is_open_in self.now) keys.now) m
             × (¬ (Contains result.masks.items m)) }
     {
-        open_masks_left(&self.ranges, keys)
+        open_masks_left(&self.in_order(), keys)
     }
 
     /// All open masks of the set without the UIDs with some keys, by length, then by value.
@@ -136,25 +145,27 @@ impl RangeSet {
         ensures { IfOk result (λ masks. AreAll
             (IsOpenMask (without_keys (is_open_in self.now) keys.now)) masks.items) }
     {
-        all_open_masks_left(alloc, &self.ranges, keys)
+        all_open_masks_left(alloc, &self.in_order(), keys)
     }
 }
 
 /// What is left of some ranges after the keys of one are removed, except those of some UIDs.
 fn ranges_after(
     alloc: Global,
-    ranges: &[KeyRange],
+    ranges: &Ranges<'_>,
     range: KeyRange,
     except: &[Uid],
 ) -> Result<Vec<KeyRange>, AllocError>
-    requires { AreRanges ranges.now }
     ensures ranges { IfOk result (λ left. AreRanges left.items) }
     ensures left { IfOk result (λ left. SameUids (is_open_in left.items) (λ u.
         is_open_in ranges.now u
         && (not (is_between range.0 range.1 (mirror u)) || has except.now u))) }
 {
     let except = SortedKeys::of(alloc, except)?;
-    let mut closed = complement_in_order(Vec::from_slice(alloc, ranges)?)?;
-    push_left(&mut closed, range.as_slice(), &except)?;
+    let mut closed = complement_in_order(Vec::from_slice(alloc, ranges.ranges)?)?;
+    let range = Ranges {
+        ranges: range.as_slice(),
+    };
+    push_left(&mut closed, &range, &except)?;
     complement(closed)
 }

@@ -3,10 +3,10 @@
 //! Both the ranges and the removed keys come in order, and are walked side by side, once.
 
 ghost use Rattle.std.specs.Prelude.{◌≡◌, ℕ, ◌+◌, ◌≤◌, Bool, false, IfSome, IfNone, OnSome};
-ghost use Rattle.vic_tree.specs.Ranges.{AreRanges};
 ghost use Rattle.vic_tree.specs.inner.Ranges.{IsFirstRun, PassFrom};
 
 use crate::key_range::KeyRange;
+use crate::ranges::Ranges;
 use crate::sorted_keys::KeysAhead;
 use std::marker::Model;
 
@@ -31,13 +31,12 @@ impl<'a> Model for Runs<'a> {
 
 impl<'a> Runs<'a> {
     /// The runs of the keys from key `from` on that are in `ranges` and not in `removed`.
-    pub(crate) fn new(from: u64, ranges: &'a [KeyRange], removed: KeysAhead<'a>) -> Runs<'a>
-        requires { AreRanges ranges.now }
+    pub(crate) fn new(from: u64, ranges: &Ranges<'a>, removed: KeysAhead<'a>) -> Runs<'a>
         ensures { result ≡ (from, ranges.now, removed.entry) }
     {
         Runs {
             from,
-            ranges,
+            ranges: ranges.ranges,
             removed,
         }
     }

@@ -46,7 +46,7 @@ impl SortedKeys {
     {
         let mut keys = Vec::with_capacity(alloc, uids.len())?;
         for uid in uids {
-            keys.push(key(*uid))?;
+            keys.push(key(*uid).number())?;
         }
         keys.sort_unstable();
         Ok(SortedKeys { keys })
@@ -95,6 +95,22 @@ impl<'a> KeysAhead<'a> {
         KeysAhead { keys: &[] }
     }
 
+    /// Leaves the keys below `from` behind; if at most one is below it, that one may stay ahead.
+    /// The index doubles until the key there isn't below `from`; halving then finds how many are.
+    fn pass_to(&mut self, from: u64)
+        ensures { (k : ℕ) → from ≤ k → has self.new k ≡ has self.old k }
+    {
+        let keys = self.keys;
+        let mut bound = 1;
+        while bound < keys.len() && keys[bound] < from {
+            bound *= 2;
+        }
+        if 1 < bound {
+            let below = keys[..bound.min(keys.len())].partition_point(|key| *key < from);
+            self.keys = &keys[below..];
+        }
+    }
+
     /// The first free key from key `from` on, that is, the first that isn't one of these. Those
     /// before it are left behind.
     pub(crate) fn first_free(&mut self, from: u64) -> u64
@@ -103,8 +119,8 @@ impl<'a> KeysAhead<'a> {
         ensures same { (k : ℕ) → result ≤ k → has self.new k ≡ has self.old k }
         ensures after { (i : ℕ) → i < length self.new → result < get_or self.new i 0 }
     {
+        self.pass_to(from);
         let mut free = from;
-        self.keys = keys_from(self.keys, from);
         while let Some((key, others)) = self.keys.split_first() {
             if free < *key {
                 return free;
@@ -128,24 +144,4 @@ impl<'a> KeysAhead<'a> {
             None => range,
         }
     }
-}
-
-/// The keys from `from` on; if at most one is below it, that one may stay. The index doubles until
-/// the key there isn't below `from`; halving then finds how many are.
-fn keys_from(keys: &[u64], from: u64) -> &[u64]
-    requires keys { AreKeys keys.now }
-    requires order { IsNonDecreasing keys.now }
-    ensures same { (k : ℕ) → from ≤ k → has result.now k ≡ has keys.now k }
-    ensures keys { AreKeys result.now }
-    ensures order { IsNonDecreasing result.now }
-{
-    let mut bound = 1;
-    while bound < keys.len() && keys[bound] < from {
-        bound *= 2;
-    }
-    if bound == 1 {
-        return keys;
-    }
-    let below = keys[..bound.min(keys.len())].partition_point(|key| *key < from);
-    &keys[below..]
 }

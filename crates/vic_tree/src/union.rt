@@ -11,7 +11,7 @@ use crate::range_set::RangeSet;
 use crate::ranges::{complement, complement_in_order};
 use std::alloc::{AllocError, Global};
 use vic_frame::Mask;
-use vic_frame::low_bits_first::keys_of;
+use vic_frame::low_bits_first::KeyBlock;
 
 impl RangeSet {
     /// The UIDs that are in at least one of some sets.
@@ -61,8 +61,8 @@ fn ranges_of_masks(alloc: Global, masks: &[Mask]) -> Result<Vec<KeyRange>, Alloc
 {
     let mut ranges = Vec::with_capacity(alloc, masks.len())?;
     for mask in masks {
-        if let Some(block) = keys_of(mask) {
-            ranges.push(KeyRange::new(block.first, block.last()))?;
+        if let Some(block) = KeyBlock::of(mask) {
+            ranges.push(KeyRange::new(block.first.number(), block.last().number()))?;
         }
     }
     Ok(ranges)

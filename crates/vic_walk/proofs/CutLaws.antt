@@ -4,7 +4,8 @@ use Rattle.std.proofs.lemmas.Bool.{cases_lt}
 use Rattle.std.proofs.lemmas.Option.{slice_get_past, slice_get_within}
 use Rattle.vic_frame.proofs.MirrorLaws.{uid_of_mirror}
 use Rattle.vic_frame.specs.Uids.{IsUid}
-use Rattle.vic_frame.specs.LowBitsFirst.{is_in_some_block, mirror, uid_of}
+use Rattle.vic_frame.specs.KeyBlocks.{is_in_some_block}
+use Rattle.vic_frame.specs.LowBitsFirst.{mirror, uid_of}
 use Rattle.vic_frame.specs.declared.low_bits_first.KeyBlock.{KeyBlock}
 use Rattle.vic_log.specs.Rounds.{is_slot}
 use Rattle.vic_log.specs.declared.entry.Entry.{Entry}
@@ -16,7 +17,7 @@ use Rattle.vic_walk.specs.inner.Gathered.{HasAll, HasBlock, HasCuts, HasMask, Ha
 -- ---- more borders
 
 block_kept : (old new : List ℕ) (b : Option KeyBlock) → HasAll old new → HasBlock old b → HasBlock new b
-block_kept old new (Some b) more has = (has.0, more.kept _ has.1, more.kept _ has.2)
+block_kept old new (Some b) more has = (more.kept _ has.0, more.kept _ has.1)
 block_kept old new None more has = has
 
 pub uid_kept : (old new : List ℕ) (u : ℕ) → HasAll old new → HasUid old u → HasUid new u
@@ -50,7 +51,7 @@ more_again old mid new first then_ = record { kept = λ b there. then_.kept b (f
 -- ---- parts that the log treats alike
 
 alike : (bs : List ℕ) (b : Option KeyBlock) (k l p : ℕ) → AreBorders bs → HasBlock bs b → IsPartOf bs k p → IsPartOf bs l p → is_in_some_block b k ≡ is_in_some_block b l
-alike bs (Some b) k l p borders has one other = alike_in_block bs b.first b.len k l p borders has.1 has.2 one other
+alike bs (Some b) k l p borders has one other = alike_in_block bs b.first b.len k l p borders has.0 has.1 one other
 alike bs None k l p borders has one other = refl
 
 names_none : (es : List Entry) (i u : ℕ) → names (slice_get es i) u ≡ true → i < length es

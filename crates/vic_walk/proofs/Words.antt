@@ -11,7 +11,8 @@ pub use Rattle.std.proofs.Math.Bool.{and-false, and-true}
 pub use Rattle.std.proofs.Math.ListN.{length-set}
 pub use Rattle.vic_frame.proofs.MirrorLaws.{mirror_below, mirror_of_uid, uid_of_mirror}
 pub use Rattle.vic_frame.proofs.KeyLaws.{is_uid}
-pub use Rattle.vic_frame.specs.LowBitsFirst.{IsKey, is_in_block, is_in_some_block, mirror, uid_of}
+pub use Rattle.vic_frame.specs.KeyBlocks.{is_in_some_block}
+pub use Rattle.vic_frame.specs.LowBitsFirst.{IsKey, is_in_block, mirror, uid_of}
 pub use Rattle.vic_frame.specs.Uids.{IsUid, has}
 pub use Rattle.vic_frame.specs.Replies.{Reply}
 pub use Rattle.vic_frame.specs.declared.request.Request.{Request}

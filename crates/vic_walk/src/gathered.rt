@@ -1,7 +1,7 @@
 //! Borders that are gathered in any order. A log names most of its borders several times, and near
 //! to each other; so what was added lately isn't added again, which makes sorting shorter.
 
-ghost use Rattle.std.specs.Prelude.{◌≡◌, ℕ, true, IfOk, IfSome, OnOk};
+ghost use Rattle.std.specs.Prelude.{◌≡◌, ℕ, ◌+◌, true, IfOk, IfSome, OnOk};
 ghost use Rattle.std.specs.List.{Contains};
 ghost use Rattle.std.specs.List.Sorted.{IsStrictlyIncreasing};
 ghost use Rattle.vic_walk.specs.Borders.{AreBorders};
@@ -11,6 +11,7 @@ use crate::ranked::{Ranked, rank};
 use std::alloc::{AllocError, Global};
 use std::marker::Model;
 use vic_frame::UID_BITS;
+use vic_frame::low_bits_first::UidKey;
 
 /// How many borders are remembered, as a power of two.
 const LATELY_BITS: u32 = 11;
@@ -22,6 +23,43 @@ const SPREAD: u64 = 0x9E37_79B9_7F4A_7C15;
 /// How many borders are ranked at most. More of them don't fit into the processor's memory beside
 /// their ranks, and are sorted faster where they are.
 const MOST_RANKED: usize = 1 << 21;
+
+/// A key, or the end of the keys.
+#[derive(Clone, Copy)]
+pub(crate) struct Border {
+    number: u64,
+    ghost is_border: { IsBorder number },
+}
+
+impl Border {
+    /// The border before a key.
+    #[inline(always)]
+    pub(crate) fn at(key: UidKey) -> Border
+        ensures { result.number ≡ key }
+    {
+        Border {
+            number: key.number(),
+        }
+    }
+
+    /// The border after a key.
+    #[inline(always)]
+    pub(crate) fn past(key: UidKey) -> Border
+        ensures { result.number ≡ key + 1 }
+    {
+        Border {
+            number: key.number() + 1,
+        }
+    }
+
+    /// Its number: that of the key, or `2^56`.
+    #[inline(always)]
+    pub(crate) fn number(self) -> u64
+        ensures { result ≡ self.number }
+    {
+        self.number
+    }
+}
 
 /// Borders in the order in which they were added.
 #[derive(Drop)]
@@ -74,11 +112,11 @@ impl Gathered {
     }
 
     /// Adds a border. Returns where it stands.
-    pub(crate) fn push(&mut self, border: u64) -> Result<u32, AllocError>
-        requires { IsBorder border }
+    pub(crate) fn push(&mut self, border: Border) -> Result<u32, AllocError>
         ensures more { OnOk result (HasAll self.old self.new) }
-        ensures there { OnOk result (Contains self.new border) }
+        ensures there { OnOk result (Contains self.new border.number) }
     {
+        let border = border.number;
         if let Some(at) = self.place_lately(border) {
             return Ok(at);
         }
@@ -91,10 +129,9 @@ impl Gathered {
     }
 
     /// Adds a border, and notes where it stands if a walk may look it up.
-    pub(crate) fn push_asked(&mut self, border: u64, asked: bool) -> Result<(), AllocError>
-        requires { IsBorder border }
+    pub(crate) fn push_asked(&mut self, border: Border, asked: bool) -> Result<(), AllocError>
         ensures more { OnOk result (HasAll self.old self.new) }
-        ensures there { OnOk result (Contains self.new border) }
+        ensures there { OnOk result (Contains self.new border.number) }
     {
         let at = self.push(border)?;
         if asked {

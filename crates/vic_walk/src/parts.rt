@@ -1,27 +1,26 @@
 //! Parts: the keys, divided at borders, so that a log treats all UIDs of a part alike.
 
-ghost use Rattle.std.specs.Prelude.{◌≡◌, ℕ, ◌+◌, ◌-◌, ◌<◌, ◌≤◌, ◌&&◌, true, Some, List, IfOk, IfSome, OnOk, length, nat_le, nat_lt, slice_index};
+ghost use Rattle.std.specs.Prelude.{◌≡◌, ℕ, ◌+◌, ◌-◌, ◌<◌, ◌≤◌, ◌&&◌, true, Some, List, IfOk, OnOk, length, nat_le, nat_lt, slice_index};
 ghost use Rattle.std.specs.List.{Contains};
-ghost use Rattle.std.specs.List.Sorted.{IsStrictlyIncreasing};
 ghost use Rattle.vic_frame.specs.Uids.{IsUid};
-ghost use Rattle.vic_frame.specs.LowBitsFirst.{IsBlock, IsKey, is_in_block};
+ghost use Rattle.vic_frame.specs.LowBitsFirst.{IsKey, is_in_block};
 ghost use Rattle.vic_log.specs.declared.entry.Entry.{Entry as EntryValue};
 ghost use Rattle.vic_log.specs.OpenRounds.{IsCursorAt};
 ghost use Rattle.vic_log.specs.Order.{AreValid, entries};
 ghost use Rattle.vic_log.specs.Rounds.{is_slot};
 ghost use Rattle.vic_walk.specs.Borders.{AreBorders, IsByParts, IsPartOf, part_count};
 ghost use Rattle.vic_walk.specs.Cuts.{AreCut, names};
-ghost use Rattle.vic_walk.specs.inner.Gathered.{HasAll, HasBlock, HasCuts, HasMask, HasUid, IsBorder};
+ghost use Rattle.vic_walk.specs.inner.Gathered.{HasAll, HasBlock, HasCuts, HasMask, HasUid};
 ghost use Rattle.vic_walk.specs.inner.Searching.{IsBetween};
 
-use crate::gathered::Gathered;
+use crate::gathered::{Border, Gathered};
 use crate::hints::{asks_for_end, asks_for_own, has_sixteen};
 use crate::index::{Index, up_to};
 use crate::lines::LogLines;
 use crate::listing::list_start;
 use std::alloc::{AllocError, Global};
 use std::marker::Model;
-use vic_frame::low_bits_first::{KeyBlock, key};
+use vic_frame::low_bits_first::{KeyBlock, UidKey, key};
 use vic_frame::{Request, Uid};
 use vic_log::{Entry, RoundCursor};
 
@@ -116,15 +115,14 @@ impl Parts {
     }
 
     /// The part that has a key.
-    pub fn at(&self, key: u64) -> usize
-        requires { IsKey key }
+    pub fn at(&self, key: UidKey) -> usize
         ensures { IsPartOf self.now key result }
     {
         let (from, to) = match &self.index {
-            Some(index) => index.hint(key),
+            Some(index) => index.hint(key.number()),
             None => (0, 0),
         };
-        let near = up_to(&self.borders, from, key);
+        let near = up_to(&self.borders, from, key.number());
         if self.is_between(key, near, near.saturating_add(1)) {
             near
         } else if self.is_between(key, from, to) {
@@ -135,8 +133,7 @@ impl Parts {
     }
 
     /// The part that has a key, which is expected in this one.
-    pub(crate) fn at_or_in(&self, part: usize, key: u64) -> usize
-        requires { IsKey key }
+    pub(crate) fn at_or_in(&self, part: usize, key: UidKey) -> usize
         ensures { IsPartOf self.now key result }
     {
         if self.is_between(key, part, part.saturating_add(1)) {
@@ -147,11 +144,10 @@ impl Parts {
     }
 
     /// The part that has a key, which is expected in this part or in one of the next few.
-    pub fn at_or_after(&self, part: usize, key: u64) -> usize
-        requires { IsKey key }
+    pub fn at_or_after(&self, part: usize, key: UidKey) -> usize
         ensures { IsPartOf self.now key result }
     {
-        let near = up_to(&self.borders, part, key);
+        let near = up_to(&self.borders, part, key.number());
         if self.is_between(key, near, near.saturating_add(1)) {
             near
         } else {
@@ -167,25 +163,27 @@ impl Parts {
     }
 
     /// Whether a border has this number.
-    fn has_border(&self, number: usize, border: u64) -> bool
+    fn has_border(&self, number: usize, border: Border) -> bool
         ensures within { result ≡ true → number < length self.now }
-        ensures border { result ≡ true → slice_index self.now number ≡ border }
+        ensures border { result ≡ true → slice_index self.now number ≡ border.number }
     {
-        number < self.borders.len() && self.borders[number] == border
+        number < self.borders.len() && self.borders[number] == border.number()
     }
 
     /// Whether a key lies between two borders.
-    fn is_between(&self, key: u64, from: usize, to: usize) -> bool
+    fn is_between(&self, key: UidKey, from: usize, to: usize) -> bool
         ensures { result ≡ true → IsBetween self.now key from to }
     {
+        let key = key.number();
         from < to && to < self.borders.len() && self.borders[from] <= key && key < self.borders[to]
     }
 
     /// The part that has a key between two borders.
-    fn search(&self, key: u64, from: usize, to: usize) -> usize
+    fn search(&self, key: UidKey, from: usize, to: usize) -> usize
         requires { IsBetween self.now key from to }
         ensures { IsPartOf self.now key result }
     {
+        let key = key.number();
         let mut low = from;
         let mut high = to;
         while low + 1 < high {
@@ -202,7 +200,6 @@ impl Parts {
     /// The parts whose keys are in a block, if the block has all keys of each part or none; with
     /// hints of the first one and of the one after the last.
     pub(crate) fn span(&self, block: &KeyBlock, near: usize, end: usize) -> Span
-        requires { IsBlock block.now.first block.now.len }
         ensures within { result.to ≤ part_count self.now }
         ensures inside { IsByParts self.now (is_in_block block.now.first block.now.len)
             → (k p : ℕ) → IsKey k → IsPartOf self.now k p
@@ -212,7 +209,9 @@ impl Parts {
         // shows a proof what is so of the borders
         let _ = &self.borders;
         let to = end.max(near.saturating_add(1));
-        if self.has_border(near, block.first) && self.has_border(to, block.last() + 1) {
+        if self.has_border(near, Border::at(block.first))
+            && self.has_border(to, Border::past(block.last()))
+        {
             return Span { from: near, to };
         }
         let from = self.at_or_in(near, block.first);
@@ -298,24 +297,32 @@ fn push_block(
     block: Option<KeyBlock>,
     with_end: bool,
 ) -> Result<(), AllocError>
-    requires { IfSome block (λ b. IsBlock b.first b.len) }
     ensures more { OnOk result (HasAll borders.old borders.new) }
     ensures block { OnOk result (HasBlock borders.new block) }
 {
     match block {
-        Some(block) => push_both(borders, block.first, block.last() + 1, with_end),
-        None => push_both(borders, 0, 0, with_end),
+        Some(block) => {
+            let end = Border::past(block.last());
+            push_both(borders, Border::at(block.first), end, with_end)
+        }
+        None => {
+            let least = Border::at(UidKey::least());
+            push_both(borders, least, least, with_end)
+        }
     }
 }
 
 /// Adds two borders. A walk asks for the first, and maybe for the other.
 #[inline(always)]
-fn push_both(borders: &mut Gathered, from: u64, end: u64, with_end: bool) -> Result<(), AllocError>
-    requires from { IsBorder from }
-    requires end { IsBorder end }
+fn push_both(
+    borders: &mut Gathered,
+    from: Border,
+    end: Border,
+    with_end: bool,
+) -> Result<(), AllocError>
     ensures more { OnOk result (HasAll borders.old borders.new) }
-    ensures both { OnOk result (Contains borders.new from
-        × Contains borders.new end) }
+    ensures both { OnOk result (Contains borders.new from.number
+        × Contains borders.new end.number) }
 {
     borders.push_asked(from, true)?;
     borders.push_asked(end, with_end)?;
@@ -328,7 +335,7 @@ fn push_uid(borders: &mut Gathered, uid: Uid, asked: bool) -> Result<(), AllocEr
     ensures uid { OnOk result (HasUid borders.new uid) }
 {
     let own = key(uid);
-    borders.push_asked(own, asked)?;
-    borders.push(own + 1)?;
+    borders.push_asked(Border::at(own), asked)?;
+    borders.push(Border::past(own))?;
     Ok(())
 }

@@ -10,13 +10,13 @@ fits first len value block is =
 pub of_bits-requires : goal.of_bits-requires
 of_bits-requires c =
     let short = c.requires.short in
-    (omega (arith, short), fits c.args.first c.args.len c.turn_round.result c.requires c.turn_round.ensures.value)
+    (omega (arith, short), fits c.args.first c.args.len c.number.result c.requires (c.number.ensures.value ∙ c.turn_round.ensures))
 
 pub returns-clause-first : goal.returns-clause-first
 returns-clause-first c =
     let keys = c.requires.keys in
     ap (λ (m : BitMask). mirror m.value) c.of_bits.ensures
-    ∙ ap mirror c.turn_round.ensures.value
+    ∙ ap mirror (c.number.ensures.value ∙ c.turn_round.ensures)
     ∙ mirror_twice 56 c.args.first
     ∙ mod-eq_of_lt (omega (arith, keys))
 
@@ -25,5 +25,5 @@ returns-clause-inside c u =
     let short = c.requires.short in
     let first = returns-clause-first c in
     ap (λ (m : BitMask). lies_in m u) c.of_bits.ensures
-    ∙ in_span c.args.len (56 - c.args.len) c.turn_round.result u (omega (arith, short)) (fits c.args.first c.args.len c.turn_round.result c.requires c.turn_round.ensures.value)
+    ∙ in_span c.args.len (56 - c.args.len) c.number.result u (omega (arith, short)) (fits c.args.first c.args.len c.number.result c.requires (c.number.ensures.value ∙ c.turn_round.ensures))
     ∙ ap (λ (x : ℕ). nat_le x (mirror u) && nat_le (mirror u) (x + (2 ^ (56 - c.args.len) - 1))) (ap (λ (m : BitMask). mirror m.value) (sym c.of_bits.ensures) ∙ first)

@@ -25,13 +25,13 @@ loop-preserved c =
       ap (λ (x : ℕ). x / 256) c.loop.invariant.1 ∙ rest-next i n,
     )
 
-pub returns-clause-value : goal.returns-clause-value
-returns-clause-value c =
+pub returns : goal.returns
+returns c =
     let e : 8 * c.loop.counter ≡ 56 = omega (arith, c.loop-test.false, c.loop.auto.counter-end) in
     c.loop.invariant.0 ∙ ap (λ (k : ℕ). mirror_bits k c.args.number) e
 
-pub returns-clause-small : goal.returns-clause-small
-returns-clause-small c =
-    let is = returns-clause-value c in
+pub invariant_of-result : goal.invariant_of-result
+invariant_of-result c =
+    let is = returns c in
     let below : mirror_bits 56 c.args.number < 2 ^ 56 = mirror_below 56 c.args.number in
     omega arith

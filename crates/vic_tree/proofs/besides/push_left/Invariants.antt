@@ -4,8 +4,8 @@ use Rattle.vic_tree.proofs.besides.push_left.Given as goal
 
 abbrev pub invariant-loop-run : goal.invariant-loop-run
 invariant-loop-run l = record {
-  pass : PassFrom (is_left l.ranges l.removed) l.left;
-  runs : (rs : List (ℕ × ℕ)) × (l.out.items ≡ l.initial.out.items ++ rs) × AreRunsTo (is_left l.ranges l.removed) l.left.0 rs;
+  pass : PassFrom (is_left l.fn.ranges l.removed) l.left;
+  runs : (rs : List (ℕ × ℕ)) × (l.out.items ≡ l.initial.out.items ++ rs) × AreRunsTo (is_left l.fn.ranges l.removed) l.left.0 rs;
 }
 
 abbrev pub decreases-loop-run : goal.decreases-loop-run

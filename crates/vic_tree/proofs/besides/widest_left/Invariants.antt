@@ -3,8 +3,8 @@ use Rattle.vic_tree.proofs.besides.widest_left.Given as goal
 
 abbrev pub invariant-loop-run : goal.invariant-loop-run
 invariant-loop-run l = record {
-  pass : PassFrom (is_left l.ranges l.removed) l.left;
-  found : IsFoundBelow (is_left l.ranges l.removed) l.left.0 l.widest;
+  pass : PassFrom (is_left l.fn.ranges l.removed) l.left;
+  found : IsFoundBelow (is_left l.fn.ranges l.removed) l.left.0 l.widest;
 }
 
 abbrev pub decreases-loop-run : goal.decreases-loop-run

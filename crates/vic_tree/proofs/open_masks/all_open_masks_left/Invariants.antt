@@ -3,9 +3,9 @@ use Rattle.vic_tree.proofs.open_masks.all_open_masks_left.Given as goal
 
 abbrev pub invariant-loop-run : goal.invariant-loop-run
 invariant-loop-run l = record {
-  pass : PassFrom (is_left l.ranges l.removed) l.left;
-  cut : (k : ℕ) → k + 1 ≡ l.left.0 → is_left l.ranges l.removed k ≡ false;
-  members : (m : BitMask) → IsOpenBelow (is_left l.ranges l.removed) l.left.0 m ↔ Contains l.masks.items m;
+  pass : PassFrom (is_left l.fn.ranges l.removed) l.left;
+  cut : (k : ℕ) → k + 1 ≡ l.left.0 → is_left l.fn.ranges l.removed k ≡ false;
+  members : (m : BitMask) → IsOpenBelow (is_left l.fn.ranges l.removed) l.left.0 m ↔ Contains l.masks.items m;
 }
 
 abbrev pub decreases-loop-run : goal.decreases-loop-run

@@ -3,10 +3,10 @@ use Rattle.vic_tree.proofs.open_masks.open_masks_left.Given as goal
 
 abbrev pub invariant-loop-run : goal.invariant-loop-run
 invariant-loop-run l = record {
-  pass : PassFrom (is_left l.ranges l.removed) l.left;
-  cut : (k : ℕ) → k + 1 ≡ l.left.0 → is_left l.ranges l.removed k ≡ false;
+  pass : PassFrom (is_left l.fn.ranges l.removed) l.left;
+  cut : (k : ℕ) → k + 1 ≡ l.left.0 → is_left l.fn.ranges l.removed k ≡ false;
   kept : AreKept l.kept.items;
-  first : AreFirst 17 (IsOpenBelow (is_left l.ranges l.removed) l.left.0) l.kept.items;
+  first : AreFirst 17 (IsOpenBelow (is_left l.fn.ranges l.removed) l.left.0) l.kept.items;
 }
 
 abbrev pub decreases-loop-run : goal.decreases-loop-run

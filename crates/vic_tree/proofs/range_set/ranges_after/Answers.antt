@@ -3,10 +3,10 @@ use Rattle.vic_tree.proofs.RangeLaws.{firsts_rise}
 use Rattle.vic_tree.proofs.range_set.ranges_after.Goals as goal
 
 pub complement_in_order-requires : goal.complement_in_order-requires
-complement_in_order-requires c = rw c.in_ok-from_slice.ensures.items (firsts_rise 0 c.args.ranges.now c.requires)
+complement_in_order-requires c = rw c.in_ok-from_slice.ensures.items (firsts_rise 0 c.ranges-2.inside.ranges.now c.ranges-2.invariant)
 
-pub push_left-requires : goal.push_left-requires
-push_left-requires c = rw c.as_slice.ensures.value (omega arith, c.as_slice.ensures.is_range.0, c.as_slice.ensures.is_range.1, tt)
+pub invariant_of-range : goal.invariant_of-range
+invariant_of-range c = rw c.as_slice.ensures.value (omega arith, c.as_slice.ensures.is_range.0, c.as_slice.ensures.is_range.1, tt)
 
 pub returns-clause-left : goal.returns-clause-left
 returns-clause-left c = IfOk-weaker c.complement.result _ _ (λ left keys u is_uid.

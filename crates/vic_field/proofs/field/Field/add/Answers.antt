@@ -3,8 +3,8 @@ use Rattle.vic_field.specs.Rows.{entries}
 use Rattle.vic_field.proofs.FieldRows.{more_readiness, row_has}
 use Rattle.vic_field.proofs.field.Field.add.Goals as goal
 
-pub put-requires-clause-fresh : goal.put-requires-clause-fresh
-put-requires-clause-fresh c =
+pub put-requires : goal.put-requires
+put-requires c =
     row_has c.self.inside.row c.args.uid c.key.result c.key.ensures.is_uid c.key.ensures.value
     ∙ ap (λ (ts : List (ℕ × Bool)). has (uids ts) c.args.uid) c.self.view_is
     ∙ sym c.if-holds.ensures

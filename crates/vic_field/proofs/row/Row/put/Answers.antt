@@ -8,9 +8,9 @@ invariant_of-self-2 c =
     let place = c.place_of-place.result in
     let p = c.place_of-place.ensures in
     let items = c.in_ok-insert.ensures.items in
-    let size = ap length items ∙ length-insert ks place c.args.key p.within in
+    let size = ap length items ∙ length-insert ks place c.number-key.result p.within in
     record {
-      rising = subst AreKeys (sym items) (inserted_keys ks place c.args.key c.args.self.now.rising p c.requires.fresh c.requires.small);
+      rising = subst AreKeys (sym items) (inserted_keys ks place c.number-key.result c.args.self.now.rising p (rw c.number-key.ensures.value c.requires) (rw c.number-key.ensures.value c.number-key.ensures.small));
       room = let room = c.in_ok-quiet.ensures.room in omega (arith, size, room, c.len.ensures);
     }
 
@@ -19,9 +19,10 @@ returns-clause-more c =
     let row = c.args.self.now in
     let place = c.place_of-place.result in
     let moved = c.in_ok-quiet.ensures.moved in
-    let size = c.len.ensures in (
+    let size = c.len.ensures in
+    rw (← c.number-key.ensures.value) (
       place,
-      inserted row c.insert.new.self.items c.in_ok-quiet.quiet c.args.key place c.place_of-place.ensures.within c.in_ok-insert.ensures.items
+      inserted row c.insert.new.self.items c.in_ok-quiet.quiet c.number-key.result place c.place_of-place.ensures.within c.in_ok-insert.ensures.items
           moved.before
           moved.put
           (λ k from lt. moved.after k from (omega (arith, lt, size))),

@@ -3,15 +3,15 @@ use Rattle.vic_frame.specs.LowBitsFirst.{first_key_of, mirror}
 use Rattle.vic_frame.specs.Slots.{slot_mask}
 use Rattle.vic_log.proofs.rounds.KeyedRound.keys.Goals as goal
 
-pub returns-then-len-le-UID_BITS-clause-block : goal.returns-then-len-le-UID_BITS-clause-block
-returns-then-len-le-UID_BITS-clause-block c =
+pub invariant_of-result : goal.invariant_of-result
+invariant_of-result c =
     let m = c.in-Inventory.mask in
     let short : m.len ≤ 56 = omega (arith, c.len.ensures.value, c.if-len-le-UID_BITS.true) in
     let first : c.self.inside.first ≡ mirror m.value = c.self.invariant ∙ ap first_key_of c.in-Inventory.is in
-    rw (first, c.len-then-len-le-UID_BITS.ensures.value) (first_is_block m c.len.ensures.is_mask short)
+    record { block = rw (first, c.len-then-len-le-UID_BITS.ensures.value) (first_is_block m c.len.ensures.is_mask short) }
 
-pub returns-then-len-le-UID_BITS-clause-inside : goal.returns-then-len-le-UID_BITS-clause-inside
-returns-then-len-le-UID_BITS-clause-inside c u valid w =
+pub returns-then-len-le-UID_BITS : goal.returns-then-len-le-UID_BITS
+returns-then-len-le-UID_BITS c u valid w =
     let m = c.in-Inventory.mask in
     let short : m.len ≤ 56 = omega (arith, c.len.ensures.value, c.if-len-le-UID_BITS.true) in
     let first : c.self.inside.first ≡ mirror m.value = c.self.invariant ∙ ap first_key_of c.in-Inventory.is in

@@ -18,11 +18,11 @@ key_pushed keys uids n k x u lt is back small w h =
     ∙ sym (list_any_more (nat_eq u) uids n x lt)
 
 pub loop-uid-preserved : goal.loop-uid-preserved
-loop-uid-preserved c = record {
-  keys = rw c.in_ok-push.ensures.items (All-push (λ k. k < 2 ^ 56) c.loop-uid.keys.items c.key.result c.loop-uid.invariant.keys c.key.ensures.small);
+loop-uid-preserved c = let small : c.number.result < 2 ^ 56 = rw c.number.ensures.value c.number.ensures.small in record {
+  keys = rw c.in_ok-push.ensures.items (All-push (λ k. k < 2 ^ 56) c.loop-uid.keys.items c.number.result c.loop-uid.invariant.keys small);
   members = λ u i.
       ap (λ ks. has_key ks u) c.in_ok-push.ensures.items
-      ∙ key_pushed c.loop-uid.keys.items c.args.uids.now c.loop-uid.uid-index c.key.result c.uid-item.result u c.loop-uid-test.true c.uid-item.is c.key.ensures.back c.key.ensures.small i (c.loop-uid.invariant.members u i);
+      ∙ key_pushed c.loop-uid.keys.items c.args.uids.now c.loop-uid.uid-index c.number.result c.uid-item.result u c.loop-uid-test.true c.uid-item.is (ap uid_of c.number.ensures.value ∙ c.key.ensures.back) small i (c.loop-uid.invariant.members u i);
   are_uids = λ u some. uid_more c.args.uids.now c.loop-uid.uid-index c.uid-item.result u c.loop-uid-test.true c.uid-item.is c.key.ensures.is_uid c.loop-uid.invariant.are_uids some;
 }
 

@@ -1,4 +1,4 @@
-use Rattle.std.proofs.Common.{ap, arith, length, subst, ◌≡◌, ◌+◌, ◌-◌, ◌^◌}
+use Rattle.std.proofs.Common.{◌∙◌, ap, arith, length, subst, ◌≡◌, ◌+◌, ◌-◌, ◌^◌}
 use Rattle.vic_walk.specs.Borders.{AreBorders, IsPartOf}
 use Rattle.vic_walk.proofs.PartLaws.{in_borders, in_span}
 use Rattle.vic_walk.proofs.parts.Parts.span.Goals as goal
@@ -15,7 +15,7 @@ returns-clause-inside c alike k p key own =
     let bs = c.args.self.now in
     let borders : AreBorders bs = subst AreBorders c.self.view_is c.self.invariant in
     let last : IsPartOf bs (c.args.block.now.first + (2 ^ (56 - c.args.block.now.len) - 1)) c.at_or_after-last.result = rw (← c.last-2.ensures) c.at_or_after-last.ensures in
-    in_span bs c.args.block.now.first c.args.block.now.len k p c.at_or_in-from.result c.at_or_after-last.result borders c.requires c.at_or_in-from.ensures last alike key own
+    in_span bs c.args.block.now.first c.args.block.now.len k p c.at_or_in-from.result c.at_or_after-last.result borders c.args.block.now.block c.at_or_in-from.ensures last alike key own
 
 pub returns-then-has_border-2-clause-inside : goal.returns-then-has_border-2-clause-inside
 returns-then-has_border-2-clause-inside c alike k p key own =
@@ -26,4 +26,4 @@ returns-then-has_border-2-clause-inside c alike k p key own =
     let within = start.within first in
     let size : length c.self.inside.borders.items ≡ length c.args.self.now = ap length c.self.view_is in
     let small = c.self.inside.borders.small in
-    in_borders c.args.self.now c.args.block.now.first c.args.block.now.len k p c.args.near _ (subst AreBorders c.self.view_is c.self.invariant) c.requires (omega (arith, c.saturating_add.ensures, c.max-to.ensures, within, size, small)) (end.within after) (start.border first) (rw (← c.last.ensures) (end.border after)) alike key own
+    in_borders c.args.self.now c.args.block.now.first c.args.block.now.len k p c.args.near _ (subst AreBorders c.self.view_is c.self.invariant) c.args.block.now.block (omega (arith, c.saturating_add.ensures, c.max-to.ensures, within, size, small)) (end.within after) (start.border first ∙ c.at.ensures) (rw (← c.last.ensures) (end.border after ∙ c.past.ensures)) alike key own

@@ -1,5 +1,5 @@
 use Rattle.vic_tree.proofs.Words.{◌<◌, ◌-◌, length}
-use Rattle.vic_tree.proofs.sorted_keys.keys_from.Given as goal
+use Rattle.vic_tree.proofs.sorted_keys.KeysAhead.pass_to.Given as goal
 
 abbrev pub invariant-loop-bound : goal.invariant-loop-bound
 invariant-loop-bound l = 0 < l.bound
