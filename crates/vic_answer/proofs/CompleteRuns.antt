@@ -1,8 +1,7 @@
 -- A run that wrote `complete ` has read a complete text.
-use Rattle.vic_answer.proofs.Words.{◌≡◌, ℕ, Bool, true, List, ◌++◌, Option, Some, None, Result, Ok, Err, inl, inr, refl, ap, subst, sym, append_cancel_left, Appends, Consumes, Grows, lines_of_text, LogValue, IsLogOf, IsEnough, Runs, RunsOver, RunFault, Status, not_both}
-use Rattle.std.specs.Io.KnownBytes.{IsAtEnd}
+use Rattle.vic_answer.proofs.Words.{◌≡◌, ℕ, Bool, List, ◌++◌, Option, Some, None, Result, Ok, Err, inl, inr, refl, ap, subst, sym, append_cancel_left, Appends, lines_of_text, LogValue, IsLogOf, IsEnough, Runs, RunsOver, RunFault, Status, not_both}
 use Rattle.vic_answer.specs.Runs.{Answers}
-use Rattle.vic_answer.specs.CompleteRun.{BeginWith, GivesCompleteText, IsCompleteWhereSaid, IsCompleteWhereSaidFirst, IsCompleteWhereWritten, IsCompleteWhereWrittenFirst, ReadsCompleteText}
+use Rattle.vic_answer.specs.CompleteRun.{BeginWith, IsCompleteWhereSaid, IsCompleteWhereSaidFirst, IsCompleteWhereWritten, IsCompleteWhereWrittenFirst, ReadsCompleteText}
 use Rattle.vic_answer.proofs.CheckLines.{IsCompleteAnswer, TellComplete, TellCompleteFirst}
 
 -- what a sink took behind the bytes before is the answer
@@ -20,25 +19,21 @@ over IsOver text log is_log (inr early) = absurd (not_both _ _ _ _ early.early.f
 
 -- the answer to what was read is what was taken
 said : {IsAnswerTo : List ℕ → List ℕ → Status → Type 0} {HasRead : List ℕ → Type 0} {IsOver : Type 0} {taken taken' : Option (List ℕ)} {status : Status}
-    (h : Answers IsAnswerTo HasRead IsOver taken taken' status) (before after : List ℕ) → taken ≡ Some before → taken' ≡ Some (before ++ after) → IsAnswerTo h.text after status
+    (h : Answers IsAnswerTo HasRead IsOver Appends taken taken' status) (before after : List ℕ) → taken ≡ Some before → taken' ≡ Some (before ++ after) → IsAnswerTo h.text after status
 said {IsAnswerTo} {HasRead} {IsOver} {taken} {taken'} {status} h before after was now =
-    subst (λ a. IsAnswerTo h.text a status) (sym (answer_taken taken taken' before after h.answer was now h.written)) h.right
+    subst (λ a. IsAnswerTo h.text a status) (sym (answer_taken taken taken' before after h.answer was now h.accepted)) h.right
 
 -- a complete text was read to its end
 ended : {IsAnswerTo : List ℕ → List ℕ → Status → Type 0} {HasRead : List ℕ → Type 0} {IsOver : Type 0} {taken taken' : Option (List ℕ)} {status : Status}
-    (h : Answers IsAnswerTo HasRead IsOver taken taken' status) (line : List ℕ) → IsCompleteAnswer h.text line → IsOver
+    (h : Answers IsAnswerTo HasRead IsOver Appends taken taken' status) (line : List ℕ) → IsCompleteAnswer h.text line → IsOver
 ended h line told = over _ h.text told.complete.log told.complete.is_log h.enough
 
 front_becomes : {P Q : List ℕ → Type 0} {bytes : List ℕ} → ((line : List ℕ) → P line → Q line) → BeginWith P bytes → BeginWith Q bytes
 front_becomes f b = record { front = b.front; more = b.more; right = f b.front b.right; are = b.are }
 
 module _ {IsAnswerTo : List ℕ → List ℕ → Status → Type 0} where
-  given_complete : {left left' taken taken' : Option (List ℕ)} {status : Status}
-      (h : Answers IsAnswerTo (Consumes left left') (IsAtEnd left') taken taken' status) (line : List ℕ) → IsCompleteAnswer h.text line → GivesCompleteText left left' line
-  given_complete h line told = record { text = h.text; given = h.given; ended = ended h line told; count = told.count; complete = told.complete; told = told.told }
-
-  read_complete : {returned returned' : List ℕ} {over : Bool} {taken taken' : Option (List ℕ)} {status : Status}
-      (h : Answers IsAnswerTo (Grows returned returned') (over ≡ true) taken taken' status) (line : List ℕ) → IsCompleteAnswer h.text line → ReadsCompleteText returned returned' over line
+  read_complete : {HasRead : List ℕ → Type 0} {IsOver : Type 0} {taken taken' : Option (List ℕ)} {status : Status}
+      (h : Answers IsAnswerTo HasRead IsOver Appends taken taken' status) (line : List ℕ) → IsCompleteAnswer h.text line → ReadsCompleteText HasRead IsOver line
   read_complete h line told = record { text = h.text; read = h.given; over = ended h line told; count = told.count; complete = told.complete; told = told.told }
 
 module _ (IsAnswerTo : List ℕ → List ℕ → Status → Type 0) (tell : TellComplete IsAnswerTo) where
@@ -46,7 +41,7 @@ module _ (IsAnswerTo : List ℕ → List ℕ → Status → Type 0) (tell : Tell
       → Runs IsAnswerTo left left' taken taken' r → IsCompleteWhereSaid left left' taken taken' r
   complete_where_said left left' taken taken' (Err e) h = tt
   complete_where_said left left' taken taken' (Ok status) h = λ before rest was now.
-      given_complete h rest (tell h.text rest status (said h before _ was now))
+      read_complete h rest (tell h.text rest status (said h before _ was now))
 
   pub complete_where_written : (returned returned' : List ℕ) (ended : Bool) (written written' : List ℕ) (r : Result Status RunFault)
       → RunsOver IsAnswerTo returned returned' ended written written' r → IsCompleteWhereWritten returned returned' ended written written' r
@@ -59,7 +54,7 @@ module _ (IsAnswerTo : List ℕ → List ℕ → Status → Type 0) (tell : Tell
       → Runs IsAnswerTo left left' taken taken' r → IsCompleteWhereSaidFirst left left' taken taken' r
   complete_where_said_first left left' taken taken' (Err e) h = tt
   complete_where_said_first left left' taken taken' (Ok status) h = λ before rest was now.
-      front_becomes (given_complete h) (tell h.text rest status (said h before _ was now))
+      front_becomes (read_complete h) (tell h.text rest status (said h before _ was now))
 
   pub complete_where_written_first : (returned returned' : List ℕ) (ended : Bool) (written written' : List ℕ) (r : Result Status RunFault)
       → RunsOver IsAnswerTo returned returned' ended written written' r → IsCompleteWhereWrittenFirst returned returned' ended written written' r

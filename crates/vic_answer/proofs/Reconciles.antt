@@ -17,7 +17,7 @@ kept_more list text texts log old new k has_log joined = record {
   listed_alone = k.listed_alone;
   logs = k.logs ++ log ∷ [];
   are_logs = all_zipped_more HasLog texts k.logs text log k.are_logs has_log;
-  joined = subst (λ ls. IsJoined (listed (entries k.expected.lines)) ls new) (sym (map-append lines_of k.logs (log ∷ []))) joined;
+  holds = subst (λ ls. IsJoined (listed (entries k.expected.lines)) ls new) (sym (map-append lines_of k.logs (log ∷ []))) joined;
 }
 
 possible_texts : (texts : List (List ℕ)) (logs : List LogValue) → AllZip HasLog texts logs → All IsPossibleLog (map lines_of logs) → All HasPossibleLog texts
@@ -29,7 +29,7 @@ possible_texts (t ∷ texts) (l ∷ logs) z all =
 
 -- the logs before one are those that are kept
 kept_before : (list text : List ℕ) (texts : List (List ℕ)) (r : Reconciliation) (n : ℕ) → IsKept list texts r → n ≡ length texts → All HasPossibleLog (take n (texts ++ text ∷ []))
-kept_before list text texts r n k e = rw (e, take-append_seam texts (text ∷ [])) (possible_texts texts k.logs k.are_logs k.joined.possible)
+kept_before list text texts r n k e = rw (e, take-append_seam texts (text ∷ [])) (possible_texts texts k.logs k.are_logs k.holds.possible)
 
 -- as many logs are kept as texts were read
 pub kept_long : (list : List ℕ) (texts : List (List ℕ)) (r : Reconciliation) (n : ℕ) (k : IsKept list texts r) → n ≡ length (map lines_of k.logs) → n ≡ length texts
@@ -59,7 +59,7 @@ have_logs P k holds = record {
 pub reconciled_complete : (list : List ℕ) (texts : List (List ℕ)) (r : Reconciliation) (f : Findings) (count : ℕ) (k : IsKept list texts r)
     → AreFindings (listed (entries k.expected.lines)) (map lines_of k.logs) f → AreNone f → count ≡ length (listed (entries k.expected.lines)) → IsReconciled list texts (Complete count)
 reconciled_complete list texts r f count k found none counted =
-    have_logs _ k (none_is_whole (listed (entries k.expected.lines)) (map lines_of k.logs) f (family_of (map lines_of k.logs) k.joined.possible) found none, counted)
+    have_logs _ k (none_is_whole (listed (entries k.expected.lines)) (map lines_of k.logs) f (family_of (map lines_of k.logs) k.holds.possible) found none, counted)
 
 pub reconciled_found : (list : List ℕ) (texts : List (List ℕ)) (r : Reconciliation) (f : Findings) (k : IsKept list texts r)
     → AreFindings (listed (entries k.expected.lines)) (map lines_of k.logs) f → (AreNone f → ⊥) → IsReconciled list texts (Found f)
@@ -111,7 +111,7 @@ all_where_complete file names (Found f) rest logs texts same all = all
 
 -- what is kept of texts lets the run go on
 pub kept_go_on : (list : List ℕ) (texts : List (List ℕ)) (r : Reconciliation) → IsKept list texts r → GoOn (list ∷ texts)
-kept_go_on list texts r k = ((k.expected, k.is_list, k.listed_alone), possible_texts texts k.logs k.are_logs k.joined.possible)
+kept_go_on list texts r k = ((k.expected, k.is_list, k.listed_alone), possible_texts texts k.logs k.are_logs k.holds.possible)
 
 All-take : (texts : List (List ℕ)) (n : ℕ) → n ≤ length texts → All HasPossibleLog texts → All HasPossibleLog (take n texts)
 All-take texts n le all = λ k d lt. let below : k < n = omega (arith, lt, length-take-le n texts le) in rw (get_or-take n texts k d below) (all k d (omega (arith, below, le)))

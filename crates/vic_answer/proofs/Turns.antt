@@ -1,5 +1,5 @@
 -- Sources are read in turn.
-use Rattle.vic_answer.proofs.Words.{◌≡◌, ◌≢◌, ◌↔◌, ℕ, zero, suc, ◌+◌, ◌<◌, ◌≤◌, List, [], ◌∷◌, ◌++◌, length, take, get_or, set, Bool, true, false, Err, IfErr, IsErrAnd, Ok, Result, refl, sym, ap, subst, ◌∙◌, arith, cases_lt, cases_order, get_or-append_seam, get_or-set_other, get_or-set_same, get_or-take, get_or_append_left, get_or_default, inl, inr, length-append, length-take-le, AllZip, Grows, LogValue, AreComplete, Ended, Ending, GivesNoEarlyFault, GoOn, HasLog, HasReadText, IsAnswerable, IsKept, IsLast, IsOver, IsReadWithin, IsReconciled, IsReconciling, LeavesSource, Memory, Read, ReadsListAndLogs, ReadsTexts, Reconciled, Reconciles, Reconciling, Reconciliation, RunFault, StopsBy, Write, logs_before}
+use Rattle.vic_answer.proofs.Words.{◌≡◌, ◌≢◌, ◌↔◌, ℕ, zero, suc, ◌+◌, ◌<◌, ◌≤◌, List, [], ◌∷◌, ◌++◌, length, take, get_or, set, Bool, true, false, Err, IfErr, IsErrAnd, Ok, Result, refl, sym, ap, subst, ◌∙◌, arith, cases_lt, cases_order, get_or-append_seam, get_or-set_other, get_or-set_same, get_or-take, get_or_append_left, get_or_default, inl, inr, length-append, length-take-le, AllZip, Grows, LogValue, AreComplete, Ended, Ending, GivesNoEarlyFault, GoOn, HasLog, HasReadText, IsAnswerable, IsKept, IsLast, IsReadToEnd, IsReadWithin, IsReconciled, IsReconciling, LeavesSource, Memory, Read, ReadsListAndLogs, ReadsTexts, Reconciled, Reconciles, Reconciling, Reconciliation, RunFault, StopsBy, Write, logs_before}
 use Rattle.vic_answer.specs.declared.reconcile.Reconciling.TheVariants as state
 use Rattle.vic_answer.specs.declared.ending.Ending.TheVariants.{ListRefusedAt, NotListedAt, RefusedAt, ImpossibleAt}
 use Rattle.vic_answer.proofs.CompleteRuns.{over}
@@ -114,7 +114,7 @@ not_failed false h = refl
 
 module _ {R : Type 0} (returned : R → List ℕ) (ended has_failed : R → Bool) where
   -- a source that was read to an answer or an early fault was read to its end, if its text has a log
-  over_and_works : (s : R) (text : List ℕ) (log : LogValue) → HasLog text log → IsAnswerable ended has_failed s text → IsOver ended has_failed s text
+  over_and_works : (s : R) (text : List ℕ) (log : LogValue) → HasLog text log → IsAnswerable ended has_failed s text → IsReadToEnd ended has_failed s text
   over_and_works s text log is_log h = (over _ text log is_log h.0, h.1)
 
   -- the source that was read last, where it has failed if and only if the fault is `Read`
@@ -181,7 +181,7 @@ module _ {R : Type 0} (returned : R → List ℕ) (ended has_failed : R → Bool
       others = others;
     }
       where
-        each : (k : ℕ) (s : R) → k < length (text ∷ h.texts) → HasReadText returned (IsOver ended has_failed) (get_or (list ∷ logs) k s) (get_or (list' ∷ logs') k s) (get_or (text ∷ h.texts) k [])
+        each : (k : ℕ) (s : R) → k < length (text ∷ h.texts) → HasReadText returned (IsReadToEnd ended has_failed) (get_or (list ∷ logs) k s) (get_or (list' ∷ logs') k s) (get_or (text ∷ h.texts) k [])
         each zero s lt = let log = log_of (text ∷ h.texts) 0 h.go_on lt in (read.0, over_and_works list' text log.0 log.1 read.1)
         each (suc k) s lt = h.each k s (omega (arith, lt))
 
@@ -221,7 +221,7 @@ module _ {R : Type 0} (returned : R → List ℕ) (ended has_failed : R → Bool
         read_at zero s le = first
         read_at (suc k) s le = h.each k s (omega (arith, le))
 
-        each_at : (k : ℕ) (s : R) → k < n → HasReadText returned (IsOver ended has_failed) (get_or (list ∷ logs) k s) (get_or (list' ∷ logs') k s) (get_or before k [])
+        each_at : (k : ℕ) (s : R) → k < n → HasReadText returned (IsReadToEnd ended has_failed) (get_or (list ∷ logs) k s) (get_or (list' ∷ logs') k s) (get_or before k [])
         each_at k s lt =
             let log = log_of before k go_on (omega (arith, lt, long)) in
             let was = read_at k s (omega (arith, lt)) in

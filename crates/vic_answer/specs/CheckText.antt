@@ -10,7 +10,7 @@ use Rattle.vic_verdict.specs.declared.judging.Verdict.TheVariants.{Impossible, A
 use Rattle.vic_log.specs.SecondVersion.{AreOfSecondVersion}
 use Rattle.vic_verdict.specs.Versions.{IsWholeSecond, IsWholeThird}
 use Rattle.vic_verdict.specs.Verdict.{IsVerdict, IsWhole}
-use Rattle.vic_answer.specs.Digits.{uid_text, value_text}
+use Rattle.vic_answer.specs.Digits.{mask_text, uid_text}
 use Rattle.vic_answer.specs.Refusals.{refusal_line}
 use Rattle.vic_answer.specs.declared.status.Status.{Status}
 use Rattle.vic_answer.specs.declared.status.Status.TheVariants.{Whole, NotWhole, Refused}
@@ -23,12 +23,11 @@ abbrev pub verdict_line : Verdict → List ℕ
 verdict_line (Complete count) = codes "complete " ++ decimal count ++ codes "\n"
 verdict_line (Absent u) = codes "absent " ++ uid_text u ++ codes "\n"
 verdict_line (Unlisted u) = codes "unlisted " ++ uid_text u ++ codes "\n"
-verdict_line (Unsettled m) =
-    codes "unsettled " ++ decimal m.len ++ codes " " ++ value_text m ++ codes "\n"
+verdict_line (Unsettled m) = codes "unsettled " ++ mask_text m ++ codes "\n"
 verdict_line (Doubtful u) = codes "doubtful " ++ uid_text u ++ codes "\n"
 verdict_line (Impossible n) = codes "impossible at line " ++ decimal n ++ codes "\n"
 
--- and its status
+-- the status of a verdict
 abbrev pub verdict_status : Verdict → Status
 verdict_status (Complete count) = Whole
 verdict_status (Impossible n) = Status.Impossible

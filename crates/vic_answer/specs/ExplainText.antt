@@ -20,11 +20,11 @@ population_of (RefusedAt n fault) = None
 abbrev pub uids_of : Answered Explanation → List ℕ
 uids_of explained = unwrap_or (population_of explained) []
 
--- how many UIDs a population has
+-- the line that says how many UIDs a population has
 abbrev pub population_line : ℕ → List ℕ
 population_line count = codes "population " ++ decimal count ++ codes "\n"
 
--- and which ones: each on a line, as a log lists it
+-- the lines of a population: how many UIDs it has, and then each on a line, as a log lists it
 abbrev pub population_text : Option (List ℕ) → List ℕ
 population_text None = []
 population_text (Some us) = population_line (length us) ++ listed_text us

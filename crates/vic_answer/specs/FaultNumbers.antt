@@ -5,7 +5,7 @@ use Rattle.vic_frame.specs.declared.fault.FrameFault.TheVariants.{Short, Crc, Ex
 use Rattle.vic_log.specs.declared.fault.LineFault.{LineFault}
 use Rattle.vic_log.specs.declared.fault.LineFault.TheVariants.{TooManyLines, LineTooLong, Header, UnknownEntry, Hex, ListedLength, Frame, NotVicinity, SlotOutsideRound, EntryAfterList, DuplicateListed}
 
--- of a frame's
+-- the number of a frame's fault
 abbrev pub frame_fault_number : FrameFault → ℕ
 frame_fault_number Short = 101
 frame_fault_number Crc = 102
@@ -23,7 +23,7 @@ frame_fault_number NotAddressed = 113
 frame_fault_number ErrorFlag = 114
 frame_fault_number FrameFault.NotVicinity = 115
 
--- of a line's
+-- the number of a line's fault
 abbrev pub fault_number : LineFault → ℕ
 fault_number TooManyLines = 1
 fault_number LineTooLong = 2

@@ -7,7 +7,6 @@ use Rattle.vic_report.specs.declared.findings.Findings.{Findings}
 use Rattle.vic_report.specs.declared.findings.Unsettled.{Unsettled}
 use Rattle.vic_report.specs.declared.reporting.LogReport.{LogReport}
 use Rattle.vic_report.specs.declared.reporting.LogReport.TheVariants as report
-use Rattle.vic_report.specs.declared.shown.ShownUid.{ShownUid}
 use Rattle.vic_answer.specs.Answered.{IsAnswered, answer_of}
 use Rattle.vic_answer.specs.declared.answered.Answered.{Answered}
 use Rattle.vic_answer.specs.declared.answered.Answered.TheVariants.{Judged, RefusedAt}
@@ -27,54 +26,43 @@ finding kind = record {
   uid = 0;
 }
 
--- a listed UID that can't be there, and the line that rules it out
-abbrev pub absent_finding : ShownUid → VicinityFinding
-absent_finding s = record (finding 2) { line = s.line; uid = s.uid }
+-- of a UID, with the line that shows it, or 0
+abbrev pub uid_finding : (kind uid line : ℕ) → VicinityFinding
+uid_finding kind u n = record (finding kind) { line = n; uid = u }
 
--- a UID that must be there and isn't listed, and the line that shows it
-abbrev pub unlisted_finding : ShownUid → VicinityFinding
-unlisted_finding s = record (finding 3) { line = s.line; uid = s.uid }
+-- of a mask
+abbrev pub mask_finding : ℕ → BitMask → VicinityFinding
+mask_finding kind m = record (finding kind) { mask_len = m.len; mask_value = m.value }
 
--- the first mask of UIDs that may be there and aren't listed
-abbrev pub unsettled_finding : BitMask → VicinityFinding
-unsettled_finding m = record (finding 4) { mask_len = m.len; mask_value = m.value }
-
--- a listed UID that may be missing
-abbrev pub doubtful_finding : ℕ → VicinityFinding
-doubtful_finding u = record (finding 5) { uid = u }
-
--- an open mask
-abbrev pub open_finding : BitMask → VicinityFinding
-open_finding m = record (finding 8) { mask_len = m.len; mask_value = m.value }
+-- of a line
+abbrev pub line_finding : (kind line : ℕ) → VicinityFinding
+line_finding kind n = record (finding kind) { line = n }
 
 -- there are more open masks than are listed
 abbrev pub more_findings : Bool → List VicinityFinding
 more_findings more = if more then finding 9 ∷ [] else []
 
--- a line of a conflict
-abbrev pub conflict_finding : ℕ → VicinityFinding
-conflict_finding n = record (finding 10) { line = n }
-
 -- the line that silenced the tag whose reply is the last line of a conflict
 abbrev pub silenced_findings : Option ℕ → List VicinityFinding
 silenced_findings None = []
-silenced_findings (Some n) = record (finding 11) { line = n } ∷ []
+silenced_findings (Some n) = line_finding 11 n ∷ []
 
 -- what is left to ask for
 abbrev pub unsettled_findings : Option Unsettled → List VicinityFinding
 unsettled_findings None = []
 unsettled_findings (Some x) =
-    unsettled_finding x.mask ∷ map open_finding x.open.masks.items ++ more_findings x.open.more
+    mask_finding 4 x.mask ∷ map (mask_finding 8) x.open.masks.items ++ more_findings x.open.more
 
 -- the findings of a possible log, in their order
 abbrev pub possible_findings : Findings → List VicinityFinding
 possible_findings f =
-    map absent_finding f.absent.items ++ map unlisted_finding f.unlisted.items
-    ++ unsettled_findings f.unsettled ++ map doubtful_finding f.doubtful.items
+    map (λ s. uid_finding 2 s.uid s.line) f.absent.items
+    ++ map (λ s. uid_finding 3 s.uid s.line) f.unlisted.items
+    ++ unsettled_findings f.unsettled ++ map (λ u. uid_finding 5 u 0) f.doubtful.items
 
 -- the lines of a conflict, in rising order, and the line that silenced its tag
 abbrev pub conflict_findings : Conflict → List VicinityFinding
-conflict_findings c = map conflict_finding c.lines.items ++ silenced_findings c.silenced_by
+conflict_findings c = map (line_finding 10) c.lines.items ++ silenced_findings c.silenced_by
 
 -- the findings of a report
 abbrev pub report_findings : LogReport → List VicinityFinding

@@ -11,6 +11,7 @@ use Rattle.vic_frame.specs.Names.{fault_name}
 use Rattle.vic_frame.specs.Reading.{request_reading, reply_reading}
 use Rattle.vic_log.specs.declared.entry.TheConstants.{MAX_LINE_LEN}
 use Rattle.vic_answer.specs.Digits.{hex_bytes, uid_text, value_text}
+use Rattle.vic_answer.specs.Refusals.{refused_word}
 use Rattle.vic_answer.specs.declared.status.Status.{Status}
 use Rattle.vic_answer.specs.declared.status.Status.TheVariants.{Whole, Refused}
 
@@ -35,12 +36,12 @@ response_line (Err fault) = codes "response refused " ++ fault_name fault ++ cod
 abbrev pub readings_text : Result (List ℕ) FromHexError → List ℕ
 readings_text (Ok bytes) =
     request_line (request_reading bytes) ++ response_line (reply_reading bytes)
-readings_text (Err e) = codes "refused Hex\n"
+readings_text (Err e) = refused_word (codes "Hex")
 
 -- the text for a word
 abbrev pub frame_text : List ℕ → List ℕ
 frame_text word =
-    if nat_lt MAX_LINE_LEN (length word) then codes "refused LineTooLong\n"
+    if nat_lt MAX_LINE_LEN (length word) then refused_word (codes "LineTooLong")
     else readings_text (decode_of word)
 
 -- a word is refused if its bytes have no reading

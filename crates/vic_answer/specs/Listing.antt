@@ -1,4 +1,4 @@
--- What a text lists that has no other entries, and the numbers that say it.
+-- The UIDs of a text that has only `U` lines, and the numbers that say it.
 use Rattle.std.specs.Prelude.{◌≡◌, ℕ, true, List, [], ◌++◌, codes, decimal, length}
 use Rattle.vic_frame.specs.Uids.{has}
 use Rattle.vic_log.specs.Lines.{lines_of_text}
@@ -10,13 +10,13 @@ use Rattle.vic_verdict.specs.Rising.{IsListOf}
 use Rattle.vic_reconcile.specs.Findings.{IsFirstNotListed, IsList}
 use Rattle.vic_answer.specs.declared.listing.Listing.{Listing}
 use Rattle.vic_answer.specs.declared.listing.Listing.TheVariants.{Listed, NotListedAt, RefusedAt}
-use Rattle.vic_answer.specs.declared.listing.TheConstants.{LISTED, NOT_LISTED}
+use Rattle.vic_answer.specs.declared.fault_numbers.TheConstants.{NOT_LISTED}
+use Rattle.vic_answer.specs.declared.numbers.TheConstants.{LISTED}
 use Rattle.vic_answer.specs.declared.numbers.VicinityAnswer.{VicinityAnswer}
+use Rattle.vic_answer.specs.Answered.{HasLog}
 use Rattle.vic_answer.specs.ExplainedNumbers.{IsPutInto}
 use Rattle.vic_answer.specs.FaultNumbers.{fault_number}
-use Rattle.vic_answer.specs.Numbers.{no_answer, padded}
-use Rattle.vic_answer.specs.Reconciled.{HasLog}
-use Rattle.vic_answer.specs.SurveyNumbers.{refusal_numbers}
+use Rattle.vic_answer.specs.Numbers.{no_answer, padded, refusal_numbers}
 
 -- the text has a log without other entries, which lists these UIDs: so many lines, and these in
 -- rising order

@@ -12,7 +12,7 @@ use Rattle.vic_margin.specs.declared.answer.Weakest.{Weakest}
 use Rattle.vic_margin.specs.Margins.{IsWeakest}
 use Rattle.vic_answer.specs.Answered.{answer_of}
 use Rattle.vic_answer.specs.CheckText.{IsAnswerText, answer_line}
-use Rattle.vic_answer.specs.Digits.{value_text}
+use Rattle.vic_answer.specs.Digits.{mask_text}
 use Rattle.vic_answer.specs.declared.answered.Answered.{Answered}
 use Rattle.vic_answer.specs.declared.answered.Answered.TheVariants.{Judged, RefusedAt}
 use Rattle.vic_answer.specs.declared.status.Status.{Status}
@@ -28,7 +28,7 @@ abbrev pub weakest_text : Option Weakest → List ℕ
 weakest_text None = []
 weakest_text (Some w) =
     codes "margin " ++ decimal w.margin ++ codes "\n"
-    ++ codes "weakest " ++ decimal w.mask.len ++ codes " " ++ value_text w.mask ++ codes "\n"
+    ++ codes "weakest " ++ mask_text w.mask ++ codes "\n"
 
 -- they follow `complete` alone
 abbrev pub following_text : Verdict → Option Weakest → List ℕ

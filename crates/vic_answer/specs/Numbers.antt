@@ -1,14 +1,17 @@
 -- An answer in numbers, with its line.
 use Rattle.std.specs.Prelude.{◌≡◌, ℕ, ◌-◌, List, ◌++◌, length, replicate}
+use Rattle.vic_log.specs.Names.{line_fault_name}
 use Rattle.vic_verdict.specs.declared.judging.Verdict.{Verdict}
 use Rattle.vic_verdict.specs.declared.judging.Verdict.TheVariants.{Impossible, Absent, Unlisted, Unsettled, Doubtful, Complete}
 use Rattle.vic_answer.specs.declared.answered.Answered.{Answered}
 use Rattle.vic_answer.specs.declared.answered.Answered.TheVariants.{Judged, RefusedAt}
-use Rattle.vic_answer.specs.declared.lines.TheConstants.{LINE_ROOM}
+use Rattle.vic_answer.specs.declared.text.TheConstants.{LINE_ROOM}
 use Rattle.vic_answer.specs.declared.numbers.VicinityAnswer.{VicinityAnswer}
 use Rattle.vic_answer.specs.CheckText.{IsAnswer, answer_line, answer_status}
 use Rattle.vic_answer.specs.FaultNumbers.{fault_number}
+use Rattle.vic_answer.specs.Refusals.{refused_at}
 use Rattle.vic_answer.specs.Status.{status_code}
+use Rattle.vic_answer.specs.declared.status.Status.TheVariants.{Refused}
 
 -- no answer: memory was refused
 abbrev pub no_answer : VicinityAnswer
@@ -24,24 +27,34 @@ no_answer = record {
   text = replicate LINE_ROOM 0;
 }
 
--- the kind of an answer, and what belongs to it
-abbrev pub kind_of : Answered Verdict → VicinityAnswer
-kind_of (Judged (Complete n)) = record no_answer { kind = 1; count = n }
-kind_of (Judged (Absent u)) = record no_answer { kind = 2; uid = u }
-kind_of (Judged (Unlisted u)) = record no_answer { kind = 3; uid = u }
-kind_of (Judged (Unsettled m)) =
-    record no_answer { kind = 4; mask_len = m.len; mask_value = m.value }
-kind_of (Judged (Doubtful u)) = record no_answer { kind = 5; uid = u }
-kind_of (Judged (Impossible n)) = record no_answer { kind = 6; line = n }
-kind_of (RefusedAt n f) = record no_answer { kind = 7; line = n; fault = fault_number f }
-
 -- a text with zeros after it: in all, as many bytes as the buffer for an answer's line has
 abbrev pub padded : List ℕ → List ℕ
 padded text = text ++ replicate (LINE_ROOM - length text) 0
 
--- with the exit status and the line of the program
+-- a refusal at a line, by the number of a fault and its name
+abbrev pub refusal_numbers : (line fault : ℕ) → List ℕ → VicinityAnswer
+refusal_numbers line fault name = record no_answer {
+  kind = 7;
+  status = status_code Refused;
+  line = line;
+  fault = fault;
+  text = padded (refused_at line name);
+}
+
+-- the fields of an answer, except status and text
+abbrev pub fields_of : Answered Verdict → VicinityAnswer
+fields_of (Judged (Complete n)) = record no_answer { kind = 1; count = n }
+fields_of (Judged (Absent u)) = record no_answer { kind = 2; uid = u }
+fields_of (Judged (Unlisted u)) = record no_answer { kind = 3; uid = u }
+fields_of (Judged (Unsettled m)) =
+    record no_answer { kind = 4; mask_len = m.len; mask_value = m.value }
+fields_of (Judged (Doubtful u)) = record no_answer { kind = 5; uid = u }
+fields_of (Judged (Impossible n)) = record no_answer { kind = 6; line = n }
+fields_of (RefusedAt n f) = refusal_numbers n (fault_number f) (line_fault_name f)
+
+-- the fields of an answer, with the exit status and the line of the program
 abbrev pub numbers_of : Answered Verdict → VicinityAnswer
-numbers_of a = record (kind_of a) {
+numbers_of a = record (fields_of a) {
   status = status_code (answer_status a);
   text = padded (answer_line a);
 }

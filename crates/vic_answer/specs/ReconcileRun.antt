@@ -24,7 +24,7 @@ abbrev pub HasReadText : {R : Type 0} → (R → List ℕ) → (R → List ℕ �
 HasReadText returned IsRead old new text =
     Grows (returned old) (returned new) text × IsRead new text
 
--- of some sources, in their order, as many were read as there are texts, those behind them are
+-- of some sources, in their order, as many were read as there are texts, those after them are
 -- untouched, and P holds of the texts
 pub record ReadsTexts {R : Type 0} (returned : R → List ℕ) (IsRead : R → List ℕ → Type 0)
     (old new : List R) (P : List (List ℕ) → Type 0) : Type 0 where
@@ -63,7 +63,7 @@ logs_for (Complete count) logs = logs
 logs_for (Found f) logs = logs
 logs_for (Ended e) logs = logs_up_to e
 
--- the same, before there is an answer
+-- how many of the logs are read in this state: all, or those up to the one that ends the run
 abbrev pub logs_before : Reconciling → ℕ → ℕ
 logs_before (state.Going r) logs = logs
 logs_before (state.Ended e) logs = logs_up_to e
@@ -84,11 +84,11 @@ GoOn [] = ⊤
 GoOn (list ∷ texts) = HasList list × All HasPossibleLog texts
 
 -- the source was read to its end, and works
-abbrev pub IsOver : {R : Type 0} → (R → Bool) → (R → Bool) → R → List ℕ → Type 0
-IsOver ended has_failed s text = (ended s ≡ true) × (has_failed s ≡ false)
+abbrev pub IsReadToEnd : {R : Type 0} → (R → Bool) → (R → Bool) → R → List ℕ → Type 0
+IsReadToEnd ended has_failed s text = (ended s ≡ true) × (has_failed s ≡ false)
 
 -- of some sources, in their order, one is the last that was read, and P holds of it before and
--- after; those before it were read to their ends, and their texts let the run go on; those behind
+-- after; those before it were read to their ends, and their texts let the run go on; those after
 -- it are untouched
 pub record StopsAtSource {R : Type 0} (returned : R → List ℕ) (IsRead : R → List ℕ → Type 0)
     (LetGoOn : List (List ℕ) → Type 0) (old new : List R) (P : R → R → Type 0) : Type 0 where
@@ -115,7 +115,7 @@ IsLast returned has_failed Write old new = has_failed new ≡ false
 abbrev pub StopsBy : {R : Type 0} → (R → List ℕ) → (ended has_failed : R → Bool)
     → (List (List ℕ) → Type 0) → List R → List R → RunFault → Type 0
 StopsBy returned ended has_failed LetGoOn old new fault =
-    StopsAtSource returned (IsOver ended has_failed) LetGoOn old new
+    StopsAtSource returned (IsReadToEnd ended has_failed) LetGoOn old new
     (IsLast returned has_failed fault)
 
 -- a source was read at most so many times, and not at all if it had failed before

@@ -12,7 +12,7 @@ use Rattle.vic_reconcile.specs.declared.findings.Findings.{Findings}
 use Rattle.vic_reconcile.specs.declared.findings.UnlistedUid.{UnlistedUid}
 use Rattle.vic_reconcile.specs.declared.findings.Unsettled.{Unsettled as LeftToAsk}
 use Rattle.vic_answer.specs.CheckText.{verdict_line}
-use Rattle.vic_answer.specs.Digits.{uid_text, value_text}
+use Rattle.vic_answer.specs.Digits.{mask_text, uid_text}
 use Rattle.vic_answer.specs.declared.ending.Ending.{Ending}
 use Rattle.vic_answer.specs.declared.ending.Ending.TheVariants.{ListRefusedAt, NotListedAt, RefusedAt, ImpossibleAt}
 use Rattle.vic_answer.specs.declared.reconcile.Reconciled.{Reconciled}
@@ -34,7 +34,7 @@ abbrev pub line_of : List ℕ → ℕ → List ℕ
 line_of words n = words ++ decimal n ++ codes " of "
 
 abbrev pub open_in : BitMask → List ℕ
-open_in m = codes "open " ++ decimal m.len ++ codes " " ++ value_text m ++ codes " in "
+open_in m = codes "open " ++ mask_text m ++ codes " in "
 
 abbrev pub doubtful_in : ℕ → List ℕ
 doubtful_in u = codes "doubtful " ++ uid_text u ++ codes " in "
@@ -89,8 +89,8 @@ findings_text names f =
 
 -- the line of the first fault of a text
 abbrev pub refused_text : ℕ → List ℕ → List ℕ → List ℕ
-refused_text n name reason =
-    line_of (codes "refused at line ") n ++ name ++ codes ": " ++ reason ++ codes "\n"
+refused_text n file name =
+    line_of (codes "refused at line ") n ++ file ++ codes ": " ++ name ++ codes "\n"
 
 -- where it ended: the first text that is refused or impossible
 abbrev pub ending_text : List ℕ → List (List ℕ) → Ending → List ℕ

@@ -5,7 +5,7 @@ use Rattle.vic_log.specs.Device.{Grows}
 use Rattle.vic_log.specs.Lines.{lines_of_text}
 use Rattle.vic_log.specs.Log.{LogValue}
 use Rattle.vic_log.specs.Order.{entries, listed}
-use Rattle.vic_log.specs.Text.{IsLogOf, IsFirstFault}
+use Rattle.vic_log.specs.Text.{IsFirstFault}
 use Rattle.vic_log.specs.declared.entry.LogLine.{LogLine}
 use Rattle.vic_verdict.specs.Possible.{IsPossible}
 use Rattle.vic_verdict.specs.Verdict.{IsVerdict}
@@ -13,17 +13,14 @@ use Rattle.vic_verdict.specs.declared.judging.Verdict.TheVariants.{Impossible}
 use Rattle.vic_reconcile.specs.Findings.{AreFindings, AreNone, IsFirstNotListed, IsList, IsWhole}
 use Rattle.vic_reconcile.specs.Joined.{IsJoined}
 use Rattle.vic_reconcile.specs.declared.reconciliation.Reconciliation.{Reconciliation}
-use Rattle.vic_answer.specs.Runs.{IsEnough}
+use Rattle.vic_answer.specs.Answered.{HasLog}
+use Rattle.vic_answer.specs.Runs.{Reads}
 use Rattle.vic_answer.specs.declared.ending.Ending.{Ending}
 use Rattle.vic_answer.specs.declared.ending.Ending.TheVariants.{ListRefusedAt, NotListedAt, RefusedAt, ImpossibleAt}
 use Rattle.vic_answer.specs.declared.reconcile.Reconciled.{Reconciled}
 use Rattle.vic_answer.specs.declared.reconcile.Reconciled.TheVariants.{Complete, Found, Ended}
 use Rattle.vic_answer.specs.declared.reconcile.Reconciling.{Reconciling}
 use Rattle.vic_answer.specs.declared.reconcile.Reconciling.TheVariants as state
-
--- the text has this log
-abbrev pub HasLog : List ℕ → LogValue → Type 0
-HasLog text log = IsLogOf (lines_of_text text) log
 
 -- the text has a log, which is possible
 abbrev pub HasPossibleLog : List ℕ → Type 0
@@ -50,20 +47,6 @@ EndsAt list texts (ImpossibleAt k n) =
     × ((text : List ℕ) × (log : LogValue) × (slice_get texts k ≡ Some text)
     × HasLog text log × IsVerdict log.lines (Impossible n))
 
--- the list and the texts have logs, of which this is kept
-pub record IsKept (list : List ℕ) (texts : List (List ℕ)) (r : Reconciliation) : Type 0 where
-  pub expected : LogValue
-  pub is_list : HasLog list expected
-  pub listed_alone : IsList expected.lines
-  pub logs : List LogValue
-  pub are_logs : AllZip HasLog texts logs
-  pub joined : IsJoined (listed (entries expected.lines)) (map lines_of logs) r
-
--- what was read so far
-abbrev pub IsReconciling : List ℕ → List (List ℕ) → Reconciling → Type 0
-IsReconciling list texts (state.Going r) = IsKept list texts r
-IsReconciling list texts (state.Ended e) = EndsAt list texts e
-
 -- the list has a log that lists UIDs alone, the texts have logs, and P holds of them
 pub record HaveLogs (list : List ℕ) (texts : List (List ℕ))
     (P : List ℕ → List (List LogLine) → Type 0) : Type 0 where
@@ -73,6 +56,15 @@ pub record HaveLogs (list : List ℕ) (texts : List (List ℕ))
   pub logs : List LogValue
   pub are_logs : AllZip HasLog texts logs
   pub holds : P (listed (entries expected.lines)) (map lines_of logs)
+
+-- the list and the texts have logs, of which this is kept
+abbrev pub IsKept : List ℕ → List (List ℕ) → Reconciliation → Type 0
+IsKept list texts r = HaveLogs list texts (λ expected logs. IsJoined expected logs r)
+
+-- what was read so far
+abbrev pub IsReconciling : List ℕ → List (List ℕ) → Reconciling → Type 0
+IsReconciling list texts (state.Going r) = IsKept list texts r
+IsReconciling list texts (state.Ended e) = EndsAt list texts e
 
 -- the answer to a list and texts
 abbrev pub IsReconciled : List ℕ → List (List ℕ) → Reconciled → Type 0
@@ -90,9 +82,5 @@ AreComplete list texts rest =
     × (rest ≡ decimal (length expected) ++ codes "\n"))
 
 -- the source's reads returned a text, up to its end or an early fault, and P holds of it
-pub record ReadsText (returned returned' : List ℕ) (ended : Bool)
-    (P : List ℕ → Type 0) : Type 0 where
-  pub text : List ℕ
-  pub given : Grows returned returned' text
-  pub enough : IsEnough (ended ≡ true) text
-  pub holds : P text
+abbrev pub ReadsText : List ℕ → List ℕ → Bool → (List ℕ → Type 0) → Type 0
+ReadsText returned returned' ended P = Reads (Grows returned returned') (ended ≡ true) P

@@ -12,7 +12,7 @@ use Rattle.vic_report.specs.declared.shown.ShownUid.{ShownUid}
 use Rattle.vic_verdict.specs.declared.judging.Verdict.TheVariants.{Impossible, Absent, Unlisted, Unsettled, Doubtful, Complete}
 use Rattle.vic_report.specs.Reports.{IsReport, verdict_of}
 use Rattle.vic_answer.specs.CheckText.{IsAnswerText, verdict_line}
-use Rattle.vic_answer.specs.Digits.{value_text}
+use Rattle.vic_answer.specs.Digits.{mask_text}
 use Rattle.vic_answer.specs.Refusals.{refusal_line}
 use Rattle.vic_answer.specs.declared.answered.Answered.{Answered}
 use Rattle.vic_answer.specs.declared.answered.Answered.TheVariants.{Judged, RefusedAt}
@@ -34,9 +34,9 @@ unlisted_text s = verdict_line (Unlisted s.uid) ++ by_line s.line
 
 -- an open mask
 abbrev pub open_line : BitMask → List ℕ
-open_line m = codes "open " ++ decimal m.len ++ codes " " ++ value_text m ++ codes "\n"
+open_line m = codes "open " ++ mask_text m ++ codes "\n"
 
--- there are more than are listed
+-- there are more open masks than are listed
 abbrev pub more_line : Bool → List ℕ
 more_line more = if more then codes "more open\n" else []
 

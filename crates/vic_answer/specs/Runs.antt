@@ -1,5 +1,5 @@
 -- What a run over a text reads and writes, and how it leaves its source and its sink.
-use Rattle.std.specs.Prelude.{◌≡◌, ◌≢◌, ◌↔◌, ◌⊎◌, ◌≤◌, ℕ, ◌+◌, Bool, true, false, ⊤, List, ◌++◌, Option, Some, Result, Ok, Err, OnOk, IfErr, is_err}
+use Rattle.std.specs.Prelude.{◌≡◌, ◌≢◌, ◌↔◌, ◌⊎◌, ◌≤◌, ℕ, ◌+◌, Bool, true, false, ⊤, List, ◌++◌, Option, Some, Result, Ok, Err, OnOk, IfErr, IfOk, is_err}
 use Rattle.std.specs.Io.KnownBytes.{Consumes, Appends, IsAtEnd}
 use Rattle.vic_log.specs.declared.fault.LineFault.{LineFault}
 use Rattle.vic_log.specs.declared.reader.TheConstants.{MAX_READS}
@@ -19,29 +19,26 @@ pub record HasEarlyFault (text : List ℕ) : Type 0 where
 abbrev pub IsEnough : Type 0 → List ℕ → Type 0
 IsEnough IsOver text = IsOver ⊎ HasEarlyFault text
 
--- bytes that determine the answer were read, and the sink accepted that answer, with this status,
--- and nothing else
+-- bytes that determine the answer were read, and P holds of them
+pub record Reads (HasRead : List ℕ → Type 0) (IsOver : Type 0) (P : List ℕ → Type 0)
+    : Type 0 where
+  pub text : List ℕ
+  pub given : HasRead text
+  pub enough : IsEnough IsOver text
+  pub holds : P text
+
+-- bytes that determine the answer were read, and the sink accepted that answer, or a prefix of it,
+-- as Accepted says
 pub record Answers (IsAnswerTo : List ℕ → List ℕ → Status → Type 0)
     (HasRead : List ℕ → Type 0) (IsOver : Type 0)
+    (Accepted : Option (List ℕ) → Option (List ℕ) → List ℕ → Type 0)
     (taken taken' : Option (List ℕ)) (status : Status) : Type 0 where
   pub text : List ℕ
   pub given : HasRead text
   pub enough : IsEnough IsOver text
   pub answer : List ℕ
   pub right : IsAnswerTo text answer status
-  pub written : Appends taken taken' answer
-
--- the same, but the sink accepted a prefix of the answer
-pub record AnswersInPart (IsAnswerTo : List ℕ → List ℕ → Status → Type 0)
-    (HasRead : List ℕ → Type 0) (IsOver : Type 0) (taken taken' : Option (List ℕ))
-    : Type 0 where
-  pub text : List ℕ
-  pub given : HasRead text
-  pub enough : IsEnough IsOver text
-  pub answer : List ℕ
-  pub status : Status
-  pub right : IsAnswerTo text answer status
-  pub begun : HasTakenPrefix taken taken' answer
+  pub accepted : Accepted taken taken' answer
 
 -- bytes without an early fault were read
 pub record GivesNoEarlyFault (HasRead : List ℕ → Type 0) : Type 0 where
@@ -56,9 +53,9 @@ abbrev pub RunsWhere : (List ℕ → List ℕ → Status → Type 0)
     → (List ℕ → Type 0) → (List ℕ → Type 0) → Type 0
     → Option (List ℕ) → Option (List ℕ) → Result Status RunFault → Type 0
 RunsWhere IsAnswerTo HasRead HadRead IsOver taken taken' (Ok status) =
-    Answers IsAnswerTo HasRead IsOver taken taken' status
+    Answers IsAnswerTo HasRead IsOver Appends taken taken' status
 RunsWhere IsAnswerTo HasRead HadRead IsOver taken taken' (Err Write) =
-    AnswersInPart IsAnswerTo HasRead IsOver taken taken'
+    (status : Status) × Answers IsAnswerTo HasRead IsOver HasTakenPrefix taken taken' status
 RunsWhere IsAnswerTo HasRead HadRead IsOver taken taken' (Err Read) = GivesNoEarlyFault HadRead
 RunsWhere IsAnswerTo HasRead HadRead IsOver taken taken' (Err Memory) = ⊤
 
@@ -80,8 +77,14 @@ RunsOver IsAnswerTo returned returned' ended written written' result =
     RunsWhere IsAnswerTo (Grows returned returned') (Grows returned returned') (ended ≡ true)
     (Some written) (Some written') result
 
+-- a text was written, with this status, or a prefix of it
+abbrev pub IsWritten : List ℕ → Status → List ℕ → List ℕ → Result Status RunFault → Type 0
+IsWritten text status written written' result =
+    IfOk result (λ s. s ≡ status) × OnOk result (written' ≡ written ++ text)
+    × HasWrittenPrefix written written' text
+
 -- how a run leaves its source: failed if and only if the result is `Read`, and untouched if it had
--- failed before
+-- failed before; it reads at most `MAX_READS` times more
 pub record LeavesSource {R A : Type 0} (reads : R → ℕ) (has_failed : R → Bool)
     (old new : R) (result : Result A RunFault) : Type 0 where
   pub works : OnOk result (has_failed new ≡ false)

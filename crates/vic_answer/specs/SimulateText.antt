@@ -5,9 +5,10 @@ use Rattle.vic_log.specs.declared.entry.TheConstants.{MAX_LINES}
 use Rattle.vic_log.specs.declared.fault.LineFault.TheVariants.{TooManyLines as ManyLines}
 use Rattle.vic_log.specs.Lines.{lines_of_text}
 use Rattle.vic_log.specs.Log.{LogValue, IsLog}
-use Rattle.vic_log.specs.Text.{IsLogOf, IsFirstFault}
+use Rattle.vic_log.specs.Text.{IsFirstFault}
 use Rattle.vic_log.specs.Writing.{text_of}
 use Rattle.vic_field.specs.Simulation.{IsSimulation, HasNoSlots, IsFirstSlot, last_needed}
+use Rattle.vic_answer.specs.Answered.{HasLog}
 use Rattle.vic_answer.specs.Refusals.{refused_at, refusal_line}
 use Rattle.vic_answer.specs.declared.status.Status.{Status}
 use Rattle.vic_answer.specs.declared.status.Status.TheVariants.{Whole, Refused}
@@ -19,13 +20,13 @@ use Rattle.vic_answer.specs.declared.simulate.Simulated.TheVariants.{Filled, Ref
 -- need more lines than a log may have
 abbrev pub IsSimulated : List ℕ → Simulated → Type 0
 IsSimulated text (Filled log) =
-    (given : LogValue) × IsLogOf (lines_of_text text) given × IsSimulation given.lines log.lines
+    (given : LogValue) × HasLog text given × IsSimulation given.lines log.lines
     × (log.version ≡ given.version) × IsLog log.version log.lines
 IsSimulated text (RefusedAt n fault) = IsFirstFault (lines_of_text text) n fault
 IsSimulated text (OutcomeGiven n) =
-    (given : LogValue) × IsLogOf (lines_of_text text) given × IsFirstSlot given.lines n
+    (given : LogValue) × HasLog text given × IsFirstSlot given.lines n
 IsSimulated text TooManyLines =
-    (given : LogValue) × IsLogOf (lines_of_text text) given × HasNoSlots given.lines
+    (given : LogValue) × HasLog text given × HasNoSlots given.lines
     × (MAX_LINES < last_needed given.lines)
 
 abbrev pub simulated_text : Simulated → List ℕ

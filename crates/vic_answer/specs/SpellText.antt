@@ -1,5 +1,6 @@
 -- What `spell` answers to words: the frame that `frame` describes by these words, or why there is
--- none. The first word that doesn't fit decides.
+-- none. Words that aren't of one of the three forms are `Words`; otherwise the first value that
+-- doesn't fit decides.
 use Rattle.std.specs.Prelude.{ℕ, ◌-◌, ◌^◌, ◌%◌, ◌==◌, ◌&&◌, Bool, true, false, List, [], ◌∷◌, ◌++◌, length, replicate, slice_index_or, bytes_eq, nat_le, nat_lt, codes, decimal, Result, Ok, Err, if◌then◌else◌, ⊤}
 use Rattle.std.specs.Int.{from_be_bytes, w64}
 use Rattle.std.specs.Str.Parse.{digits_value}
@@ -14,6 +15,8 @@ use Rattle.vic_frame.specs.Requests.{IsValid, byte_count, request_spelling}
 use Rattle.vic_frame.specs.Slots.{slot_count}
 use Rattle.vic_frame.specs.Uids.{is_uid}
 use Rattle.vic_answer.specs.Digits.{hex_bytes, uid_text, value_text}
+use Rattle.vic_answer.specs.Refusals.{refused_word}
+use Rattle.vic_answer.specs.declared.spell.TheConstants.{MAX_LINK}
 use Rattle.vic_answer.specs.declared.spell.Said.{Said}
 use Rattle.vic_answer.specs.declared.spell.Said.TheVariants.{Asked, Replied}
 use Rattle.vic_answer.specs.declared.spell.SpellFault.{SpellFault}
@@ -53,20 +56,20 @@ and_then (Err e) f = Err e
 abbrev pub word : List (List ℕ) → ℕ → List ℕ
 word words i = slice_index_or words i []
 
--- a number below 2^64, if the word writes it in decimal
+-- a number below 2^64, if the word spells it in decimal
 abbrev pub decimal_of : ℕ → List ℕ → Result ℕ SpellFault
 decimal_of n w = if nat_lt n (2 ^ 64) && bytes_eq (decimal n) w then Ok n else Err Words
 
--- the number that a word writes in decimal
+-- the number that a word spells in decimal
 abbrev pub number_in : List ℕ → Result ℕ SpellFault
 number_in w = decimal_of (digits_value 10 w) w
 
--- the same, up to a maximum
+-- the number that a word spells in decimal, up to a maximum
 abbrev pub number_up_to : ℕ → List ℕ → Result ℕ SpellFault
 number_up_to most w =
     and_then (number_in w) (λ n. if nat_le n most then Ok n else Err Range)
 
--- a number, if the word writes its last `count` bytes in upper-case hex digits
+-- a number, if the word spells its last `count` bytes in upper-case hex digits
 abbrev pub hex_of : ℕ → ℕ → List ℕ → Result ℕ SpellFault
 hex_of count n w = if bytes_eq (hex_bytes count n) w then Ok n else Err Words
 
@@ -78,7 +81,7 @@ abbrev pub hex_decoded : ℕ → List ℕ → Result (List ℕ) FromHexError →
 hex_decoded count w (Ok bytes) = hex_of count (number_ending bytes) w
 hex_decoded count w (Err e) = Err Words
 
--- the number that a word writes as `count` bytes
+-- the number that a word spells as `count` bytes
 abbrev pub hex_number_in : ℕ → List ℕ → Result ℕ SpellFault
 hex_number_in count w = hex_decoded count w (decode_sized w count)
 
@@ -103,17 +106,17 @@ mask_in len w = and_then (value_in len w)
     (λ value. if nat_lt value (2 ^ len) then Ok (record { len = len; value = value })
     else Err Range)
 
--- an Inventory request by its words
+-- an Inventory request from its words
 abbrev pub inventory_in : (link slots len value : List ℕ) → Result Request SpellFault
 inventory_in link slots len value =
-    and_then (number_up_to 3 link) (λ link. and_then (sixteen_in slots) (λ sixteen.
+    and_then (number_up_to MAX_LINK link) (λ link. and_then (sixteen_in slots) (λ sixteen.
     and_then (number_up_to (longest_mask sixteen) len) (λ len. and_then (mask_in len value) (λ m.
     Ok (Inventory link sixteen m)))))
 
--- a Stay Quiet request by its words
+-- a Stay Quiet request from its words
 abbrev pub stay_quiet_in : (link uid : List ℕ) → Result Request SpellFault
 stay_quiet_in link uid =
-    and_then (number_up_to 3 link) (λ link. and_then (hex_number_in 8 uid) (λ uid.
+    and_then (number_up_to MAX_LINK link) (λ link. and_then (hex_number_in 8 uid) (λ uid.
     Ok (StayQuiet link uid)))
 
 -- no reply has Error_flag, or a UID that doesn't begin E0
@@ -123,13 +126,13 @@ reply_of flags dsfid uid =
     then Ok (record { flags = flags; dsfid = dsfid; uid = uid })
     else Err Words
 
--- a reply by its words
+-- a reply from its words
 abbrev pub reply_in : (flags dsfid uid : List ℕ) → Result Reply SpellFault
 reply_in flags dsfid uid =
     and_then (hex_number_in 1 flags) (λ flags. and_then (hex_number_in 1 dsfid) (λ dsfid.
     and_then (hex_number_in 8 uid) (λ uid. reply_of flags dsfid uid)))
 
--- whether words say an Inventory request, a Stay Quiet request, a reply
+-- whether these are the words of an Inventory request, a Stay Quiet request, a reply
 abbrev pub says_inventory : List (List ℕ) → Bool
 says_inventory words =
     length words == 9 && bytes_eq (word words 0) (codes "request")
@@ -148,7 +151,7 @@ says_reply words =
     && bytes_eq (word words 1) (codes "flags") && bytes_eq (word words 3) (codes "dsfid")
     && bytes_eq (word words 5) (codes "uid")
 
--- what words say, or why they say nothing
+-- what words say, or why they aren't a frame
 abbrev pub words_reading : List (List ℕ) → Result Said SpellFault
 words_reading words =
     if says_inventory words then and_then (inventory_in
@@ -180,7 +183,7 @@ spell_fault_name Range = codes "Range"
 
 abbrev pub spelled_text : Result Said SpellFault → List ℕ
 spelled_text (Ok what) = encode_upper (frame_of what) ++ codes "\n"
-spelled_text (Err fault) = codes "refused " ++ spell_fault_name fault ++ codes "\n"
+spelled_text (Err fault) = refused_word (spell_fault_name fault)
 
 abbrev pub spelled_status : Result Said SpellFault → Status
 spelled_status (Ok what) = Whole

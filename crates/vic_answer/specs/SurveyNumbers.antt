@@ -1,22 +1,22 @@
--- What is left of a log without its lines, and the findings by it, in numbers.
+-- The survey of a log, and findings from surveys, in numbers: no line shows them.
 use Rattle.std.specs.Prelude.{◌≡◌, ℕ, List, [], ◌∷◌, ◌++◌, Option, Some, None, map, length}
 use Rattle.vic_frame.specs.Masks.{BitMask}
 use Rattle.vic_log.specs.Lines.{lines_of_text}
 use Rattle.vic_log.specs.declared.entry.LogLine.{LogLine}
 use Rattle.vic_log.specs.Log.{LogValue}
-use Rattle.vic_log.specs.Text.{IsLogOf, IsFirstFault}
+use Rattle.vic_log.specs.Text.{IsFirstFault}
 use Rattle.vic_verdict.specs.Verdict.{IsVerdict}
 use Rattle.vic_verdict.specs.declared.judging.Verdict.{Verdict}
 use Rattle.vic_verdict.specs.declared.judging.Verdict.TheVariants as verdict
 use Rattle.vic_reconcile.specs.declared.surveys.PlainFindings.{PlainFindings}
+use Rattle.vic_answer.specs.Answered.{HasLog}
 use Rattle.vic_answer.specs.declared.answered.Answered.{Answered}
 use Rattle.vic_answer.specs.declared.answered.Answered.TheVariants.{Judged, RefusedAt}
 use Rattle.vic_answer.specs.declared.finding_numbers.VicinityFinding.{VicinityFinding}
 use Rattle.vic_answer.specs.declared.numbers.VicinityAnswer.{VicinityAnswer}
 use Rattle.vic_answer.specs.ExplainedNumbers.{IsPutInto}
-use Rattle.vic_answer.specs.FindingNumbers.{absent_finding, unlisted_finding, unsettled_finding, doubtful_finding}
-use Rattle.vic_answer.specs.Numbers.{no_answer, numbers_of, padded}
-use Rattle.vic_answer.specs.Refusals.{refused_at}
+use Rattle.vic_answer.specs.FindingNumbers.{mask_finding, uid_finding}
+use Rattle.vic_answer.specs.Numbers.{numbers_of}
 
 -- ---- of one log
 
@@ -25,8 +25,7 @@ use Rattle.vic_answer.specs.Refusals.{refused_at}
 abbrev pub IsAnswerWith : {T : Type 0} → (List LogLine → List T → Type 0) → List ℕ
     → Answered Verdict → List T → Type 0
 IsAnswerWith P text (Judged v) xs =
-    (log : LogValue) × IsLogOf (lines_of_text text) log × IsVerdict log.lines v
-    × P log.lines xs
+    (log : LogValue) × HasLog text log × IsVerdict log.lines v × P log.lines xs
 IsAnswerWith P text (RefusedAt n fault) xs =
     IsFirstFault (lines_of_text text) n fault × (xs ≡ [])
 
@@ -59,21 +58,10 @@ plain_answer f count =
 -- the unsettled mask, if there is one
 abbrev pub unsettled_findings : Option BitMask → List VicinityFinding
 unsettled_findings None = []
-unsettled_findings (Some m) = unsettled_finding m ∷ []
+unsettled_findings (Some m) = mask_finding 4 m ∷ []
 
 -- the findings, in their order
 abbrev pub plain_findings : PlainFindings → List VicinityFinding
 plain_findings f =
-    map (λ u. absent_finding (record { uid = u; line = 0 })) f.absent.items
-    ++ map (λ u. unlisted_finding (record { uid = u; line = 0 })) f.unlisted.items
-    ++ unsettled_findings f.unsettled ++ map doubtful_finding f.doubtful.items
-
--- refused at a place, by the number of a fault and its name
-abbrev pub refusal_numbers : (line fault : ℕ) → List ℕ → VicinityAnswer
-refusal_numbers line fault name = record no_answer {
-  kind = 7;
-  status = 3;
-  line = line;
-  fault = fault;
-  text = padded (refused_at line name);
-}
+    map (λ u. uid_finding 2 u 0) f.absent.items ++ map (λ u. uid_finding 3 u 0) f.unlisted.items
+    ++ unsettled_findings f.unsettled ++ map (λ u. uid_finding 5 u 0) f.doubtful.items

@@ -1,6 +1,5 @@
 -- What each task reads and writes.
-use Rattle.std.specs.Prelude.{◌≡◌, ℕ, Bool, List, ◌++◌, Result, IfOk, OnOk, map, string_bytes}
-use Rattle.vic_log.specs.Device.{HasWrittenPrefix}
+use Rattle.std.specs.Prelude.{◌≡◌, ℕ, Bool, List, Result, map, string_bytes}
 use Rattle.vic_answer.specs.declared.task.Task.{Task}
 use Rattle.vic_answer.specs.declared.task.Task.TheVariants.{Check, Simulate, Explain, Report, Margin, Frame, Spell}
 use Rattle.vic_answer.specs.declared.status.RunFault.{RunFault}
@@ -11,39 +10,33 @@ use Rattle.vic_answer.specs.ExplainText.{IsExplanationOf}
 use Rattle.vic_answer.specs.FrameText.{frame_text, frame_status}
 use Rattle.vic_answer.specs.MarginText.{IsMarginOf}
 use Rattle.vic_answer.specs.ReportText.{IsReportOf}
-use Rattle.vic_answer.specs.Runs.{LeavesSource, RunsOver}
+use Rattle.vic_answer.specs.Runs.{IsWritten, LeavesSource, RunsOver}
 use Rattle.vic_answer.specs.SimulateText.{IsSimulationOf}
 use Rattle.vic_answer.specs.SpellText.{spell_text, spell_status}
-
--- a text was written, with this status, or a prefix of it
-abbrev pub IsWritten : List ℕ → Status → List ℕ → List ℕ → Result Status RunFault → Type 0
-IsWritten text status written written' result =
-    IfOk result (λ s. s ≡ status) × OnOk result (written' ≡ written ++ text)
-    × HasWrittenPrefix written written' text
 
 -- what a task does, over the bytes that the source's reads returned, until one returned none, and
 -- that the sink's writes accepted
 abbrev pub Does : Task → List ℕ → List ℕ → Bool → List ℕ → List ℕ → Result Status RunFault → Type 0
-Does (Check file) read read' ended written written' result =
-    RunsOver IsCheckOf read read' ended written written' result
-    × IsCompleteWhereWritten read read' ended written written' result
-Does (Simulate file) read read' ended written written' result =
-    RunsOver IsSimulationOf read read' ended written written' result
-Does (Explain file) read read' ended written written' result =
-    RunsOver IsExplanationOf read read' ended written written' result
-    × IsCompleteWhereWritten read read' ended written written' result
-Does (Report file) read read' ended written written' result =
-    RunsOver IsReportOf read read' ended written written' result
-    × IsCompleteWhereWritten read read' ended written written' result
-Does (Margin file) read read' ended written written' result =
-    RunsOver IsMarginOf read read' ended written written' result
-    × IsCompleteWhereWrittenFirst read read' ended written written' result
-Does (Frame word) read read' ended written written' result =
-    (read' ≡ read)
+Does (Check file) returned returned' ended written written' result =
+    RunsOver IsCheckOf returned returned' ended written written' result
+    × IsCompleteWhereWritten returned returned' ended written written' result
+Does (Simulate file) returned returned' ended written written' result =
+    RunsOver IsSimulationOf returned returned' ended written written' result
+Does (Explain file) returned returned' ended written written' result =
+    RunsOver IsExplanationOf returned returned' ended written written' result
+    × IsCompleteWhereWritten returned returned' ended written written' result
+Does (Report file) returned returned' ended written written' result =
+    RunsOver IsReportOf returned returned' ended written written' result
+    × IsCompleteWhereWritten returned returned' ended written written' result
+Does (Margin file) returned returned' ended written written' result =
+    RunsOver IsMarginOf returned returned' ended written written' result
+    × IsCompleteWhereWrittenFirst returned returned' ended written written' result
+Does (Frame word) returned returned' ended written written' result =
+    (returned' ≡ returned)
     × IsWritten (frame_text (string_bytes word)) (frame_status (string_bytes word))
     written written' result
-Does (Spell words) read read' ended written written' result =
-    (read' ≡ read)
+Does (Spell words) returned returned' ended written written' result =
+    (returned' ≡ returned)
     × IsWritten (spell_text (map string_bytes words.items))
     (spell_status (map string_bytes words.items)) written written' result
 

@@ -12,7 +12,7 @@ use std::alloc::{AllocError, Global};
 use vic_log::{LineFault, Log, LogFault, read_log};
 use vic_verdict::Verdict;
 
-/// The answer to a text.
+/// What is answered to a text, by what is found in its log.
 #[derive(Clone, Copy, Debug, Drop, PartialEq, Eq)]
 pub enum Answered<T> {
     /// It has a log, and this is what was found in it.
@@ -72,7 +72,7 @@ pub fn read_text(alloc: Global, text: &[u8]) -> Result<Reading, AllocError>
     }
 }
 
-/// The answer to what was read.
+/// The answer to a text, by its log or first fault.
 pub(crate) fn answer_reading<T: Judgement>(
     alloc: Global,
     reading: Reading,
@@ -86,11 +86,10 @@ pub(crate) fn answer_reading<T: Judgement>(
     }
 }
 
-/// The answer to a complete text.
-pub(crate) fn answer_text<T: Judgement>(
-    alloc: Global,
-    text: &[u8],
-) -> Result<Answered<T>, AllocError>
+/// The answer to a complete text, by what is found in its log: a `Verdict` as `check` answers, an
+/// `Explanation` with a population that shows it, a `LogReport` with every finding, a `Margin`, or
+/// a `Survey`. It fails only if memory is refused.
+pub fn answer_text<T: Judgement>(alloc: Global, text: &[u8]) -> Result<Answered<T>, AllocError>
     ensures found { IfOk result (spec.IsAnswered T.IsOf text.now) }
     ensures answer { IfOk result (λ a. IsAnswer text.now (spec.answer_of T.verdict_of a)) }
     // if it is `complete`, the list of the log is complete and has `count` UIDs

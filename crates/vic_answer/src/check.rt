@@ -11,10 +11,10 @@ ghost use Rattle.vic_answer.specs.declared.answered.Answered.TheVariants.{Judged
 
 use crate::answered::{Answer, Judgement, answer_reading, answer_text};
 use crate::input::read_source;
-use crate::lines::{LINE_ROOM, refusal_line, verdict_line};
+use crate::lines::{refusal_line, verdict_line};
 use crate::output::write_and_flush;
 use crate::status::{RunFault, Status};
-use crate::text::Text;
+use crate::text::{LINE_ROOM, Text};
 use std::alloc::{AllocError, Global};
 use vic_log::{Log, Sink, Source};
 use vic_verdict::{Verdict, judge};
@@ -47,9 +47,7 @@ impl Judgement for Verdict {
 }
 
 /// Judges the log that is read from a source, writes the one line of the answer and flushes it. The
-/// status is that of the answer. It reads to the end, or to the first fault of a line that no
-/// further byte can change. `Read` if the source has failed, `Memory` if memory was refused: then
-/// nothing is written. `Write` if the sink has failed: a prefix of the line may have been written.
+/// status is that of the answer. It reads to the end or an early fault.
 pub fn run_check<R: Source, W: Sink>(
     alloc: Global,
     source: &mut R,
@@ -57,8 +55,7 @@ pub fn run_check<R: Source, W: Sink>(
 ) -> Result<Status, RunFault>
     ensures answer { Runs IsCheckOf (R.left source.old) (R.left source.new)
         (W.taken sink.old) (W.taken sink.new) result }
-    // the same over the bytes that the reads returned and the writes accepted, whatever source and
-    // sink reveal
+    // the same, even if source and sink reveal nothing
     ensures bytes { RunsOver IsCheckOf (R.returned source.old) (R.returned source.new)
         (R.ended source.new) (W.written sink.old) (W.written sink.new) result }
     // if it wrote `complete N`, the list of the log is complete and has N UIDs
@@ -75,7 +72,7 @@ pub fn run_check<R: Source, W: Sink>(
     write_answer(&answer, sink)
 }
 
-/// Writes the line of an answer.
+/// Writes the line of an answer, and flushes.
 fn write_answer<W: Sink>(answer: &Answer, sink: &mut W) -> Result<Status, RunFault>
     ensures status { IfOk result (λ s. s ≡ answer_status answer.now) }
     ensures written { Writes W.written W.taken W.is_flushed W.has_failed

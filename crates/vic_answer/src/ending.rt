@@ -1,8 +1,8 @@
-//! Where `reconcile` ends before all texts are read.
+//! The text that ends `reconcile` without findings.
 
 use vic_log::LineFault;
 
-/// The first of some texts that is refused or impossible.
+/// Which text is refused, or the first whose log is impossible, and at which line.
 #[derive(Clone, Copy, Debug, PartialEq, Eq)]
 pub enum Ending {
     /// A line of the list has a fault, and this is the first.

@@ -1,13 +1,13 @@
 //! The findings of a log, in numbers.
 
-ghost use Rattle.std.specs.Prelude.{◌≡◌, ◌≤◌, ◌++◌, IfOk, OnOk, length, drop, map};
+ghost use Rattle.std.specs.Prelude.{◌≡◌, ◌++◌, IfOk, OnOk, map};
 ghost use Rattle.vic_answer.specs.ExplainedNumbers.{IsPutInto};
 ghost use Rattle.vic_answer.specs.FindingNumbers as spec;
 
 use crate::answered::Answered;
 use std::alloc::{AllocError, Global};
 use vic_frame::{Mask, Uid};
-use vic_report::{Conflict, Findings, LogReport, ShownUid, Unsettled};
+use vic_report::{Conflict, Findings, LogReport, Unsettled};
 
 /// The kind of a finding in numbers. The first four have the numbers of the answers that say the
 /// same.
@@ -93,14 +93,10 @@ fn push_conflict(list: &mut Vec<VicinityFinding>, conflict: &Conflict) -> Result
     push_each(
         list,
         conflict.lines.as_slice(),
-        |line| conflict_finding(line),
+        |line| line_finding(FindingKind::ConflictLine as u32, line),
     )?;
     if let Some(line) = conflict.silenced_by {
-        list.push(VicinityFinding {
-            kind: FindingKind::SilencedBy as u32,
-            line,
-            ..NO_FINDING
-        })?;
+        list.push(line_finding(FindingKind::SilencedBy as u32, line))?;
     }
     Ok(())
 }
@@ -113,18 +109,18 @@ fn push_findings(list: &mut Vec<VicinityFinding>, findings: &Findings) -> Result
     push_each(
         list,
         findings.absent.as_slice(),
-        |shown| absent_finding(shown),
+        |shown| uid_finding(FindingKind::Absent as u32, shown.uid, shown.line),
     )?;
     push_each(
         list,
         findings.unlisted.as_slice(),
-        |shown| unlisted_finding(shown),
+        |shown| uid_finding(FindingKind::Unlisted as u32, shown.uid, shown.line),
     )?;
     push_unsettled(list, &findings.unsettled)?;
     push_each(
         list,
         findings.doubtful.as_slice(),
-        |uid| doubtful_finding(uid),
+        |uid| uid_finding(FindingKind::Doubtful as u32, uid, 0),
     )?;
     Ok(())
 }
@@ -140,16 +136,14 @@ fn push_unsettled(
     let Some(left) = unsettled else {
         return Ok(());
     };
-    list.push(VicinityFinding {
-        kind: FindingKind::Unsettled as u32,
-        ..open_finding(left.mask)
-    })?;
-    push_each(list, left.open.masks.as_slice(), |mask| open_finding(mask))?;
+    list.push(mask_finding(FindingKind::Unsettled as u32, left.mask))?;
+    push_each(
+        list,
+        left.open.masks.as_slice(),
+        |mask| mask_finding(FindingKind::OpenMask as u32, mask),
+    )?;
     if left.open.more {
-        list.push(VicinityFinding {
-            kind: FindingKind::MoreOpenMasks as u32,
-            ..NO_FINDING
-        })?;
+        list.push(line_finding(FindingKind::MoreOpenMasks as u32, 0))?;
     }
     Ok(())
 }
@@ -171,59 +165,36 @@ pub(crate) fn push_each<T: Copy, F: Fn(T) -> VicinityFinding>(
     Ok(())
 }
 
-/// A listed UID that can't be there, with the line that rules it out.
-pub(crate) fn absent_finding(shown: ShownUid) -> VicinityFinding
-    ensures { result ≡ spec.absent_finding shown }
+/// A finding of a UID, with the line that shows it, or 0.
+pub(crate) fn uid_finding(kind: u32, uid: Uid, line: u32) -> VicinityFinding
+    ensures { result ≡ spec.uid_finding kind uid line }
 {
     VicinityFinding {
-        kind: FindingKind::Absent as u32,
-        line: shown.line,
-        uid: shown.uid.number(),
-        ..NO_FINDING
-    }
-}
-
-/// A UID that must be there and isn't listed, with the line that shows it.
-pub(crate) fn unlisted_finding(shown: ShownUid) -> VicinityFinding
-    ensures { result ≡ spec.unlisted_finding shown }
-{
-    VicinityFinding {
-        kind: FindingKind::Unlisted as u32,
-        line: shown.line,
-        uid: shown.uid.number(),
-        ..NO_FINDING
-    }
-}
-
-/// A listed UID that may be missing.
-pub(crate) fn doubtful_finding(uid: Uid) -> VicinityFinding
-    ensures { result ≡ spec.doubtful_finding uid }
-{
-    VicinityFinding {
-        kind: FindingKind::Doubtful as u32,
+        kind,
+        line,
         uid: uid.number(),
         ..NO_FINDING
     }
 }
 
-/// An open mask.
-pub(crate) fn open_finding(mask: Mask) -> VicinityFinding
-    ensures { result ≡ spec.open_finding mask }
+/// A finding of a mask.
+pub(crate) fn mask_finding(kind: u32, mask: Mask) -> VicinityFinding
+    ensures { result ≡ spec.mask_finding kind mask }
 {
     VicinityFinding {
-        kind: FindingKind::OpenMask as u32,
+        kind,
         mask_len: u32::from(mask.len()),
         mask_value: mask.value(),
         ..NO_FINDING
     }
 }
 
-/// A line of a conflict.
-fn conflict_finding(line: u32) -> VicinityFinding
-    ensures { result ≡ spec.conflict_finding line }
+/// A finding of a line, or of none: 0.
+fn line_finding(kind: u32, line: u32) -> VicinityFinding
+    ensures { result ≡ spec.line_finding kind line }
 {
     VicinityFinding {
-        kind: FindingKind::ConflictLine as u32,
+        kind,
         line,
         ..NO_FINDING
     }

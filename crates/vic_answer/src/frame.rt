@@ -1,21 +1,22 @@
 //! The command `frame`.
 
 ghost use Rattle.std.specs.Prelude.{◌≡◌, ◌*◌, ◌≤◌, length, take, IfOk, Ok, Some, None, MatchResult};
+ghost use Rattle.arrayvec.specs.ArrayVec.{array_vec_len};
 ghost use Rattle.hex.specs.Hex.{decode_of};
-ghost use Rattle.vic_answer.specs.FrameText.{readings_text, frame_text, frame_status, readings_status};
+ghost use Rattle.vic_answer.specs.FrameText.{frame_status, frame_text, readings_status, readings_text, request_line, response_line};
 ghost use Rattle.vic_answer.specs.Runs.{Writes};
 
-use crate::lines::{request_line, response_line};
+use crate::lines::refused_word;
 use crate::output::write_and_flush;
 use crate::status::{RunFault, Status};
-use crate::text::{TEXT_ROOM, Text, put};
+use crate::text::{TEXT_ROOM, Text, put, put_bytes, put_decimal, put_mask, put_uid};
 use arrayvec::ArrayVec;
-use vic_frame::{read_request, read_response};
+use vic_frame::{FrameFault, Request, Response, read_request, read_response};
 use vic_log::{MAX_LINE_LEN, Sink};
 
 /// Writes the two readings of a word of hex digits, as a request and as a reply, or why it isn't a
-/// frame, and flushes. A word is at most as long as a line of a log. `Write` if the sink has
-/// failed: a prefix may have been written. It allocates no memory.
+/// frame, and flushes. A word longer than a line of a log may be is refused. It allocates no
+/// memory.
 pub fn run_frame<W: Sink>(word: &[u8], sink: &mut W) -> Result<Status, RunFault>
     ensures status { IfOk result (λ s. s ≡ frame_status word.now) }
     ensures written { Writes W.written W.taken W.is_flushed W.has_failed
@@ -26,19 +27,19 @@ pub fn run_frame<W: Sink>(word: &[u8], sink: &mut W) -> Result<Status, RunFault>
     Ok(status)
 }
 
-/// The answer to a word.
+/// The text and the status for a word.
 fn answer(word: &[u8]) -> (Text, Status)
     ensures text { result.0.items ≡ frame_text word.now }
     ensures status { result.1 ≡ frame_status word.now }
 {
     if word.len() > MAX_LINE_LEN {
-        refused("refused LineTooLong\n")
+        (refused_word("LineTooLong"), Status::Refused)
     } else {
         decoded(word)
     }
 }
 
-/// The answer to a word that is short enough.
+/// The text and the status for a word that is short enough.
 fn decoded(word: &[u8]) -> (Text, Status)
     requires { length word.now ≤ MAX_LINE_LEN }
     ensures text { result.0.items ≡ readings_text (decode_of word.now) }
@@ -46,7 +47,7 @@ fn decoded(word: &[u8]) -> (Text, Status)
 {
     let mut room = [0; MAX_LINE_LEN / 2];
     let Some(count) = decode(word, &mut room) else {
-        return refused("refused Hex\n");
+        return (refused_word("Hex"), Status::Refused);
     };
     readings(&room[..count])
 }
@@ -65,7 +66,7 @@ fn decode(digits: &[u8], room: &mut [u8]) -> Option<usize>
     }
 }
 
-/// The two readings of some bytes, and whether there is one.
+/// The two readings of some bytes, and the status: `Whole` if one is a frame.
 fn readings(bytes: &[u8]) -> (Text, Status)
     ensures text { result.0.items ≡ readings_text (Ok bytes.now) }
     ensures status { result.1 ≡ readings_status (Ok bytes.now) }
@@ -85,13 +86,58 @@ fn readings(bytes: &[u8]) -> (Text, Status)
     (text, status)
 }
 
-/// A refusal of a word.
-fn refused(line: &str) -> (Text, Status)
-    requires { length line.now ≤ TEXT_ROOM }
-    ensures text { result.0.items ≡ line.now }
-    ensures status { result.1 ≡ Status.Refused }
+/// The line of a reading as a request.
+fn request_line(reading: &Result<Request, FrameFault>) -> Text
+    ensures items { result.items ≡ request_line reading.now }
+    ensures len { 2 * array_vec_len result ≤ TEXT_ROOM }
 {
     let mut text = ArrayVec::new();
-    put(&mut text, line);
-    (text, Status::Refused)
+    match reading {
+        Ok(request) => match *request {
+            Request::Inventory { link, mask, .. } => {
+                put(&mut text, "request inventory link ");
+                put_decimal(&mut text, u32::from(link));
+                put(&mut text, " slots ");
+                put_decimal(&mut text, u32::from(request.slots()));
+                put(&mut text, " mask ");
+                put_mask(&mut text, &mask);
+            }
+            Request::StayQuiet { link, uid } => {
+                put(&mut text, "request stay-quiet link ");
+                put_decimal(&mut text, u32::from(link));
+                put(&mut text, " uid ");
+                put_uid(&mut text, uid);
+            }
+        },
+        Err(fault) => {
+            put(&mut text, "request refused ");
+            put(&mut text, fault.name());
+        }
+    }
+    put(&mut text, "\n");
+    text
+}
+
+/// The line of a reading as a reply.
+fn response_line(reading: &Result<Response, FrameFault>) -> Text
+    ensures items { result.items ≡ response_line reading.now }
+    ensures len { 2 * array_vec_len result ≤ TEXT_ROOM }
+{
+    let mut text = ArrayVec::new();
+    match reading {
+        Ok(response) => {
+            put(&mut text, "response flags ");
+            put_bytes(&mut text, 1, u64::from(response.flags()));
+            put(&mut text, " dsfid ");
+            put_bytes(&mut text, 1, u64::from(response.dsfid()));
+            put(&mut text, " uid ");
+            put_uid(&mut text, response.uid().number());
+        }
+        Err(fault) => {
+            put(&mut text, "response refused ");
+            put(&mut text, fault.name());
+        }
+    }
+    put(&mut text, "\n");
+    text
 }

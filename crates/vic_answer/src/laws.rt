@@ -48,8 +48,7 @@ pub fn answers_begin_as_check()
         → IsMarginOf text answer status → BeginsAsCheck text answer status }
 {}
 
-/// What `simulate` writes with status `Whole` is the text of a log. So a log with only the header
-/// is never answered with a slot line.
+/// What `simulate` writes with status `Whole` is the text of a log.
 pub fn simulation_is_a_log()
     ensures { (text answer : List ℕ) → IsSimulationOf text answer Whole
         → (log : LogValue) × IsLogOf (lines_of_text answer) log }

@@ -1,5 +1,5 @@
-//! The answer to the text of a log, or to a frame: what it is, its text and its status, and the
-//! runs that read the one and write the other.
+//! What vicinity answers to a log's text, a frame or words; how the answer reads as text, status
+//! and numbers; and the runs from a source to a sink.
 #![tactic(auto)]
 
 mod answered;
@@ -32,27 +32,27 @@ mod survey_numbers;
 mod task;
 mod text;
 
-pub use answered::{Answer, Answered, Judgement, Reading, answer_of, read_text};
+pub use answered::{Answer, Answered, Judgement, Reading, answer_of, answer_text, read_text};
 pub use check::{answer_line, answer_status, judge_text, run_check};
 pub use ending::Ending;
-pub use explain::{explain_text, run_explain};
-pub use fault_numbers::{fault_number, frame_fault_number};
+pub use explain::run_explain;
+pub use fault_numbers::{NOT_LISTED, fault_number, frame_fault_number};
 pub use finding_numbers::{FindingKind, VicinityFinding, findings_of, put_findings};
 pub use frame::run_frame;
-pub use lines::LINE_ROOM;
-pub use listing::{LISTED, Listing, NOT_LISTED, list_text, listed_in, listing_numbers};
-pub use margin::{margin_text, run_margin};
-pub use numbers::{Kind, NO_ANSWER, VicinityAnswer, numbers_of};
+pub use listing::{Listing, list_text, listed_in, listing_numbers};
+pub use margin::run_margin;
+pub use numbers::{Kind, LISTED, NO_ANSWER, VicinityAnswer, numbers_of, refusal_numbers};
 pub use overlooked::{Overlooked, overlooked_answer, overlooked_text};
 pub use population::{put_population, put_uids};
 pub use reconcile::{
     Reconciled, Reconciling, read_expected, read_next, reconciled_answer, write_reconciled,
 };
 pub use reconcile_run::run_reconcile;
-pub use report::{report_text, run_report};
+pub use report::run_report;
 pub use simulate::{Simulation, run_simulate, simulate_text};
 pub use spell::{SpellFault, run_spell};
 pub use status::{RunFault, Status, fault_text};
-pub use survey::{certain_of, open_masks_of, survey_text};
-pub use survey_numbers::{plain_answer, plain_findings, refusal_numbers};
+pub use survey::{certain_of, open_masks_of};
+pub use survey_numbers::{plain_answer, plain_findings};
 pub use task::{Task, do_task};
+pub use text::LINE_ROOM;

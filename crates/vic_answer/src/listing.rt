@@ -1,27 +1,19 @@
-//! What a text lists that has no other entries: a list of what is expected.
+//! The UIDs of a text that has only `U` lines: a list of what is expected.
 
 ghost use Rattle.std.specs.Prelude.{◌≡◌, ◌≢◌, ◌<◌, ◌++◌, ℕ, IfOk, List, codes, decimal};
 ghost use Rattle.arrayvec.specs.ArrayVec.{array_vec_len};
+ghost use Rattle.vic_answer.specs.Answered.{HasLog};
 ghost use Rattle.vic_answer.specs.Listing as spec;
-ghost use Rattle.vic_answer.specs.Reconciled.{HasLog};
 
 use crate::answered::{Answered, read_text};
-use crate::fault_numbers::fault_number;
-use crate::lines::LINE_ROOM;
-use crate::numbers::{NO_ANSWER, VicinityAnswer, padded};
-use crate::survey_numbers::refusal_numbers;
-use crate::text::{Text, put, put_decimal};
+use crate::fault_numbers::{NOT_LISTED, fault_number};
+use crate::numbers::{LISTED, NO_ANSWER, VicinityAnswer, padded, refusal_numbers};
+use crate::text::{LINE_ROOM, Text, put, put_decimal};
 use arrayvec::ArrayVec;
 use std::alloc::{AllocError, Global};
 use vic_frame::Uid;
 use vic_log::{LineFault, Log};
 use vic_reconcile::Reconciliation;
-
-/// The kind of the numbers of a list. No finding has it either.
-pub const LISTED: u32 = 12;
-
-/// The number of the fault of a line that lists no UID.
-pub const NOT_LISTED: u32 = 11;
 
 /// What a text lists.
 #[derive(Drop)]
@@ -35,7 +27,7 @@ pub enum Listing {
     NotListedAt { line: u32 },
 }
 
-/// What a complete text lists, if it has no other entries, as `reconcile` reads the list of what is
+/// The UIDs of a complete text that has only `U` lines, as `reconcile` reads the list of what is
 /// expected. It fails only if memory is refused.
 pub fn list_text(alloc: Global, text: &[u8]) -> Result<Listing, AllocError>
     ensures { IfOk result (spec.IsListing text.now) }
@@ -73,7 +65,7 @@ pub fn listed_in(listing: &Listing) -> &[Uid]
 /// What a text lists, in numbers: its kind is `LISTED`, or that of a refusal.
 pub fn listing_numbers(listing: &Listing) -> VicinityAnswer
     ensures numbers { result ≡ spec.numbers_of listing.now }
-    ensures some { result.kind ≢ 0 }
+    ensures nonzero { result.kind ≢ 0 }
 {
     match *listing {
         Listing::Listed { count, .. } => VicinityAnswer {

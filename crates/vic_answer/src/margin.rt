@@ -1,37 +1,23 @@
 //! The command `margin`.
 
-ghost use Rattle.std.specs.Prelude.{◌≡◌, ◌<◌, ◌++◌, ℕ, IfOk};
+ghost use Rattle.std.specs.Prelude.{◌≡◌, ◌<◌, ◌++◌, IfOk};
 ghost use Rattle.arrayvec.specs.ArrayVec.{array_vec_len};
-ghost use Rattle.vic_verdict.specs.declared.judging.Verdict.TheVariants.{Complete};
 ghost use Rattle.vic_answer.specs.Answered as spec;
-ghost use Rattle.vic_answer.specs.CheckText.{IsAnswer, IsCompleteText, answer_status};
+ghost use Rattle.vic_answer.specs.CheckText.{answer_status};
 ghost use Rattle.vic_answer.specs.CompleteRun.{IsCompleteWhereSaidFirst, IsCompleteWhereWrittenFirst};
-ghost use Rattle.vic_answer.specs.MarginText.{IsMarginOf, IsMarginOfLines, following_text, measured_text};
+ghost use Rattle.vic_answer.specs.MarginText.{IsMarginOf, IsMarginOfLines, measured_text, weakest_text};
 ghost use Rattle.vic_answer.specs.Runs.{LeavesSink, LeavesSource, Runs, RunsOver, Writes};
 
-use crate::answered::{Answered, Judgement, answer_of, answer_reading, answer_text};
+use crate::answered::{Answered, Judgement, answer_of, answer_reading};
 use crate::check::{answer_line, answer_status};
 use crate::input::read_source;
-use crate::lines::{LINE_ROOM, put_weakest};
 use crate::output::write_and_flush;
 use crate::status::{RunFault, Status};
-use crate::text::Text;
+use crate::text::{LINE_ROOM, Text, put, put_decimal, put_mask};
 use std::alloc::{AllocError, Global};
 use vic_log::{Log, Sink, Source};
-use vic_margin::{Margin, margin};
+use vic_margin::{Margin, Weakest, margin};
 use vic_verdict::Verdict;
-
-/// The answer to a complete text, with the margin of its log. It fails only if memory is refused.
-pub fn margin_text(alloc: Global, text: &[u8]) -> Result<Answered<Margin>, AllocError>
-    ensures measured { IfOk result (spec.IsAnswered IsMarginOfLines text.now) }
-    ensures answer { IfOk result (λ m. IsAnswer text.now (spec.answer_of (λ x. x.verdict) m)) }
-    // if it is `complete`, the list of the log is complete and has `count` UIDs
-    ensures whole { IfOk result (λ m. (count : ℕ)
-        → spec.answer_of (λ x. x.verdict) m ≡ Answered.Judged (Complete count)
-        → IsCompleteText text.now count) }
-{
-    answer_text(alloc, text)
-}
 
 /// What `margin` finds.
 impl Judgement for Margin {
@@ -52,9 +38,7 @@ impl Judgement for Margin {
 
 /// Judges the log that is read from a source and writes the line of `check`; if it is `complete`,
 /// also the margin of the log and its weakest mask, each on a line; and flushes. The status is that
-/// of `check`. It reads to the end, or to the first fault of a line that no further byte can
-/// change. `Read` if the source has failed, `Memory` if memory was refused: then nothing is
-/// written. `Write` if the sink has failed: a prefix of the text may have been written.
+/// of `check`. It reads to the end or an early fault.
 pub fn run_margin<R: Source, W: Sink>(
     alloc: Global,
     source: &mut R,
@@ -62,8 +46,7 @@ pub fn run_margin<R: Source, W: Sink>(
 ) -> Result<Status, RunFault>
     ensures answer { Runs IsMarginOf (R.left source.old) (R.left source.new)
         (W.taken sink.old) (W.taken sink.new) result }
-    // the same over the bytes that the reads returned and the writes accepted, whatever source and
-    // sink reveal
+    // the same, even if source and sink reveal nothing
     ensures bytes { RunsOver IsMarginOf (R.returned source.old) (R.returned source.new)
         (R.ended source.new) (W.written sink.old) (W.written sink.new) result }
     // if it wrote `complete N`, the list of the log is complete and has N UIDs
@@ -80,7 +63,7 @@ pub fn run_margin<R: Source, W: Sink>(
     write_measured(&measured, sink)
 }
 
-/// Writes the text of an answer.
+/// Writes the lines of an answer, and flushes.
 fn write_measured<W: Sink>(measured: &Answered<Margin>, sink: &mut W) -> Result<Status, RunFault>
     ensures status { IfOk result (λ s.
         s ≡ answer_status (spec.answer_of (λ x. x.verdict) measured.now)) }
@@ -91,24 +74,30 @@ fn write_measured<W: Sink>(measured: &Answered<Margin>, sink: &mut W) -> Result<
     Ok(answer_status(&answer_of(measured)))
 }
 
-/// The text of an answer.
+/// The lines of an answer: after that of `check` the margin and the weakest mask, if it is
+/// `complete`.
 fn measured_lines(measured: &Answered<Margin>) -> Text
     ensures { result.items ≡ measured_text measured.now }
 {
     let mut text = answer_line(&answer_of(measured));
     if let Answered::Judged(margin) = measured {
-        put_margin(&mut text, margin);
+        if let Verdict::Complete { .. } = margin.verdict {
+            put_weakest(&mut text, &margin.weakest);
+        }
     }
     text
 }
 
-/// Appends what follows the line of `check` for a log: its margin, if it is complete.
-fn put_margin(text: &mut Text, margin: &Margin)
+/// Appends the lines of the margin of a log and of its weakest mask, if it has them.
+fn put_weakest(text: &mut Text, weakest: &Option<Weakest>)
     requires { array_vec_len text.old < LINE_ROOM }
-    ensures { text.new.items
-        ≡ text.old.items ++ following_text margin.now.verdict margin.now.weakest }
+    ensures { text.new.items ≡ text.old.items ++ weakest_text weakest.now }
 {
-    if let Verdict::Complete { .. } = margin.verdict {
-        put_weakest(text, &margin.weakest);
+    if let Some(Weakest { margin, mask }) = weakest {
+        put(text, "margin ");
+        put_decimal(text, *margin);
+        put(text, "\nweakest ");
+        put_mask(text, mask);
+        put(text, "\n");
     }
 }

@@ -1,15 +1,16 @@
 //! An answer in numbers, with its line.
 
-ghost use Rattle.std.specs.Prelude.{◌≡◌, ◌≢◌, ◌<◌, length};
+ghost use Rattle.std.specs.Prelude.{◌≡◌, ◌≢◌, ◌<◌, ◌≤◌, length};
 ghost use Rattle.vic_verdict.specs.declared.judging.Verdict.TheVariants.{Complete};
-ghost use Rattle.vic_answer.specs.CheckText.{answer_line};
 ghost use Rattle.vic_answer.specs.Numbers as spec;
 ghost use Rattle.vic_answer.specs.declared.answered.Answered.TheVariants.{Judged};
 
 use crate::answered::Answer;
 use crate::check::{answer_line, answer_status};
 use crate::fault_numbers::fault_number;
-use crate::lines::LINE_ROOM;
+use crate::lines::{MAX_NAME_LEN, refused_at};
+use crate::status::Status;
+use crate::text::LINE_ROOM;
 use vic_verdict::Verdict;
 
 /// The kind of an answer in numbers.
@@ -25,6 +26,9 @@ pub enum Kind {
     Impossible = 6,
     Refused = 7,
 }
+
+/// The kind of the numbers of a list, which is no answer and no finding.
+pub const LISTED: u32 = 12;
 
 /// The answer to a text, in numbers. Fields that the kind doesn't use are 0.
 ///
@@ -67,9 +71,23 @@ pub const NO_ANSWER: VicinityAnswer = VicinityAnswer {
     text: [0; LINE_ROOM],
 };
 
-/// The kind of an answer, and what belongs to it.
-fn kind_of(answer: &Answer) -> VicinityAnswer
-    ensures { result ≡ spec.kind_of answer.now }
+/// An answer in numbers, with its line.
+#[tactic(auto, using(crate::proofs::Numbered::kind_complete, crate::proofs::Numbered::kind_some))]
+pub fn numbers_of(answer: &Answer) -> VicinityAnswer
+    ensures numbers { result ≡ spec.numbers_of answer.now }
+    ensures complete { result.kind ≡ 1 → answer.now ≡ Judged (Complete result.count) }
+    ensures nonzero { result.kind ≢ 0 }
+{
+    VicinityAnswer {
+        status: u32::from(answer_status(answer).code()),
+        text: padded(answer_line(answer).as_slice()),
+        ..fields_of(answer)
+    }
+}
+
+/// The fields of an answer, except status and text.
+fn fields_of(answer: &Answer) -> VicinityAnswer
+    ensures { result ≡ spec.fields_of answer.now }
 {
     match *answer {
         Answer::Judged(Verdict::Complete { count }) => VicinityAnswer {
@@ -103,12 +121,9 @@ fn kind_of(answer: &Answer) -> VicinityAnswer
             line,
             ..NO_ANSWER
         },
-        Answer::RefusedAt { line, fault } => VicinityAnswer {
-            kind: Kind::Refused as u32,
-            line,
-            fault: fault_number(&fault),
-            ..NO_ANSWER
-        },
+        Answer::RefusedAt { line, fault } => {
+            refusal_numbers(line, fault_number(&fault), fault.name())
+        }
     }
 }
 
@@ -122,23 +137,17 @@ pub(crate) fn padded(text: &[u8]) -> [u8; LINE_ROOM]
     room
 }
 
-/// The line of an answer, with zeros after it.
-fn padded_line(answer: &Answer) -> [u8; LINE_ROOM]
-    ensures { result ≡ spec.padded (answer_line answer.now) }
-{
-    padded(answer_line(answer).as_slice())
-}
-
-/// An answer in numbers, with its line.
-#[tactic(auto, using(crate::proofs::Numbered::kind_complete, crate::proofs::Numbered::kind_some))]
-pub fn numbers_of(answer: &Answer) -> VicinityAnswer
-    ensures numbers { result ≡ spec.numbers_of answer.now }
-    ensures complete { result.kind ≡ 1 → answer.now ≡ Judged (Complete result.count) }
-    ensures some { result.kind ≢ 0 }
+/// A refusal at a line, in numbers, by the number of its fault and its name.
+pub fn refusal_numbers(line: u32, fault: u32, name: &str) -> VicinityAnswer
+    requires { length name.now ≤ MAX_NAME_LEN }
+    ensures { result ≡ spec.refusal_numbers line fault name.now }
 {
     VicinityAnswer {
-        status: u32::from(answer_status(answer).code()),
-        text: padded_line(answer),
-        ..kind_of(answer)
+        kind: Kind::Refused as u32,
+        status: u32::from(Status::Refused.code()),
+        line,
+        fault,
+        text: padded(refused_at(line, name).as_slice()),
+        ..NO_ANSWER
     }
 }

@@ -9,10 +9,10 @@ use crate::text::Text;
 use arrayvec::ArrayVec;
 use vic_log::{Sink, WRITTEN_AT_ONCE, write_whole};
 
-/// Bytes that wait to be written at once.
+/// Bytes kept until there are enough for one write.
 pub(crate) type Piece = ArrayVec<u8, WRITTEN_AT_ONCE>;
 
-/// Adds a text to the bytes that wait; these are written first if the text doesn't fit.
+/// Adds a text; the bytes kept are written first if it doesn't fit.
 pub(crate) fn put_text<W: Sink>(
     piece: &mut Piece,
     sink: &mut W,
@@ -33,7 +33,7 @@ pub(crate) fn put_text<W: Sink>(
     Ok(())
 }
 
-/// Adds the text of each item to the bytes that wait.
+/// Adds the text of each item.
 pub(crate) fn put_each<W: Sink, T: Copy, F: Fn(T) -> Text>(
     piece: &mut Piece,
     sink: &mut W,

@@ -1,4 +1,4 @@
-//! The population of an explained answer in a buffer of the caller.
+//! Copies UIDs into the caller's buffer.
 
 ghost use Rattle.std.specs.Prelude.{◌≡◌, ◌≤◌, ◌++◌, length, drop};
 ghost use Rattle.vic_answer.specs.ExplainText.{uids_of};
@@ -10,7 +10,7 @@ use vic_frame::Uid;
 use vic_verdict::Explanation;
 
 /// Puts the UIDs of an answer's population at the start of a buffer, in rising order, if they fit,
-/// and returns how many there are: 0 if it has no population.
+/// and returns how many there are: 0 also if the population is empty.
 pub fn put_population(explained: &Answered<Explanation>, room: &mut [u64]) -> usize
     ensures count { result ≡ length (uids_of explained.now) }
     ensures put { IsPutInto (uids_of explained.now) room.old room.new }

@@ -2,12 +2,12 @@
 
 ghost use Rattle.std.specs.Prelude.{◌≡◌, ◌≢◌, ◌↔◌, ◌+◌, ◌++◌, ℕ, [], ◌∷◌, List, IfErr, IfOk, OnOk, length};
 ghost use Rattle.std.specs.Prelude.{codes, map, string_bytes};
-ghost use Rattle.vic_log.specs.Device.{Grows, HasWrittenPrefix};
+ghost use Rattle.vic_log.specs.Device.{Grows};
 ghost use Rattle.vic_answer.specs.Answered.{IsReading};
 ghost use Rattle.vic_answer.specs.Reconciled.{AreComplete, IsKept, IsReconciled, IsReconciling, ReadsText};
 ghost use Rattle.vic_answer.specs.ReconcileRun.{logs_before};
 ghost use Rattle.vic_answer.specs.ReconcileText as spec;
-ghost use Rattle.vic_answer.specs.Runs.{GivesNoEarlyFault, LeavesSink, LeavesSource};
+ghost use Rattle.vic_answer.specs.Runs.{GivesNoEarlyFault, IsWritten, LeavesSink, LeavesSource};
 ghost use Rattle.vic_answer.specs.declared.ending.Ending.{Ending as EndingValue};
 ghost use Rattle.vic_answer.specs.declared.status.RunFault.TheVariants.{Read, Write};
 
@@ -26,9 +26,9 @@ use vic_verdict::Verdict;
 /// What a list of what is expected and the logs that were read so far say.
 #[derive(Drop)]
 pub enum Reconciling {
-    /// All of them have logs, which are possible.
+    /// All of the texts have logs, and those of the logs are possible.
     Going(Reconciliation),
-    /// One of them is refused or impossible.
+    /// One of the texts is refused, or its log is impossible.
     Ended(Ending),
 }
 
@@ -37,19 +37,17 @@ pub enum Reconciling {
 pub enum Reconciled {
     /// Everything that is expected is somewhere, and nothing else.
     Complete { count: u32 },
-    /// The findings, one at least.
+    /// The findings, at least one.
     Found(Findings),
-    /// A text is refused or impossible.
+    /// A text is refused, or its log is impossible.
     Ended(Ending),
 }
 
-/// Reads the list of what is expected from a source, to its end or to the first fault of a line
-/// that no further byte can change. `Read` if the source has failed, `Memory` if memory was
-/// refused.
+/// Reads the list of what is expected from a source, to its end or an early fault.
 pub fn read_expected<R: Source>(alloc: Global, source: &mut R) -> Result<Reconciling, RunFault>
     ensures text { IfOk result (λ r. ReadsText (R.returned source.old) (R.returned source.new)
         (R.ended source.new) (λ text. IsReconciling text [] r)) }
-    ensures cut { IfErr result (λ e. e ≡ Read
+    ensures no_early_fault { IfErr result (λ e. e ≡ Read
         → GivesNoEarlyFault (Grows (R.returned source.old) (R.returned source.new))) }
     ensures leaves_source { LeavesSource R.reads R.has_failed source.old source.new result }
     ensures fault { IfErr result (λ e. e ≢ Write) }
@@ -58,7 +56,7 @@ pub fn read_expected<R: Source>(alloc: Global, source: &mut R) -> Result<Reconci
     Ok(begin(alloc, reading)?)
 }
 
-/// What the list says.
+/// The state after the list.
 fn begin(alloc: Global, reading: Reading) -> Result<Reconciling, AllocError>
     ensures { IfOk result (λ r. (text : List ℕ)
         → IsReading text reading → IsReconciling text [] r) }
@@ -75,8 +73,7 @@ fn begin(alloc: Global, reading: Reading) -> Result<Reconciling, AllocError>
     }
 }
 
-/// Reads the next log from a source, as `read_expected` reads the list, and joins it to those
-/// before.
+/// Reads the next log from a source, to its end or an early fault, and joins it to those before.
 pub fn read_next<R: Source>(
     alloc: Global,
     joined: Reconciliation,
@@ -88,7 +85,7 @@ pub fn read_next<R: Source>(
     // if a text ends the run, it is this one
     ensures last { IfOk result (λ r. (list : List ℕ) (texts : List (List ℕ))
         → IsKept list texts joined → logs_before r (length texts + 1) ≡ length texts + 1) }
-    ensures cut { IfErr result (λ e. e ≡ Read
+    ensures no_early_fault { IfErr result (λ e. e ≡ Read
         → GivesNoEarlyFault (Grows (R.returned source.old) (R.returned source.new))) }
     ensures leaves_source { LeavesSource R.reads R.has_failed source.old source.new result }
     ensures fault { IfErr result (λ e. e ≢ Write) }
@@ -97,7 +94,7 @@ pub fn read_next<R: Source>(
     Ok(join(joined, reading)?)
 }
 
-/// What the logs say with one more.
+/// The state after one more log.
 fn join(joined: Reconciliation, reading: Reading) -> Result<Reconciling, AllocError>
     ensures text { IfOk result (λ r. (text list : List ℕ) (texts : List (List ℕ))
         → IsReading text reading → IsKept list texts joined
@@ -120,7 +117,7 @@ fn join(joined: Reconciliation, reading: Reading) -> Result<Reconciling, AllocEr
     }
 }
 
-/// The answer to what was read.
+/// The answer to the list and the logs that were read.
 pub fn reconciled_answer(reconciling: &Reconciling) -> Result<Reconciled, AllocError>
     ensures answer { IfOk result (λ r. (list : List ℕ) (texts : List (List ℕ))
         → IsReconciling list texts reconciling.now → IsReconciled list texts r) }
@@ -141,7 +138,7 @@ pub fn reconciled_answer(reconciling: &Reconciling) -> Result<Reconciled, AllocE
     }
 }
 
-/// The text of an answer, by the names of the list and of the logs.
+/// The text of an answer, with the names of the list and of the logs.
 fn reconciled_text(
     alloc: Global,
     answer: &Reconciled,
@@ -173,8 +170,7 @@ fn reconciled_status(answer: &Reconciled) -> Status
     }
 }
 
-/// Writes the text of an answer and flushes it. `Memory` if memory was refused: then nothing is
-/// written. `Write` if the sink has failed: a prefix of the text may have been written.
+/// Writes the text of an answer, with the names of the list and of the logs, and flushes it.
 pub fn write_reconciled<W: Sink>(
     alloc: Global,
     answer: &Reconciled,
@@ -182,11 +178,9 @@ pub fn write_reconciled<W: Sink>(
     names: &[String],
     sink: &mut W,
 ) -> Result<Status, RunFault>
-    ensures status { IfOk result (λ s. s ≡ spec.reconciled_status answer.now) }
-    ensures wrote { OnOk result (W.written sink.new ≡ W.written sink.old
-        ++ spec.reconciled_text list_name.now (map string_bytes names.now) answer.now) }
-    ensures part { HasWrittenPrefix (W.written sink.old) (W.written sink.new)
-        (spec.reconciled_text list_name.now (map string_bytes names.now) answer.now) }
+    ensures written { IsWritten
+        (spec.reconciled_text list_name.now (map string_bytes names.now) answer.now)
+        (spec.reconciled_status answer.now) (W.written sink.old) (W.written sink.new) result }
     // if it wrote `complete N`, everything that is expected is somewhere, and nothing else
     ensures complete { OnOk result ((list : List ℕ) (texts : List (List ℕ)) (rest : List ℕ)
         → IsReconciled list texts answer.now

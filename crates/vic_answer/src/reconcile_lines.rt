@@ -2,12 +2,11 @@
 
 ghost use Rattle.std.specs.Prelude.{◌≡◌, ◌≤◌, ◌++◌, IfOk, OnOk, length, map, string_bytes};
 ghost use Rattle.std.specs.List.{flat_map};
-ghost use Rattle.arrayvec.specs.ArrayVec.{array_vec_len};
 ghost use Rattle.vic_answer.specs.ReconcileText as spec;
 
 use crate::ending::Ending;
 use crate::lines::verdict_line;
-use crate::text::{TEXT_ROOM, Text, put, put_bytes, put_decimal, put_value};
+use crate::text::{Text, put, put_decimal, put_mask, put_uid};
 use arrayvec::ArrayVec;
 use std::alloc::{AllocError, Global};
 use vic_frame::{Mask, Uid};
@@ -15,7 +14,7 @@ use vic_reconcile::{DoubtfulUid, Findings, UnlistedUid, Unsettled};
 use vic_tree::OpenMasks;
 use vic_verdict::Verdict;
 
-/// The name of a log.
+/// The name of a log, empty if there is none.
 fn name_of(names: &[String], log: usize) -> &str
     ensures { result.now ≡ spec.name_of (map string_bytes names.now) log }
 {
@@ -25,7 +24,7 @@ fn name_of(names: &[String], log: usize) -> &str
     }
 }
 
-/// What stands before the name of a file whose line is meant: words, and the number of the line.
+/// `words`, a line number and ` of `; a file's name follows.
 fn line_of(words: &str, line: u32) -> Text
     requires { length words.now ≤ 32 }
     ensures { result.items ≡ spec.line_of words.now line }
@@ -37,26 +36,24 @@ fn line_of(words: &str, line: u32) -> Text
     text
 }
 
-/// What stands before the name of the log in which a mask is open.
+/// The line of an open mask, up to the name of its log.
 fn open_in(mask: &Mask) -> Text
     ensures { result.items ≡ spec.open_in mask.now }
 {
     let mut text = ArrayVec::new();
     put(&mut text, "open ");
-    put_decimal(&mut text, u32::from(mask.len()));
-    put(&mut text, " ");
-    put_value(&mut text, mask);
+    put_mask(&mut text, mask);
     put(&mut text, " in ");
     text
 }
 
-/// What stands before the name of the log in which an expected UID may be.
+/// The line of an expected UID that may be missing, up to the name of the log in which it may be.
 fn doubtful_in(uid: Uid) -> Text
     ensures { result.items ≡ spec.doubtful_in uid }
 {
     let mut text = ArrayVec::new();
     put(&mut text, "doubtful ");
-    put_bytes(&mut text, 8, uid.number());
+    put_uid(&mut text, uid.number());
     put(&mut text, " in ");
     text
 }
@@ -116,7 +113,7 @@ fn add_unlisted(
     Ok(())
 }
 
-/// Adds the line that there are more open masks in a log, if there are.
+/// Adds the line that says that there are more open masks in a log, if there are.
 fn add_more(text: &mut Vec<u8>, names: &[String], log: usize, more: bool) -> Result<(), AllocError>
     ensures { OnOk result (text.new.items
         ≡ text.old.items ++ spec.more_text (map string_bytes names.now) log more) }
@@ -207,14 +204,14 @@ pub(crate) fn findings_text(
     Ok(text)
 }
 
-/// Adds the end of the line of a refusal, which begins with the number of a line.
-fn refused_text(alloc: Global, line: u32, file: &str, reason: &str) -> Result<Vec<u8>, AllocError>
-    ensures { IfOk result (λ text. text.items ≡ spec.refused_text line file.now reason.now) }
+/// The line of a refusal, which names the file.
+fn refused_text(alloc: Global, line: u32, file: &str, name: &str) -> Result<Vec<u8>, AllocError>
+    ensures { IfOk result (λ text. text.items ≡ spec.refused_text line file.now name.now) }
 {
     let mut text = Vec::from_slice(alloc, line_of("refused at line ", line).as_slice())?;
     text.extend_from_slice(file.as_bytes())?;
     text.extend_from_slice(b": ")?;
-    text.extend_from_slice(reason.as_bytes())?;
+    text.extend_from_slice(name.as_bytes())?;
     text.extend_from_slice(b"\n")?;
     Ok(text)
 }

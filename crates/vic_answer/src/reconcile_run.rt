@@ -16,10 +16,9 @@ use std::alloc::Global;
 use vic_log::{Sink, Source};
 
 /// Reads the list of what is expected from a source, and then the logs from theirs, one source
-/// after another, up to the first text that is refused or impossible. It writes the answer, in
-/// which `list_name` and `names` name the list and the logs, and flushes it. The status is that of
-/// the answer. `Read` if the source that is read has failed, `Memory` if memory was refused: then
-/// nothing is written. `Write` if the sink has failed: a prefix of the text may have been written.
+/// after another, up to the first text that is refused or whose log is impossible. It writes the
+/// answer, in which `list_name` and `names` name the list and the logs, and flushes it. The status
+/// is that of the answer.
 pub fn run_reconcile<R: Source, W: Sink>(
     alloc: Global,
     list: &mut R,
@@ -53,7 +52,7 @@ pub fn run_reconcile<R: Source, W: Sink>(
     write_reconciled(alloc, &answer, list_name, names, sink)
 }
 
-/// Reads logs, one source after another, up to the first text that is refused or impossible.
+/// Reads logs, one source after another, up to the first that is refused or impossible.
 fn read_logs<R: Source>(
     alloc: Global,
     begun: Reconciling,

@@ -1,17 +1,16 @@
 //! The command `report`.
 
-ghost use Rattle.std.specs.Prelude.{◌≡◌, ℕ, IfOk};
-ghost use Rattle.vic_verdict.specs.declared.judging.Verdict.TheVariants.{Complete};
+ghost use Rattle.std.specs.Prelude.{◌≡◌, IfOk};
 ghost use Rattle.vic_report.proofs.AllFindings.{report_begins};
 ghost use Rattle.vic_report.specs.Reports.{IsReport, verdict_of};
 ghost use Rattle.vic_answer.specs.Answered as spec;
-ghost use Rattle.vic_answer.specs.CheckText.{IsAnswer, IsCompleteText, answer_status};
+ghost use Rattle.vic_answer.specs.CheckText.{answer_status};
 ghost use Rattle.vic_answer.specs.inner.Pieces.{Puts};
 ghost use Rattle.vic_answer.specs.CompleteRun.{IsCompleteWhereSaid, IsCompleteWhereWritten};
 ghost use Rattle.vic_answer.specs.ReportText.{IsReportOf, reported_text};
 ghost use Rattle.vic_answer.specs.Runs.{LeavesSink, LeavesSource, Runs, RunsOver, Writes};
 
-use crate::answered::{Answered, Judgement, answer_of, answer_reading, answer_text};
+use crate::answered::{Answered, Judgement, answer_of, answer_reading};
 use crate::check::answer_status;
 use crate::input::read_source;
 use crate::lines::refusal_line;
@@ -24,19 +23,6 @@ use std::alloc::{AllocError, Global};
 use vic_log::{Log, Sink, Source};
 use vic_report::{LogReport, report};
 use vic_verdict::Verdict;
-
-/// The answer to a complete text, with every finding of its log and the lines that show it. It
-/// fails only if memory is refused.
-pub fn report_text(alloc: Global, text: &[u8]) -> Result<Answered<LogReport>, AllocError>
-    ensures reported { IfOk result (spec.IsAnswered IsReport text.now) }
-    ensures answer { IfOk result (λ r. IsAnswer text.now (spec.answer_of verdict_of r)) }
-    // if it is `complete`, the list of the log is complete and has `count` UIDs
-    ensures whole { IfOk result (λ r. (count : ℕ)
-        → spec.answer_of verdict_of r ≡ Answered.Judged (Complete count)
-        → IsCompleteText text.now count) }
-{
-    answer_text(alloc, text)
-}
 
 /// What `report` finds.
 impl Judgement for LogReport {
@@ -56,10 +42,7 @@ impl Judgement for LogReport {
 }
 
 /// Judges the log that is read from a source, writes every finding with its lines, and flushes. The
-/// first line and the status are those of `check`. It reads to the end, or to the first fault of a
-/// line that no further byte can change. `Read` if the source has failed, `Memory` if memory was
-/// refused: then nothing is written. `Write` if the sink has failed: a prefix of the text may have
-/// been written.
+/// first line and the status are those of `check`. It reads to the end or an early fault.
 pub fn run_report<R: Source, W: Sink>(
     alloc: Global,
     source: &mut R,
@@ -67,8 +50,7 @@ pub fn run_report<R: Source, W: Sink>(
 ) -> Result<Status, RunFault>
     ensures answer { Runs IsReportOf (R.left source.old) (R.left source.new)
         (W.taken sink.old) (W.taken sink.new) result }
-    // the same over the bytes that the reads returned and the writes accepted, whatever source and
-    // sink reveal
+    // the same, even if source and sink reveal nothing
     ensures bytes { RunsOver IsReportOf (R.returned source.old) (R.returned source.new)
         (R.ended source.new) (W.written sink.old) (W.written sink.new) result }
     // if it wrote `complete N`, the list of the log is complete and has N UIDs
@@ -85,7 +67,7 @@ pub fn run_report<R: Source, W: Sink>(
     write_reported(&reported, sink)
 }
 
-/// Writes the text of an answer.
+/// Writes the lines of an answer, and flushes; returns its status.
 fn write_reported<W: Sink>(reported: &Answered<LogReport>, sink: &mut W) -> Result<Status, RunFault>
     ensures status { IfOk result (λ s. s ≡ answer_status (spec.answer_of verdict_of reported.now)) }
     ensures written { Writes W.written W.taken W.is_flushed W.has_failed
@@ -105,7 +87,7 @@ fn write_lines<W: Sink>(reported: &Answered<LogReport>, sink: &mut W) -> Result<
     write_and_flush(sink, piece.as_slice())
 }
 
-/// Adds the text of an answer to the bytes that wait.
+/// Adds the text of an answer.
 fn put_reported<W: Sink>(
     piece: &mut Piece,
     sink: &mut W,

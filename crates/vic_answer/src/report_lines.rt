@@ -1,19 +1,22 @@
 //! How the lines of a report are written.
 
-ghost use Rattle.std.specs.Prelude.{◌≡◌};
+ghost use Rattle.std.specs.Prelude.{◌≡◌, ◌<◌, ◌++◌};
+ghost use Rattle.arrayvec.specs.ArrayVec.{array_vec_len};
+ghost use Rattle.vic_answer.specs.CheckText.{verdict_line};
 ghost use Rattle.vic_answer.specs.inner.Pieces.{Puts};
 ghost use Rattle.vic_answer.specs.ReportText as spec;
 
-use crate::lines::{by_line, more_line, open_line, put_by_line, silenced_line, verdict_line};
+use crate::lines::verdict_line;
 use crate::pieces::{Piece, put_each, put_text};
 use crate::status::RunFault;
-use crate::text::Text;
-use vic_frame::Uid;
+use crate::text::{LINE_ROOM, Text, put, put_decimal, put_mask};
+use arrayvec::ArrayVec;
+use vic_frame::Mask;
 use vic_log::Sink;
-use vic_report::{Conflict, Findings, LogReport, ShownUid, Unsettled};
+use vic_report::{Conflict, Findings, LogReport, Unsettled};
 use vic_verdict::Verdict;
 
-/// Adds the lines of a report to the bytes that wait.
+/// Adds the lines of a report.
 pub(crate) fn put_report<W: Sink>(
     piece: &mut Piece,
     sink: &mut W,
@@ -66,20 +69,20 @@ fn put_findings<W: Sink>(
         piece,
         sink,
         findings.absent.as_slice(),
-        |shown| absent_text(shown),
+        |shown| shown_text(&Verdict::Absent(shown.uid), shown.line),
     )?;
     put_each(
         piece,
         sink,
         findings.unlisted.as_slice(),
-        |shown| unlisted_text(shown),
+        |shown| shown_text(&Verdict::Unlisted(shown.uid), shown.line),
     )?;
     put_unsettled(piece, sink, &findings.unsettled)?;
     put_each(
         piece,
         sink,
         findings.doubtful.as_slice(),
-        |uid| doubtful_line(uid),
+        |uid| verdict_line(&Verdict::Doubtful(uid)),
     )
 }
 
@@ -105,27 +108,64 @@ fn put_unsettled<W: Sink>(
     put_text(piece, sink, &more_line(left.open.more))
 }
 
-/// A listed UID that can't be there, with the line that rules it out.
-fn absent_text(shown: ShownUid) -> Text
-    ensures { result.items ≡ spec.absent_text shown }
+/// The line of a verdict that a line of the log shows, and the line that names it.
+fn shown_text(verdict: &Verdict, line: u32) -> Text
+    ensures { result.items ≡ verdict_line verdict.now ++ spec.by_line line }
 {
-    let mut text = verdict_line(&Verdict::Absent(shown.uid));
-    put_by_line(&mut text, shown.line);
+    let mut text = verdict_line(verdict);
+    put_by_line(&mut text, line);
     text
 }
 
-/// A UID that must be there and isn't listed, with the line that shows it.
-fn unlisted_text(shown: ShownUid) -> Text
-    ensures { result.items ≡ spec.unlisted_text shown }
+/// Appends the line that names a line of the log.
+fn put_by_line(text: &mut Text, line: u32)
+    requires { array_vec_len text.old < LINE_ROOM }
+    ensures { text.new.items ≡ text.old.items ++ spec.by_line line }
 {
-    let mut text = verdict_line(&Verdict::Unlisted(shown.uid));
-    put_by_line(&mut text, shown.line);
+    put(text, "by line ");
+    put_decimal(text, line);
+    put(text, "\n");
+}
+
+/// The line that names a line of the log.
+fn by_line(line: u32) -> Text
+    ensures { result.items ≡ spec.by_line line }
+{
+    let mut text = ArrayVec::new();
+    put_by_line(&mut text, line);
     text
 }
 
-/// The line of a listed UID that may be missing.
-fn doubtful_line(uid: Uid) -> Text
-    ensures { result.items ≡ spec.doubtful_line uid }
+/// The line that names the line that silenced a tag, if there is one.
+fn silenced_line(line: Option<u32>) -> Text
+    ensures { result.items ≡ spec.silenced_line line }
 {
-    verdict_line(&Verdict::Doubtful(uid))
+    let mut text = ArrayVec::new();
+    if let Some(line) = line {
+        put(&mut text, "silenced ");
+        put_by_line(&mut text, line);
+    }
+    text
+}
+
+/// The line of an open mask.
+fn open_line(mask: &Mask) -> Text
+    ensures { result.items ≡ spec.open_line mask.now }
+{
+    let mut text = ArrayVec::new();
+    put(&mut text, "open ");
+    put_mask(&mut text, mask);
+    put(&mut text, "\n");
+    text
+}
+
+/// The line that says that there are more open masks, if there are.
+fn more_line(more: bool) -> Text
+    ensures { result.items ≡ spec.more_line more }
+{
+    let mut text = ArrayVec::new();
+    if more {
+        put(&mut text, "more open\n");
+    }
+    text
 }

@@ -2,9 +2,7 @@
 
 ghost use Rattle.std.specs.Prelude.{◌≡◌, ℕ, List, IfOk};
 ghost use Rattle.vic_answer.specs.SimulateText.{IsSimulated, IsSimulationOf, simulated_text, simulated_status};
-ghost use Rattle.vic_answer.specs.Answered.{IsReading};
-ghost use Rattle.vic_log.specs.Lines.{lines_of_text};
-ghost use Rattle.vic_log.specs.Text.{IsLogOf};
+ghost use Rattle.vic_answer.specs.Answered.{HasLog, IsReading};
 ghost use Rattle.vic_answer.specs.Runs.{Runs, RunsOver, LeavesSource, LeavesSink, Writes};
 
 use crate::answered::{Reading, read_text};
@@ -17,10 +15,10 @@ use std::alloc::{AllocError, Global};
 use vic_field::{SimFault, simulate};
 use vic_log::{LineFault, Log, MAX_LINES, Sink, Source, ToWrite, write_log};
 
-/// The number of a line that no log has: the first after its last.
+/// The first line number beyond `MAX_LINES`.
 const LINE_TOO_MANY: u32 = MAX_LINES + 1;
 
-/// The answer to a text.
+/// What becomes of a text.
 #[derive(Drop)]
 pub(crate) enum Simulated {
     /// Its log with the slots filled in.
@@ -40,8 +38,8 @@ pub struct Simulation {
     pub status: Status,
 }
 
-/// Fills in the slots of the log that a complete text spells, as the tags that it lists would
-/// answer: what `run_simulate` writes for it. It fails only if memory is refused.
+/// The log of a text, with its slots filled in as the listed tags would answer: what `run_simulate`
+/// writes for it. It fails only if memory is refused.
 pub fn simulate_text(alloc: Global, text: &[u8]) -> Result<Simulation, AllocError>
     ensures { IfOk result (λ s. IsSimulationOf text.now s.text.items s.status) }
 {
@@ -58,10 +56,8 @@ pub fn simulate_text(alloc: Global, text: &[u8]) -> Result<Simulation, AllocErro
 }
 
 /// Fills in the slots of the log that is read from a source, as the tags that it lists would
-/// answer, writes the log's text, or the one line of a refusal, and flushes it. It reads to the
-/// end, or to the first fault of a line that no further byte can change. `Read` if the source has
-/// failed, `Memory` if memory was refused: then nothing is written. `Write` if the sink has failed:
-/// a prefix of the text may have been written.
+/// answer, writes the log's text, or the one line of a refusal, and flushes it. It reads to the end
+/// or an early fault.
 pub fn run_simulate<R: Source, W: Sink>(
     alloc: Global,
     source: &mut R,
@@ -69,8 +65,7 @@ pub fn run_simulate<R: Source, W: Sink>(
 ) -> Result<Status, RunFault>
     ensures answer { Runs IsSimulationOf (R.left source.old) (R.left source.new)
         (W.taken sink.old) (W.taken sink.new) result }
-    // the same over the bytes that the reads returned and the writes accepted, whatever source and
-    // sink reveal
+    // the same, even if source and sink reveal nothing
     ensures bytes { RunsOver IsSimulationOf (R.returned source.old) (R.returned source.new)
         (R.ended source.new) (W.written sink.old) (W.written sink.new) result }
     ensures leaves_source { LeavesSource R.reads R.has_failed source.old source.new result }
@@ -81,7 +76,7 @@ pub fn run_simulate<R: Source, W: Sink>(
     write_simulated(simulated, sink)
 }
 
-/// The answer to what was read.
+/// What becomes of a text, by its log or first fault.
 fn simulate_reading(alloc: Global, reading: Reading) -> Result<Simulated, AllocError>
     ensures { IfOk result (λ s. (text : List ℕ)
         → IsReading text reading → IsSimulated text s) }
@@ -92,10 +87,10 @@ fn simulate_reading(alloc: Global, reading: Reading) -> Result<Simulated, AllocE
     }
 }
 
-/// The answer to a log.
+/// What becomes of a log.
 fn simulate_log(alloc: Global, given: &Log) -> Result<Simulated, AllocError>
     ensures { IfOk result (λ s. (text : List ℕ)
-        → IsLogOf (lines_of_text text) given.now → IsSimulated text s) }
+        → HasLog text given.now → IsSimulated text s) }
 {
     match simulate(alloc, given) {
         Ok(filled) => {
@@ -119,7 +114,7 @@ fn refuse<W: Sink>(line: &Text, sink: &mut W) -> Result<Status, RunFault>
     Ok(Status::Refused)
 }
 
-/// Writes the text of an answer.
+/// Writes the log that was filled in, or the line of a refusal, and flushes.
 fn write_simulated<W: Sink>(simulated: Simulated, sink: &mut W) -> Result<Status, RunFault>
     ensures status { IfOk result (λ s. s ≡ simulated_status simulated) }
     ensures written { Writes W.written W.taken W.is_flushed W.has_failed

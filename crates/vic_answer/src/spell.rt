@@ -1,12 +1,12 @@
-//! The command `spell`: a frame by the words with which `frame` describes it.
+//! The command `spell`: a frame from the words with which `frame` describes it.
 
-ghost use Rattle.std.specs.Prelude.{◌≡◌, ◌<◌, ◌≤◌, ◌++◌, map, length, string_bytes, IfOk, IsTrue};
-ghost use Rattle.arrayvec.specs.ArrayVec.{array_vec_len};
+ghost use Rattle.std.specs.Prelude.{◌≡◌, ◌<◌, ◌≤◌, ◌++◌, map, length, codes, string_bytes, IfOk, IsTrue};
 ghost use Rattle.hex.specs.Hex.{encode_upper};
 ghost use Rattle.vic_frame.specs.Requests.{IsValid};
 ghost use Rattle.vic_answer.specs.SpellText as spec;
 ghost use Rattle.vic_answer.specs.Runs.{Writes};
 
+use crate::lines::refused_word;
 use crate::output::write_and_flush;
 use crate::status::{RunFault, Status};
 use crate::text::{Text, put, put_bytes};
@@ -18,16 +18,16 @@ use vic_frame::{
 };
 use vic_log::{Sink, push_hex};
 
-/// The maximum of a link.
-const MAX_LINK: u64 = 3;
+/// The greatest link.
+const MAX_LINK: u8 = 3;
 
 /// Why words don't spell a frame.
 #[derive(Clone, Copy, Debug, Drop, PartialEq, Eq)]
 pub enum SpellFault {
     /// They aren't a line of `frame`.
     Words,
-    /// The link is above 3, or the mask is longer than its request allows, or its value is longer
-    /// than the mask.
+    /// The link is above 3, or the mask is longer than its request allows, or its value has bits
+    /// above the mask.
     Range,
 }
 
@@ -52,8 +52,7 @@ enum Said {
 }
 
 /// Writes, in hex digits, the frame that `frame` describes by these words, or why there is none,
-/// and flushes. `Write` if the sink has failed: a prefix may have been written. It allocates no
-/// memory.
+/// and flushes. It allocates no memory.
 pub fn run_spell<W: Sink>(words: &[String], sink: &mut W) -> Result<Status, RunFault>
     ensures status { IfOk result (λ s. s ≡ spec.spell_status (map string_bytes words.now)) }
     ensures written { Writes W.written W.taken W.is_flushed W.has_failed
@@ -64,41 +63,32 @@ pub fn run_spell<W: Sink>(words: &[String], sink: &mut W) -> Result<Status, RunF
     Ok(status)
 }
 
-/// The answer to some words.
+/// The text and the status for some words.
 fn answer(words: &[String]) -> (Text, Status)
     ensures text { result.0.items ≡ spec.spell_text (map string_bytes words.now) }
     ensures status { result.1 ≡ spec.spell_status (map string_bytes words.now) }
 {
-    let mut text = ArrayVec::new();
-    let status = match words_reading(words) {
-        Ok(what) => {
-            put_frame(&mut text, &what);
-            Status::Whole
-        }
-        Err(fault) => {
-            put(&mut text, "refused ");
-            put(&mut text, fault.name());
-            Status::Refused
-        }
-    };
-    put(&mut text, "\n");
-    (text, status)
-}
-
-/// Appends a frame to a text.
-fn put_frame(text: &mut Text, what: &Said)
-    requires valid { spec.IsSendable what.now }
-    requires room { array_vec_len text.old ≡ 0 }
-    ensures items { text.new.items ≡ text.old.items ++ encode_upper (spec.frame_of what.now) }
-    ensures len { array_vec_len text.new ≤ 26 }
-{
-    match what {
-        Said::Asked(request) => push_hex(text, write_request(request).as_slice()),
-        Said::Replied(reply) => push_hex(text, &write_response(reply)),
+    match words_reading(words) {
+        Ok(what) => (frame_line(&what), Status::Whole),
+        Err(fault) => (refused_word(fault.name()), Status::Refused),
     }
 }
 
-/// What words say, or why they say nothing.
+/// The line of a frame, in hex digits.
+fn frame_line(what: &Said) -> Text
+    requires { spec.IsSendable what.now }
+    ensures { result.items ≡ encode_upper (spec.frame_of what.now) ++ codes "\n" }
+{
+    let mut text = ArrayVec::new();
+    match what {
+        Said::Asked(request) => push_hex(&mut text, write_request(request).as_slice()),
+        Said::Replied(reply) => push_hex(&mut text, &write_response(reply)),
+    }
+    put(&mut text, "\n");
+    text
+}
+
+/// What words say, or why they aren't a frame.
 fn words_reading(words: &[String]) -> Result<Said, SpellFault>
     ensures said { result ≡ spec.words_reading (map string_bytes words.now) }
     ensures valid { IfOk result spec.IsSendable }
@@ -123,14 +113,14 @@ fn words_reading(words: &[String]) -> Result<Said, SpellFault>
 }
 
 /// The word at an index.
-fn word(words: &[String], place: usize) -> &str
-    requires { place < length words.now }
-    ensures { result.now ≡ spec.word (map string_bytes words.now) place }
+fn word(words: &[String], index: usize) -> &str
+    requires { index < length words.now }
+    ensures { result.now ≡ spec.word (map string_bytes words.now) index }
 {
-    words[place].as_str()
+    words[index].as_str()
 }
 
-/// Whether words say an Inventory request.
+/// Whether these are the words of an Inventory request.
 fn says_inventory(words: &[String]) -> bool
     ensures says { result ≡ spec.says_inventory (map string_bytes words.now) }
     ensures len { IsTrue result → length words.now ≡ 9 }
@@ -143,7 +133,7 @@ fn says_inventory(words: &[String]) -> bool
         && word(words, 6) == "mask"
 }
 
-/// Whether words say a Stay Quiet request.
+/// Whether these are the words of a Stay Quiet request.
 fn says_stay_quiet(words: &[String]) -> bool
     ensures says { result ≡ spec.says_stay_quiet (map string_bytes words.now) }
     ensures len { IsTrue result → length words.now ≡ 6 }
@@ -155,7 +145,7 @@ fn says_stay_quiet(words: &[String]) -> bool
         && word(words, 4) == "uid"
 }
 
-/// Whether words say a reply.
+/// Whether these are the words of a reply.
 fn says_reply(words: &[String]) -> bool
     ensures says { result ≡ spec.says_reply (map string_bytes words.now) }
     ensures len { IsTrue result → length words.now ≡ 7 }
@@ -167,19 +157,19 @@ fn says_reply(words: &[String]) -> bool
         && word(words, 5) == "uid"
 }
 
-/// An Inventory request by its words.
+/// An Inventory request from its words.
 fn inventory(link: &str, slots: &str, len: &str, value: &str) -> Result<Request, SpellFault>
     ensures said { result ≡ spec.inventory_in link.now slots.now len.now value.now }
     ensures valid { IfOk result IsValid }
 {
-    let link = number_up_to(MAX_LINK, link)? as u8;
+    let link = number_up_to(MAX_LINK, link)?;
     let sixteen = sixteen_in(slots)?;
     let longest = if sixteen {
         MAX_MASK_LEN_OF_SIXTEEN
     } else {
         MAX_MASK_LEN
     };
-    let len = number_up_to(u64::from(longest), len)? as u8;
+    let len = number_up_to(longest, len)?;
     let mask = mask_in(len, value)?;
     Ok(Request::Inventory {
         link,
@@ -188,17 +178,17 @@ fn inventory(link: &str, slots: &str, len: &str, value: &str) -> Result<Request,
     })
 }
 
-/// A Stay Quiet request by its words.
+/// A Stay Quiet request from its words.
 fn stay_quiet(link: &str, uid: &str) -> Result<Request, SpellFault>
     ensures said { result ≡ spec.stay_quiet_in link.now uid.now }
     ensures valid { IfOk result IsValid }
 {
-    let link = number_up_to(MAX_LINK, link)? as u8;
+    let link = number_up_to(MAX_LINK, link)?;
     let uid = hex_number_in(8, uid)?;
     Ok(Request::StayQuiet { link, uid })
 }
 
-/// A reply by its words.
+/// A reply from its words.
 fn reply(flags: &str, dsfid: &str, uid: &str) -> Result<Response, SpellFault>
     ensures { result ≡ spec.reply_in flags.now dsfid.now uid.now }
 {
@@ -227,7 +217,7 @@ fn sixteen_in(word: &str) -> Result<bool, SpellFault>
     }
 }
 
-/// A mask of `len` bits, by the word of its value.
+/// A mask of `len` bits, from the word of its value.
 fn mask_in(len: u8, word: &str) -> Result<Mask, SpellFault>
     requires { len ≤ MAX_MASK_LEN }
     ensures { result ≡ spec.mask_in len word.now }
@@ -253,20 +243,20 @@ fn value_in(len: u8, word: &str) -> Result<u64, SpellFault>
     }
 }
 
-/// The number that a word writes in decimal, up to a maximum.
-fn number_up_to(most: u64, word: &str) -> Result<u64, SpellFault>
+/// The number that a word spells in decimal, up to a maximum.
+fn number_up_to(most: u8, word: &str) -> Result<u8, SpellFault>
     ensures said { result ≡ spec.number_up_to most word.now }
     ensures most { IfOk result (λ n. n ≤ most) }
 {
     let number = number_in(word)?;
-    if number <= most {
-        Ok(number)
+    if number <= u64::from(most) {
+        Ok(number as u8)
     } else {
         Err(SpellFault::Range)
     }
 }
 
-/// The number that a word writes in decimal, without a sign or leading zeros.
+/// The number that a word spells in decimal, without a sign or leading zeros.
 fn number_in(word: &str) -> Result<u64, SpellFault>
     ensures { result ≡ spec.number_in word.now }
 {
@@ -281,7 +271,7 @@ fn number_in(word: &str) -> Result<u64, SpellFault>
     }
 }
 
-/// The byte that a word writes in upper-case hex digits.
+/// The byte that a word spells in upper-case hex digits.
 fn byte_in(word: &str) -> Result<u8, SpellFault>
     ensures { result ≡ spec.hex_number_in 1 word.now }
 {
@@ -289,7 +279,7 @@ fn byte_in(word: &str) -> Result<u8, SpellFault>
     Ok(number as u8)
 }
 
-/// The number that a word writes as `count` bytes in upper-case hex digits.
+/// The number that a word spells as `count` bytes in upper-case hex digits.
 fn hex_number_in(count: usize, word: &str) -> Result<u64, SpellFault>
     requires { count ≤ 8 }
     ensures { result ≡ spec.hex_number_in count word.now }

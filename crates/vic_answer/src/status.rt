@@ -5,7 +5,7 @@ ghost use Rattle.vic_answer.specs.Status.{status_code, fault_line};
 
 use std::alloc::AllocError;
 
-/// The result of a run that ended.
+/// How a run that answered ended.
 #[derive(Clone, Copy, Debug, PartialEq, Eq)]
 pub enum Status {
     /// The list is complete, or the requested text was written.
@@ -14,16 +14,16 @@ pub enum Status {
     NotWhole,
     /// No population could have produced the log.
     Impossible,
-    /// The log, or the frame, was refused.
+    /// The text, the frame or the words were refused.
     Refused,
 }
 
-/// Why a run has no answer.
+/// Why a run ended without a status. Unless it is `Write`, nothing was written.
 #[derive(Clone, Copy, Debug, Drop, PartialEq, Eq)]
 pub enum RunFault {
-    /// The reader failed.
+    /// The source failed. One that had failed before isn't read.
     Read,
-    /// The writer failed.
+    /// The sink failed: a prefix of the text may have been written.
     Write,
     /// Memory was refused.
     Memory,
@@ -53,7 +53,7 @@ impl Status {
     }
 }
 
-/// What standard error says about a fault, without its LF.
+/// What standard error says about a fault, without the LF.
 pub fn fault_text(fault: &RunFault) -> &'static str
     ensures { result.now ≡ fault_line fault.now }
 {

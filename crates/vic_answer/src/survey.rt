@@ -1,32 +1,18 @@
-//! What is left of the log of a text without its lines.
+//! The survey of a text's log: its certain UIDs and open masks.
 
-ghost use Rattle.std.specs.Prelude.{◌≡◌, ℕ, List, IfOk};
-ghost use Rattle.vic_verdict.specs.declared.judging.Verdict.TheVariants.{Complete};
+ghost use Rattle.std.specs.Prelude.{ℕ, List, IfOk};
 ghost use Rattle.vic_reconcile.specs.Surveys.{AreCertainIn, AreOpenIn, IsSurvey};
 ghost use Rattle.vic_answer.specs.Answered.{IsAnswered, answer_of};
-ghost use Rattle.vic_answer.specs.CheckText.{IsAnswer, IsCompleteText};
 ghost use Rattle.vic_answer.specs.SurveyNumbers.{IsAnswerWith};
 
-use crate::answered::{Answered, Judgement, answer_text};
+use crate::answered::{Answered, Judgement};
 use std::alloc::{AllocError, Global};
 use vic_frame::{Mask, Uid};
 use vic_log::Log;
 use vic_reconcile::Survey;
 use vic_verdict::Verdict;
 
-/// The answer to a complete text, with what is left of its log. It fails only if memory is refused.
-pub fn survey_text(alloc: Global, text: &[u8]) -> Result<Answered<Survey>, AllocError>
-    ensures surveyed { IfOk result (IsAnswered IsSurvey text.now) }
-    ensures answer { IfOk result (λ s. IsAnswer text.now (answer_of (λ x. x.verdict) s)) }
-    // if it is `complete`, the list of the log is complete and has `count` UIDs
-    ensures whole { IfOk result (λ s. (count : ℕ)
-        → answer_of (λ x. x.verdict) s ≡ Answered.Judged (Complete count)
-        → IsCompleteText text.now count) }
-{
-    answer_text(alloc, text)
-}
-
-/// What is left of a log.
+/// The survey of a log.
 impl Judgement for Survey {
     ghost IsOf = { IsSurvey };
 
@@ -43,7 +29,8 @@ impl Judgement for Survey {
     ghost tells = { λ lines s h. h.verdict };
 }
 
-/// The certain UIDs of its log, in rising order; none if it is impossible or the text refused.
+/// The certain UIDs of the log behind this answer, in rising order; none if it is impossible or the
+/// text refused.
 pub fn certain_of(surveyed: &Answered<Survey>) -> &[Uid]
     ensures { (text : List ℕ) → IsAnswered IsSurvey text surveyed.now
         → IsAnswerWith AreCertainIn text (answer_of (λ x. x.verdict) surveyed.now) result.now }
@@ -54,8 +41,8 @@ pub fn certain_of(surveyed: &Answered<Survey>) -> &[Uid]
     }
 }
 
-/// All open masks of its log, by length, then by value; none if it is impossible or the text
-/// refused.
+/// All open masks of the log behind this answer, by length, then by value; none if it is impossible
+/// or the text refused.
 pub fn open_masks_of(alloc: Global, surveyed: &Answered<Survey>) -> Result<Vec<Mask>, AllocError>
     ensures { IfOk result (λ masks. (text : List ℕ) → IsAnswered IsSurvey text surveyed.now
         → IsAnswerWith AreOpenIn text (answer_of (λ x. x.verdict) surveyed.now) masks.items) }

@@ -1,19 +1,12 @@
-//! The findings by what is left of logs, in numbers.
+//! Findings from surveys, in numbers: no line shows them.
 
-ghost use Rattle.std.specs.Prelude.{◌≡◌, ◌≤◌, IfOk, length};
+ghost use Rattle.std.specs.Prelude.{◌≡◌, IfOk};
 ghost use Rattle.vic_answer.specs.SurveyNumbers as spec;
 
 use crate::answered::Answer;
-use crate::finding_numbers::{
-    FindingKind, VicinityFinding, absent_finding, doubtful_finding, open_finding, push_each,
-    unlisted_finding,
-};
-use crate::lines::refused_at;
-use crate::numbers::{Kind, NO_ANSWER, VicinityAnswer, padded};
-use crate::status::Status;
+use crate::finding_numbers::{FindingKind, VicinityFinding, mask_finding, push_each, uid_finding};
 use std::alloc::{AllocError, Global};
 use vic_reconcile::PlainFindings;
-use vic_report::ShownUid;
 use vic_verdict::Verdict;
 
 /// The first of the findings; if there is none, that all `count` expected UIDs are there and no
@@ -44,7 +37,7 @@ fn first_of(findings: &PlainFindings, count: u32) -> Verdict
     }
 }
 
-/// The findings in numbers, in their order: no line shows them.
+/// The findings in numbers, in their order.
 pub fn plain_findings(
     alloc: Global,
     findings: &PlainFindings,
@@ -55,38 +48,20 @@ pub fn plain_findings(
     push_each(
         &mut list,
         findings.absent.as_slice(),
-        |uid| absent_finding(ShownUid { uid, line: 0 }),
+        |uid| uid_finding(FindingKind::Absent as u32, uid, 0),
     )?;
     push_each(
         &mut list,
         findings.unlisted.as_slice(),
-        |uid| unlisted_finding(ShownUid { uid, line: 0 }),
+        |uid| uid_finding(FindingKind::Unlisted as u32, uid, 0),
     )?;
     if let Some(mask) = findings.unsettled {
-        list.push(VicinityFinding {
-            kind: FindingKind::Unsettled as u32,
-            ..open_finding(mask)
-        })?;
+        list.push(mask_finding(FindingKind::Unsettled as u32, mask))?;
     }
     push_each(
         &mut list,
         findings.doubtful.as_slice(),
-        |uid| doubtful_finding(uid),
+        |uid| uid_finding(FindingKind::Doubtful as u32, uid, 0),
     )?;
     Ok(list)
-}
-
-/// A refusal at a place, by the number of its fault and its name.
-pub fn refusal_numbers(line: u32, fault: u32, name: &str) -> VicinityAnswer
-    requires { length name.now ≤ 16 }
-    ensures { result ≡ spec.refusal_numbers line fault name.now }
-{
-    VicinityAnswer {
-        kind: Kind::Refused as u32,
-        status: u32::from(Status::Refused.code()),
-        line,
-        fault,
-        text: padded(refused_at(line, name).as_slice()),
-        ..NO_ANSWER
-    }
 }

@@ -2,20 +2,23 @@
 
 ghost use Rattle.std.specs.Prelude.{◌≡◌, ◌+◌, ◌≤◌, ◌++◌, length, decimal};
 ghost use Rattle.arrayvec.specs.ArrayVec.{array_vec_len};
-ghost use Rattle.vic_answer.specs.Digits.{hex_bytes, value_text};
+ghost use Rattle.vic_answer.specs.Digits.{hex_bytes, mask_text, uid_text, value_text};
 
 use arrayvec::ArrayVec;
 use itoa::Buffer;
 use vic_frame::Mask;
 use vic_log::push_hex;
 
-/// How many bytes the text of an answer has at most: three lines.
-pub const TEXT_ROOM: usize = 192;
+/// The bytes of an answer's line, padded with zeros, at least one: a line has at most 45.
+pub const LINE_ROOM: usize = 64;
 
-/// The text of an answer, which allocates no memory.
+/// Room for three lines.
+pub const TEXT_ROOM: usize = 3 * LINE_ROOM;
+
+/// A short text, in a buffer of fixed size.
 pub type Text = ArrayVec<u8, TEXT_ROOM>;
 
-/// How many digits a `u32` has at most in decimal.
+/// The greatest number of digits that a `u32` has in decimal.
 const DECIMAL_LEN: usize = 10;
 
 /// How many digits eight bytes have in hex.
@@ -53,8 +56,31 @@ pub(crate) fn put_bytes(text: &mut Text, count: usize, number: u64)
     push_hex(text, &bytes[8 - count..]);
 }
 
+/// Appends a UID, in hex digits.
+pub(crate) fn put_uid(text: &mut Text, uid: u64)
+    requires { array_vec_len text.old + HEX_LEN ≤ TEXT_ROOM }
+    ensures items { text.new.items ≡ text.old.items ++ uid_text uid }
+    ensures len { array_vec_len text.new ≤ array_vec_len text.old + HEX_LEN }
+{
+    put_bytes(text, 8, uid);
+}
+
+/// The greatest number of bytes of a mask: its length, a space and its value.
+const MASK_LEN: usize = DECIMAL_LEN + 1 + HEX_LEN;
+
+/// Appends a mask: its length and its value.
+pub(crate) fn put_mask(text: &mut Text, mask: &Mask)
+    requires { array_vec_len text.old + MASK_LEN ≤ TEXT_ROOM }
+    ensures items { text.new.items ≡ text.old.items ++ mask_text mask.now }
+    ensures len { array_vec_len text.new ≤ array_vec_len text.old + MASK_LEN }
+{
+    put_decimal(text, u32::from(mask.len()));
+    put(text, " ");
+    put_value(text, mask);
+}
+
 /// Appends the value of a mask.
-pub(crate) fn put_value(text: &mut Text, mask: &Mask)
+fn put_value(text: &mut Text, mask: &Mask)
     requires { array_vec_len text.old + HEX_LEN ≤ TEXT_ROOM }
     ensures items { text.new.items ≡ text.old.items ++ value_text mask.now }
     ensures len { array_vec_len text.new ≤ array_vec_len text.old + HEX_LEN }

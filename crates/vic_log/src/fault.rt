@@ -20,14 +20,13 @@ pub enum LineFault {
     LineTooLong,
     /// It is line 1 and isn't a version's header, or the text is empty.
     Header,
-    /// It isn't ignored, isn't `S`, `C` or (in version 2) `D` or `F`, and doesn't begin with `T `,
-    /// `R ` or `U `.
+    /// It isn't ignored, and is no entry of its version.
     UnknownEntry,
     /// What follows the space isn't an even number of hex digits.
     Hex,
     /// It is a `U` line without exactly eight bytes.
     ListedLength,
-    /// It is a `T` or `R` line whose frame has this fault.
+    /// It is a `T`, `R` or `H` line whose frame has this fault.
     Frame(FrameFault),
     /// It is a `U` line whose first byte isn't E0.
     NotVicinity,

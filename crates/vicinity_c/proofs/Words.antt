@@ -33,8 +33,8 @@ pub use Rattle.vic_reconcile.specs.Surveys.{AreCertainIn, AreFindingsBy, AreNone
 pub use Rattle.vic_reconcile.specs.declared.surveys.PlainFindings.{PlainFindings}
 pub use Rattle.vic_answer.specs.CheckText.{IsCompleteText}
 pub use Rattle.vic_answer.specs.ExplainedNumbers.{IsPutInto}
-pub use Rattle.vic_answer.specs.Numbers.{numbers_of}
-pub use Rattle.vic_answer.specs.SurveyNumbers.{IsAnswerWith, first_of, plain_answer, refusal_numbers}
+pub use Rattle.vic_answer.specs.Numbers.{numbers_of, refusal_numbers}
+pub use Rattle.vic_answer.specs.SurveyNumbers.{IsAnswerWith, first_of, plain_answer}
 pub use Rattle.vic_answer.specs.declared.answered.Answered.{Answered}
 pub use Rattle.vic_answer.specs.declared.answered.Answered.TheVariants.{Judged, RefusedAt}
 pub use Rattle.vic_verdict.specs.Possible.{IsPossible}

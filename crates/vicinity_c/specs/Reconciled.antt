@@ -8,8 +8,8 @@ use Rattle.vic_reconcile.specs.declared.surveys.PlainFindings.{PlainFindings}
 use Rattle.vic_answer.specs.declared.finding_numbers.VicinityFinding.{VicinityFinding}
 use Rattle.vic_answer.specs.declared.numbers.VicinityAnswer.{VicinityAnswer}
 use Rattle.vic_answer.specs.ExplainedNumbers.{IsPutInto}
-use Rattle.vic_answer.specs.Numbers.{numbers_of}
-use Rattle.vic_answer.specs.SurveyNumbers.{plain_answer, plain_findings, refusal_numbers}
+use Rattle.vic_answer.specs.Numbers.{numbers_of, refusal_numbers}
+use Rattle.vic_answer.specs.SurveyNumbers.{plain_answer, plain_findings}
 use Rattle.vicinity_c.specs.declared.inventory.VicinityMask.{VicinityMask}
 use Rattle.vicinity_c.specs.Arrays.{HaveNoFault, IsFirstFault, faults_of, mask_in}
 use Rattle.vicinity_c.specs.Names.{fault_name}

@@ -32,7 +32,7 @@ pub use margins::VicinityWeakest;
 pub use names::{VicinityName, each_fault_has_its_name};
 use std::alloc::Global;
 use vic_answer::{
-    NO_ANSWER, VicinityAnswer, answer_of, explain_text, judge_text, numbers_of, put_population,
+    NO_ANSWER, VicinityAnswer, answer_of, answer_text, judge_text, numbers_of, put_population,
 };
 
 /// The number of this interface: it changes if a struct, a number or the meaning of a call changes,
@@ -93,7 +93,7 @@ pub extern "C" fn vicinity_explain(
         → (needed.new ≡ 0) × (population.new ≡ population.old) }
     ensures status { result ≡ answer.new.status }
 {
-    let Ok(explained) = explain_text(alloc, text) else {
+    let Ok(explained) = answer_text(alloc, text) else {
         *answer = NO_ANSWER;
         *needed = 0;
         return NO_ANSWER.status;

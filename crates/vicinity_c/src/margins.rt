@@ -15,7 +15,7 @@ use crate::arrays::{MOST, uids_in};
 use crate::lines::with_listed;
 use std::alloc::{AllocError, Global};
 use vic_answer::{
-    Answered, NO_ANSWER, Overlooked, VicinityAnswer, answer_of, margin_text, numbers_of,
+    Answered, NO_ANSWER, Overlooked, VicinityAnswer, answer_of, answer_text, numbers_of,
     overlooked_answer, overlooked_text, read_text,
 };
 use vic_log::LineFault;
@@ -58,7 +58,7 @@ pub extern "C" fn vicinity_margin(
     ensures no_weakest { answer.new.kind ≡ 0 → weakest.new ≡ spec.no_weakest }
     ensures status { result ≡ answer.new.status }
 {
-    let Ok(measured) = margin_text(alloc, text) else {
+    let Ok(measured) = answer_text(alloc, text) else {
         return refuse(answer, weakest);
     };
     *weakest = weakest_of(&measured);

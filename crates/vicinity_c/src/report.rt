@@ -9,8 +9,8 @@ ghost use Rattle.vic_answer.specs.Numbers.{AreNumbersFor, no_answer};
 use crate::lines::with_listed;
 use std::alloc::Global;
 use vic_answer::{
-    NO_ANSWER, VicinityAnswer, VicinityFinding, answer_of, findings_of, numbers_of, put_findings,
-    report_text,
+    NO_ANSWER, VicinityAnswer, VicinityFinding, answer_of, answer_text, findings_of, numbers_of,
+    put_findings,
 };
 
 /// Judges the log that a text spells, as `vicinity_check` does, and returns every finding: the
@@ -34,7 +34,7 @@ pub extern "C" fn vicinity_report(
         → (needed.new ≡ 0) × (findings.new ≡ findings.old) }
     ensures status { result ≡ answer.new.status }
 {
-    let Ok(reported) = report_text(alloc, text) else {
+    let Ok(reported) = answer_text(alloc, text) else {
         return refuse(answer, needed);
     };
     let Ok(list) = findings_of(alloc, &reported) else {

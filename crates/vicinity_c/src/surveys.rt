@@ -12,7 +12,7 @@ use crate::inventory::{VicinityMask, mask_fields};
 use crate::report::refuse;
 use std::alloc::Global;
 use vic_answer::{
-    VicinityAnswer, answer_of, certain_of, numbers_of, open_masks_of, put_uids, survey_text,
+    VicinityAnswer, answer_of, answer_text, certain_of, numbers_of, open_masks_of, put_uids,
 };
 use vic_frame::Mask;
 
@@ -38,7 +38,7 @@ pub extern "C" fn vicinity_certain(
     ensures no_uids { answer.new.kind ≡ 0 → (needed.new ≡ 0) × (uids.new ≡ uids.old) }
     ensures status { result ≡ answer.new.status }
 {
-    let Ok(surveyed) = survey_text(alloc, text) else {
+    let Ok(surveyed) = answer_text(alloc, text) else {
         return refuse(answer, needed);
     };
     let certain = certain_of(&surveyed);
@@ -71,7 +71,7 @@ pub extern "C" fn vicinity_open_masks(
     ensures no_masks { answer.new.kind ≡ 0 → (needed.new ≡ 0) × (masks.new ≡ masks.old) }
     ensures status { result ≡ answer.new.status }
 {
-    let Ok(surveyed) = survey_text(alloc, text) else {
+    let Ok(surveyed) = answer_text(alloc, text) else {
         return refuse(answer, needed);
     };
     let Ok(open) = open_masks_of(alloc, &surveyed) else {
@@ -110,7 +110,7 @@ pub extern "C" fn vicinity_survey(
     ensures status { result ≡ answer.new.status }
 {
     *masks_needed = 0;
-    let Ok(surveyed) = survey_text(alloc, text) else {
+    let Ok(surveyed) = answer_text(alloc, text) else {
         return refuse(answer, uids_needed);
     };
     let Ok(open) = open_masks_of(alloc, &surveyed) else {

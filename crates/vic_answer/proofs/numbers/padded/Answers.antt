@@ -1,5 +1,5 @@
 use Rattle.vic_answer.proofs.Words.{ℕ, List, ◌++◌, length, drop, replicate, ap, ◌∙◌, drop-replicate}
-use Rattle.vic_answer.specs.declared.lines.TheConstants.{LINE_ROOM}
+use Rattle.vic_answer.specs.declared.text.TheConstants.{LINE_ROOM}
 use Rattle.vic_answer.proofs.numbers.padded.Goals as goal
 
 pub returns : goal.returns

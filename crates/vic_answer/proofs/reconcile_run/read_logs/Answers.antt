@@ -46,7 +46,7 @@ returns-in_err-read-in-Going-clause-stops g c =
     stops_at_log g.R.Source.returned g.R.Source.ended g.R.Source.has_failed c.read_next.result g.R.Source.reads list c.in-Going.joined c.args.logs.now c.loop-at.logs c.loop-at.at _ c.read_next.new.source fault
     is lt c.loop-at.auto.logs c.loop-at.invariant.left
     (record { texts = was.texts; as_many = was.as_many; each = was.each; holds = rw c.in-Going.is at was.holds.0 })
-    c.read_next.ensures.leaves_source (rw is at c.read_next.ensures.cut) in
+    c.read_next.ensures.leaves_source (rw is at c.read_next.ensures.no_early_fault) in
     if_err c.from_residual.result fault _ c.from_residual.ensures.1 k
 
 pub returns-clause-leaves_sources : goal.returns-clause-leaves_sources

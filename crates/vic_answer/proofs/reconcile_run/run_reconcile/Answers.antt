@@ -14,7 +14,7 @@ returns-in_err-begun-clause-stops g c =
     let e = c.read_expected.ensures in
     if_err c.from_residual.result fault _ c.from_residual.ensures.1
     (stops_at_list g.R.Source.returned g.R.Source.ended g.R.Source.has_failed c.args.list.now c.read_expected.new.source c.args.logs.now c.args.logs.now
-    c.read_expected.result g.R.Source.reads fault is e.leaves_source (rw is at e.cut))
+    c.read_expected.result g.R.Source.reads fault is e.leaves_source (rw is at e.no_early_fault))
 
 pub returns-in_err-begun-clause-leaves_sources : goal.returns-in_err-begun-clause-leaves_sources
 returns-in_err-begun-clause-leaves_sources g c =
@@ -52,7 +52,7 @@ returns-clause-answer g c =
     (reconciles g.R.Source.returned g.R.Source.ended g.R.Source.has_failed c.args.list.now c.read_expected.new.source c.args.logs.now c.read_logs.new.logs
     c.in_ok-begun.begun c.in_ok-read.read c.in_ok-answer.answer b.text.text (b.text.given, (b.text.enough, b.leaves_source.works)) (c.in_ok-read.ensures.texts b.text.text b.text.holds)
     c.in_ok-answer.ensures.answer c.in_ok-answer.ensures.ended)
-    w.status w.wrote w.part
+    w.written.0 w.written.1 w.written.2
 
 pub returns-clause-complete : goal.returns-clause-complete
 returns-clause-complete g c =
@@ -67,4 +67,4 @@ returns-clause-complete g c =
     c.in_ok-begun.begun c.in_ok-read.read answer b.text.text (b.text.given, (b.text.enough, b.leaves_source.works)) (c.in_ok-read.ensures.texts b.text.text b.text.holds)
     c.in_ok-answer.ensures.answer c.in_ok-answer.ensures.ended)
     (λ text texts h. (complete text texts rest h.0 now, all_where_complete _ _ answer rest (length logs) (length texts) (append_cancel_left _ _ _ (sym wrote ∙ now)) h.1)))
-    w.complete w.wrote
+    w.complete w.written.1

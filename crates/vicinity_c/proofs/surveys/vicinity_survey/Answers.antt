@@ -7,7 +7,7 @@ returns-clause-certain c k =
     record {
       answer = c.answer_of.result;
       items = us;
-      right = subst (λ a. IsAnswerWith AreCertainIn c.args.text.now a us) (sym c.answer_of.ensures) (c.certain_of-certain.ensures c.args.text.now c.in-Ok.ensures.surveyed);
+      right = subst (λ a. IsAnswerWith AreCertainIn c.args.text.now a us) (sym c.answer_of.ensures) (c.certain_of-certain.ensures c.args.text.now c.in-Ok.ensures.found);
       numbers_are = c.numbers_of-numbers.ensures.numbers;
       counted = refl;
       put = subst (λ vs. IsPutInto vs c.args.uids.now c.put_uids.new.room) (sym (map-id us)) c.put_uids.ensures;
@@ -19,7 +19,7 @@ returns-clause-open_masks c k =
     record {
       answer = c.answer_of.result;
       items = ms;
-      right = subst (λ a. IsAnswerWith AreOpenIn c.args.text.now a ms) (sym c.answer_of.ensures) (c.in-Ok-open_masks_of.ensures c.args.text.now c.in-Ok.ensures.surveyed);
+      right = subst (λ a. IsAnswerWith AreOpenIn c.args.text.now a ms) (sym c.answer_of.ensures) (c.in-Ok-open_masks_of.ensures c.args.text.now c.in-Ok.ensures.found);
       numbers_are = c.numbers_of-numbers.ensures.numbers;
       counted = c.len.ensures ∙ c.in-Ok-open_masks_of.open.ok.0;
       put = subst (λ (us : List BitMask). IsPutInto (map mask_fields us) c.args.masks.now c.put_masks.new.room) c.as_slice.ensures.value c.put_masks.ensures;
