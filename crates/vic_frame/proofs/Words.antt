@@ -7,7 +7,7 @@ pub use Rattle.std.proofs.lemmas.Bool.Decides.{nat_tests}
 pub use Rattle.std.proofs.lemmas.Cmp.{ranked}
 pub use Rattle.std.proofs.lemmas.List.{drop_all, get_or_past}
 pub use Rattle.std.proofs.lemmas.List.FromFn.{get_or-map-range_with_len}
-pub use Rattle.std.proofs.lemmas.Nat.{and_mask, field_of, mod-pow-add, mod_below, mod_low, mul-le, one_shl, shl_whole, shr_high, shr_split, xor_comm, xor_lt, xor_mod, xor_shr}
+pub use Rattle.std.proofs.lemmas.Nat.{and_mask, field_of, mod-pow-add, mod_below, mod_low, mul-le, shl_whole, shr_high, shr_split, xor_comm, xor_lt, xor_mod, xor_shr}
 pub use Rattle.std.specs.List.{range_with_len}
 pub use Rattle.vic_frame.specs.Bytes.{AreBytes, bit, bits, bits_of, bytes_of, number_of}
 pub use Rattle.vic_frame.specs.Crc.{after_bits, crc, crc_right, register, with_crc}
