@@ -13,7 +13,7 @@ use crate::others::other_keys;
 use std::alloc::{AllocError, Global};
 use vic_log::Log;
 use vic_tree::{OpenSet, RangeSet, SortedKeys};
-use vic_verdict::{Facts, Verdict, facts_and_parts_of, first_finding, listed_uids};
+use vic_verdict::{Facts, Verdict, facts_and_parts_of, listed_uids, verdict_of_facts};
 
 /// The verdict on a log, and its margin, if it is possible. It fails only if memory is refused.
 pub fn margin(alloc: Global, log: &Log) -> Result<Margin, AllocError>
@@ -29,7 +29,7 @@ pub fn margin(alloc: Global, log: &Log) -> Result<Margin, AllocError>
                 met: _,
                 certain,
             } = facts;
-            let verdict = first_finding(alloc, open, &certain, log)?;
+            let verdict = verdict_of_facts(alloc, open, &certain, log)?;
             let weakest = match verdict {
                 // its UIDs were overlooked nowhere
                 Verdict::Unsettled(mask) => Weakest { margin: 0, mask },

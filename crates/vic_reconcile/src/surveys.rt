@@ -16,7 +16,7 @@ use std::alloc::{AllocError, Global};
 use vic_frame::{Mask, Uid};
 use vic_log::Log;
 use vic_tree::{RangeSet, RisingUids, SortedKeys};
-use vic_verdict::{Facts, Verdict, compare, facts_of, first_finding, missing_from};
+use vic_verdict::{Facts, Verdict, compare, facts_of, missing_from, verdict_of_facts};
 
 /// What is left of a log without its lines.
 #[derive(Drop)]
@@ -67,7 +67,7 @@ fn survey_facts(alloc: Global, facts: Facts<RangeSet>, log: &Log) -> Result<Surv
     } = facts;
     let keys = SortedKeys::of(alloc, certain.as_slice())?;
     let left = open.besides(alloc, &keys)?;
-    let verdict = first_finding(alloc, open, &certain, log)?;
+    let verdict = verdict_of_facts(alloc, open, &certain, log)?;
     Ok(Survey {
         verdict,
         certain: certain.into_vec(),

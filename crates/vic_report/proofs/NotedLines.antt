@@ -1,4 +1,4 @@
--- Lines that are noted of UIDs, one after another.
+-- Lines that are noted for UIDs, one after another.
 use Rattle.vic_report.proofs.Words.{◌≡◌, ℕ, true, List, Some, sym, ap, subst, ◌∙◌, arith, cond, inl, inr, cases_eq, false≢true, nat_cmp, ◌+◌, ◌<◌, ◌≤◌, length, take, get_or, get_or_default, slice_get, eqb-true, has, cases_lt, hears, Answering, Entry, LogLine, entries, ShowsCertain}
 use Rattle.std.proofs.Common.{is_some, nat_eq, ◌⊎◌}
 use Rattle.std.proofs.lemmas.Bool.{or_cases}
@@ -6,8 +6,8 @@ use Rattle.std.proofs.lemmas.Option.{slice_get_past}
 use Rattle.std.proofs.lemmas.List.Folds.{list_any_more}
 use Rattle.std.proofs.lemmas.Grind.{common_steps}
 use Rattle.std.specs.BTreeMap as map
-use Rattle.vic_report.specs.inner.NotedLines.{HasNoted, IsExactAt, is_noted}
-use Rattle.vic_verdict.specs.Needs.{IsExactFor, IsMet, IsMetFor}
+use Rattle.vic_report.specs.inner.NotedLines.{HasNoted, is_noted}
+use Rattle.vic_verdict.specs.Needs.{IsExactAt, IsExactFor, IsMet, IsMetFor}
 use Rattle.vic_verdict.specs.Verdict.{IsHeard}
 use Rattle.vic_verdict.specs.declared.facts.Met.{Met}
 
@@ -42,7 +42,7 @@ noted_next lines old new uid line shows is = record {
     | inr other ↦ let here = is u in inr (grind (arith, common_steps, here, other))
   ]
 
--- ---- of whom a line is noted
+-- ---- for whom a line is noted
 
 -- the UID was heard before position i
 abbrev pub IsHeardBefore : List Entry → ℕ → ℕ → Type 0
@@ -84,7 +84,7 @@ member_split us i u own below is h = elim (or_cases _ _ (sym (list_any_more (nat
 
 -- ---- replies, and then unread slots
 
-pub met_noted : (lines : List LogLine) (met : Met) (a b c : map.BTreeMap ℕ ℕ) (u : ℕ) → IsMet (entries lines) met → HasNoted lines a b (IsHeard (entries lines)) → HasNoted lines b c (IsExactFor met.found.items) → IsMetFor met u → is_noted c u ≡ true
+pub met_noted : (lines : List LogLine) (met : Met) (a b c : map.BTreeMap ℕ ℕ) (u : ℕ) → IsMet (entries lines) met → HasNoted lines a b (IsHeard (entries lines)) → HasNoted lines b c (IsExactFor met.unread.items) → IsMetFor met u → is_noted c u ≡ true
 met_noted lines met a b c u is replies unread for = elim for [
   | inl heard ↦ unread.kept u (replies.more u ((is.heard u).0 heard))
   | inr exact ↦ unread.more u exact

@@ -40,9 +40,8 @@ pub use Rattle.vic_verdict.proofs.Entries.{entry_allows, forces_one_iff, forces_
 pub use Rattle.vic_verdict.proofs.Failing.{head_least, member_at, none_of, place_of, rising_order}
 pub use Rattle.vic_verdict.proofs.Listing.{entry_at}
 pub use Rattle.vic_walk.proofs.LineLaws.{first_lines}
-pub use Rattle.vic_verdict.specs.Needs.{IsFound}
+pub use Rattle.vic_verdict.specs.Needs.{IsFound, answering}
 pub use Rattle.vic_verdict.specs.Differences.{IsLeftOpen, IsUndecided, MayBeMissing}
-pub use Rattle.vic_verdict.specs.Places.{answering}
 pub use Rattle.vic_verdict.specs.Possible.{IsCertainUid, IsPossible, IsPossibleUid}
 pub use Rattle.vic_verdict.specs.Rising.{IsFailing, IsListOf}
 pub use Rattle.vic_verdict.specs.Verdict.{IsAbsent, IsFirstMask, IsUnlisted, IsVerdict, NoSuch, entries_to}

@@ -1,4 +1,4 @@
--- Why a log became impossible (profile): no population fits all of some slot lines.
+-- Why a log is impossible (profile): no population fits all of some slot lines.
 use Rattle.std.specs.Prelude.{◌≡◌, ◌≢◌, ℕ, ◌<◌, ◌≤◌, true, false, Some, List, slice_get, MatchOption}
 use Rattle.std.specs.List.Sorted.{IsStrictlyIncreasing}
 use Rattle.vic_frame.specs.Uids.{has}
@@ -12,8 +12,8 @@ use Rattle.vic_report.specs.declared.conflict.Conflict.{Conflict}
 use Rattle.vic_verdict.specs.declared.judging.Verdict.TheVariants.{Impossible}
 use Rattle.vic_verdict.specs.Verdict.{IsVerdict}
 
--- the population fits the lines with these numbers: each of them that is a slot line fits those of
--- the population who answer there
+-- the population fits the lines with these numbers: those of the population who answer at one of
+-- them fit it
 abbrev pub FitsLines : List LogLine → List ℕ → List ℕ → Type 0
 FitsLines lines numbers p =
     (i : ℕ) (l : LogLine) → slice_get lines i ≡ Some l → has numbers l.number ≡ true
@@ -35,8 +35,8 @@ pub record IsConflictAt (lines : List LogLine) (n : ℕ) (numbers : List ℕ) : 
   pub slots : (m : ℕ) → has numbers m ≡ true → IsSlotLine lines m
   pub unfit : (p : List ℕ) → IsPopulation p → FitsLines lines numbers p → ⊥
 
--- the UID is Quiet at position i by the line with number n: the last Stay Quiet with the UID before
--- i, with no field cycle in between
+-- the tag with UID u is Quiet at position i by the line with number n: the last Stay Quiet with the
+-- UID before i, with no field cycle in between
 pub record IsSilencedBefore (lines : List LogLine) (i u n : ℕ) : Type 0 where
   pub place : ℕ
   pub before : place < i
@@ -47,7 +47,7 @@ pub record IsSilencedBefore (lines : List LogLine) (i u n : ℕ) : Type 0 where
   pub last : (k : ℕ) → place < k → k < i → silences (slice_get (entries lines) k) u ≡ false
   pub powered : (k : ℕ) → place < k → k < i → slice_get (entries lines) k ≢ Some FieldCycle
 
--- the line with this number is a reply of a UID that is Quiet there by the line with another number
+-- the line with this number is a reply of a tag that the line with another number made Quiet there
 pub record IsSilencedBy (lines : List LogLine) (n silencer : ℕ) : Type 0 where
   pub place : ℕ
   pub line : LogLine
@@ -57,7 +57,7 @@ pub record IsSilencedBy (lines : List LogLine) (n silencer : ℕ) : Type 0 where
   pub reply : hears (Some line.item) uid ≡ true
   pub by : IsSilencedBefore lines place uid silencer
 
--- no line with this number is a reply of a UID that is Quiet there
+-- no line with this number is a reply of a tag that is Quiet there
 abbrev pub IsNoQuietReply : List LogLine → ℕ → Type 0
 IsNoQuietReply lines n =
     (i : ℕ) (l : LogLine) (u : ℕ) → slice_get lines i ≡ Some l → l.number ≡ n

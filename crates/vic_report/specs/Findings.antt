@@ -1,7 +1,7 @@
 -- The lines that show the findings of a possible log (profile).
 use Rattle.std.specs.Prelude.{◌≡◌, ◌≢◌, ◌⊎◌, ℕ, true, Some, List, slice_get, map}
 use Rattle.vic_log.specs.declared.entry.Entry.{Entry}
-use Rattle.vic_log.specs.declared.entry.Entry.TheVariants.{Sent, Silent, Collision, Heard, Listed, Garbled, FieldCycle, Captured, Unknown}
+use Rattle.vic_log.specs.declared.entry.Entry.TheVariants.{Collision, Heard, Garbled, Captured}
 use Rattle.vic_log.specs.declared.entry.LogLine.{LogLine}
 use Rattle.vic_log.specs.Order.{entries}
 use Rattle.vic_log.specs.Overlooked.{denies_reply_of}
@@ -35,11 +35,7 @@ TellsOf es i u Collision =
     × ((v : ℕ) × (v ≢ u) × MayAnswer es i v
     × ((w : ℕ) → MayAnswer es i w → (w ≡ u) ⊎ (w ≡ v)))
 TellsOf es i u Garbled = MayAnswer es i u × ((w : ℕ) → MayAnswer es i w → w ≡ u)
-TellsOf es i u Silent = ⊥
-TellsOf es i u Unknown = ⊥
-TellsOf es i u (Sent q) = ⊥
-TellsOf es i u (Listed v) = ⊥
-TellsOf es i u FieldCycle = ⊥
+TellsOf es i u e = ⊥
 
 -- the line with this number shows that the UID is there
 pub record ShowsCertain (lines : List LogLine) (n u : ℕ) : Type 0 where

@@ -41,9 +41,9 @@ pub record IsUnsettledWith (es : List Entry) (x : Unsettled) : Type 0 where
   pub mask : IsFirstMask (IsLeftOpen es) x.mask
   pub open_masks : AreOpenMasks es x.open
 
--- the findings of the lines of a possible log; they come side by side, so `IsLeftOpen` leaves out
--- the UIDs that are certain, and `MayBeMissing` those that are absent; `IsUnsettled` and
--- `IsDoubtful` don't, since these verdicts come only if no UID is absent or unlisted
+-- the findings of a possible log. A UID has one finding at most: so the mask avoids certain UIDs
+-- (`IsLeftOpen`), and the doubtful ones leave out the absent (`MayBeMissing`). A verdict needn't:
+-- it is unsettled or doubtful only if no UID is absent or unlisted
 pub record AreFindings (lines : List LogLine) (f : Findings) : Type 0 where
   pub absent : IsListOf (IsAbsent (entries lines)) (uids_of f.absent.items)
   pub absent_shown : All (IsRuledOut lines) f.absent.items

@@ -31,29 +31,13 @@ pub(crate) fn lines_of_absent(
         return Ok(shown);
     }
     let lines = log.lines();
-    let walked = indexed(alloc, walk_log(alloc, &LogLines::of(log))?)?;
+    let LogWalk { parts, walk, .. } = walk_log(alloc, &LogLines::of(log))?;
+    let indexed = parts.indexed(alloc)?;
     for uid in absent {
         // not 0, since the UID isn't open
-        let end = walked.walk.ends[walked.parts.at(key(*uid))] as usize;
+        let end = walk.ends[indexed.at(key(*uid))] as usize;
         let line = lines[end - 1].number();
         shown.push(ShownUid { uid: *uid, line })?;
     }
     Ok(shown)
-}
-
-/// A walk in whose parts keys are looked up by an index.
-fn indexed(alloc: Global, walked: LogWalk) -> Result<LogWalk, AllocError>
-    ensures { IfOk result (λ w. w ≡ walked) }
-{
-    let LogWalk {
-        parts,
-        walk,
-        broken,
-    } = walked;
-    let parts = parts.indexed(alloc)?;
-    Ok(LogWalk {
-        parts,
-        walk,
-        broken,
-    })
 }

@@ -1,7 +1,7 @@
 //! Lines that show that UIDs are there.
 //!
-//! The first line is noted of each UID: of replies, and then of the unread slots that need all who
-//! answer there. That a reply is the first one is only tested.
+//! The first line is noted for each UID: of replies, and then of the unread slots that require all
+//! who answer there. That a reply is the first one is only tested.
 
 ghost use Rattle.std.specs.Prelude.{◌≡◌, ℕ, IfOk, OnOk, Some, List, slice_get, true};
 ghost use Rattle.std.specs.List.{All};
@@ -23,7 +23,7 @@ use vic_log::PackedLine;
 use vic_verdict::Met;
 use vic_walk::Answering;
 
-/// For each of some UIDs that are certain by a possible log, a line that shows that it is there.
+/// For each of some UIDs that are certain in a possible log, a line that shows that it is there.
 pub fn lines_of_certain(
     alloc: Global,
     lines: &[PackedLine],
@@ -42,7 +42,7 @@ pub fn lines_of_certain(
     }
     let mut noted = BTreeMap::new(alloc);
     note_replies(&mut noted, lines)?;
-    note_unread(&mut noted, lines, &met.found)?;
+    note_unread(&mut noted, lines, &met.unread)?;
     for uid in certain {
         let Some(line) = noted.get(uid) else {
             unreachable!()
@@ -55,7 +55,7 @@ pub fn lines_of_certain(
     Ok(shown)
 }
 
-/// Notes a line that shows that a UID is there, unless one is noted of it.
+/// Notes a line that shows that a UID is there, unless one is noted for it.
 fn note(noted: &mut BTreeMap<Uid, u32>, uid: Uid, line: u32) -> Result<(), AllocError>
     ensures { OnOk result ((lines : List LogLineValue) → ShowsCertain lines line uid
         → HasNoted lines noted.old noted.new (λ u. u ≡ uid)) }
@@ -67,7 +67,7 @@ fn note(noted: &mut BTreeMap<Uid, u32>, uid: Uid, line: u32) -> Result<(), Alloc
     Ok(())
 }
 
-/// Notes a line of each UID that was heard.
+/// Notes a line for each UID that was heard.
 fn note_replies(noted: &mut BTreeMap<Uid, u32>, lines: &[PackedLine]) -> Result<(), AllocError>
     ensures { OnOk result (HasNoted lines.now noted.old noted.new (IsHeard (entries lines.now))) }
 {
@@ -90,30 +90,26 @@ fn note_reply(noted: &mut BTreeMap<Uid, u32>, line: &PackedLine) -> Result<(), A
     Ok(())
 }
 
-/// Notes a line of each UID that some unread slot needs: of those that answer there, if no more do
-/// than have to be there.
+/// Notes the line of each unread slot that requires all who answer there, for these UIDs.
 fn note_unread(
     noted: &mut BTreeMap<Uid, u32>,
     lines: &[PackedLine],
-    found: &[Answering],
+    unread: &[Answering],
 ) -> Result<(), AllocError>
     requires possible { IsPossible (entries lines.now) }
-    requires found { All (IsFound (entries lines.now)) found.now }
-    ensures { OnOk result (HasNoted lines.now noted.old noted.new (IsExactFor found.now)) }
+    requires found { All (IsFound (entries lines.now)) unread.now }
+    ensures { OnOk result (HasNoted lines.now noted.old noted.new (IsExactFor unread.now)) }
 {
-    for slot in found {
+    for slot in unread {
         if slot.uids.len() != slot.need {
             continue;
         }
-        let Some(line) = lines.get(slot.at) else {
-            unreachable!()
-        };
-        note_all(noted, &slot.uids, line.number())?;
+        note_all(noted, &slot.uids, lines[slot.at].number())?;
     }
     Ok(())
 }
 
-/// Notes a line of some UIDs.
+/// Notes one line for several UIDs.
 fn note_all(noted: &mut BTreeMap<Uid, u32>, uids: &[Uid], line: u32) -> Result<(), AllocError>
     ensures { OnOk result ((lines : List LogLineValue)
         → ((u : ℕ) → has uids.now u ≡ true → ShowsCertain lines line u)

@@ -1,4 +1,4 @@
-//! Why a log became impossible: slot lines that no population fits.
+//! Why a log is impossible: slot lines that no population fits.
 
 ghost use Rattle.std.specs.Prelude.{◌≡◌, ℕ, IfOk, IfSome, true};
 ghost use Rattle.vic_frame.specs.Uids.{has};
@@ -17,16 +17,14 @@ use vic_log::{Log, PackedLine};
 use vic_verdict::is_possible;
 use vic_walk::LogLines;
 
-/// The first line up to which no population could have produced a log, and slot lines up to it that
-/// no population fits.
+/// The first impossible line of a log, and slot lines up to it that no population fits.
 #[derive(Drop)]
 pub struct Conflict {
-    /// The number of that first line.
+    /// The number of the first impossible line.
     pub line: u32,
     /// The numbers of slot lines that no population fits together, in rising order; `line` is the
-    /// last. It is alone if no population fits it, as none fits a reply of a Quiet tag. Each line
-    /// counts with its mask and with the tags that are Quiet there. That none can be left out is
-    /// only tested.
+    /// last. Each line counts with its mask and with the tags that are Quiet there. That none can
+    /// be left out is only tested; if the guess at them fails, all slot lines are named.
     pub lines: Vec<u32>,
     /// If `line` is a reply of a tag that is Quiet there, the number of the last Stay Quiet that
     /// silenced it.
@@ -54,9 +52,8 @@ pub(crate) fn find_conflict(alloc: Global, log: &Log, line: u32) -> Result<Confl
     })
 }
 
-/// The numbers of the lines of a conflict, as they are guessed; `None` if the guess isn't one: if
-/// the lines aren't slot lines, the last one `last`, or the log that keeps only these slot lines is
-/// possible.
+/// The numbers that `vic_guess` guesses; `None` if they aren't those of a conflict: one isn't that
+/// of a slot line, the last isn't `last`, or the log that keeps only these lines is possible.
 fn guessed_numbers(alloc: Global, log: &Log, last: u32) -> Result<Option<LineNumbers>, AllocError>
     ensures { IfOk result (λ guess. IfSome guess (IsConflictAt log.now.lines last)) }
 {
@@ -75,7 +72,7 @@ fn guessed_numbers(alloc: Global, log: &Log, last: u32) -> Result<Option<LineNum
     Ok(Some(numbers))
 }
 
-/// Whether each of some numbers is that of a slot line.
+/// Whether all numbers are those of slot lines that tell something.
 fn are_slot_lines(lines: &[PackedLine], numbers: &[u32]) -> bool
     ensures { result ≡ true → (m : ℕ) → has numbers.now m ≡ true → IsSlotLine lines.now m }
 {
@@ -98,7 +95,7 @@ fn is_slot_line(lines: &[PackedLine], number: u32) -> bool
 }
 
 /// The numbers of the slot lines up to the line with number `last` that tell something. They rise,
-/// as those of all lines do. Clause `log` tells a proof what is so of any `Log`.
+/// as those of all lines do. Clause `log` restates, for proofs, what holds of every `Log`.
 fn slot_numbers_to(alloc: Global, log: &Log, last: u32) -> Result<Vec<u32>, AllocError>
     ensures numbers { IfOk result (λ numbers. AreSlotLinesTo log.now.lines last numbers.items) }
     ensures log { AreLogLines log.now.lines }

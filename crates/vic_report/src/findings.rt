@@ -1,4 +1,4 @@
-//! The findings of a possible log: where it contradicts its list, or leaves it undecided.
+//! All findings of a possible log.
 
 ghost use Rattle.std.specs.Prelude.{◌≡◌, ◌↔◌, IfOk, IsTrue};
 ghost use Rattle.std.specs.Option.{option_map};
@@ -75,7 +75,7 @@ impl Findings {
     }
 }
 
-/// The findings of a possible log, by what it tells.
+/// The findings of a possible log, from its facts.
 pub(crate) fn find_findings(
     alloc: Global,
     facts: Facts<RangeSet>,
@@ -88,10 +88,10 @@ pub(crate) fn find_findings(
     let lines = log.lines();
     let Facts { open, met, certain } = facts;
     let listed = listed_uids(alloc, lines)?;
-    let keys = SortedKeys::of(alloc, certain.as_slice())?;
+    let certain_keys = SortedKeys::of(alloc, certain.as_slice())?;
     // made before it is known whether a mask is unsettled, since `compare` consumes the set; they
     // take one walk over its ranges, and no memory
-    let masks = open.open_masks_besides(&keys);
+    let masks = open.open_masks_besides(&certain_keys);
     let differences = compare(alloc, open, &certain, &listed)?;
     let uncertain = missing_from(alloc, &listed, &certain)?;
     let doubtful = missing_from(alloc, &uncertain, &differences.absent)?;

@@ -68,15 +68,15 @@ impl KeptLog {
         Ok(kept)
     }
 
-    /// The lines.
+    /// The entries with their numbers.
     pub(crate) fn lines(&self) -> LogLines<'_>
         ensures { entries result ≡ self.now }
     {
         LogLines::new(&self.lines)
     }
 
-    /// Passes an entry of the other log. A Stay Quiet or a field cycle is added; a slot line, after
-    /// a request of its own, if it is to be kept; for other entries nothing.
+    /// Takes over an entry of the other log: a Stay Quiet or field cycle, or a slot line to be
+    /// kept, behind a request of its own; nothing else.
     fn pass(&mut self, mask: Option<Mask>, entry: &Entry, is_kept: bool) -> Result<(), AllocError>
         requires { length self.old < 2 * MAX_LINES }
         ensures limit { OnOk result (length self.new ≤ length self.old + 2) }
@@ -100,7 +100,7 @@ impl KeptLog {
             | Entry::Captured(_)
             | Entry::Unknown => match mask {
                 Some(mask) if is_kept => self.push_slot(mask, *entry),
-                // not kept; a slot line of a log has a mask
+                // not to be kept; or no slot of a round, which no log has
                 _ => Ok(()),
             },
         }

@@ -2,10 +2,10 @@
 //!
 //! `report` begins with the verdict of `vic_verdict::judge`. It reports the findings of a possible
 //! log, or the conflict of an impossible one. The lines of absent UIDs are read off a walk over the
-//! log; those of certain UIDs are noted in one pass. The lines of a conflict are guessed by
-//! `vic_guess` and checked here, except that a reply of a Quiet tag is a conflict by itself. Only
-//! tested: that the reply shown for a certain UID is its first, and that no line of a conflict can
-//! be left out.
+//! log; those of certain UIDs are noted in one pass over the lines and one over the unread slots.
+//! The lines of a conflict are guessed by `vic_guess` and checked here, except that a reply of a
+//! Quiet tag is a conflict by itself. Only tested: that the reply shown for a certain UID is its
+//! first, and that no line of a conflict can be left out.
 #![tactic(auto)]
 
 mod absent_lines;

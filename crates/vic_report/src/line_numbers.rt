@@ -1,4 +1,4 @@
-//! Numbers of lines in rising order.
+//! Sets of line numbers.
 
 ghost use Rattle.std.specs.Prelude.{◌≡◌, ℕ, ◌≤◌, IfSome, true};
 ghost use Rattle.std.specs.List.Sorted.{IsStrictlyIncreasing};
@@ -25,10 +25,9 @@ impl Model for LineNumbers {
 
 impl LineNumbers {
     /// Some numbers, put in order.
-    pub(crate) fn of(numbers: Vec<u32>) -> LineNumbers
+    pub(crate) fn of(mut numbers: Vec<u32>) -> LineNumbers
         ensures { (n : ℕ) → has result n ≡ has numbers.items n }
     {
-        let mut numbers = numbers;
         numbers.sort_unstable();
         numbers.dedup();
         LineNumbers { numbers }

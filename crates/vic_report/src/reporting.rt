@@ -1,4 +1,4 @@
-//! All findings of a log, and the lines that show them; or the conflict of an impossible one.
+//! The report on a log.
 
 ghost use Rattle.std.specs.Prelude.{◌≡◌, IfOk};
 ghost use Rattle.vic_tree.specs.Ranges.{is_open_in};
@@ -16,8 +16,8 @@ use vic_verdict::{Facts, Verdict, count_listed, facts_of};
 /// The report on a log (profile): its findings, or the conflict that makes it impossible.
 #[derive(Drop)]
 pub enum LogReport {
-    /// No population could have produced the log: the first line up to which none could, and slot
-    /// lines that no population fits.
+    /// No population could have produced the log: its first impossible line, and slot lines that no
+    /// population fits.
     Impossible(Conflict),
     /// The log is possible, and its list isn't known to be complete: at least one finding.
     NotWhole(Findings),
@@ -40,7 +40,7 @@ impl LogReport {
     }
 }
 
-/// The report on a log. It begins with the verdict of `judge`. It fails only if memory is refused.
+/// The report on a log.
 pub fn report(alloc: Global, log: &Log) -> Result<LogReport, AllocError>
     ensures { IfOk result (IsReport log.now.lines) }
 {
@@ -50,7 +50,7 @@ pub fn report(alloc: Global, log: &Log) -> Result<LogReport, AllocError>
     }
 }
 
-/// The report on a possible log, by what it tells.
+/// The report on a possible log, from its facts.
 fn report_facts(alloc: Global, facts: Facts<RangeSet>, log: &Log) -> Result<LogReport, AllocError>
     requires { AreFactsOf (entries log.now.lines) (is_open_in facts.«open») facts.met
         facts.certain }
@@ -60,6 +60,7 @@ fn report_facts(alloc: Global, facts: Facts<RangeSet>, log: &Log) -> Result<LogR
     if !findings.is_empty() {
         return Ok(LogReport::NotWhole(findings));
     }
-    let count = count_listed(log);
-    Ok(LogReport::Complete { count })
+    Ok(LogReport::Complete {
+        count: count_listed(log),
+    })
 }

@@ -10,8 +10,8 @@ ghost use Rattle.vic_report.specs.Conflicts.{IsNoQuietReply, IsSilencedBefore, I
 use vic_frame::{Request, Uid};
 use vic_log::{Entry, Log, PackedLine};
 
-/// If the line with a number is a reply of a UID that is Quiet there, the number of the last Stay
-/// Quiet line with that UID before it.
+/// If line `number` is a reply of a tag that is Quiet there, the number of the line that silenced
+/// it.
 pub(crate) fn silencer_of_line(log: &Log, number: u32) -> Option<u32>
     ensures { MatchOption result (IsNoQuietReply log.now.lines number)
         (IsSilencedBy log.now.lines number) }
@@ -23,8 +23,7 @@ pub(crate) fn silencer_of_line(log: &Log, number: u32) -> Option<u32>
     }
 }
 
-/// If the line at a position is a reply of a UID that is Quiet there, the number of the last Stay
-/// Quiet line with that UID before it.
+/// The same by position.
 fn silencer_of_reply(lines: &[PackedLine], place: usize) -> Option<u32>
     ensures { MatchOption result
         ((u : ℕ) → hears (slice_get (entries lines.now) place) u ≡ true
@@ -40,8 +39,8 @@ fn silencer_of_reply(lines: &[PackedLine], place: usize) -> Option<u32>
     silencer
 }
 
-/// The number of the last Stay Quiet line with a UID, if it is Quiet after a line; `silencer` is
-/// the same before that line.
+/// From the line that keeps a tag Quiet before a line, the one that does after it; `None` if the
+/// tag is Ready.
 fn next_silencer(silencer: Option<u32>, line: &PackedLine, uid: Uid) -> Option<u32>
     ensures { (lines : List LogLineValue) (i : ℕ) → slice_get lines i ≡ Some line.now
         → MatchOption silencer (is_quiet (entries lines) i uid ≡ false)
@@ -50,15 +49,11 @@ fn next_silencer(silencer: Option<u32>, line: &PackedLine, uid: Uid) -> Option<u
         (IsSilencedBefore lines (i + 1) uid) }
 {
     match line.item() {
-        Entry::Sent(Request::StayQuiet { uid: silenced, .. }) => {
-            if silenced == uid.number() {
-                Some(line.number())
-            } else {
-                silencer
-            }
+        Entry::Sent(Request::StayQuiet { uid: silenced, .. }) if silenced == uid.number() => {
+            Some(line.number())
         }
         Entry::FieldCycle => None,
-        Entry::Sent(Request::Inventory { .. })
+        Entry::Sent(_)
         | Entry::Silent
         | Entry::Collision
         | Entry::Heard(_)

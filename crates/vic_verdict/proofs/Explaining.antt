@@ -1,5 +1,5 @@
 -- A gathered population shows the verdict.
-use Rattle.vic_verdict.proofs.Words.{◌≡◌, ℕ, List, [], ◌∷◌, ◌++◌, true, Option, Some, None, has_cases, sym, ap, ◌||◌, ◌∙◌, append-nil, arith, nat_eq, list_any-append, ⊎_elim, ◌⊎◌, inl, inr, subst, false≢true, IsStrictlyIncreasing, false_from_ne_true, has, BitMask, lies_in, Entry, LogLine, entries, has_here, Met, IsMet, chosen_population, IsPossible, IsPossibleUid, IsCertainUid, SameMembers, IsVerdict, least_uid_in, Absent, Unlisted, Unsettled, Doubtful, IsSmallPopulation, IsPopulationBehind}
+use Rattle.vic_verdict.proofs.Words.{◌≡◌, ℕ, List, [], ◌∷◌, ◌++◌, true, Option, Some, None, has_cases, sym, ap, ◌∙◌, append-nil, arith, nat_eq, list_any-append, ⊎_elim, ◌⊎◌, inl, inr, subst, false≢true, IsStrictlyIncreasing, false_from_ne_true, has, BitMask, lies_in, Entry, LogLine, entries, has_here, Met, IsMet, all_chosen, chosen_population, nat_tests, IsPossible, IsPossibleUid, IsCertainUid, SameMembers, IsVerdict, least_uid_in, Absent, Unlisted, Unsettled, Doubtful, IsSmallPopulation, IsPopulationBehind}
 use Rattle.vic_verdict.specs.declared.judging.Verdict.{Verdict}
 use Rattle.vic_verdict.proofs.Gathering.{AvoidsNoneCertain, append_right, gathered_small, gathered_other}
 use Rattle.vic_verdict.proofs.Masks.{lies_in-uid_in, IsUid-in}
@@ -30,15 +30,19 @@ doubtful_shown lines m us u v met rising same =
       false_from_ne_true _ (λ h. gathered_other es m u uncertain met (sym (same u) ∙ h)),
     )
 
--- with the least UID of an unsettled mask
-pub unsettled_shown : (lines : List LogLine) (m : Met) (us vs : List ℕ) (k : BitMask) (x : ℕ) → IsVerdict lines (Unsettled k) → IsMet (entries lines) m → SameMembers us (chosen_population None m) → x ≡ least_uid_in k → IsStrictlyIncreasing vs → SameMembers vs (us ++ x ∷ []) → IsPopulationBehind (entries lines) (Unsettled k) vs
-unsettled_shown lines m us vs k x v met same is rising' same' =
+-- of three lists the last two may change places
+turned : (xs ys zs : List ℕ) (u : ℕ) → has ((xs ++ ys) ++ zs) u ≡ has ((xs ++ zs) ++ ys) u
+turned xs ys zs u = grind (arith, nat_tests, list_any-append (nat_eq u) (xs ++ ys) zs, list_any-append (nat_eq u) xs ys, list_any-append (nat_eq u) (xs ++ zs) ys, list_any-append (nat_eq u) xs zs)
+
+-- with the least UID of an unsettled mask, as if it had been heard
+pub unsettled_shown : (lines : List LogLine) (m : Met) (us heard : List ℕ) (k : BitMask) (x : ℕ) → IsVerdict lines (Unsettled k) → IsMet (entries lines) m → x ≡ least_uid_in k → heard ≡ m.heard.items ++ x ∷ [] → IsStrictlyIncreasing us → SameMembers us (heard ++ all_chosen None m.unread.items) → IsPopulationBehind (entries lines) (Unsettled k) us
+unsettled_shown lines m us heard k x v met is more rising same =
     let es = entries lines in
     let all = chosen_population None m in
     let mask = v.3.0 in
     let inside : lies_in k x ≡ true = rw is (lies_in-uid_in k mask.0 mask.1) in
     let may : IsPossibleUid es x = (mask.2 x (rw is (IsUid-in k mask.0 mask.1)) inside).0 in
-    let members : SameMembers vs (all ++ x ∷ []) = λ u. same' u ∙ list_any-append (nat_eq u) us (x ∷ []) ∙ ap (λ b. b || has (x ∷ []) u) (same u) ∙ sym (list_any-append (nat_eq u) all (x ∷ [])) in (
-      gathered_small es m None (x ∷ []) vs v.0 (λ a e. cc) met (λ u h. ⊎_elim (λ e. subst (IsPossibleUid es) (sym e) may) (λ no. absurd (false≢true no)) (has_cases u x [] h)) (omega arith) rising' members,
+    let members : SameMembers us (all ++ x ∷ []) = λ u. same u ∙ ap (λ xs. has (xs ++ all_chosen None m.unread.items) u) more ∙ turned m.heard.items (x ∷ []) (all_chosen None m.unread.items) u in (
+      gathered_small es m None (x ∷ []) us v.0 (λ a e. cc) met (λ u h. ⊎_elim (λ e. subst (IsPossibleUid es) (sym e) may) (λ no. absurd (false≢true no)) (has_cases u x [] h)) (omega arith) rising members,
       (x, inside, members x ∙ append_right all (x ∷ []) x (has_here x [])),
     )

@@ -1,5 +1,5 @@
 -- A small population, gathered from what the slots of a possible log ask for.
-use Rattle.vic_verdict.proofs.Words.{take-append-drop, drop, ◌≡◌, ℕ, suc, ◌+◌, ◌<◌, ◌≤◌, List, [], ◌∷◌, ◌++◌, length, take, get_or, Bool, true, false, ◌||◌, Option, Some, refl, sym, ap, ◌∙◌, subst, arith, nat_tests, inl, inr, ⊎_elim, length-append, ◌⊎◌, nat_eq, slice_get, filter, sum_by, ne_eqb, length-take, IsStrictlyIncreasing, both_ways, and_parts, and_from, or_cases, or_left, or_right, list_any, list_any_at, list_any_none, list_any-append, Any-from_list_any, slice_get_within, IsUid, has, AreDifferent, Entry, Collision, Heard, Captured, Garbled, eq-eqb, IsPopulation, answers_at, Reading, ManyReplies, SomeReply, reading_of, slots_of, is_open, Asks, IsWithin, AreDifferent-population, AreDifferent-filter, has_filter, has_here, has_at, has_there, MeetsAll-iff, IsUid-from, CouldHaveGiven-slots, Answering, Met, IsFoundAt, IsFound, IsMet, is_other, chosen, chosen_population, answering, IsPossible, IsPossibleUid, IsCertainUid, SameMembers, AllPairs-from_increasing, sum_by-cons, AllByRecursion, IsDistinct, or_parts, nat_eq_equiv, IsDistinct-cons, IsDistinct-from_apart, length-le_from_is_member, asks_within, all_chosen, needs_at, needs_of, IsSmallPopulation}
+use Rattle.vic_verdict.proofs.Words.{take-append-drop, drop, ◌≡◌, ℕ, suc, ◌+◌, ◌<◌, ◌≤◌, List, [], ◌∷◌, ◌++◌, length, take, get_or, Bool, true, false, ◌||◌, Option, Some, refl, sym, ap, ◌∙◌, subst, arith, nat_tests, inl, inr, ⊎_elim, length-append, ◌⊎◌, nat_eq, slice_get, filter, sum_by, ne_eqb, length-take, IsStrictlyIncreasing, both_ways, and_parts, and_from, or_cases, or_left, or_right, list_any, list_any_at, list_any_none, list_any-append, Any-from_list_any, slice_get_within, IsUid, has, AreDifferent, Entry, Collision, Heard, Captured, Garbled, eq-eqb, IsPopulation, answers_at, Reading, ManyReplies, SomeReply, reading_of, slots_of, is_open, Asks, IsWithin, AreDifferent-population, AreDifferent-filter, has_filter, has_here, has_at, has_there, MeetsAll-iff, IsUid-from, CouldHaveGiven-slots, Answering, Met, AreFound, IsFound, IsMet, UpToThree, is_other, chosen, chosen_population, answering, IsPossible, IsPossibleUid, IsCertainUid, SameMembers, AllPairs-from_increasing, sum_by-cons, AllByRecursion, IsDistinct, or_parts, nat_eq_equiv, IsDistinct-cons, IsDistinct-from_apart, length-le_from_is_member, asks_within, all_chosen, needs_at, needs_of, IsSmallPopulation}
 use Rattle.vic_verdict.specs.Explained.{AreFew}
 use Rattle.vic_verdict.proofs.Decide.{IsPossibleUid-iff, supplied_each}
 use Rattle.vic_verdict.proofs.Entries.{EntryAsks, EntryForces, SuppliesBefore, SuppliesAll-places, forces_two_iff, forces_one_iff, needs_two_or_one}
@@ -97,12 +97,20 @@ abbrev pub AvoidsNoneCertain : List Entry → Option ℕ → Type 0
 AvoidsNoneCertain es avoid = (a : ℕ) → avoid ≡ Some a → IsCertainUid es a → ⊥
 
 -- exactly as many as are needed are forced there
-pub exact_forces : (es : List Entry) (i u : ℕ) (f : Answering) → IsFoundAt es i f → length f.uids.items ≡ f.need → has f.uids.items u ≡ true → (e : Entry) × (slice_get es i ≡ Some e) × EntryForces (reading_of e) (answering (is_open (slots_of es)) es i) u
-exact_forces es i u f h long m = grind (arith, needs_two_or_one (slice_get es i) f.need h.need h.needed, forces_two_iff _ f.uids.items u h.uids, forces_one_iff _ f.uids.items u h.uids)
+pub exact_forces : (es : List Entry) (u : ℕ) (f : Answering) → IsFound es f → length f.uids.items ≡ f.need → has f.uids.items u ≡ true → (e : Entry) × (slice_get es f.at ≡ Some e) × EntryForces (reading_of e) (answering (is_open (slots_of es)) es f.at) u
+exact_forces es u f h long m = grind (arith, needs_two_or_one (slice_get es f.at) f.need h.need h.needed, forces_two_iff _ f.uids.items u h.uids, forces_one_iff _ f.uids.items u h.uids)
 
 -- so there are enough others
 enough_others : (es : List Entry) (f : Answering) (avoid : Option ℕ) → AvoidsNoneCertain es avoid → IsFound es f → f.need ≤ length (filter (is_other avoid) f.uids.items)
-enough_others es f avoid n h = grind (arith, most_are_others avoid f.uids.items h.1.uids.different, n, exact_forces es h.0, certain_there es h.0)
+enough_others es f avoid n h = grind (arith, most_are_others avoid f.uids.items h.uids.different, n, exact_forces es, certain_there es f.at)
+
+-- what was found at a position that requires tags
+pub met_at : (es : List Entry) (fs : List Answering) (i : ℕ) → AreFound es fs → 0 < needs_at es i → (k : ℕ) × (f : Answering) × (k < length fs) × (get_or fs k f ≡ f) × IsFound es f × (needs_at es i ≡ f.need) × UpToThree (answering (is_open (slots_of es)) es i) f.uids.items
+met_at es fs i a some =
+    let w = a.met i some in
+    let found : IsFound es w.1 = subst (IsFound es) w.3 (a.found w.0 w.1 w.2) in
+    let there = subst (λ (j : ℕ). (needs_at es j ≡ w.1.need) × UpToThree (answering (is_open (slots_of es)) es j) w.1.uids.items) w.4 (found.need, found.uids) in
+    (w.0, w.1, w.2, w.3, found, there.0, there.1)
 
 -- ---- the UIDs that were gathered
 
@@ -112,9 +120,9 @@ gathered_from es m avoid u met h =
     ⊎_elim
     (λ a. let heard = (met.heard u).0 a in inl (heard_certain es heard.0 u heard.1))
     (λ b.
-    let w = Any-from_list_any (λ f. has (chosen avoid f) u) m.found.items (sym (all_chosen-has avoid m.found.items u) ∙ b) in
+    let w = Any-from_list_any (λ f. has (chosen avoid f) u) m.unread.items (sym (all_chosen-has avoid m.unread.items u) ∙ b) in
     inr (w.1, subst (IsFound es) w.3 (met.found.found w.0 w.1 w.2), w.4))
-    (append_cases m.heard.items (all_chosen avoid m.found.items) u h)
+    (append_cases m.heard.items (all_chosen avoid m.unread.items) u h)
 
 -- all are open
 gathered_open : (es : List Entry) (m : Met) (avoid : Option ℕ) → IsPossible es → IsMet es m → IsWithin (has (chosen_population avoid m)) (is_open (slots_of es))
@@ -128,33 +136,32 @@ gathered_other es m a n met h =
 -- they are few, also with one more
 gathered_few : (es : List Entry) (m : Met) (avoid : Option ℕ) (xs us : List ℕ) → IsMet es m → AreDifferent us → IsWithin (has us) (has (chosen_population avoid m ++ xs)) → length xs ≤ 1 → AreFew es us
 gathered_few es m avoid xs us met different within one heard all =
-    let picks = all_chosen avoid m.found.items in
+    let picks = all_chosen avoid m.unread.items in
     let le = no_more us (heard ++ (picks ++ xs)) different (λ u h. grind (arith, nat_tests, list_any-append, within u h, met.heard u, all u)) in
-    omega (arith, length-append heard (picks ++ xs), length-append picks xs, few_chosen avoid m.found.items, met.found.few)
+    omega (arith, length-append heard (picks ++ xs), length-append picks xs, few_chosen avoid m.unread.items, met.found.few)
 
 -- what a position asks for
 needed_there : (es : List Entry) (m : Met) (avoid : Option ℕ) (i n : ℕ) → needs_at es i ≡ n → 0 < n → AvoidsNoneCertain es avoid → IsMet es m → (xs : List ℕ) × AreDifferent xs × (n ≤ length xs) × IsWithin (has (take n xs)) (answering (has (chosen_population avoid m)) es i)
 needed_there es m avoid i n is some none met =
-    let fs = m.found.items in
-    let any = met.found.met i (omega arith) in
-    let f = any.1 in
-    let found : IsFound es f = subst (IsFound es) any.3 (met.found.found any.0 f any.2) in
-    let need : n ≡ f.need = sym is ∙ any.4.need in
+    let fs = m.unread.items in
+    let w = met_at es fs i met.found (omega arith) in
+    let f = w.1 in
+    let need : n ≡ f.need = sym is ∙ w.5 in
     rw need (
       filter (is_other avoid) f.uids.items,
-      AreDifferent-filter (is_other avoid) f.uids.items found.1.uids.different,
-      enough_others es f avoid none found,
+      AreDifferent-filter (is_other avoid) f.uids.items w.6.different,
+      enough_others es f avoid none w.4,
       λ u c.
-          let member = all_chosen-has avoid fs u ∙ list_any_at (λ g. has (chosen avoid g) u) fs any.0 f any.2 (ap (λ g. has (chosen avoid g) u) any.3 ∙ c) in
-          and_from _ _ (append_right m.heard.items (all_chosen avoid fs) u member) (and_parts (is_open (slots_of es) u) _ (any.4.answer u (chosen_parts avoid f u c).0)).1,
+          let member = all_chosen-has avoid fs u ∙ list_any_at (λ g. has (chosen avoid g) u) fs w.0 f w.2 (ap (λ g. has (chosen avoid g) u) w.3 ∙ c) in
+          and_from _ _ (append_right m.heard.items (all_chosen avoid fs) u member) (and_parts (is_open (slots_of es) u) _ (w.6.members u (chosen_parts avoid f u c).0)).1,
     )
 
 gathered_asks : (es : List Entry) (m : Met) (avoid : Option ℕ) → IsPossible es → AvoidsNoneCertain es avoid → IsMet es m → (i : ℕ) (e : Entry) → slice_get es i ≡ Some e → EntryAsks (reading_of e) (answering (has (chosen_population avoid m)) es i)
 gathered_asks es m avoid possible none met i (Heard r) k =
-    let member = append_left m.heard.items (all_chosen avoid m.found.items) r.uid ((met.heard r.uid).1 (i, rw k (eq-eqb r.uid r.uid refl))) in
+    let member = append_left m.heard.items (all_chosen avoid m.unread.items) r.uid ((met.heard r.uid).1 (i, rw k (eq-eqb r.uid r.uid refl))) in
     and_from _ _ member (and_parts _ _ (supplied_each es i (Heard r) k possible)).1
 gathered_asks es m avoid possible none met i (Captured r) k =
-    let member = append_left m.heard.items (all_chosen avoid m.found.items) r.uid ((met.heard r.uid).1 (i, rw k (eq-eqb r.uid r.uid refl))) in
+    let member = append_left m.heard.items (all_chosen avoid m.unread.items) r.uid ((met.heard r.uid).1 (i, rw k (eq-eqb r.uid r.uid refl))) in
     and_from _ _ member (and_parts _ _ (supplied_each es i (Captured r) k possible)).1
 gathered_asks es m avoid possible none met i Collision k =
     let w = needed_there es m avoid i 2 (ap needs_of k) (omega arith) none met in

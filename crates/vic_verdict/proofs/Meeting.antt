@@ -1,10 +1,9 @@
 -- What is met makes a log possible, and UIDs certain.
-use Rattle.vic_verdict.proofs.Words.{false, false≢true, cases_lt, nat_eq, or_cases, or_left, or_right, ◌≡◌, ℕ, ◌+◌, ◌<◌, ◌≤◌, ◌==◌, ◌&&◌, ◌||◌, ◌++◌, List, [], ◌∷◌, length, take, get_or, Bool, true, Some, sym, ap, ◌∙◌, arith, nat_tests, inl, inr, ◌↔◌, slice_get, Any, list_any, slice_get_within, list_any-append, list_any-from_Any, list_any_more, take_all, Any-from_list_any, has, Entry, hears, reading_of, slots_of, is_open, IsForcedBy, Answering, Met, IsPossible, answering, needs, needs_of, HasHeard, IsFound, AreFound, IsMet, IsMetFor, IsHeard, AreBorneOut, AreDifferent, IsWithin}
+use Rattle.vic_verdict.proofs.Words.{eq-eqb, ne_eqb, or_false, false, false≢true, cases_lt, nat_eq, or_cases, or_left, or_right, ◌≡◌, ℕ, ◌+◌, ◌<◌, ◌≤◌, ◌==◌, ◌&&◌, ◌||◌, ◌++◌, List, [], ◌∷◌, length, take, get_or, Bool, true, Some, sym, ap, ◌∙◌, arith, nat_tests, inl, inr, ◌↔◌, slice_get, Any, list_any, slice_get_within, list_any-append, list_any-from_Any, list_any_more, take_all, Any-from_list_any, has, Entry, hears, reading_of, slots_of, is_open, IsForcedBy, Answering, Met, IsPossible, answering, needs, needs_of, IsFound, AreFound, IsMet, IsMetFor, IsHeard, AreBorneOut, AreDifferent, IsWithin}
 use Rattle.std.proofs.Math.Bool.{or-false}
 use Rattle.vic_log.proofs.Sets.{eq_swapped}
 use Rattle.vic_verdict.proofs.Entries.{EntryForces, IsForcedBy-places, enough_forced, forces_cases, hears_forces}
-use Rattle.vic_verdict.proofs.Gathering.{exact_forces}
-use Rattle.vic_verdict.specs.Rising.{Adds}
+use Rattle.vic_verdict.proofs.Gathering.{exact_forces, met_at}
 use Rattle.vic_walk.proofs.ListLaws.{heard_past}
 use Rattle.vic_walk.specs.Listing.{IsListFrom}
 use Rattle.vic_walk.specs.Met.{AreMetBefore}
@@ -12,6 +11,10 @@ use Rattle.vic_verdict.proofs.Walking.{supplied_met}
 use Rattle.vic_verdict.proofs.Decide.{supplied_all}
 
 -- ---- who was heard
+
+-- the list has the UIDs that were heard before position i
+abbrev pub HasHeard : List Entry → ℕ → List ℕ → Type 0
+HasHeard es i us = (u : ℕ) → (has us u ≡ true) ↔ ((j : ℕ) × (j < i) × (hears (slice_get es j) u ≡ true))
 
 -- an entry more, and whom it heard
 pub heard_kept : (es : List Entry) (i : ℕ) (us : List ℕ) (e : Entry) → slice_get es i ≡ Some e → ((u : ℕ) → hears (Some e) u ≡ false) → HasHeard es i us → HasHeard es (i + 1) us
@@ -41,13 +44,13 @@ heard_pushed es i us e v k own h u =
     )
 
 -- where the list begins, all that were heard are known
-pub heard_at_list : (es : List Entry) (n m : ℕ) (us : List ℕ) → IsListFrom es n → n ≤ m → HasHeard es n us → HasHeard es m us
-heard_at_list es n m us list within h u =
+pub heard_at_list : (es : List Entry) (n : ℕ) (us : List ℕ) → IsListFrom es n → HasHeard es n us → (u : ℕ) → (has us u ≡ true) ↔ IsHeard es u
+heard_at_list es n us list h u =
     let before = h u in (
-      (λ there. let w = before.0 there in (w.0, omega (arith, w.1, within), w.2)),
+      (λ there. let w = before.0 there in (w.0, w.2)),
       (λ w. elim (cases_lt w.0 n) [
-        | inl less ↦ before.1 (w.0, less, w.2)
-        | inr past ↦ absurd (false≢true (sym (heard_past es n w.0 u list past) ∙ w.2))
+        | inl less ↦ before.1 (w.0, less, w.1)
+        | inr past ↦ absurd (false≢true (sym (heard_past es n w.0 u list past) ∙ w.1))
       ]),
     )
 
@@ -59,19 +62,15 @@ IsEnough es i e f = AreDifferent f.uids.items × (needs e ≡ f.need) × (needs 
 
 met_found : (es : List Entry) (fs : List Answering) (i : ℕ) (e : Entry) → AreFound es fs → slice_get es i ≡ Some e → 0 < needs e → Any (IsEnough es i e) fs
 met_found es fs i e a k some =
-    let w = a.met i (rw k some) in
-    let found : IsFound es w.1 = rw w.3 at (a.found w.0 w.1 w.2) in
-    let need : needs e ≡ w.1.need = ap needs_of (sym k) ∙ w.4.need in
-    (w.0, w.1, w.2, w.3, (found.1.uids.different, need, omega (arith, found.1.enough), w.4.answer))
-
-was_heard : (es : List Entry) (n : ℕ) (us : List ℕ) (u : ℕ) → length es ≡ n → HasHeard es n us → (has us u ≡ true) ↔ IsHeard es u
-was_heard es n us u long h = let heard = h u in grind (arith, slice_get_within)
+    let w = met_at es fs i a (rw k some) in
+    let need : needs e ≡ w.1.need = ap needs_of (sym k) ∙ w.5 in
+    (w.0, w.1, w.2, w.3, (w.6.different, need, omega (arith, w.4.enough), w.6.members))
 
 -- where the replies are borne out, and the unread slots are met, the log is possible
-pub met_all : (es : List Entry) (n : ℕ) (m : Met) → length es ≡ n → AreBorneOut es (length es) → HasHeard es n m.heard.items → AreFound es m.found.items → AreMetBefore es (length es) → IsPossible es × IsMet es m
-met_all es n m long borne heard found met = (
+pub met_all : (es : List Entry) (m : Met) → AreBorneOut es (length es) → ((u : ℕ) → (has m.heard.items u ≡ true) ↔ IsHeard es u) → AreFound es m.unread.items → AreMetBefore es (length es) → IsPossible es × IsMet es m
+met_all es m borne heard found met = (
   supplied_all es (λ i e below k. supplied_met es (length es) i e borne met below k),
-  record { heard = λ u. was_heard es n m.heard.items u long heard; found = found },
+  record { heard = heard; found = found },
 )
 
 -- ---- what makes a UID certain
@@ -84,15 +83,20 @@ is_exact u f = (length f.uids.items == f.need) && has f.uids.items u
 abbrev pub HasCertain : List ℕ → List Answering → List ℕ → Type 0
 HasCertain heard fs us = (u : ℕ) → has us u ≡ (has heard u || list_any (is_exact u) fs)
 
-pub certain_more : (heard old new ys : List ℕ) (fs : List Answering) (k : ℕ) (f : Answering) → k < length fs → f ≡ get_or fs k f → ys ≡ f.uids.items → Adds (λ u. (length ys ≡ f.need) × (has ys u ≡ true)) old new → HasCertain heard (take k fs) old → HasCertain heard (take (k + 1) fs) new
-certain_more heard old new ys fs k f below is same adds h u =
-    let own = rw same at (adds u) in
-    rw (list_any_more (is_exact u) fs k f below, ← is) (grind (arith, nat_tests, h u))
+pub exact_added : (us : List ℕ) (f : Answering) (u : ℕ) → length f.uids.items ≡ f.need → has (us ++ f.uids.items) u ≡ (has us u || is_exact u f)
+exact_added us f u exact = list_any-append (nat_eq u) us f.uids.items ∙ ap (λ b. has us u || (b && has f.uids.items u)) (sym (eq-eqb _ _ exact))
 
-pub certain_met : (m : Met) (us : List ℕ) (k : ℕ) → length m.found.items ≤ k → HasCertain m.heard.items (take k m.found.items) us → (u : ℕ) → (has us u ≡ true) ↔ IsMetFor m u
+pub not_exact : (us : List ℕ) (f : Answering) (u : ℕ) → (length f.uids.items ≡ f.need → ⊥) → has us u ≡ (has us u || is_exact u f)
+not_exact us f u other = sym (ap (λ b. has us u || (b && has f.uids.items u)) (ne_eqb _ _ other) ∙ or_false (has us u))
+
+pub certain_more : (heard old new : List ℕ) (fs : List Answering) (k : ℕ) (f : Answering) → k < length fs → f ≡ get_or fs k f → ((u : ℕ) → has new u ≡ (has old u || is_exact u f)) → HasCertain heard (take k fs) old → HasCertain heard (take (k + 1) fs) new
+certain_more heard old new fs k f below is adds h u =
+    rw (list_any_more (is_exact u) fs k f below, ← is) (grind (arith, nat_tests, h u, adds u))
+
+pub certain_met : (m : Met) (us : List ℕ) (k : ℕ) → length m.unread.items ≤ k → HasCertain m.heard.items (take k m.unread.items) us → (u : ℕ) → (has us u ≡ true) ↔ IsMetFor m u
 certain_met m us k long h u =
-    let is : has us u ≡ (has m.heard.items u || list_any (is_exact u) m.found.items) = rw (take_all k m.found.items long) at (h u) in
-    grind (arith, nat_tests, Any-from_list_any (is_exact u) m.found.items, list_any-from_Any (is_exact u) m.found.items)
+    let is : has us u ≡ (has m.heard.items u || list_any (is_exact u) m.unread.items) = rw (take_all k m.unread.items long) at (h u) in
+    grind (arith, nat_tests, Any-from_list_any (is_exact u) m.unread.items, list_any-from_Any (is_exact u) m.unread.items)
 
 -- a UID is forced where it was met
 pub forced_iff : (es : List Entry) (m : Met) (u : ℕ) → IsMet es m → IsForcedBy (is_open (slots_of es)) (slots_of es) u ↔ IsMetFor m u
@@ -102,7 +106,7 @@ forced_iff es m u met = (
       elim (forces_cases w.1 _ u w.4) [
         | inl x ↦ inl ((met.heard u).1 (w.0, ap (λ o. hears o u) w.3 ∙ x))
         | inr some ↦
-            let y = met_found es m.found.items w.0 w.1 met.found w.3 some in
+            let y = met_found es m.unread.items w.0 w.1 met.found w.3 some in
             let x = enough_forced w.1 _ y.1.uids.items u some y.4.0 y.4.2 y.4.3 w.4 in
             inr (y.0, y.1, y.2, y.3, (x.0 ∙ y.4.1, x.1))
       ]),
@@ -110,8 +114,8 @@ forced_iff es m u met = (
     | inl heard ↦ let w = (met.heard u).0 heard in let x = hears_forces (slice_get es w.0) u (answering (is_open (slots_of es)) es w.0) w.1 in there w.0 x.0 x.1 x.2
     | inr some ↦
         let found : IsFound es some.1 = rw some.3 at (met.found.found some.0 some.1 some.2) in
-        let w = exact_forces es found.0 u some.1 found.1 some.4.0 some.4.1 in
-        there found.0 w.0 w.1 w.2
+        let w = exact_forces es u some.1 found some.4.0 some.4.1 in
+        there some.1.at w.0 w.1 w.2
   ]),
 ) where
   there : (i : ℕ) (e : Entry) → slice_get es i ≡ Some e → EntryForces (reading_of e) (answering (is_open (slots_of es)) es i) u → IsForcedBy (is_open (slots_of es)) (slots_of es) u

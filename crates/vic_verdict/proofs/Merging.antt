@@ -1,7 +1,16 @@
 -- Rising lists of numbers that are gone over side by side.
-use Rattle.vic_verdict.proofs.Words.{◌≡◌, ℕ, ◌+◌, ◌<◌, ◌≤◌, ◌==◌, List, length, get_or, true, false, sym, ◌∙◌, arith, inl, inr, eq-eqb, eqb-true, get_or_default, IsStrictlyIncreasing, false_from_ne_true, cases_lt, has, same_tests, AreBelow}
+use Rattle.vic_verdict.proofs.Words.{◌≡◌, ℕ, ◌+◌, ◌<◌, ◌≤◌, ◌==◌, List, length, get_or, true, false, sym, ◌∙◌, arith, inl, inr, eq-eqb, eqb-true, get_or_default, IsStrictlyIncreasing, false_from_ne_true, cases_lt, has, same_tests}
 use Rattle.vic_verdict.proofs.Failing.{member_at, place_of, rising_order}
-use Rattle.vic_verdict.specs.inner.Merging.{IsIndexOf}
+
+-- the members before an index are below a number
+abbrev pub AreBelow : List ℕ → ℕ → ℕ → Type 0
+AreBelow us n u = (k : ℕ) → k < n → get_or us k 0 < u
+
+-- and those from the index on aren't
+pub record IsIndexOf (us : List ℕ) (n u : ℕ) : Type 0 where
+  pub within : n ≤ length us
+  pub below : AreBelow us n u
+  pub above : n < length us → u ≤ get_or us n 0
 
 -- a number that a rising list has is at its index
 at_place : (us : List ℕ) (n u : ℕ) → IsStrictlyIncreasing us → IsIndexOf us n u → has us u ≡ true → (n < length us) × (get_or us n 0 ≡ u)

@@ -52,7 +52,7 @@ first_impossible lines k low l r g le p n =
 
 -- so that of the first position up to which they are impossible is
 pub first_line : (lines : List LogLine) (i : ℕ) (l : LogLine) → IsRisingFrom 0 lines → slice_get lines i ≡ Some l → IsFirstImpossible (entries lines) i → IsVerdict lines (Impossible l.number)
-first_line lines i l r g first = first_impossible lines i i l r g (omega arith) (rw first_entries first.before) (λ possible. first.impossible.impossible (rw first_entries at possible))
+first_line lines i l r g first = first_impossible lines i i l r g (omega arith) (rw first_entries first.before) (λ possible. first.impossible (rw first_entries at possible))
 
 -- ---- at most one verdict
 

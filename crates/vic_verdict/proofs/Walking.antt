@@ -1,5 +1,5 @@
 -- What a walk over a log tells: how far the log is possible, and what meets its unread slots.
-use Rattle.vic_verdict.proofs.Words.{◌≡◌, ℕ, zero, suc, ◌+◌, ◌<◌, ◌≤◌, ◌∙◌, List, [], ◌∷◌, length, take, drop, Bool, true, false, Option, Some, None, refl, sym, ap, subst, arith, inl, inr, ⊎_elim, common_steps, gets, length-take-le, slice_get, slice_get_past, sum_by, sum_by-cons, All, Any, cases_eq, cases_lt, and_from, and_parts, or_cases, or_left, or_right, eq-eqb, eqb-true, false_from_ne_true, false≢true, has, has_cases, AreDifferent, IsWithin, Reply, Entry, Heard, Captured, ◌&&◌, Collision, Garbled, AgreeBefore, answers_agree, answers_at, reading_of, slots_before, slots_of, is_open, with_entry, SuppliesAll, Answering, HasEnough, LacksSome, answering, IsPossible, IsFirstImpossible, AreFound, AreAnswering, IsAnsweringAt, is_unread, AreBorneOut, was_heard, hears, needs, needs_at, needs_of, all_needs}
+use Rattle.vic_verdict.proofs.Words.{◌≡◌, ℕ, zero, suc, ◌+◌, ◌<◌, ◌≤◌, ◌∙◌, List, [], ◌∷◌, length, take, drop, get_or, Bool, true, false, Option, Some, None, refl, sym, ap, subst, arith, inl, inr, ⊎_elim, common_steps, gets, length-take-le, slice_get, slice_get_past, sum_by, sum_by-cons, All, cases_eq, cases_lt, and_from, and_parts, or_cases, or_left, or_right, eq-eqb, eqb-true, false_from_ne_true, false≢true, has, has_cases, AreDifferent, IsWithin, Reply, Entry, Heard, Captured, ◌&&◌, Collision, Garbled, AgreeBefore, answers_agree, answers_at, reading_of, slots_before, slots_of, is_open, with_entry, SuppliesAll, Answering, HasEnough, answering, IsPossible, IsFirstImpossible, AreFound, AreAnswering, IsAnsweringAt, is_unread, AreBorneOut, was_heard, hears, needs, needs_at, needs_of, all_needs}
 use Rattle.std.proofs.Common.{is_some}
 use Rattle.std.proofs.lemmas.List.{take-append-drop, take_all}
 use Rattle.std.specs.List.{AllPairs}
@@ -149,7 +149,8 @@ met_possible es possible = met_front es (length es) (omega arith) (subst IsPossi
 -- before position m they are, and before the next one they aren't
 first_at : (es : List Entry) (m : ℕ) → m < length es → AreBorneOut es m → AreMetBefore es m → (AreBorneOut es (m + 1) → AreMetBefore es (m + 1) → ⊥) → IsFirstImpossible es m
 first_at es m within borne met lack = record {
-  impossible = record { within = within; impossible = λ possible. lack (borne_out es (m + 1) (omega (arith, within)) possible) (met_front es (m + 1) (omega (arith, within)) possible) };
+  within = within;
+  impossible = λ possible. lack (borne_out es (m + 1) (omega (arith, within)) possible) (met_front es (m + 1) (omega (arith, within)) possible);
   before = possible_front es m (omega (arith, within)) borne met;
 }
 
@@ -210,10 +211,13 @@ few_from es k (a ∷ found) rising each =
 
 pub enough_found : (es : List Entry) (found : List Answering) → AreAnswering es (length es) found → All HasEnough found → AreFound es found
 enough_found es found h enough = record {
-  found = λ k d below. let w = h.each k d below in (w.0, record { place = w.2.place; needed = rw w.2.need at (unread_needs (slice_get es w.0) w.2.unread); need = w.2.need; uids = w.2.uids; enough = enough k d below });
+  found = λ k d below.
+      let w = h.each k d below in
+      let here = subst (λ (i : ℕ). IsAnsweringAt es i (get_or found k d)) (sym w.2.place) w.2 in
+      record { needed = rw here.need at (unread_needs (slice_get es (get_or found k d).at) here.unread); need = here.need; uids = here.uids; enough = enough k d below };
   met = λ i some.
       let w = h.all i (needed_within es i some) (needs_unread (slice_get es i) some) in
-      (w.0, w.1, w.2, w.3, record { need = w.4.need; answer = w.4.uids.members });
+      (w.0, w.1, w.2, w.3, w.4.place);
   few = few_from es 0 found h.rising (λ k d below. let w = h.each k d below in (omega arith, sym w.2.need ∙ ap (needs_at es) (sym w.2.place)));
 }
 
@@ -227,11 +231,10 @@ found_met es found h enough j below = elim (cases_eq (needs_at es j) 0) [
       record { uids = w.1.uids.items; different = w.4.uids.different; answer = w.4.uids.members; enough = omega (arith, w.4.need, has_enough) }
 ]
 
--- where one lacks some they aren't met
-pub lacks_unmet : (es : List Entry) (found : List Answering) → AreAnswering es (length es) found → Any LacksSome found → AreMetBefore es (length es) → ⊥
-lacks_unmet es found h some met =
-    let a : Answering = some.1 in
-    let w = subst (λ (b : Answering). (i : ℕ) × (i < length es) × IsAnsweringAt es i b) some.3 (h.each some.0 a some.2) in
-    let few : length a.uids.items < a.need = some.4 in
+-- and where they are met, enough were found for each
+pub met_enough : (es : List Entry) (found : List Answering) → AreAnswering es (length es) found → AreMetBefore es (length es) → All HasEnough found
+met_enough es found h met k d below =
+    let a : Answering = get_or found k d in
+    let w = h.each k d below in
     let all = met_only_by es (length es) w.0 a.uids.items w.2.uids (met w.0 w.1) in
-    omega (arith, all, w.2.need, few)
+    omega (arith, all, w.2.need)

@@ -43,10 +43,9 @@ pub use Rattle.vic_tree.proofs.BoolLaws.{and_thrice, or_false, same_tests}
 pub use Rattle.vic_tree.proofs.SetLaws.{widest_same}
 pub use Rattle.vic_tree.specs.Keys.{AreKeysOf}
 pub use Rattle.vic_tree.specs.OpenSet.{AreOutside, IsAtMost, IsWidest, SameUids, UpToThree, has_key, without_keys}
-pub use Rattle.vic_verdict.specs.Needs.{AreFound, HasHeard, IsFound, IsFoundAt, IsMet, IsMetFor, all_needs}
+pub use Rattle.vic_verdict.specs.Needs.{AreFound, HasEnough, IsFound, IsMet, IsMetFor, all_needs, answering}
 pub use Rattle.vic_verdict.specs.Explained.{IsPopulationBehind, IsSmallPopulation}
 pub use Rattle.vic_verdict.specs.Facts.{IsTold}
-pub use Rattle.vic_verdict.specs.Places.{answering}
 pub use Rattle.vic_verdict.specs.Possible.{IsCertainUid, IsFirstImpossible, IsPossible, IsPossibleUid}
 pub use Rattle.vic_verdict.specs.Rising.{IsFailing, IsListOf, SameMembers}
 pub use Rattle.vic_verdict.specs.Verdict.{IsAbsent, IsDoubtful, IsFirstMask, IsHeard, IsLeast, IsReached, IsUnlisted, IsUnsettled, IsVerdict, IsWhole, NoSuch, entries_to}
@@ -54,8 +53,6 @@ pub use Rattle.vic_walk.specs.declared.answers.Answering.{Answering}
 pub use Rattle.vic_verdict.specs.declared.facts.Met.{Met}
 pub use Rattle.vic_verdict.specs.declared.judging.Verdict.TheVariants.{Absent, Complete, Doubtful, Impossible, Unlisted, Unsettled}
 pub use Rattle.vic_verdict.specs.inner.Chosen.{all_chosen, chosen, chosen_population, is_other}
-pub use Rattle.vic_verdict.specs.inner.Merging.{AreBelow}
-pub use Rattle.vic_verdict.specs.inner.Enough.{HasEnough, LacksSome}
 pub use Rattle.vic_walk.specs.Answers.{AreAnswering, IsAnsweringAt, is_unread}
 pub use Rattle.vic_walk.specs.Needs.{needs, needs_at, needs_of}
 pub use Rattle.vic_walk.specs.Walk.{AreBorneOut, was_heard}

@@ -1,5 +1,5 @@
--- How a list differs from what a log says (profile): the findings, of which the verdict is the
--- first.
+-- How a list differs from a log (profile): what is undecided, and the differences by open and
+-- certain UIDs.
 use Rattle.std.specs.Prelude.{◌≡◌, ℕ, ◌^◌, ◌<◌, ◌≤◌, Bool, true, false, not, ◌&&◌, ◌||◌, List, MatchOption}
 use Rattle.vic_frame.specs.declared.uid.TheConstants.{UID_BITS}
 use Rattle.vic_frame.specs.Uids.{IsUid, has}
@@ -26,13 +26,13 @@ IsLeftOpen es m =
 abbrev pub MayBeMissing : List Entry → ℕ → Type 0
 MayBeMissing es u = (has (listed es) u ≡ true) × IsUndecided es u
 
--- ---- the same by a set of open UIDs and the list of the certain ones
+-- ---- the differences by open and certain UIDs
 
 -- the set without the members of two lists
 abbrev pub left_by : (ℕ → Bool) → List ℕ → List ℕ → ℕ → Bool
 left_by set certain us u = set u && not (has certain u || has us u)
 
--- how the list `us` differs from the UIDs that are open or certain, and from the certain ones
+-- how the list `us` differs from what is open or certain, and from what is certain
 pub record AreDifferences (set : ℕ → Bool) (certain us : List ℕ) (d : Differences) : Type 0 where
   pub absent : IsListOf (λ u. IsFailing us set u × (has certain u ≡ false)) d.absent
   pub unlisted : IsListOf (IsFailing certain (has us)) d.unlisted

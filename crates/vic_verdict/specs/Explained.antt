@@ -18,8 +18,7 @@ use Rattle.vic_verdict.specs.Verdict.{IsVerdict, IsHeard}
 abbrev pub HasAllHeard : List Entry → List ℕ → Type 0
 HasAllHeard es heard = (u : ℕ) → IsHeard es u → has heard u ≡ true
 
--- at most as many UIDs as were heard, two for each collision, one for each garbled slot, and one
--- more
+-- at most the UIDs heard, plus two for each collision, one for each garbled slot, and one
 abbrev pub AreFew : List Entry → List ℕ → Type 0
 AreFew es us =
     (heard : List ℕ) → HasAllHeard es heard → length us ≤ length heard + all_needs es + 1
@@ -45,11 +44,8 @@ Shows (Complete count) us = ⊥
 -- no population can show the verdict
 abbrev pub IsShownByNone : Verdict → Type 0
 IsShownByNone (Impossible line) = ⊤
-IsShownByNone (Absent u) = ⊥
-IsShownByNone (Unlisted u) = ⊥
-IsShownByNone (Unsettled m) = ⊥
-IsShownByNone (Doubtful u) = ⊥
 IsShownByNone (Complete count) = ⊤
+IsShownByNone v = ⊥
 
 -- the population of an explanation: a small one that shows the verdict
 abbrev pub IsPopulationBehind : List Entry → Verdict → List ℕ → Type 0

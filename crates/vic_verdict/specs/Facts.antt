@@ -1,4 +1,4 @@
--- What a possible log tells of the tags: which may be there, and which must.
+-- What a possible log tells of the tags: which may be there, which must, and which meet its slots.
 use Rattle.std.specs.Prelude.{◌≡◌, ℕ, Bool, true, List}
 use Rattle.vic_frame.specs.Uids.{has}
 use Rattle.vic_tree.specs.OpenSet.{SameUids}
@@ -16,7 +16,7 @@ pub record IsTold (es : List Entry) (set : ℕ → Bool) (certain : List ℕ) : 
   pub uids_open : SameUids set (is_open (slots_of es))
   pub forced : IsListOf (IsForcedBy (is_open (slots_of es)) (slots_of es)) certain
 
--- and what meets its slots, each UID of the list by some slot
+-- that, and what meets its slots; each UID of the list is certain by a reply or by an unread slot
 pub record AreFactsOf (es : List Entry) (set : ℕ → Bool) (met : Met) (certain : List ℕ)
     : Type 0 where
   pub told : IsTold es set certain

@@ -1,7 +1,6 @@
 pub mod Possible
 pub mod Verdict
 pub mod Versions
-pub mod Places
 pub mod Rising
 pub mod Differences
 pub mod Needs

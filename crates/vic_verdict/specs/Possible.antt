@@ -17,12 +17,9 @@ IsPossibleUid es u = (p : List ℕ) × IsPopulation p × CouldHaveGiven p es × 
 abbrev pub IsCertainUid : List Entry → ℕ → Type 0
 IsCertainUid es u = (p : List ℕ) → IsPopulation p → CouldHaveGiven p es → has p u ≡ true
 
--- no population could have produced the entries up to position i, the one there included
-pub record IsContradictedAt (es : List Entry) (i : ℕ) : Type 0 where
-  pub within : i < length es
-  pub impossible : IsPossible (take (i + 1) es) → ⊥
-
--- some population could have produced the entries before position i, and none those up to it
+-- some population could have produced the entries before position i, and none those with the one
+-- there
 pub record IsFirstImpossible (es : List Entry) (i : ℕ) : Type 0 where
-  pub impossible : IsContradictedAt es i
+  pub within : i < length es
   pub before : IsPossible (take i es)
+  pub impossible : IsPossible (take (i + 1) es) → ⊥

@@ -5,7 +5,7 @@
 use Rattle.std.specs.Prelude.{◌≡◌, ◌≢◌, ◌↔◌, ◌⊎◌, ℕ, ◌<◌, true, Some, List, ⊤, slice_get}
 use Rattle.vic_frame.specs.Uids.{has}
 use Rattle.vic_log.specs.declared.entry.Entry.{Entry}
-use Rattle.vic_log.specs.declared.entry.Entry.TheVariants.{Sent, Silent, Collision, Heard, Listed, Garbled, FieldCycle, Captured, Unknown}
+use Rattle.vic_log.specs.declared.entry.Entry.TheVariants.{Silent, Collision, Heard, Garbled, FieldCycle, Captured}
 use Rattle.vic_log.specs.FirstVersion.{CouldHaveGivenFirst}
 use Rattle.vic_log.specs.Order.{listed}
 use Rattle.vic_log.specs.Populations.{IsPopulation}
@@ -49,11 +49,7 @@ IsTrueOf p es i Silent = (u : ℕ) → Answers p es i u → ⊥
 IsTrueOf p es i (Heard r) = AnswersAlone p es i r.uid
 IsTrueOf p es i Collision = SeveralAnswer p es i
 IsTrueOf p es i Garbled = ((u : ℕ) × AnswersAlone p es i u) ⊎ SeveralAnswer p es i
-IsTrueOf p es i (Sent q) = ⊤
-IsTrueOf p es i (Listed u) = ⊤
-IsTrueOf p es i FieldCycle = ⊤
-IsTrueOf p es i (Captured r) = ⊤  -- not a line of version 2
-IsTrueOf p es i Unknown = ⊤  -- not a line of version 2
+IsTrueOf p es i e = ⊤  -- no slot line of version 2
 
 -- every slot line is true of the population
 abbrev pub CouldHaveGivenSecond : List ℕ → List Entry → Type 0
@@ -68,15 +64,9 @@ IsWholeSecond = HasExactlyListed CouldHaveGivenSecond
 -- unknown slot says nothing
 abbrev pub IsTrueOfThird : List ℕ → List Entry → ℕ → Entry → Type 0
 IsTrueOfThird p es i (Captured r) = Answers p es i r.uid
-IsTrueOfThird p es i Unknown = ⊤
-IsTrueOfThird p es i Silent = IsTrueOf p es i Silent
-IsTrueOfThird p es i (Heard r) = IsTrueOf p es i (Heard r)
-IsTrueOfThird p es i Collision = IsTrueOf p es i Collision
-IsTrueOfThird p es i Garbled = IsTrueOf p es i Garbled
-IsTrueOfThird p es i (Sent q) = ⊤
-IsTrueOfThird p es i (Listed u) = ⊤
-IsTrueOfThird p es i FieldCycle = ⊤
+IsTrueOfThird p es i e = IsTrueOf p es i e
 
+-- every slot line is true of the population
 abbrev pub CouldHaveGivenThird : List ℕ → List Entry → Type 0
 CouldHaveGivenThird p es =
     (i : ℕ) (e : Entry) → slice_get es i ≡ Some e → IsTrueOfThird p es i e

@@ -1,4 +1,2 @@
 -- Definitions that private contracts alone cite.
-pub mod Merging
 pub mod Chosen
-pub mod Enough

@@ -1,8 +1,7 @@
-//! What a possible log tells of the tags: which may be there, and which must; or the first line up
-//! to which no population could have produced it.
+//! What a log tells of the tags, if it is possible; else its first impossible line.
 
-ghost use Rattle.std.specs.Prelude.{IfOk, MatchResult, ◌≡◌, ◌↔◌, ℕ, List, OnOk, ⊤, length, true, false};
-ghost use Rattle.std.specs.List.{All, Any};
+ghost use Rattle.std.specs.Prelude.{IfOk, MatchResult, ◌≡◌, ◌↔◌, ℕ, List, ⊤, true};
+ghost use Rattle.std.specs.List.{All};
 ghost use Rattle.vic_frame.specs.Uids.{has};
 ghost use Rattle.vic_log.specs.Order.{entries};
 ghost use Rattle.vic_log.specs.declared.entry.Entry.{Entry as EntryValue};
@@ -13,11 +12,10 @@ ghost use Rattle.vic_walk.specs.Cuts.{AreCut};
 ghost use Rattle.vic_walk.specs.LogLines.{AreLogLines};
 ghost use Rattle.vic_verdict.specs.Facts.{AreFactsOf};
 ghost use Rattle.vic_verdict.specs.Possible.{IsFirstImpossible, IsPossible};
-ghost use Rattle.vic_verdict.specs.Needs.{IsMet, IsMetFor, HasHeard};
-ghost use Rattle.vic_verdict.specs.Rising.{Adds, IsListOf};
-ghost use Rattle.vic_verdict.specs.Verdict.{IsVerdict};
+ghost use Rattle.vic_verdict.specs.Needs.{HasEnough, IsMet, IsMetFor};
+ghost use Rattle.vic_verdict.specs.Rising.{IsListOf};
+ghost use Rattle.vic_verdict.specs.Verdict.{IsHeard, IsVerdict};
 ghost use Rattle.vic_verdict.specs.declared.judging.Verdict.TheVariants.{Impossible};
-ghost use Rattle.vic_verdict.specs.inner.Enough.{HasEnough, LacksSome};
 
 use std::alloc::{AllocError, Global};
 use vic_frame::Uid;
@@ -28,41 +26,38 @@ use vic_walk::{
     walk_log,
 };
 
-/// What a possible log tells of the tags: which may be there, and which must.
+/// What a possible log tells of the tags: which may be there, which must, and which meet its slots.
 #[derive(Drop)]
 pub struct Facts<S: OpenSet> {
     /// The UIDs that no slot rules out.
     pub open: S,
     /// What meets the slots in which tags answered.
     pub met: Met,
-    /// The UIDs that every population has that could have produced the log.
+    /// The UIDs that are in every population that could have produced the log.
     pub certain: RisingUids,
 }
 
 /// The UIDs that meet the slots of a possible log.
 #[derive(Drop)]
 pub struct Met {
-    /// The UIDs that were heard, in any order.
+    /// The UIDs that were heard, as often as they were heard, in any order.
     pub heard: Vec<Uid>,
-    /// What meets the unread slots, one after another.
-    pub found: Vec<Answering>,
+    /// Of each unread slot, which open UIDs answer there.
+    pub unread: Vec<Answering>,
 }
 
-/// What the lines of a log tell, if some population could have produced them; else the number of
-/// the first line up to which none could. Clause `log` tells a proof what is so of any `Log`.
+/// What a log tells, if it is possible; else the number of its first impossible line. Clause `log`
+/// restates, for proofs, what holds of every `Log`.
 pub fn facts_of<S: OpenSet>(alloc: Global, log: &Log) -> Result<Result<Facts<S>, u32>, AllocError>
     ensures facts { IfOk result (λ r. MatchResult r
         (λ f. AreFactsOf (entries log.now.lines) (S.is_open f.«open») f.met f.certain)
         (λ n. IsVerdict log.now.lines (Impossible n))) }
     ensures log { AreLogLines log.now.lines }
 {
-    match facts_and_parts_of::<S>(alloc, log)? {
-        Ok((facts, _)) => Ok(Ok(facts)),
-        Err(line) => Ok(Err(line)),
-    }
+    Ok(facts_and_parts_of::<S>(alloc, log)?.map(|(facts, _)| facts))
 }
 
-/// The same, and the parts by which it was judged.
+/// `facts_of`, with the parts of the keys that the walk made.
 pub fn facts_and_parts_of<S: OpenSet>(
     alloc: Global,
     log: &Log,
@@ -80,40 +75,28 @@ pub fn facts_and_parts_of<S: OpenSet>(
             let certain = certain_uids(alloc, &met)?;
             Ok(Ok((Facts { open, met, certain }, parts)))
         }
-        Err(at) => {
-            let lines = log.lines();
-            Ok(Err(lines[at].number()))
-        }
+        Err(at) => Ok(Err(log.lines()[at].number())),
     }
 }
 
-/// The UIDs that the slots of a possible log force: those that were heard, and those that meet a
-/// slot, if no more can meet it than it requires.
+/// The UIDs that the slots of a possible log force: those that were heard, and those of each unread
+/// slot that requires all who answer there.
 pub fn certain_uids(alloc: Global, met: &Met) -> Result<RisingUids, AllocError>
     ensures certain { IfOk result (λ v. (es : List EntryValue) → IsMet es met.now
         → IsListOf (IsForcedBy (is_open (slots_of es)) (slots_of es)) v) }
     ensures met { IfOk result (λ v. (u : ℕ) → has v u ≡ true → IsMetFor met.now u) }
 {
     let mut certain = Vec::from_slice(alloc, &met.heard)?;
-    for found in &met.found {
-        add_if_exactly(&mut certain, &found.uids, found.need)?;
+    for slot in &met.unread {
+        if slot.uids.len() == slot.need {
+            certain.extend_from_slice(&slot.uids)?;
+        }
     }
     Ok(RisingUids::of(certain))
 }
 
-/// Adds UIDs if there are exactly this many.
-fn add_if_exactly(certain: &mut Vec<Uid>, uids: &[Uid], count: usize) -> Result<(), AllocError>
-    ensures { OnOk result (Adds (λ u. (length uids.now ≡ count) × (has uids.now u ≡ true))
-        certain.old.items certain.new.items) }
-{
-    if uids.len() == count {
-        certain.extend_from_slice(uids)?;
-    }
-    Ok(())
-}
-
-/// The UIDs that a log leaves open, which of them meet its slots, and its parts, if some population
-/// could have produced it; else the position of the first line up to which none could.
+/// If a log is possible, the UIDs that it leaves open, what meets its slots, and the parts of the
+/// keys; else the position of its first impossible line.
 fn open_and_met<S: OpenSet>(
     alloc: Global,
     lines: &LogLines,
@@ -133,20 +116,23 @@ fn open_and_met<S: OpenSet>(
         broken,
     } = walk_log(alloc, lines)?;
     if let Some(at) = broken {
-        // an unread slot before it may lack tags
+        // the replies aren't borne out at `at`; but an earlier line may have left an unread slot too
+        // few open UIDs: `first_lack` returns the position of the first that has, and `at` if none
         return Ok(Err(first_lack(alloc, lines, &parts, &walk, at)?));
     }
     let closed = closed_keys(alloc, &parts, &walk)?;
     let set = S::without(alloc, closed)?;
-    let found = open_answers(alloc, lines, &parts, &mut walk)?;
-    if !are_met(&found) {
+    let unread = open_answers(alloc, lines, &parts, &mut walk)?;
+    if !are_met(&unread) {
+        // after all lines a slot has too few open UIDs: `first_lack` returns the position of the
+        // first line after which one has
         return Ok(Err(first_lack(alloc, lines, &parts, &walk, lines.len())?));
     }
     let heard = heard_uids(alloc, lines)?;
-    Ok(Ok((set, Met { heard, found }, parts)))
+    Ok(Ok((set, Met { heard, unread }, parts)))
 }
 
-/// Whether some population could have produced a log.
+/// Whether a log is possible: whether some population could have produced it.
 pub fn is_possible(alloc: Global, lines: &LogLines) -> Result<bool, AllocError>
     ensures { IfOk result (λ b. (b ≡ true) ↔ IsPossible (entries lines.now)) }
 {
@@ -158,26 +144,21 @@ pub fn is_possible(alloc: Global, lines: &LogLines) -> Result<bool, AllocError>
     if broken.is_some() {
         return Ok(false);
     }
-    let found = open_answers(alloc, lines, &parts, &mut walk)?;
-    Ok(are_met(&found))
+    let unread = open_answers(alloc, lines, &parts, &mut walk)?;
+    Ok(are_met(&unread))
 }
 
 /// Whether in each unread slot as many UIDs answer as it requires.
-fn are_met(found: &[Answering]) -> bool
-    ensures met { result ≡ true → All HasEnough found.now }
-    ensures unmet { result ≡ false → Any LacksSome found.now }
+fn are_met(unread: &[Answering]) -> bool
+    ensures { (result ≡ true) ↔ All HasEnough unread.now }
 {
-    for answering in found {
-        if answering.uids.len() < answering.need {
-            return false;
-        }
-    }
-    true
+    unread.iter().all(|slot| slot.need <= slot.uids.len())
 }
 
-/// The UIDs that the slots of a log heard.
+/// The UIDs heard in a log, one for each reply. None comes after the list starts.
 fn heard_uids(alloc: Global, lines: &LogLines) -> Result<Vec<Uid>, AllocError>
-    ensures { IfOk result (λ v. HasHeard (entries lines.now) (length lines.now) v.items) }
+    ensures { IfOk result (λ v. (u : ℕ)
+        → (has v.items u ≡ true) ↔ IsHeard (entries lines.now) u) }
 {
     let mut heard = Vec::new(alloc);
     for index in 0..list_start(lines) {

@@ -1,13 +1,11 @@
-//! How a list differs from what a log tells. UIDs are looked for in the order of their keys, so
-//! that a set in that order is walked once.
+//! How a list differs from what a log tells.
 
-ghost use Rattle.std.specs.Prelude.{◌<◌, ◌^◌, ◌≡◌, ◌++◌, ℕ, false, IfOk, List, ◌≤◌, [], ◌∷◌, if◌then◌else◌, OnOk, length, true};
+ghost use Rattle.std.specs.Prelude.{◌<◌, ◌^◌, ◌≡◌, ◌++◌, ℕ, false, IfOk, List, ◌≤◌, [], ◌∷◌, length, true};
 ghost use Rattle.vic_frame.specs.Uids.{has, IsUid};
 ghost use Rattle.vic_log.specs.Order.{entries, listed};
 ghost use Rattle.vic_tree.specs.Keys.{AreKeysOf};
 ghost use Rattle.vic_verdict.specs.Differences.{AreDifferences};
 ghost use Rattle.vic_verdict.specs.Rising.{IsFailing, IsListOf, SameMembers};
-ghost use Rattle.vic_verdict.specs.inner.Merging.{AreBelow, IsIndexOf};
 
 use std::alloc::{AllocError, Global};
 use vic_frame::{Mask, Uid};
@@ -24,13 +22,11 @@ pub struct Differences {
     /// The UIDs that must be there and aren't listed.
     pub unlisted: RisingUids,
     /// The first mask by length, then by value, of at most 56 bits, all of whose UIDs may be there
-    /// or not and aren't listed. Unlike that of a verdict it has no certain UIDs; if all of those
-    /// are listed, both are the same mask.
+    /// or not and aren't listed. Unlike `Verdict::Unsettled` it avoids certain UIDs, listed or not.
     pub unsettled: Option<Mask>,
 }
 
-/// How a list differs from the UIDs that may be there, which are open or certain, and from those
-/// that must be there, which are certain.
+/// How a list differs from what is possible (open or certain) and from what is certain.
 pub fn compare<S: OpenSet>(
     alloc: Global,
     set: S,
@@ -40,10 +36,10 @@ pub fn compare<S: OpenSet>(
     ensures { IfOk result (AreDifferences (S.is_open set) certain.now listed.now) }
 {
     let unlisted = missing_from(alloc, certain, listed)?;
-    let keys = keys_of_both(alloc, listed, &unlisted)?;
+    let settled_keys = keys_of_both(alloc, listed, &unlisted)?;
     // those unlisted are certain, so only listed ones can be absent
-    let absent = absent_from(alloc, &keys, &set, certain)?;
-    let unsettled = set.widest_besides(&keys)?;
+    let absent = absent_from(alloc, &settled_keys, &set, certain)?;
+    let unsettled = set.widest_besides(&settled_keys)?;
     Ok(Differences {
         absent,
         unlisted,
@@ -51,9 +47,9 @@ pub fn compare<S: OpenSet>(
     })
 }
 
-/// The UIDs at some keys that can't be there, since they are neither in a set nor certain. The open
-/// UIDs of one log contain its certain ones, so these change nothing; the set that `vic_reconcile`
-/// makes of several logs contains none of them.
+/// The UIDs with these keys that are neither in the set nor certain. For one log the set has all
+/// certain UIDs; the set that `vic_reconcile` makes has none, hence the second test. They are
+/// looked for in the order of their keys, so that a set in that order is walked once.
 pub(crate) fn absent_from<S: OpenSet>(
     alloc: Global,
     keys: &SortedKeys,
@@ -86,7 +82,7 @@ fn keys_of_both(
     SortedKeys::of(alloc, &both)
 }
 
-/// Those UIDs that aren't among others.
+/// The first UIDs without the second.
 pub fn missing_from(
     alloc: Global,
     uids: &RisingUids,
@@ -94,49 +90,18 @@ pub fn missing_from(
 ) -> Result<RisingUids, AllocError>
     ensures { IfOk result (λ v. IsListOf (IsFailing uids.now (has others.now)) v) }
 {
+    let others = others.as_slice();
     let mut missing = Vec::new(alloc);
     let mut next = 0;
     for uid in uids.as_slice() {
-        next = index_from(others, next, *uid);
-        push_if(&mut missing, *uid, !is_at(others, next, *uid))?;
+        while next < others.len() && others[next] < *uid {
+            next += 1;
+        }
+        if next == others.len() || others[next] != *uid {
+            missing.push(*uid)?;
+        }
     }
     Ok(RisingUids::of(missing))
-}
-
-/// The first index from `start` on at which a UID isn't below `uid`; the end if there is none.
-fn index_from(uids: &RisingUids, start: usize, uid: Uid) -> usize
-    requires start { start ≤ length uids.now }
-    requires below { AreBelow uids.now start uid }
-    ensures { IsIndexOf uids.now result uid }
-{
-    let uids = uids.as_slice();
-    let mut index = start;
-    while index < uids.len() && uids[index] < uid {
-        index += 1;
-    }
-    index
-}
-
-/// Whether a UID is among others, by its index there.
-fn is_at(uids: &RisingUids, index: usize, uid: Uid) -> bool
-    requires { IsIndexOf uids.now index uid }
-    ensures { result ≡ has uids.now uid }
-{
-    let uids = uids.as_slice();
-    if index < uids.len() {
-        return uids[index] == uid;
-    }
-    false
-}
-
-/// Adds a UID, or doesn't.
-fn push_if(uids: &mut Vec<Uid>, uid: Uid, yes: bool) -> Result<(), AllocError>
-    ensures { OnOk result (uids.new.items ≡ uids.old.items ++ (if yes then uid ∷ [] else [])) }
-{
-    if yes {
-        uids.push(uid)?;
-    }
-    Ok(())
 }
 
 /// The UIDs that a log lists.
@@ -153,8 +118,8 @@ pub fn listed_uids(alloc: Global, lines: &[PackedLine]) -> Result<RisingUids, Al
     Ok(RisingUids::of(uids))
 }
 
-/// How many lines of a log list a UID. None is listed twice; they are counted line by line, so that
-/// a proof sees by the numbers of lines that the count fits 32 bits.
+/// How many UIDs a log lists. Each has a line of its own, so the count fits 32 bits as the line
+/// numbers do.
 pub fn count_listed(log: &Log) -> u32
     ensures { result ≡ length (listed (entries log.now.lines)) }
 {
@@ -172,15 +137,9 @@ fn count_one(line: PackedLine) -> u32
     ensures small { result ≤ 1 }
     ensures number { line.number < 2 ^ 32 }
 {
-    match line.item() {
-        Entry::Listed(_) => 1,
-        Entry::Sent(_)
-        | Entry::Silent
-        | Entry::Collision
-        | Entry::Heard(_)
-        | Entry::Garbled
-        | Entry::FieldCycle
-        | Entry::Captured(_)
-        | Entry::Unknown => 0,
+    if let Entry::Listed(_) = line.item() {
+        1
+    } else {
+        0
     }
 }

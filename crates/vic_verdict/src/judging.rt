@@ -1,4 +1,4 @@
-//! What a log proves about its list of tags: the first finding.
+//! The verdict on a log.
 
 ghost use Rattle.std.specs.Prelude.{◌≡◌, ℕ, IfOk, length};
 ghost use Rattle.vic_log.specs.Order.{entries, listed};
@@ -16,22 +16,23 @@ use vic_frame::{Mask, Uid};
 use vic_log::Log;
 use vic_tree::{OpenSet, RangeSet, RisingUids, SortedKeys};
 
-/// What a log proves about its list of tags (profile): the first answer that applies. Each answer
-/// is about the populations of tags that could have produced the log.
+/// What a log proves about its list of tags (profile): the first case that applies.
 #[derive(Clone, Copy, Debug, PartialEq, Eq)]
 pub enum Verdict {
     /// No population could have produced the lines up to this one, and it is the first such line.
+    /// In all other cases the log is possible.
     Impossible { line: u32 },
-    /// The least listed UID that is in no such population.
+    /// The least listed UID that isn't possible.
     Absent(Uid),
-    /// The least UID that is in each of them and isn't listed.
+    /// The least certain UID that isn't listed.
     Unlisted(Uid),
-    /// A mask each of whose UIDs is in some of them and isn't listed: the first by length, then by
-    /// value, of those with at most 56 bits.
+    /// The first mask by length, then by value, of at most 56 bits, all of whose UIDs are possible
+    /// and not listed.
     Unsettled(Mask),
-    /// The least listed UID that isn't in each of them.
+    /// The least listed UID that isn't certain.
     Doubtful(Uid),
-    /// The list is complete: each of them has exactly the listed UIDs, of which there are `count`.
+    /// The list is complete: each population that could have produced the log has exactly the
+    /// listed UIDs, of which there are `count`.
     Complete { count: u32 },
 }
 
@@ -40,8 +41,8 @@ pub enum Verdict {
 /// If it is `Complete`, some population could have produced the log, and every population that
 /// could has exactly the listed UIDs (clause `whole`; clause `second` says the same in the words of
 /// version 2, whose logs have field cycles and garbled slots, clause `third` in those of version
-/// 3, whose logs have captured replies and unknown slots besides). If a possible log heard each UID
-/// that it lists, and leaves no other UID open, the verdict is `Complete` (clause `reached`).
+/// 3, whose logs have captured replies and unknown slots besides). If each listed UID of a possible
+/// log was heard, and no other is possible, the verdict is `Complete` (clause `reached`).
 pub fn judge(alloc: Global, log: &Log) -> Result<Verdict, AllocError>
     ensures verdict { IfOk result (λ v. IsVerdict log.now.lines v) }
     ensures whole { IfOk result (λ v. (count : ℕ) → v ≡ Complete count
@@ -58,44 +59,21 @@ pub fn judge(alloc: Global, log: &Log) -> Result<Verdict, AllocError>
     judge_with::<RangeSet>(alloc, log)
 }
 
-/// The verdict on a log, over any set of open UIDs: it is the same over each. It fails only if
-/// memory is refused.
+/// The verdict on a log, with the open UIDs kept in an `S`. The other clauses of `judge` follow, by
+/// the laws. Clause `log` restates, for proofs, what holds of every `Log`.
 pub fn judge_with<S: OpenSet>(alloc: Global, log: &Log) -> Result<Verdict, AllocError>
-    ensures verdict { IfOk result (λ v. IsVerdict log.now.lines v) }
-    ensures whole { IfOk result (λ v. (count : ℕ) → v ≡ Complete count
-        → IsWhole (entries log.now.lines)
-        × (count ≡ length (listed (entries log.now.lines)))) }
-    ensures second { IfOk result (λ v. (count : ℕ) → v ≡ Complete count
-        → AreOfSecondVersion (entries log.now.lines)
-        → IsWholeSecond (entries log.now.lines)) }
-    ensures third { IfOk result (λ v. (count : ℕ) → v ≡ Complete count
-        → IsWholeThird (entries log.now.lines)) }
-    ensures reached { IfOk result (λ v. IsReached (entries log.now.lines)
-        → v ≡ Complete (length (listed (entries log.now.lines)))) }
-{
-    judge_lines::<S>(alloc, log)
-}
-
-/// The verdict on the lines of a log.
-fn judge_lines<S: OpenSet>(alloc: Global, log: &Log) -> Result<Verdict, AllocError>
     ensures verdict { IfOk result (λ v. IsVerdict log.now.lines v) }
     ensures log { AreLogLines log.now.lines }
 {
     match facts_of::<S>(alloc, log)? {
-        Ok(
-            Facts {
-                open,
-                met: _,
-                certain,
-            },
-        ) => first_finding(alloc, open, &certain, log),
+        Ok(Facts { open, certain, .. }) => verdict_of_facts(alloc, open, &certain, log),
         Err(line) => Ok(Verdict::Impossible { line }),
     }
 }
 
-/// The first finding about a possible log, by the UIDs that it leaves open and those that are
-/// certain. No later one is looked for.
-pub fn first_finding<S: OpenSet>(
+/// The verdict on a possible log. Each kind of finding is looked for only if there is none of those
+/// before.
+pub fn verdict_of_facts<S: OpenSet>(
     alloc: Global,
     set: S,
     certain: &RisingUids,
@@ -105,8 +83,8 @@ pub fn first_finding<S: OpenSet>(
     ensures { IfOk result (λ v. IsVerdict log.now.lines v) }
 {
     let listed = listed_uids(alloc, log.lines())?;
-    let keys = SortedKeys::of(alloc, listed.as_slice())?;
-    let absent = absent_from(alloc, &keys, &set, certain)?;
+    let listed_keys = SortedKeys::of(alloc, listed.as_slice())?;
+    let absent = absent_from(alloc, &listed_keys, &set, certain)?;
     if let Some(uid) = absent.first() {
         return Ok(Verdict::Absent(uid));
     }
@@ -114,16 +92,16 @@ pub fn first_finding<S: OpenSet>(
     if let Some(uid) = unlisted.first() {
         return Ok(Verdict::Unlisted(uid));
     }
-    // `compare` leaves the certain UIDs out of the mask, and its callers leave the absent ones out
-    // of the doubtful ones. Neither is needed here: by now all certain UIDs are listed, and no
-    // listed UID is absent
-    if let Some(mask) = set.widest_besides(&keys)? {
+    // all certain UIDs are listed by now, so the mask needn't avoid them
+    if let Some(mask) = set.widest_besides(&listed_keys)? {
         return Ok(Verdict::Unsettled(mask));
     }
+    // no listed UID is absent by now
     let doubtful = missing_from(alloc, &listed, certain)?;
     if let Some(uid) = doubtful.first() {
         return Ok(Verdict::Doubtful(uid));
     }
-    let count = count_listed(log);
-    Ok(Verdict::Complete { count })
+    Ok(Verdict::Complete {
+        count: count_listed(log),
+    })
 }

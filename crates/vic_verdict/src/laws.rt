@@ -55,7 +55,7 @@ pub fn exactly_one_verdict()
         → IsVerdict lines v → IsVerdict lines w → v ≡ w }
 {}
 
-/// Some mask is unsettled if and only if some unlisted UID is possible.
+/// Some mask is unsettled if and only if some UID that isn't listed is possible.
 pub fn unsettled_where_unlisted_is_possible()
     ensures { (es : List Entry) → ((m : BitMask) × IsUnsettled es m)
         ↔ ((u : ℕ) × IsPossibleUid es u × (has (listed es) u ≡ false)) }
@@ -79,16 +79,15 @@ pub fn one_headline()
         → IsWholeFirst es ↔ IsWholeSecond es }
 {}
 
-/// Entries that are weaker are possible where the stronger ones are. Where the list of the weaker
-/// ones is complete and the stronger ones are possible, the list of these is complete too.
+/// Weaker entries are possible if the stronger ones are. If the list of the weaker entries is
+/// complete and the stronger are possible, the list of the stronger is complete.
 pub fn weaker_is_complete()
     ensures possible { (ds es : List Entry) → AreWeaker ds es → IsPossible es → IsPossible ds }
     ensures whole { (ds es : List Entry) → AreWeaker ds es → IsPossible es → IsWhole ds
         → IsWhole es }
 {}
 
-/// Where the verdict is `Complete`, which is where the list is complete, each UID that was
-/// overlooked nowhere is listed. It takes nothing for granted of any other tag.
+/// A complete list has every UID that was never overlooked, whatever is true of other tags.
 pub fn never_overlooked_is_listed()
     ensures complete { (lines : List LogLine) (count u : ℕ) → IsVerdict lines (Complete count)
         → IsUid u → IsNeverOverlooked (entries lines) u → has (listed (entries lines)) u ≡ true }

@@ -1,4 +1,4 @@
--- Lines of some slots of a log.
+-- A log that keeps some slot lines of another.
 use Rattle.std.specs.Prelude.{◌≡◌, ℕ, ◌+◌, ◌++◌, ◌∷◌, Bool, true, false, List, [], length}
 use Rattle.vic_frame.specs.Masks.{BitMask}
 use Rattle.vic_frame.specs.declared.request.Request.TheVariants.{Inventory}

@@ -1,13 +1,11 @@
--- Lines that are noted of UIDs.
-use Rattle.std.specs.Prelude.{◌≡◌, ℕ, Bool, true, Some, List, is_some, length}
+-- Lines that are noted for UIDs.
+use Rattle.std.specs.Prelude.{◌≡◌, ℕ, Bool, true, Some, List, is_some}
 use Rattle.std.specs.BTreeMap as map
 use Rattle.std.specs.Ordering.{nat_cmp}
-use Rattle.vic_frame.specs.Uids.{has}
-use Rattle.vic_walk.specs.declared.answers.Answering.{Answering}
 use Rattle.vic_log.specs.declared.entry.LogLine.{LogLine}
 use Rattle.vic_report.specs.Findings.{ShowsCertain}
 
--- a line is noted of the UID
+-- a line is noted for the UID
 abbrev pub is_noted : map.BTreeMap ℕ ℕ → ℕ → Bool
 is_noted noted u = is_some (map.get nat_cmp noted u)
 
@@ -15,13 +13,9 @@ is_noted noted u = is_some (map.get nat_cmp noted u)
 abbrev pub AreShown : List LogLine → map.BTreeMap ℕ ℕ → Type 0
 AreShown lines noted = (u n : ℕ) → map.get nat_cmp noted u ≡ Some n → ShowsCertain lines n u
 
--- lines were noted: of each UID for which P holds there is one now, as of each that had one
+-- lines were noted: every UID that had a line still has one, and so has every UID for which P holds
 pub record HasNoted (lines : List LogLine) (old new : map.BTreeMap ℕ ℕ) (P : ℕ → Type 0)
     : Type 0 where
   pub shown : AreShown lines old → AreShown lines new
   pub kept : (u : ℕ) → is_noted old u ≡ true → is_noted new u ≡ true
   pub more : (u : ℕ) → P u → is_noted new u ≡ true
-
--- no more UIDs answer in the slot than have to be there, this one among them
-abbrev pub IsExactAt : Answering → ℕ → Type 0
-IsExactAt a u = (length a.uids.items ≡ a.need) × (has a.uids.items u ≡ true)

@@ -7,16 +7,17 @@ use Rattle.vic_walk.specs.declared.answers.Answering.{Answering}
 -- the UID isn't the one to avoid
 abbrev pub is_other : Option ℕ → ℕ → Bool
 is_other None u = true
-is_other (Some avoided) u = not (u == avoided)
+is_other (Some avoided) u = not (avoided == u)
 
 -- as many as are needed, other than the one to avoid
 abbrev pub chosen : Option ℕ → Answering → List ℕ
 chosen avoid f = take f.need (filter (is_other avoid) f.uids.items)
 
+-- as many of each slot
 abbrev pub all_chosen : Option ℕ → List Answering → List ℕ
 all_chosen avoid [] = []
 all_chosen avoid (f ∷ fs) = chosen avoid f ++ all_chosen avoid fs
 
 -- the UIDs heard, and those chosen
 abbrev pub chosen_population : Option ℕ → Met → List ℕ
-chosen_population avoid m = m.heard.items ++ all_chosen avoid m.found.items
+chosen_population avoid m = m.heard.items ++ all_chosen avoid m.unread.items

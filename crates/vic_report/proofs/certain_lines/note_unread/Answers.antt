@@ -1,35 +1,34 @@
-use Rattle.vic_report.proofs.Words.{◌≡◌, ◌+◌, true, Some, arith, length, ltb-true, refl, rules, slice_get, slice_get_read, subst, sym, has, entries, IsFound, ShowsCertain}
+use Rattle.vic_report.proofs.Words.{◌≡◌, ◌+◌, true, Some, arith, length, refl, slice_get, slice_get_read, subst, sym, has, entries, IsFound, ShowsCertain}
 use Rattle.vic_report.proofs.NotedLines.{IsExactBefore, both_noted, exact_split, exact_within, noted_as}
 use Rattle.vic_report.proofs.Telling.{found_shows, found_within}
-use Rattle.vic_report.specs.inner.NotedLines.{IsExactAt}
-use Rattle.vic_verdict.specs.Needs.{IsExactFor}
+use Rattle.vic_verdict.specs.Needs.{IsExactAt, IsExactFor}
 use Rattle.vic_report.proofs.certain_lines.note_unread.Goals as goal
+
+pub bounds-lines-slot : goal.bounds-lines-slot
+bounds-lines-slot c =
+    let f = c.slot-item.result in
+    found_within c.args.lines.now f (subst (IsFound (entries c.args.lines.now)) (sym c.slot-item.is) (c.requires.found c.loop-slot.slot-index f c.loop-slot-test.true))
 
 pub loop-slot-preserved : goal.loop-slot-preserved
 loop-slot-preserved c =
     let lines = c.args.lines.now in
-    let fs = c.args.found.now in
+    let fs = c.args.unread.now in
     let i = c.loop-slot.slot-index in
     let f = c.slot-item.result in
     let is = c.deref.ensures.0 in
     let found = subst (IsFound (entries lines)) (sym c.slot-item.is) (c.requires.found i f c.loop-slot-test.true) in
     let exact : length f.uids.items ≡ f.need = omega (arith, c.len.ensures.value, c.if-len-slot.false) in
-    let there : slice_get lines f.at ≡ Some c.in-Some.line.now = slice_get_read lines (length lines) f.at c.in-Some.line.now refl (ltb-true _ _ (sym c.in-Some.ensures.lookup.0)) c.in-Some.ensures.lookup.1 in
+    let line = c.index-lines-slot.result in
+    let there : slice_get lines f.at ≡ Some line = slice_get_read lines (length lines) f.at line refl (found_within lines f found) c.index-lines-slot.is in
     both_noted lines c.args.noted.now c.loop-slot.noted c.note_all.new.noted (IsExactBefore fs i) (IsExactAt f) (IsExactBefore fs (i + 1)) (λ u w. exact_split fs i u f c.loop-slot-test.true c.slot-item.is w)
     c.loop-slot.invariant
     (noted_as lines c.loop-slot.noted c.note_all.new.noted (λ u. has c.deref.result.now u ≡ true) (IsExactAt f) (λ u x. subst (λ us. has us u ≡ true) (sym is) x.1)
     (c.in_ok-note_all.ensures lines (λ u h.
-    subst (λ n. ShowsCertain lines n u) (sym c.number.ensures) (found_shows lines f c.in-Some.line.now u c.requires.possible found there (exact, subst (λ us. has us u ≡ true) is h)))))
+    subst (λ n. ShowsCertain lines n u) (sym c.number.ensures) (found_shows lines f line u c.requires.possible found there (exact, subst (λ us. has us u ≡ true) is h)))))
 
 pub returns : goal.returns
 returns c =
-    let fs = c.args.found.now in
+    let fs = c.args.unread.now in
     let i = c.loop-slot.slot-index in
     let end = c.loop-slot-test.false in
     noted_as c.args.lines.now c.args.noted.now c.loop-slot.noted (IsExactBefore fs i) (IsExactFor fs) (λ u w. exact_within fs i u (omega (arith, end)) w) c.loop-slot.invariant
-
-pub unreachable-requires : goal.unreachable-requires
-unreachable-requires c =
-    let f = c.slot-item.result in
-    let within = found_within c.args.lines.now f (subst (IsFound (entries c.args.lines.now)) (sym c.slot-item.is) (c.requires.found c.loop-slot.slot-index f c.loop-slot-test.true)) in
-    search rules

@@ -3,4 +3,4 @@ use Rattle.vic_report.specs.inner.NotedLines.{HasNoted}
 use Rattle.vic_report.proofs.certain_lines.note_unread.Given as goal
 
 abbrev pub invariant-loop-slot : goal.invariant-loop-slot
-invariant-loop-slot l = HasNoted l.lines l.initial.noted l.noted (IsExactBefore l.found l.slot-index)
+invariant-loop-slot l = HasNoted l.lines l.initial.noted l.noted (IsExactBefore l.unread l.slot-index)

@@ -25,7 +25,7 @@ returns c =
     let set = is_open_in c.args.facts.open in
     let us = c.in_ok-listed.listed in
     let certain = c.args.facts.certain in
-    let keys = c.in_ok-keys.keys in
+    let keys = c.in_ok-certain_keys.certain_keys in
     let some = c.in_ok-uncertain.uncertain in
     let d = c.in_ok-differences.differences in
     let facts = log_facts es set certain c.requires.told in
@@ -34,7 +34,7 @@ returns c =
     let all = all_findings (IsPossibleUid es) (IsCertainUid es) set certain us (listed es) d facts own here in
     let masks : AreOpenMasks es c.open_masks_besides-masks.result = record {
       set = without_keys set keys;
-      uids = open_set es set certain keys facts (λ u i. c.in_ok-keys.ensures.members u i ∙ ap (λ xs. has xs u) c.as_slice.ensures.value);
+      uids = open_set es set certain keys facts (λ u i. c.in_ok-certain_keys.ensures.members u i ∙ ap (λ xs. has xs u) c.as_slice.ensures.value);
       first = c.open_masks_besides-masks.ensures.first;
       more = c.open_masks_besides-masks.ensures.more;
     } in

@@ -3,4 +3,4 @@ use Rattle.vic_verdict.proofs.explanation.add_chosen.Given as goal
 
 abbrev pub invariant-loop-uid : goal.invariant-loop-uid
 invariant-loop-uid l =
-    l.uids.items ++ take l.lacking (filter (is_other l.avoid) (drop l.uid-index l.candidates)) ≡ l.fn.uids.items ++ chosen l.avoid l.found
+    l.uids.items ++ take l.left (filter (is_other l.avoid) (drop l.uid-index l.uid-items)) ≡ l.fn.uids.items ++ chosen l.avoid l.slot

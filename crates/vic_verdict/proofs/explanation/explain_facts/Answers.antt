@@ -1,7 +1,7 @@
 use Rattle.vic_verdict.proofs.Words.{subst, ⊎_elim, IsVerdict}
 use Rattle.vic_verdict.proofs.Explaining.{known_shown, unsettled_shown, doubtful_shown}
 use Rattle.vic_verdict.proofs.explanation.explain_facts.Goals as goal
-use Rattle.vic_verdict.proofs.explanation.explain_facts.Goals.{in-Impossible, in-Absent+in_ok-choose-in-Absent, in-Unsettled+in_ok-choose-in-Unsettled+in_ok-with_uid-in-Unsettled, in-Doubtful+in_ok-choose-in-Doubtful}
+use Rattle.vic_verdict.proofs.explanation.explain_facts.Goals.{in-Impossible, in-Absent+in_ok-choose-in-Absent, in-Unsettled+in_ok-push-in-Unsettled+in_ok-choose-in-Unsettled, in-Doubtful+in_ok-choose-in-Doubtful}
 
 pub returns : goal.returns
 returns g c =
@@ -13,12 +13,12 @@ returns g c =
       | in-Absent+in_ok-choose-in-Absent w ↦
           let given = w.in_ok-choose-in-Absent.ensures in
           rw (w.verdict-is, w.population-is) record { verdict = verdict; population = known_shown lines _ _ _ verdict w.in-Absent.is met given.rising given.members }
-      | in-Unsettled+in_ok-choose-in-Unsettled+in_ok-with_uid-in-Unsettled w ↦
-          let more = w.in_ok-with_uid-in-Unsettled.ensures in
+      | in-Unsettled+in_ok-push-in-Unsettled+in_ok-choose-in-Unsettled w ↦
+          let given = w.in_ok-choose-in-Unsettled.ensures in
           let here = subst (IsVerdict lines) w.in-Unsettled.is verdict in
           rw (w.verdict-is, w.population-is) record {
             verdict = here;
-            population = unsettled_shown lines _ _ _ _ _ here met w.in_ok-choose-in-Unsettled.ensures.members w.least_uid.ensures.value more.rising more.members;
+            population = unsettled_shown lines _ _ _ _ _ here met w.least_uid.ensures.value w.in_ok-push-in-Unsettled.ensures.items given.rising given.members;
           }
       | in-Doubtful+in_ok-choose-in-Doubtful w ↦
           let given = w.in_ok-choose-in-Doubtful.ensures in

@@ -6,12 +6,12 @@ pub bounds-lines-at : goal.bounds-lines-at
 bounds-lines-at g c =
     let lines = c.args.log.now.lines in
     let first : IsFirstImpossible (entries lines) c.in-Err.at = rw (c.in-Err.is, c.of.ensures.value) at c.in_ok-open.ensures.found in
-    omega (arith, first.impossible.within, length-map lines (λ (l : LogLine). l.item), ap length c.lines-lines.ensures.value)
+    omega (arith, first.within, length-map lines (λ (l : LogLine). l.item), ap length c.lines.ensures.value)
 
 pub returns-in-Err-clause-facts : goal.returns-in-Err-clause-facts
 returns-in-Err-clause-facts g c =
     let lines = c.args.log.now.lines in
     let first : IsFirstImpossible (entries lines) c.in-Err.at = rw (c.in-Err.is, c.of.ensures.value) at c.in_ok-open.ensures.found in
-    let short = first.impossible.within in
+    let short = first.within in
     subst (λ n. IsVerdict lines (Impossible n)) (sym c.number.ensures)
-    (first_line lines c.in-Err.at c.index-lines-at.result c.of.ensures.log.rising (slice_get_read lines (length lines) c.in-Err.at c.index-lines-at.result refl (omega (arith, short, length-map lines (λ (l : LogLine). l.item))) (rw c.lines-lines.ensures.value at c.index-lines-at.is)) first)
+    (first_line lines c.in-Err.at c.index-lines-at.result c.of.ensures.log.rising (slice_get_read lines (length lines) c.in-Err.at c.index-lines-at.result refl (omega (arith, short, length-map lines (λ (l : LogLine). l.item))) (rw c.lines.ensures.value at c.index-lines-at.is)) first)

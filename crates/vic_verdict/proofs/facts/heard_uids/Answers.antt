@@ -17,4 +17,4 @@ pub returns : goal.returns
 returns c =
     let start = c.list_start-index-end in
     let end : c.loop-index.index ≡ start.result = omega (arith, c.loop-index-test.false, c.loop-index.auto.index-end) in
-    heard_at_list (entries c.args.lines.now) start.result _ _ start.ensures.list start.ensures.within (rw end at c.loop-index.invariant)
+    heard_at_list (entries c.args.lines.now) start.result _ start.ensures.list (rw end at c.loop-index.invariant)

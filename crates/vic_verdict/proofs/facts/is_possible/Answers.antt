@@ -1,5 +1,5 @@
-use Rattle.vic_verdict.proofs.Words.{◌∙◌, sym, false≢true, true_from_ne_false, entries}
-use Rattle.vic_verdict.proofs.Walking.{broken_log, found_met, lacks_unmet, met_possible, possible_met, unbroken}
+use Rattle.vic_verdict.proofs.Words.{◌∙◌, sym, false≢true, entries}
+use Rattle.vic_verdict.proofs.Walking.{broken_log, found_met, met_enough, met_possible, possible_met, unbroken}
 use Rattle.vic_verdict.proofs.facts.is_possible.Goals as goal
 
 pub returns-then-is_some : goal.returns-then-is_some
@@ -17,7 +17,8 @@ returns c =
     let walk = c.in_ok-parts.field-0 in
     let none = sym c.is_some.ensures ∙ c.if-is_some.false in
     let end = unbroken walk.parts es walk.broken walk.walk c.in_ok-parts.ensures.walk none in
-    let found = c.in_ok-found.found.items in (
-      (λ met. possible_met es end.1 (found_met es found c.in_ok-found.ensures.found (rw c.deref.ensures.value at (c.are_met.ensures.met met)))),
-      (λ possible. true_from_ne_false _ (λ unmet. lacks_unmet es found c.in_ok-found.ensures.found (rw c.deref.ensures.value at (c.are_met.ensures.unmet unmet)) (met_possible es possible))),
+    let unread = c.in_ok-unread.unread.items in
+    let iff = rw c.deref.ensures.value at c.are_met.ensures in (
+      (λ met. possible_met es end.1 (found_met es unread c.in_ok-unread.ensures.found (iff.0 met))),
+      (λ possible. iff.1 (met_enough es unread c.in_ok-unread.ensures.found (met_possible es possible))),
     )

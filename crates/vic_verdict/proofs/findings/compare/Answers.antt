@@ -9,9 +9,9 @@ returns g c =
     let certain = c.args.certain.now in
     let unlisted = c.in_ok-unlisted.unlisted in
     let all = λ (u : ℕ). known_has us certain unlisted u c.in_ok-unlisted.ensures in
-    let keys = c.in_ok-keys.ensures in
+    let keys = c.in_ok-settled_keys.ensures in
     record {
       absent = absent_by set us certain (us ++ unlisted) c.in_ok-absent.absent all (c.in_ok-absent.ensures (us ++ unlisted) keys);
       unlisted = c.in_ok-unlisted.ensures;
-      unsettled = unsettled_by set us certain (us ++ unlisted) c.in_ok-keys.keys c.in_ok-unsettled.unsettled all keys c.in_ok-unsettled.ensures.found c.in_ok-unsettled.ensures.empty;
+      unsettled = unsettled_by set us certain (us ++ unlisted) c.in_ok-settled_keys.settled_keys c.in_ok-unsettled.unsettled all keys c.in_ok-unsettled.ensures.found c.in_ok-unsettled.ensures.empty;
     }
