@@ -32,11 +32,13 @@ impl Model for UidKey {
 }
 
 impl UidKey {
-    /// The first key.
-    pub fn least() -> UidKey
-        ensures { result ≡ 0 }
+    /// The key with a number below `2^56`.
+    #[inline(always)]
+    pub fn new(number: u64) -> UidKey
+        requires { IsKey number }
+        ensures { result ≡ number }
     {
-        UidKey { number: 0 }
+        UidKey { number }
     }
 
     /// Its number.

@@ -58,7 +58,7 @@ impl KeyedRound {
     {
         let first = match request {
             Request::Inventory { mask, .. } => first_key(&mask),
-            Request::StayQuiet { .. } => UidKey::least(),
+            Request::StayQuiet { .. } => UidKey::new(0),
         };
         KeyedRound {
             request,

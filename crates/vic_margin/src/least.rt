@@ -6,7 +6,7 @@ ghost use Rattle.vic_margin.specs.inner.Trees.{within};
 
 use crate::margins::PartMargins;
 use vic_frame::UID_BITS;
-use vic_frame::low_bits_first::{key, uid_at};
+use vic_frame::low_bits_first::UidKey;
 use vic_tree::SortedKeys;
 
 /// The least margin of the UIDs without those with some keys; `None` if there is no other key.
@@ -37,8 +37,8 @@ fn least_between(margins: &PartMargins, from: u64, end: u64, least: Option<u32>)
         return least;
     }
     let mut found = least;
-    let first = key(uid_at(from));
-    let last = key(uid_at(end - 1));
+    let first = UidKey::new(from);
+    let last = UidKey::new(end - 1);
     for part in margins.parts.at(first)..margins.parts.at(last) + 1 {
         found = Some(lesser(found, margins.each[part]));
     }

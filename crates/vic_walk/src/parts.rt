@@ -306,7 +306,7 @@ fn push_block(
             push_both(borders, Border::at(block.first), end, with_end)
         }
         None => {
-            let least = Border::at(UidKey::least());
+            let least = Border::at(UidKey::new(0));
             push_both(borders, least, least, with_end)
         }
     }
