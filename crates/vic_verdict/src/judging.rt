@@ -59,9 +59,26 @@ pub fn judge(alloc: Global, log: &Log) -> Result<Verdict, AllocError>
     judge_with::<RangeSet>(alloc, log)
 }
 
-/// The verdict on a log, with the open UIDs kept in an `S`. The other clauses of `judge` follow, by
-/// the laws. Clause `log` restates, for proofs, what holds of every `Log`.
+/// The same, with the open UIDs kept in an `S`.
 pub fn judge_with<S: OpenSet>(alloc: Global, log: &Log) -> Result<Verdict, AllocError>
+    ensures verdict { IfOk result (λ v. IsVerdict log.now.lines v) }
+    ensures whole { IfOk result (λ v. (count : ℕ) → v ≡ Complete count
+        → IsWhole (entries log.now.lines)
+        × (count ≡ length (listed (entries log.now.lines)))) }
+    ensures second { IfOk result (λ v. (count : ℕ) → v ≡ Complete count
+        → AreOfSecondVersion (entries log.now.lines)
+        → IsWholeSecond (entries log.now.lines)) }
+    ensures third { IfOk result (λ v. (count : ℕ) → v ≡ Complete count
+        → IsWholeThird (entries log.now.lines)) }
+    ensures reached { IfOk result (λ v. IsReached (entries log.now.lines)
+        → v ≡ Complete (length (listed (entries log.now.lines)))) }
+{
+    judge_lines::<S>(alloc, log)
+}
+
+/// The verdict on the lines of a log, from which the other clauses follow. Clause `log` restates,
+/// for proofs, what holds of every `Log`.
+fn judge_lines<S: OpenSet>(alloc: Global, log: &Log) -> Result<Verdict, AllocError>
     ensures verdict { IfOk result (λ v. IsVerdict log.now.lines v) }
     ensures log { AreLogLines log.now.lines }
 {
