@@ -141,11 +141,11 @@ def once(tmp_path_factory):
     top = top.parent if "PYTEST_XDIST_WORKER" in os.environ else top
 
     def make_in(name, make):
-        folder, new = top / name, top / f"{name}.new"
+        folder = top / name
         with open(top / f"{name}.lock", "w") as lock:
             fcntl.flock(lock, fcntl.LOCK_EX)
             if not folder.exists():
-                new.mkdir(exist_ok=True)
+                new = tmp_path_factory.mktemp(name)  # nothing of a try that failed is in it
                 make(new)
                 new.rename(folder)
         return folder

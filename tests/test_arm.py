@@ -10,6 +10,7 @@ from helpers.lines import biglog
 from helpers.program import TOP, Program, linked, told
 
 LOGS = sorted(TOP.glob("examples/*.log"))
+COMMANDS = "check", "explain", "report", "margin", "simulate"
 # A search for so many tags has over 100,000 lines.
 TAGS, LEAST = 12_000, 100_000
 
@@ -34,6 +35,13 @@ def large(tmp_path_factory):
     log.write_bytes(biglog("session", TAGS))
     assert log.read_bytes().count(b"\n") > LEAST
     return log
+
+
+@pytest.mark.parametrize("command", COMMANDS)
+def test_the_released_program(arm, program, command):
+    """Rows are asked of the same commands, but all in one process."""
+    for log in LOGS:
+        assert arm.program.run(command, log) == program.run(command, log)
 
 
 @pytest.mark.parametrize("log", [*LOGS, "large"], ids=lambda log: getattr(log, "name", log))
@@ -74,7 +82,7 @@ def test_each_allocation_is_refused(both):
 
 
 @pytest.mark.slow
-@pytest.mark.parametrize("command", ["check", "explain", "report", "margin", "simulate"])
+@pytest.mark.parametrize("command", COMMANDS)
 def test_the_commands_on_a_large_log(arm, program, large, command):
     text = large.read_bytes()
     if command == "simulate":

@@ -1,7 +1,6 @@
 """Programs over the library in C, C++, Go, Rust and Python: they answer as the program does, what
 is expected is read by the library alone, and no text that isn't a list of UIDs, and no log that
 says nothing, gives a wrong `complete`."""
-import functools
 import hashlib
 import os
 import platform
@@ -66,7 +65,6 @@ def example(request, once):
             made("cargo", "build", "--offline", "--locked", cwd=source, **environment)
             shutil.copy(f"{environment['CARGO_TARGET_DIR']}/debug/vicinity-check", program)
 
-    @functools.lru_cache(None)
     def of(language, library, name="check"):
         if language == "commands":
             return Program(*request.getfixturevalue("commands").words, "reconcile")

@@ -913,7 +913,7 @@ def test_what_is_saved_is_what_python_writes(page, vicinity, tmp_path, names):
     assert (page.texts("h1"), page.driver.title) == (heading, f"{heading[0]} a <b>.log")
 
 
-def test_a_slot_is_tried_otherwise(page, tmp_path):
+def test_a_slot_is_tried_otherwise(page):
     """The trial has a name of its own, and it can be taken back."""
     page.drop(log=log_of("I16 S RA RB S13 UA UB"))
     page.until("h1", "All 2")

@@ -40,6 +40,13 @@ def test_row(reconcile, tmp_path, expected, logs, lines, status):
     assert reconcile("EXPECTED", *LOGS[:len(logs)]) == (wanted, b"", status)
 
 
+def test_the_last_of_many_logs(reconcile, tmp_path):
+    """The others are complete."""
+    (tmp_path / "b").write_bytes(log_of("I1 RB"))
+    said = b"unlisted E0040100000000B2\nby line 3 of b\n"
+    assert reconcile("EXPECTED", *"a" * 100, "b") == (said, b"", 1)
+
+
 @pytest.mark.parametrize(("words", "said"), [
     (["EXPECTED", "a", "none"], "cannot open none"), (["none", "a"], "cannot open none"),
     (["EXPECTED", "folder"], "read failed"), ([], "usage")], ids=repr)

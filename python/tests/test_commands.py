@@ -259,6 +259,21 @@ class Streams(Command):
             self.assertEqual((errors, status),
                              (b"vicinity: cannot read -: Bad file descriptor\n", 4))
 
+    def test_a_stream_that_is_closed_on_windows(self):
+        """Its mode can't be set. Of a traceback the status would be 1, which is an answer."""
+        there = """
+import os, sys, types
+from vicinity._process import read, run
+sys.modules["msvcrt"] = types.SimpleNamespace(setmode=lambda file, _: os.fstat(file))
+sys.platform, os.O_BINARY = "win32", 0
+sys.exit(run(lambda: len(read("-"))))
+"""
+        for closed, why in (("<&-", b"vicinity: cannot read -: Bad file descriptor\n"),
+                            (">&- </dev/null", b"")):
+            ran = subprocess.run(["sh", "-c", f'"$@" {closed}', "sh", sys.executable, "-c", there],
+                                 stderr=subprocess.PIPE)
+            self.assertEqual((ran.stderr, ran.returncode), (why, 4 if why else 0))
+
     def test_a_pipe_that_is_not_waited_for(self):
         """Its first half would be complete."""
         for form in FORMS:

@@ -37,12 +37,12 @@ def run(command: Callable[[], int]) -> int:
     """The status of a command, which is 4 if it has no answer."""
     signal.signal(signal.SIGINT, signal.SIG_DFL)  # also while the library judges
     sys.unraisablehook = lambda _: None  # failures while something is released as memory runs out
-    if sys.platform == "win32":
-        import msvcrt
-        for file in (0, 1):  # line ends stay as they are
-            msvcrt.setmode(file, os.O_BINARY)
     try:
         _hold_closed()
+        if sys.platform == "win32":
+            import msvcrt
+            for file in (0, 1):  # line ends stay as they are
+                msvcrt.setmode(file, os.O_BINARY)
         return command()
     except NoAnswer as why:
         return complain(str(why))

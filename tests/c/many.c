@@ -18,7 +18,7 @@
 #define __lsan_do_recoverable_leak_check() 0
 #endif
 
-enum { LINE = 1 << 16, WORDS = 64, LEAK = 99 };
+enum { LINE = 1 << 16, WORDS = LINE / 2, LEAK = 99 };
 
 int vicinity_main(int count, char **words);
 
@@ -49,6 +49,8 @@ int main(int count, char **given)
     FILE *runs = fdopen(dup(0), "r"), *told = fdopen(dup(1), "w");
     while (count == 2 && fgets(line, sizeof line, runs)) {
         char *words[WORDS] = {0};
+        if (!strchr(line, '\n')) /* it is longer: its end would be a run by itself */
+            return 1;
         count = 0;
         for (char *word = strtok(line, " \n"); word && count < WORDS - 1; word = strtok(NULL, " \n"))
             words[count++] = word_of(word);

@@ -203,7 +203,7 @@ def records(files: Sequence[tuple[str, bytes]]) -> list[Log]:
             except (ValueError, KeyError, TypeError, AttributeError, RecursionError):
                 raise Wrong(f"{shown(name)}, line {number}: "
                             "it isn't a survey as `survey` writes it") from None
-            if found.setdefault(os.path.normpath(log.name), log) is not log:
+            if found.setdefault(os.path.abspath(log.name), log) is not log:
                 raise Wrong(f"{shown(name)}, line {number}: "
                             f"there is another survey of {shown(log.name)}")
     return list(found.values())
