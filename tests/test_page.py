@@ -5,6 +5,7 @@ import random
 import re
 import subprocess
 import sys
+import time
 from hashlib import sha256
 
 import pytest
@@ -224,7 +225,7 @@ Worker.prototype.postMessage = function (it) {
   Worker.prototype.postMessage = post;
 """
 # Why the second of two logs has no answer, with what makes it so.
-UNREADABLE = "it can't be read: open it again, or, if it is a folder, the files in it"
+UNREADABLE = "it can't be read; open it again, or the files in it if it is a folder"
 UNANSWERED = {
     UNREADABLE: """
 File.prototype.arrayBuffer = function () {
@@ -1207,9 +1208,9 @@ def test_no_collection_is_judged_without_one_of_its_logs(page, why):
     page.until("#logs", f"two {why}")
     for name in "books.csv", "better.csv":
         page.drop(**{name: OF_A})
-        page.until(".error", f"{name}: no answer (two is lacking: {why}).")
+        page.until(".error", f"{name}: no answer (two: {why}).")
         assert page.texts("#told p") == [
-            "Open it again, together with the other logs and the catalogue."]
+            "Open all files again, together: the logs and the catalogue."]
 
 
 def tried(page, line):
@@ -1370,7 +1371,7 @@ def test_nothing_is_shown_while_a_file_is_read(page, is_stopped):
         page.press("#stop")
         page.until(".error", "slow.log: no answer (stopped).")
         page.drop(**{"books.csv": OF_A})
-        page.until(".error", "books.csv: no answer (slow.log is lacking: stopped).")
+        page.until(".error", "books.csv: no answer (slow.log: stopped).")
         page.drop(log=log_of("I1 S UA"))
     else:
         page.run("window.go()")
@@ -1468,6 +1469,49 @@ def test_the_answer_to_an_earlier_text_goes_if_judging_takes_long(page):
     assert page.driver.title == "log (edited) .."
     page.until("#status", "Judging log (edited) ..")
     assert (page.said(), page.texts("h1")) == ("", [])
+
+
+def test_the_answer_to_an_earlier_text_is_neither_printed_nor_pressed(page):
+    """A press on a line of it put lines of the earlier text back into an empty field."""
+    page.drop(log=log_of("I1 RA UA"))
+    page.until("h1", "The one listed tag is here")
+    page.run("window.setTimeout = () => 0")
+    assert type_in(page, "") and page.said()
+    x, y = page.run("const it = document.querySelector('#told td.heard'); it.scrollIntoView();"
+                    "const { left, top } = it.getBoundingClientRect(); return [left + 9, top + 9]")
+    for kind in "mousePressed", "mouseReleased":
+        page.driver.execute_cdp_cmd("Input.dispatchMouseEvent", {
+            "type": kind, "x": x, "y": y, "button": "left", "clickCount": 1})
+    assert page.driver.find_element("id", "text").get_property("value") == ""
+    page.media("print")
+    assert not page.driver.find_element("id", "told").is_displayed()
+
+
+def test_what_is_waited_for_is_said(page):
+    """Of many logs not the last, and nothing of a text that a file replaces."""
+    page.drop(log=log_of("I1 RA UA"))
+    page.until("h1", "The one listed tag is here")
+    page.run(HOLD + SLOW)
+    type_in(page, log_of("I1 S UA").decode())
+    page.drop(**{"slow.log": log_of("I1 RA UA")})
+    page.until("#status", "slow.log ..")
+    time.sleep(1)
+    assert page.texts("#status") == ["Reading slow.log .."]
+    page.run("window.go()")
+    page.until("#status", "Judging slow.log ..")
+    page.drop(one=log_of("I1 RA UA"), two=log_of("I1 S UA"))
+    page.until("#status", "Judging 2 logs ..")
+
+
+def test_the_name_of_a_text_is_not_that_of_the_one_before(page):
+    page.drop(notes=b"to do")
+    page.until("#named", "The file")
+    page.driver.find_element("id", "text").click()
+    page.until(".place", ", line 1")
+    page.run("File.prototype.arrayBuffer = () => Promise.reject(new Error())")
+    page.drop(folder=b"")
+    page.until(".error", "folder")
+    assert (page.texts("#named"), page.texts(".place")) == (["The log"], [""])
 
 
 def test_what_is_shown_of_a_log_stays_while_another_is_judged(page):
