@@ -9,6 +9,7 @@ import time
 from hashlib import sha256
 
 import pytest
+from selenium.webdriver.common.keys import Keys
 
 import biglog
 from helpers.lines import log_lines, log_of, text_of
@@ -1501,6 +1502,32 @@ def test_what_is_waited_for_is_said(page):
     page.until("#status", "Judging slow.log ..")
     page.drop(one=log_of("I1 RA UA"), two=log_of("I1 S UA"))
     page.until("#status", "Judging 2 logs ..")
+
+
+def test_an_answer_that_is_shown_is_not_stopped(page):
+    """That to a log of which a line was tried, and taken back, before it was judged."""
+    page.run("""
+      const post = Worker.prototype.postMessage;
+      window.held = [];
+      Worker.prototype.postMessage = function (it) {
+        if (it.module) post.call(this, it);
+        else window.held.push(() => post.call(this, it));
+      };
+    """)
+    page.drop(log=log_of("I1 S UA"))
+    page.until("#status", "Judging log ..")
+    page.driver.find_element("id", "text").click()
+    page.run("const it = document.getElementById('text'), at = it.value.indexOf('\\nS');"
+             "it.setSelectionRange(at + 1, at + 1)")
+    page.driver.find_element("id", "text").send_keys(Keys.ARROW_RIGHT)
+    for number in 0, -1:
+        page.press("#trial button", number)
+    page.run("window.held.shift()()")
+    page.until("h1", "0 of 1 listed tag is here")
+    assert page.texts("#status") == [""]
+    page.run("document.getElementById('stop').click()")
+    page.until("h1", "0 of 1 listed tag is here")
+    assert page.texts(".error") == []
 
 
 def test_the_name_of_a_text_is_not_that_of_the_one_before(page):

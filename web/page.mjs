@@ -61,8 +61,10 @@ const work = new Work(at("worker").textContent ?? "", at("module").textContent ?
 /** @param {Entry} entry */
 async function ask(entry) {
   wait();
-  Object.assign(entry, await work.ask(entry.given ? { given: entry.given } : { name: entry.name, text: entry.text }));
-  if (!work.isBusy && !pending) quiet();
+  const done = await work.ask(entry.given ? { given: entry.given } : { name: entry.name, text: entry.text });
+  // of one that was asked twice the first answer stays
+  if (isUnanswered(entry)) Object.assign(entry, done);
+  if (!pending && !entries.some(isUnanswered)) quiet();
   if (entry === entries[current]) show();
   else if (entries.includes(entry)) drawing ??= window.setTimeout(overview, entries.length);
 }
@@ -229,7 +231,8 @@ function overview() {
   if (isOne) return;
   list.querySelectorAll("button").forEach(label);
   const whole = entries.filter(({ told, name }) => told?.object.kind === KIND.COMPLETE && !TRIAL.test(name)).length;
-  const words = `${count(many, "log")}, each with its own answer.${entries.some(isUnanswered) ? "" : ` Complete: ${whole.toLocaleString("en")} of ${many.toLocaleString("en")}.`}`;
+  const how = entries.some(isUnanswered) ? "" : ` Complete: ${whole.toLocaleString("en")} of ${many.toLocaleString("en")}.`;
+  const words = `${count(many, "log")}, each with its own answer.${how}`;
   each.append(el(current < 0 ? "h1" : "p", {}, words), el("p", { class: "hint" }, TOGETHER));
   if (current >= 0) return;
   shown.replaceChildren();
@@ -331,7 +334,7 @@ function asBefore() {
   entries[current] = before;
   edit();
   show();
-  if (!before.told && !before.error) ask(before);
+  if (isUnanswered(before)) ask(before);
 }
 
 saves.addEventListener("click", () => {
