@@ -737,8 +737,8 @@ def test_a_file_that_cannot_be_read(page):
     page.drop(log=log_of("I1 RA UA"))
     page.until("h1", "The one listed tag is here")
     page.run("File.prototype.arrayBuffer = () => Promise.reject(new Error())")
-    page.drop(folder=b"")
-    page.until(".error", f"folder: no answer ({UNREADABLE}).")
+    page.drop(**{"fold\u202Eer": b""})
+    page.until(".error", f"fold‹202E›er: no answer ({UNREADABLE}).")
     assert page.driver.title == page.run(
         "return document.getElementById('said').textContent") == page.texts(".error")[0]
     assert "listed tag" not in page.said()

@@ -244,7 +244,7 @@ function overview() {
  * @param {string} name
  * @param {string} error
  */
-const unanswered = (name, error) => error.startsWith(name) ? `No answer: ${error}.` : `${name}: no answer (${error}).`;
+const unanswered = (name, error) => printable(error.startsWith(name) ? `No answer: ${error}.` : `${name}: no answer (${error}).`);
 
 /**
  * What becomes of the logs of a collection that has no answer.
