@@ -5,9 +5,11 @@ import random
 import re
 import subprocess
 import sys
+import time
 from hashlib import sha256
 
 import pytest
+from selenium.webdriver.common.keys import Keys
 
 import biglog
 from helpers.lines import log_lines, log_of, text_of
@@ -224,7 +226,7 @@ Worker.prototype.postMessage = function (it) {
   Worker.prototype.postMessage = post;
 """
 # Why the second of two logs has no answer, with what makes it so.
-UNREADABLE = "it can't be read: open it again, or, if it is a folder, the files in it"
+UNREADABLE = "it can't be read; open it again, or the files in it if it is a folder"
 UNANSWERED = {
     UNREADABLE: """
 File.prototype.arrayBuffer = function () {
@@ -735,8 +737,8 @@ def test_a_file_that_cannot_be_read(page):
     page.drop(log=log_of("I1 RA UA"))
     page.until("h1", "The one listed tag is here")
     page.run("File.prototype.arrayBuffer = () => Promise.reject(new Error())")
-    page.drop(folder=b"")
-    page.until(".error", f"folder: no answer ({UNREADABLE}).")
+    page.drop(**{"fold\u202Eer": b""})
+    page.until(".error", f"fold‹202E›er: no answer ({UNREADABLE}).")
     assert page.driver.title == page.run(
         "return document.getElementById('said').textContent") == page.texts(".error")[0]
     assert "listed tag" not in page.said()
@@ -1207,9 +1209,9 @@ def test_no_collection_is_judged_without_one_of_its_logs(page, why):
     page.until("#logs", f"two {why}")
     for name in "books.csv", "better.csv":
         page.drop(**{name: OF_A})
-        page.until(".error", f"{name}: no answer (two is lacking: {why}).")
+        page.until(".error", f"{name}: no answer (two: {why}).")
         assert page.texts("#told p") == [
-            "Open it again, together with the other logs and the catalogue."]
+            "Open all files again, together: the logs and the catalogue."]
 
 
 def tried(page, line):
@@ -1370,7 +1372,7 @@ def test_nothing_is_shown_while_a_file_is_read(page, is_stopped):
         page.press("#stop")
         page.until(".error", "slow.log: no answer (stopped).")
         page.drop(**{"books.csv": OF_A})
-        page.until(".error", "books.csv: no answer (slow.log is lacking: stopped).")
+        page.until(".error", "books.csv: no answer (slow.log: stopped).")
         page.drop(log=log_of("I1 S UA"))
     else:
         page.run("window.go()")
@@ -1468,6 +1470,75 @@ def test_the_answer_to_an_earlier_text_goes_if_judging_takes_long(page):
     assert page.driver.title == "log (edited) .."
     page.until("#status", "Judging log (edited) ..")
     assert (page.said(), page.texts("h1")) == ("", [])
+
+
+def test_the_answer_to_an_earlier_text_is_neither_printed_nor_pressed(page):
+    """A press on a line of it put lines of the earlier text back into an empty field."""
+    page.drop(log=log_of("I1 RA UA"))
+    page.until("h1", "The one listed tag is here")
+    page.run("window.setTimeout = () => 0")
+    assert type_in(page, "") and page.said()
+    x, y = page.run("const it = document.querySelector('#told td.heard'); it.scrollIntoView();"
+                    "const { left, top } = it.getBoundingClientRect(); return [left + 9, top + 9]")
+    for kind in "mousePressed", "mouseReleased":
+        page.driver.execute_cdp_cmd("Input.dispatchMouseEvent", {
+            "type": kind, "x": x, "y": y, "button": "left", "clickCount": 1})
+    assert page.driver.find_element("id", "text").get_property("value") == ""
+    page.media("print")
+    assert not page.driver.find_element("id", "told").is_displayed()
+
+
+def test_what_is_waited_for_is_said(page):
+    """Of many logs not the last, and nothing of a text that a file replaces."""
+    page.drop(log=log_of("I1 RA UA"))
+    page.until("h1", "The one listed tag is here")
+    page.run(HOLD + SLOW)
+    type_in(page, log_of("I1 S UA").decode())
+    page.drop(**{"slow.log": log_of("I1 RA UA")})
+    page.until("#status", "slow.log ..")
+    time.sleep(1)
+    assert page.texts("#status") == ["Reading slow.log .."]
+    page.run("window.go()")
+    page.until("#status", "Judging slow.log ..")
+    page.drop(one=log_of("I1 RA UA"), two=log_of("I1 S UA"))
+    page.until("#status", "Judging 2 logs ..")
+
+
+def test_an_answer_that_is_shown_is_not_stopped(page):
+    """That to a log of which a line was tried, and taken back, before it was judged."""
+    page.run("""
+      const post = Worker.prototype.postMessage;
+      window.held = [];
+      Worker.prototype.postMessage = function (it) {
+        if (it.module) post.call(this, it);
+        else window.held.push(() => post.call(this, it));
+      };
+    """)
+    page.drop(log=log_of("I1 S UA"))
+    page.until("#status", "Judging log ..")
+    page.driver.find_element("id", "text").click()
+    page.run("const it = document.getElementById('text'), at = it.value.indexOf('\\nS');"
+             "it.setSelectionRange(at + 1, at + 1)")
+    page.driver.find_element("id", "text").send_keys(Keys.ARROW_RIGHT)
+    for number in 0, -1:
+        page.press("#trial button", number)
+    page.run("window.held.shift()()")
+    page.until("h1", "0 of 1 listed tag is here")
+    assert page.texts("#status") == [""]
+    page.run("document.getElementById('stop').click()")
+    page.until("h1", "0 of 1 listed tag is here")
+    assert page.texts(".error") == []
+
+
+def test_the_name_of_a_text_is_not_that_of_the_one_before(page):
+    page.drop(notes=b"to do")
+    page.until("#named", "The file")
+    page.driver.find_element("id", "text").click()
+    page.until(".place", ", line 1")
+    page.run("File.prototype.arrayBuffer = () => Promise.reject(new Error())")
+    page.drop(folder=b"")
+    page.until(".error", "folder")
+    assert (page.texts("#named"), page.texts(".place")) == (["The log"], [""])
 
 
 def test_what_is_shown_of_a_log_stays_while_another_is_judged(page):

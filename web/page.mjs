@@ -25,10 +25,10 @@ import { STOPPED, Work } from "./work.mjs";
 const PAUSE = 250, PATIENCE = 400;
 /** Larger files are no logs, and no text for each browser. */
 const MOST_BYTES = 256_000_000, TOO_LARGE = "it has more than 256 MB";
-const NO_FILE = "it can't be read: open it again, or, if it is a folder, the files in it";
-const PASTE = "Paste a log here", NO_DROP = "No file was dropped, so nothing has changed: save it as a file, and open that.";
+const NO_FILE = "it can't be read; open it again, or the files in it if it is a folder";
+const PASTE = "Paste a log here", NO_DROP = "No file was dropped, so nothing has changed. Save the text as a file, and open that.";
 const TOGETHER = "Press one to see it. For one answer about all of them, open them together with one catalogue (CSV).";
-const OPEN_AGAIN = "Open it again, together with the other logs and the catalogue.";
+const OPEN_AGAIN = "Open all files again, together: the logs and the catalogue.";
 
 const field = /** @type {HTMLTextAreaElement} */ (at("text")), files = /** @type {HTMLInputElement} */ (at("files"));
 const stop = at("stop"), shown = at("told"), several = at("several"), each = at("each"), list = at("logs"), status = at("status"), saves = at("save");
@@ -60,22 +60,26 @@ const work = new Work(at("worker").textContent ?? "", at("module").textContent ?
 
 /** @param {Entry} entry */
 async function ask(entry) {
-  wait(`Judging ${entry.name} ..`);
-  Object.assign(entry, await work.ask(entry.given ? { given: entry.given } : { name: entry.name, text: entry.text }));
-  if (!work.isBusy && !pending) quiet();
+  wait();
+  const done = await work.ask(entry.given ? { given: entry.given } : { name: entry.name, text: entry.text });
+  // of one that was asked twice the first answer stays
+  if (isUnanswered(entry)) Object.assign(entry, done);
+  if (!pending && !entries.some(isUnanswered)) quiet();
   if (entry === entries[current]) show();
   else if (entries.includes(entry)) drawing ??= window.setTimeout(overview, entries.length);
 }
 
-/**
- * What takes long can be stopped. The answer to an earlier text isn't shown any longer then.
- * @param {string} words
- */
-function wait(words) {
+/** @param {Entry} entry */
+const isUnanswered = ({ told, collection, error }) => !told && !collection && !error;
+
+/** What takes long can be stopped. The answer to an earlier text isn't shown any longer then. */
+function wait() {
   clearTimeout(patience);
   patience = window.setTimeout(() => {
+    const left = entries.filter(isUnanswered);
+    if (!pending && !left.length) return;
     stop.hidden = false;
-    status.textContent = words;
+    status.textContent = pending ? `Reading ${pending.name} ..` : `Judging ${left.length > 1 ? count(left.length, "log") : left[0].name} ..`;
     if (shown.getAttribute("aria-busy") === "false") return;
     answered = undefined;
     show();
@@ -119,7 +123,7 @@ function open(chosen) {
   if (!all.length) return;
   /** @type {Entry} */
   const mine = pending = { name, text: new Uint8Array() };
-  wait(`Reading ${name} ..`);
+  wait();
   show();
   opening = opening.then(async () => {
     const taken = await reading;
@@ -160,7 +164,7 @@ const isLacking = ({ error, text }) => error && (error !== STOPPED || !text.leng
  */
 function lacking({ expected, places, logs }) {
   const which = [...logs, expected, ...places ? [places] : []].filter(isLacking);
-  return which.length ? { error: which.map(({ name, error }) => `${name} is lacking: ${error}`).join("; ") } : {};
+  return which.length ? { error: which.map(({ name, error }) => `${name}: ${error}`).join("; ") } : {};
 }
 
 /**
@@ -200,20 +204,20 @@ function show() {
   } else if (entry?.told) {
     shown.replaceChildren(...view(entry.told));
     headed(titleOfEntry(entry));
-    at("named").textContent = nameOfText(entry.told, false);
-    pane.mark();
   } else if (entry?.collection) {
     shown.replaceChildren(...collectionView(entry.collection));
     headed(titleOfEntry(entry));
   }
   // until a text is read and judged, what is shown is that of another one
-  const old = entry !== undefined && !entry.told && !entry.collection && !entry.error;
+  const old = entry !== undefined && isUnanswered(entry);
   shown.setAttribute("aria-busy", String(old));
   if (old && answered !== entry) {
     shown.replaceChildren();
     headed(`${entry.name} ..`);
   }
   answered = entry;
+  at("named").textContent = entry?.told ? nameOfText(entry.told, false) : "The log";
+  pane.mark();
 }
 
 /** Shows several logs with what each says. Of all together nothing is said but how many are complete, once all are judged. */
@@ -226,9 +230,9 @@ function overview() {
   each.replaceChildren();
   if (isOne) return;
   list.querySelectorAll("button").forEach(label);
-  const isJudged = entries.every(({ told, error }) => told ?? error);
   const whole = entries.filter(({ told, name }) => told?.object.kind === KIND.COMPLETE && !TRIAL.test(name)).length;
-  const words = `${count(many, "log")}, each with its own answer.${isJudged ? ` Complete: ${whole.toLocaleString("en")} of ${many.toLocaleString("en")}.` : ""}`;
+  const how = entries.some(isUnanswered) ? "" : ` Complete: ${whole.toLocaleString("en")} of ${many.toLocaleString("en")}.`;
+  const words = `${count(many, "log")}, each with its own answer.${how}`;
   each.append(el(current < 0 ? "h1" : "p", {}, words), el("p", { class: "hint" }, TOGETHER));
   if (current >= 0) return;
   shown.replaceChildren();
@@ -240,7 +244,7 @@ function overview() {
  * @param {string} name
  * @param {string} error
  */
-const unanswered = (name, error) => error.startsWith(name) ? `No answer: ${error}.` : `${name}: no answer (${error}).`;
+const unanswered = (name, error) => printable(error.startsWith(name) ? `No answer: ${error}.` : `${name}: no answer (${error}).`);
 
 /**
  * What becomes of the logs of a collection that has no answer.
@@ -330,7 +334,7 @@ function asBefore() {
   entries[current] = before;
   edit();
   show();
-  if (!before.told && !before.error) ask(before);
+  if (isUnanswered(before)) ask(before);
 }
 
 saves.addEventListener("click", () => {

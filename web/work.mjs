@@ -24,24 +24,22 @@ export class Work {
     this.#begin();
   }
 
+  /** Where no worker can be begun, there is none, which is said when it is asked. */
   #begin() {
+    this.#worker = null;
     try {
-      this.#worker = this.#begun();
+      const worker = new Worker(this.code);
+      worker.onmessage = ({ data: { id, ...done } }) => {
+        const answer = this.#waiting.get(id);
+        this.#waiting.delete(id);
+        answer?.(done);
+      };
+      worker.onerror = () => this.stop(FAILED);
+      worker.postMessage({ module: this.module });
+      this.#worker = worker;
     } catch {
-      this.#worker = null;
+      // none
     }
-  }
-
-  #begun() {
-    const worker = new Worker(this.code);
-    worker.onmessage = ({ data: { id, ...done } }) => {
-      const answer = this.#waiting.get(id);
-      this.#waiting.delete(id);
-      answer?.(done);
-    };
-    worker.onerror = () => this.stop(FAILED);
-    worker.postMessage({ module: this.module });
-    return worker;
   }
 
   get isBusy() { return this.#waiting.size > 0; }
