@@ -116,8 +116,8 @@ fn open_and_met<S: OpenSet>(
         broken,
     } = walk_log(alloc, lines)?;
     if let Some(at) = broken {
-        // the replies aren't borne out at `at`; but an earlier line may have left an unread slot too
-        // few open UIDs: `first_lack` returns the position of the first that has, and `at` if none
+        // the replies aren't borne out at `at`, but an earlier line may have left an unread slot
+        // too few open UIDs: `first_lack` returns the position of the first that has, or `at`
         return Ok(Err(first_lack(alloc, lines, &parts, &walk, at)?));
     }
     let closed = closed_keys(alloc, &parts, &walk)?;
