@@ -9,10 +9,10 @@
  *   needed at the end, and one inside is an ordinary byte.
  * - `uids` and `expected` point to `count` readable numbers. Where vicinity_reconcile reads
  *   `certain` and `masks`, they point to `certain_count` numbers and `mask_count` structs.
- * - A buffer stands before its `room`, and has that many writable elements: numbers, structs or
+ * - A buffer is passed before its `room`, the number of its writable elements: numbers, structs or
  *   bytes. `needed` points to one number, and any other pointer to a struct to one struct.
- * - All pointers are aligned, and none is NULL. Only a pointer before a length, count or room of 0
- *   may be any, NULL included: nothing is there.
+ * - All pointers are aligned, and none is NULL. Only one that is passed before a length, count or
+ *   room of 0 may have any value, NULL included.
  * - A `text` that UIDs follow, as of vicinity_check_listed, ends with LF: otherwise its last line
  *   may swallow the first of them, and the answer is about fewer.
  * - What is written overlaps nothing else that is passed.
@@ -23,8 +23,8 @@
  * - The stack has 64 KiB left.
  * Calls share nothing: any number of threads may call at the same time. Only the calls that judge a
  * text, reconcile or fill in slots take memory. They can't be stopped. They take about a quarter of
- * a second and 40 MB for a session of 1,000,000 lines, and ten times that for the worst logs: bound
- * the length of untrusted input.
+ * a second and 40 MB for a session of 1,000,000 lines, and up to 2.5 seconds and 165 MB for the
+ * worst logs that are known: bound the length of untrusted input.
  */
 #ifndef VICINITY_H
 #define VICINITY_H
@@ -74,7 +74,7 @@ enum vicinity_fault {
     VICINITY_FAULT_ENTRY_AFTER_LIST = 9,
     VICINITY_FAULT_DUPLICATE_LISTED = 10,
     VICINITY_FAULT_NOT_LISTED = 11, /* of vicinity_listed alone: the line has no `U` */
-    /* of the frame on a T or R line */
+    /* of the frame on a T, R or H line */
     VICINITY_FAULT_FRAME_SHORT = 101,
     VICINITY_FAULT_FRAME_CRC = 102,
     VICINITY_FAULT_FRAME_EXTENSION = 103,

@@ -20,8 +20,24 @@ STATUSES = """\
 The exit status is the worst of all: 0 complete, 1 not complete, 2 impossible,
 3 refused, 4 no answer. Standard error says why there is no answer; other logs
 are still judged."""
-LOOK: Mapping[str, Any] = {"epilog": STATUSES, "allow_abbrev": False,
-                           "formatter_class": argparse.RawDescriptionHelpFormatter}
+SURVEYED = """\
+The exit status is the worst of all: 0 each log says something, 2 one contradicts
+itself, 3 one is refused, 4 one can't be read, or there is no answer."""
+COMPARED = """\
+The exit status: 0 nothing has changed, 1 something has, 3 a file is no such
+answer, 4 no answer."""
+WRITTEN = "The exit status: 0 it is written, 3 what is given is refused, 4 no answer."
+
+
+class Help(argparse.RawDescriptionHelpFormatter):
+    """Help in which names stand as they are given."""
+
+    def _format_args(self, action: argparse.Action, default_metavar: str) -> str:
+        return str(action.metavar) if action.dest == "names" else \
+            super()._format_args(action, default_metavar)
+
+
+LOOK: Mapping[str, Any] = {"allow_abbrev": False, "formatter_class": Help}
 ANY = sys.maxsize
 #: A log has fewer slots than this.
 MOST_MARGIN = 999_999
@@ -30,16 +46,17 @@ MOST_MARGIN = 999_999
 def words() -> tuple[Words, Mapping[str, Words]]:
     """The words of all commands, and of each."""
     is_module = os.path.basename(sys.argv[0]) == "__main__.py"
-    top = Words(prog="python3 -m vicinity" if is_module else None, description=ABOUT, **LOOK)
+    top = Words(prog="python3 -m vicinity" if is_module else None, description=ABOUT,
+                epilog=STATUSES, **LOOK)
     top.add_argument("--version", action="version", version=__version__)
     commands = top.add_subparsers(metavar="COMMAND", parser_class=Words)
 
     def add(name: str, does: str, what: str, names: str = "LOG", least: int = 1, most: int = 1,
-            **forms: str) -> Words:
+            ends: str = STATUSES, **forms: str) -> Words:
         """A command, with the function that does it as MODULE.FUNCTION, and what it does
-        for people. It takes so many names, and writes in one of these forms,
-        of which the first is meant where none is asked for."""
-        command: Words = commands.add_parser(name, help=what, description=what, **LOOK)
+        for people. It takes so many names, ends with one of these statuses, and writes in
+        one of these forms, of which the first is meant where none is asked for."""
+        command: Words = commands.add_parser(name, help=what, description=what, epilog=ends, **LOOK)
         command.set_defaults(does=does, number=(least, most), form=next(iter(forms), ""))
         command.add_argument("names", metavar=names, nargs="*")
         group = command.add_mutually_exclusive_group() if forms else command
@@ -48,20 +65,20 @@ def words() -> tuple[Words, Mapping[str, Words]]:
                                help=text)
         return command
 
-    check = add("check", "answers.check_all", "whether the list of each log is complete", "LOG",
-                0, ANY, lines="FILE: answer", json="an object a line",
+    check = add("check", "answers.check_all", "whether the list of each log is complete",
+                "[LOG ..]", 0, ANY, lines="FILE: answer", json="an object a line",
                 tabs="file, status and answer, separated by tabs")
-    report = add("report", "answers.report_all", "every finding of each log", "LOG", 0, ANY,
+    report = add("report", "answers.report_all", "every finding of each log", "[LOG ..]", 0, ANY,
                  lines="FILE:LINE: text, like a compiler",
                  json="an object a line, with the findings")
     reconcile = add("reconcile", "reconcile.reconcile",
-                    "compares many logs with a list or catalogue of what should be there", "LOG",
-                    0, ANY, lines="lines like those of `vicinity reconcile`",
+                    "compares many logs with a list or catalogue of what should be there",
+                    "[LOG ..]", 0, ANY, lines="lines like those of `vicinity reconcile`",
                     csv="the catalogue, with the state of each item", page="one HTML file",
                     json="one object: the answer, each item and each log")
     _of_collections(reconcile)
     survey = add("survey", "reconcile.survey", "what each log says of its field, an object a line, "
-                 "for reconcile --surveys", "LOG", 0, ANY)
+                 "for reconcile --surveys", "[LOG ..]", 0, ANY, SURVEYED)
     for command in (check, report, reconcile, survey):
         command.add_argument("--logs-from", metavar="FILE", action="append", default=[],
                              help="a file that lists more logs, separated by NUL or line ends")
@@ -70,25 +87,28 @@ def words() -> tuple[Words, Mapping[str, Words]]:
                              help="a list is complete only if a tag that isn't on it would have "
                                   "had to be missed in K slots or more")
     add("compare", "compare.compare", "what has changed between two answers of reconcile --json",
-        "OLD NEW", 2, 2, lines="a line for each item that has changed", json="one object")
+        "OLD NEW", 2, 2, COMPARED, lines="a line for each item that has changed", json="one object")
     show = add("show", "draw.draw", "draws the rounds of a log for a terminal")
     show.add_argument("--ascii", action="store_true", help="only ASCII characters")
-    add("page", "draw.page", "the same as one HTML file")
+    add("page", "draw.page", "draws a log as one HTML file")
     add("explain", "answers.explain_one",
         "the answer to a log, and tags that show it, as the program does")
     add("margin", "answers.margin_one", "the answer to a log, and how often a tag would have had "
         "to be missed, as the program does")
     add("simulate", "answers.simulate_one",
-        "the log that listed tags would produce for given requests, as the program does")
-    misread = add("misread", "misread.misread", "a true log as a reader would have written it "
-                  "that misses, hides or mistakes replies")
+        "the log that listed tags would produce for given requests, as the program does",
+        ends=WRITTEN)
+    misread = add("misread", "misread.misread", "what a reader that misses, hides or mistakes "
+                  "replies would have written for a true log", ends=WRITTEN)
     for chance, what in (("capture", "one reply is read over the others of its slot"),
                          ("miss", "a reply isn't noticed"), ("noise", "noise covers a slot")):
         misread.add_argument(f"--{chance}", metavar="P", type=_chance, default=0.0,
                              help=f"the probability that {what}")
-    misread.add_argument("--seed", metavar="N", type=int, default=0, help="of the random numbers")
-    add("frame", "frames.frame", "a frame in words, as the program does", "HEX")
-    add("spell", "frames.spell", "words as a frame, as the program does", "WORD", 1, ANY)
+    misread.add_argument("--seed", metavar="N", type=int, default=0,
+                         help="the seed of the random numbers")
+    add("frame", "frames.frame", "a frame in words, as the program does", "HEX", ends=WRITTEN)
+    add("spell", "frames.spell", "words as a frame, as the program does", "WORD ..", 1, ANY,
+        WRITTEN)
     return top, commands.choices
 
 
