@@ -93,6 +93,9 @@ static void try_many()
     IS(thrown<vicinity::NoLogs>([] { vicinity::reconcile({}, {}); }) == "no logs");
     vicinity::Survey read = vicinity::survey(ONE), kept(std::move(read));
     IS(thrown<vicinity::NoLogs>([&] { vicinity::reconcile({A}, {kept, read}); }) == "no logs");
+    vicinity::Survey &same = kept; // as in a loop that keeps some elements of a vector
+    kept = std::move(same);
+    IS(thrown<vicinity::NoLogs>([&] { vicinity::reconcile({}, {kept}); }) == "no logs");
     IS(thrown<vicinity::NoLogs>([] { vicinity::reconcile({}, {vicinity::Survey()}); }) ==
        "no logs");
     IS(thrown<vicinity::Refused>([&] {

@@ -118,10 +118,11 @@ struct Answer : vicinity_answer {
     Answer(const Answer &) = default;
     Answer &operator=(const Answer &) = default;
     Answer(Answer &&from) noexcept : Answer() { std::swap<vicinity_answer>(*this, from); }
+    // Moved to itself it is none too: a Survey loses its masks so.
     Answer &operator=(Answer &&from) noexcept
     {
-        Answer moved(std::move(from));
-        std::swap<vicinity_answer>(*this, moved);
+        vicinity_answer::operator=(from);
+        from.vicinity_answer::operator=(Answer());
         return *this;
     }
 
