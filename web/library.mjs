@@ -30,6 +30,7 @@ import { FOUND } from "./kinds.mjs";
 const INTERFACE = 1, NO_ANSWER = 4, FIRST_ROOM = 64;
 /** The sizes of the header's structs, in bytes, and where the text of an answer begins. */
 const ANSWER = 104, TEXT = 40, FINDING = 32, MASK = 16, WEAKEST = 16, PLACES = 4, UID = 8, REQUEST = 32, REPLY = 16, FRAME = 24, NAME = 32, NUMBER = 8;
+const LINE_END = 10;
 const DECODER = new TextDecoder();
 const ENCODER = new TextEncoder();
 
@@ -116,25 +117,32 @@ export class Library {
   }
 
   /**
+   * Behind the text stands an LF, which isn't counted.
    * @param {Take} take
    * @param {Uint8Array | string} text
    * @returns {[number, number]} where it is, and its length
    */
   #put(take, text) {
     const bytes = typeof text === "string" ? ENCODER.encode(text) : text;
-    const at = take(bytes.length);
-    this.#bytes.set(bytes, at);
+    if (bytes.BYTES_PER_ELEMENT !== 1) throw new TypeError("a text, or a frame, is a Uint8Array");
+    const at = take(bytes.length + 1), memory = this.#bytes;
+    memory.set(bytes, at);
+    memory[at + bytes.length] = LINE_END;
     return [at, bytes.length];
   }
 
   /**
    * @param {Take} take
-   * @param {ArrayLike<bigint>} uids
+   * @param {bigint[] | BigUint64Array} uids
    * @returns {[number, number]}
    */
   #putUids(take, uids) {
+    if (!Array.isArray(uids) && uids.BYTES_PER_ELEMENT !== UID) throw new TypeError("UIDs are an array of BigInt");
     const at = take(UID * uids.length), view = this.#view;
-    for (let i = 0; i < uids.length; i++) view.setBigUint64(at + UID * i, uids[i], true);
+    for (let i = 0; i < uids.length; i++) {
+      if (BigInt.asUintN(64, uids[i]) !== uids[i]) throw new TypeError(`a UID has 64 bits, unlike ${uids[i]}`);
+      view.setBigUint64(at + UID * i, uids[i], true);
+    }
     return [at, uids.length];
   }
 
@@ -255,12 +263,15 @@ export class Library {
   margin(text) { return this.#margin("margin", (take) => this.#put(take, text)); }
 
   /**
-   * The same of a text that has no list and ends with an LF, with a list beside it.
+   * The same of a text that has no list, with a list beside it.
    * @param {Uint8Array | string} text
-   * @param {ArrayLike<bigint>} uids
+   * @param {bigint[] | BigUint64Array} uids
    */
   marginListed(text, uids) {
-    return this.#margin("margin_listed", (take) => [...this.#put(take, text), ...this.#putUids(take, uids)]);
+    return this.#margin("margin_listed", (take) => {
+      const [at, length] = this.#put(take, text), isEnded = this.#bytes[at + length - 1] === LINE_END;
+      return [at, isEnded ? length : length + 1, ...this.#putUids(take, uids)];
+    });
   }
 
   /**
@@ -281,7 +292,7 @@ export class Library {
   /**
    * The answer, and in how many slots of a log each of these UIDs was overlooked.
    * @param {Uint8Array | string} text
-   * @param {ArrayLike<bigint>} uids
+   * @param {bigint[] | BigUint64Array} uids
    */
   overlooked(text, uids) {
     return this.#within((take) => {
@@ -293,8 +304,8 @@ export class Library {
   }
 
   /**
-   * @param {ArrayLike<bigint>} expected
-   * @param {ArrayLike<bigint>} certain
+   * @param {bigint[] | BigUint64Array} expected
+   * @param {bigint[] | BigUint64Array} certain
    * @param {Mask[]} masks
    */
   reconcile(expected, certain, masks) {
