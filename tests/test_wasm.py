@@ -36,10 +36,20 @@ const said = (text, uids) => {
 };
 console.log(JSON.stringify([
   [silent, silent + "\\n", silent + "\\n# end"].map((text) => said(text, [uid])),
-  [[], [uid + 2n ** 64n], [uid - 2n ** 64n], [,], "", () => 0, new Uint8Array(0), new Set()]
+  [[], [uid + 2n ** 64n], [uid - 2n ** 64n], ["E0"], [,], "", () => 0, new Uint8Array(0), new Set()]
     .map((uids) => said(silent, uids)),
   [wide, [...silent], new DataView(wide.buffer), wide.buffer].map((text) => said(text, [])),
   library.check(silent).text]));
+"""
+# A module whose stack is too small, as Firefox says it, and what is said of it next.
+SPENT = """
+import { Library } from "./web/library.mjs";
+const library = new Library({ exports: { memory: new WebAssembly.Memory({ initial: 1 }),
+  vicinity_interface: () => 1, vicinity_allocate: () => 16n, vicinity_free() {},
+  vicinity_check() { throw new Error("too much recursion"); } } });
+const said = () => { try { library.check(""); } catch (error) { console.log(error.message); } };
+said();
+said();
 """
 UID_A, UID_B = 0xE0040100000000A1, 0xE0040100000000B2
 # How many bytes the buffer has of a call that lists something.
@@ -88,8 +98,13 @@ def test_a_list_is_taken_whole_or_not_at_all(wasm_module):
     ended, lists, texts, after = json.loads(
         told("node", "--input-type=module", "-e", BESIDE, wasm_module, cwd=TOP))
     assert ended == [f"absent {UID_A:X}"] * 3
-    assert lists == ["complete 0", *["TypeError"] * 7] and texts == ["TypeError"] * 4
+    assert lists == ["complete 0", *["TypeError"] * 8] and texts == ["TypeError"] * 4
     assert after == "complete 0\n"
+
+
+def test_a_module_that_failed_is_not_asked_again():
+    said = told("node", "--input-type=module", "-e", SPENT, cwd=TOP)
+    assert said == "too much recursion\nthe module has failed: load it again\n"
 
 
 def test_every_number_by_node(wasm_module, texts, answered):

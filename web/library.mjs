@@ -81,8 +81,8 @@ export class Library {
   get #view() { return new DataView(this.#memory.buffer); }
 
   /**
-   * Does something with bytes of the module's memory that are given back at the end. What has trapped left its memory half
-   * written, so nothing is called after that.
+   * Does something with bytes of the module's memory that are given back at the end. What has trapped, or found the stack too
+   * small, which each browser calls otherwise, left its memory half written: nothing is called after that.
    * @template T
    * @param {(take: Take) => T} work
    * @returns {T}
@@ -100,7 +100,7 @@ export class Library {
       });
       return result;
     } catch (error) {
-      this.#broken = error instanceof WebAssembly.RuntimeError || error instanceof RangeError;
+      this.#broken = !(error instanceof OutOfMemory || error instanceof TypeError);
       throw error;
     } finally {
       if (!this.#broken) for (const at of taken) this.#calls.vicinity_free(at);
@@ -140,7 +140,7 @@ export class Library {
     if (!Array.isArray(uids) && uids.BYTES_PER_ELEMENT !== UID) throw new TypeError("UIDs are an array of BigInt");
     const at = take(UID * uids.length), view = this.#view;
     for (let i = 0; i < uids.length; i++) {
-      if (BigInt.asUintN(64, uids[i]) !== uids[i]) throw new TypeError(`a UID has 64 bits, unlike ${uids[i]}`);
+      if (typeof uids[i] !== "bigint" || BigInt.asUintN(64, uids[i]) !== uids[i]) throw new TypeError(`no UID: ${uids[i]}`);
       view.setBigUint64(at + UID * i, uids[i], true);
     }
     return [at, uids.length];
