@@ -31,6 +31,8 @@ const INTERFACE = 1, NO_ANSWER = 4, FIRST_ROOM = 64;
 /** The sizes of the header's structs, in bytes, and where the text of an answer begins. */
 const ANSWER = 104, TEXT = 40, FINDING = 32, MASK = 16, WEAKEST = 16, PLACES = 4, UID = 8, REQUEST = 32, REPLY = 16, FRAME = 24, NAME = 32, NUMBER = 8;
 const LINE_END = 10;
+/** The mask of all UIDs. @type {Mask} */
+export const ALL = Object.freeze({ fault: 0, len: 0, value: 0n });
 const DECODER = new TextDecoder();
 const ENCODER = new TextEncoder();
 
@@ -235,7 +237,8 @@ export class Library {
   openMasks(text) { return this.#listed("open_masks", (take) => this.#put(take, text), MASK, maskAt, roomFor(text)); }
 
   /**
-   * The answer, the UIDs that must be there, and all open masks, of one look at the text.
+   * The answer, the UIDs that must be there, and all open masks, of one look at the text. If it is refused or impossible, any
+   * tag may be there: so `reconcile` doesn't take it for an empty field.
    * @param {Uint8Array | string} text
    * @returns {{answer: Answer, certain: bigint[], open: Mask[]}}
    */
@@ -247,6 +250,7 @@ export class Library {
         this.#call("survey", ...given, answer, uids, uidRoom, uidsNeeded, masks, maskRoom, masksNeeded);
         const view = this.#view, [certain, open] = [uidsNeeded, masksNeeded].map((at) => Number(view.getBigUint64(at, true)));
         const told = this.#answer(answer);
+        if (told.status > 1) return { answer: told, certain: [], open: [ALL] };
         if (certain <= uidRoom && open <= maskRoom) {
           return { answer: told, certain: Array.from({ length: certain }, (_, i) => uidAt(view, uids + i * UID)),
             open: Array.from({ length: open }, (_, i) => maskAt(view, masks + i * MASK)) };
