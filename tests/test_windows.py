@@ -110,7 +110,7 @@ def test_a_console_keeps_its_code_page(built, windows_release):
 
 
 def test_a_pattern_stands_for_its_files(released, tmp_path):
-    """Not for those, as of old logs, that it fits only by the short names that Windows gives."""
+    """Not for those, as of old logs, that it fits only by the short names they have there."""
     (tmp_path / "list").write_bytes(log_of("UA UB"))
     for name, log in ("a.log", "I1 RA"), ("b.log_old", "I1 RB"):
         (tmp_path / name).write_bytes(log_of(log))
