@@ -171,6 +171,13 @@ def test_a_reader_loop(example, language, by):
         assert loop.run(word)[::2] == (b"", 4)
 
 
+def test_a_reader_loop_that_is_refused_memory_has_no_answer(example, tmp_path):
+    loop, refuse = example("c", LIBRARIES[0], "reader_loop"), shim("refuse", tmp_path)
+    for number in "2", "9":
+        said = loop.run("3", env={**os.environ, "LD_PRELOAD": refuse, "REFUSED": number})
+        assert said == (b"", b"vicinity: out of memory\n", 4)
+
+
 @pytest.mark.parametrize("language", ["c", "python"])
 def test_a_reader_loop_that_does_not_reach_its_margin(example, language):
     """Its limit of rounds comes first, though the list is complete."""

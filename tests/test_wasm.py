@@ -20,6 +20,37 @@ const it = new WebAssembly.Module(require("fs").readFileSync(process.argv[1]));
 const exported = WebAssembly.Module.exports(it).map((one) => one.name);
 console.log(JSON.stringify([WebAssembly.Module.imports(it), exported]));
 """
+# Lists beside a log of silence: what is said of each, and that the module is as it was.
+BESIDE = """
+import { readFileSync } from "node:fs";
+import { Library } from "./web/library.mjs";
+const library = await Library.of(readFileSync(process.argv[1])), uid = 0xE0040100000000A1n;
+const silent = "vicinity-log 1\\nT 260100F60A\\nS";
+const wide = Uint16Array.from(silent, (it) => it.charCodeAt(0) + 256);
+const said = (text, uids) => {
+  try {
+    return library.marginListed(text, uids).answer.text.trim();
+  } catch (error) {
+    return error.constructor.name;
+  }
+};
+console.log(JSON.stringify([
+  [silent, silent + "\\n", silent + "\\n# end"].map((text) => said(text, [uid])),
+  [[], [uid + 2n ** 64n], [uid - 2n ** 64n], ["E0"], [,], "", () => 0, new Uint8Array(0), new Set()]
+    .map((uids) => said(silent, uids)),
+  [wide, [...silent], new DataView(wide.buffer), wide.buffer].map((text) => said(text, [])),
+  library.check(silent).text]));
+"""
+# A module whose stack is too small, as Firefox says it, and what is said of it next.
+SPENT = """
+import { Library } from "./web/library.mjs";
+const library = new Library({ exports: { memory: new WebAssembly.Memory({ initial: 1 }),
+  vicinity_interface: () => 1, vicinity_allocate: () => 16n, vicinity_free() {},
+  vicinity_check() { throw new Error("too much recursion"); } } });
+const said = () => { try { library.check(""); } catch (error) { console.log(error.message); } };
+said();
+said();
+"""
 UID_A, UID_B = 0xE0040100000000A1, 0xE0040100000000B2
 # How many bytes the buffer has of a call that lists something.
 ROOM = 2048
@@ -60,6 +91,20 @@ def test_what_belongs_to_one_system_is_refused(wasm_module, tmp_path, old, new, 
     _, err, status = Program(TOP / "targets/retarget", *words).run()
     assert status == 1 and err.startswith(b"retarget: ") and why in err.decode()
     assert not (tmp_path / "out.ll").exists()
+
+
+def test_a_list_is_taken_whole_or_not_at_all(wasm_module):
+    """Also behind a last line that doesn't end."""
+    ended, lists, texts, after = json.loads(
+        told("node", "--input-type=module", "-e", BESIDE, wasm_module, cwd=TOP))
+    assert ended == [f"absent {UID_A:X}"] * 3
+    assert lists == ["complete 0", *["TypeError"] * 8] and texts == ["TypeError"] * 4
+    assert after == "complete 0\n"
+
+
+def test_a_module_that_failed_is_not_asked_again():
+    said = told("node", "--input-type=module", "-e", SPENT, cwd=TOP)
+    assert said == "too much recursion\nthe module has failed: load it again\n"
 
 
 def test_every_number_by_node(wasm_module, texts, answered):

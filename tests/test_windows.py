@@ -15,6 +15,7 @@ CC = ("x86_64-w64-mingw32-gcc", "-O2", "-Wall", "-Wextra", "-Werror",
 LOGS = sorted(str(log) for log in (TOP / "examples").glob("*.log"))
 LOG, EMPTY = log_of("I1 RA UA"), log_of("")
 READ = (b"complete 1\n", b"", 0)
+UID_B = 0xE0040100000000B2
 NAMES = ("shelf 3.log", "Größe.log", "полка.log", "日本の棚.log", "😀.log")
 # The table of what a DLL exports.
 EXPORTED = re.compile(r"^\t\[ *\d+\] (?:\+base\[ *\d+\] +[0-9a-f]+ )?(vicinity_\w+)", re.M)
@@ -109,11 +110,17 @@ def test_a_console_keeps_its_code_page(built, windows_release):
 
 
 def test_a_pattern_stands_for_its_files(released, tmp_path):
+    """Not for those, as of old logs, that it fits only by the short names they have there."""
     (tmp_path / "list").write_bytes(log_of("UA UB"))
-    for name, log in ("a.log", "I1 RA"), ("b.log", "I1 RB"):
+    for name, log in ("a.log", "I1 RA"), ("b.log_old", "I1 RB"):
         (tmp_path / name).write_bytes(log_of(log))
-    said = released.run("reconcile", "list", "*.log", cwd=tmp_path)
+    for pattern in "*.log", "?.log", ".\\*.LOG":
+        said = released.run("reconcile", "list", pattern, cwd=tmp_path)
+        assert said == (f"absent {UID_B:X}\n".encode(), b"", 1)
+    said = released.run("reconcile", "list", "*.log*", cwd=tmp_path)
     assert said == (b"complete 2\n", b"", 0)
+    unread = b"vicinity: cannot open *.txt\n"
+    assert released.run("reconcile", "list", "*.txt", cwd=tmp_path) == (b"", unread, 4)
 
 
 def test_a_session_of_a_million_lines(released, program, million):

@@ -30,6 +30,9 @@ import { FOUND } from "./kinds.mjs";
 const INTERFACE = 1, NO_ANSWER = 4, FIRST_ROOM = 64;
 /** The sizes of the header's structs, in bytes, and where the text of an answer begins. */
 const ANSWER = 104, TEXT = 40, FINDING = 32, MASK = 16, WEAKEST = 16, PLACES = 4, UID = 8, REQUEST = 32, REPLY = 16, FRAME = 24, NAME = 32, NUMBER = 8;
+const LINE_FEED = 10;
+/** The mask of all UIDs. @type {Mask} */
+export const ALL = Object.freeze({ fault: 0, len: 0, value: 0n });
 const DECODER = new TextDecoder();
 const ENCODER = new TextEncoder();
 
@@ -80,8 +83,8 @@ export class Library {
   get #view() { return new DataView(this.#memory.buffer); }
 
   /**
-   * Does something with bytes of the module's memory that are given back at the end. What has trapped left its memory half
-   * written, so nothing is called after that.
+   * Does something with bytes of the module's memory that are given back at the end. What has trapped, or found the stack too
+   * small, which each browser calls otherwise, left its memory half written: nothing is called after that.
    * @template T
    * @param {(take: Take) => T} work
    * @returns {T}
@@ -99,7 +102,7 @@ export class Library {
       });
       return result;
     } catch (error) {
-      this.#broken = error instanceof WebAssembly.RuntimeError || error instanceof RangeError;
+      this.#broken = !(error instanceof OutOfMemory || error instanceof TypeError);
       throw error;
     } finally {
       if (!this.#broken) for (const at of taken) this.#calls.vicinity_free(at);
@@ -116,25 +119,32 @@ export class Library {
   }
 
   /**
+   * Behind the text stands an LF, which isn't counted.
    * @param {Take} take
    * @param {Uint8Array | string} text
    * @returns {[number, number]} where it is, and its length
    */
   #put(take, text) {
     const bytes = typeof text === "string" ? ENCODER.encode(text) : text;
-    const at = take(bytes.length);
-    this.#bytes.set(bytes, at);
+    if (bytes.BYTES_PER_ELEMENT !== 1) throw new TypeError("a text, or a frame, is a Uint8Array");
+    const at = take(bytes.length + 1), memory = this.#bytes;
+    memory.set(bytes, at);
+    memory[at + bytes.length] = LINE_FEED;
     return [at, bytes.length];
   }
 
   /**
    * @param {Take} take
-   * @param {ArrayLike<bigint>} uids
+   * @param {bigint[] | BigUint64Array} uids
    * @returns {[number, number]}
    */
   #putUids(take, uids) {
+    if (!Array.isArray(uids) && uids.BYTES_PER_ELEMENT !== UID) throw new TypeError("UIDs are an array of BigInt");
     const at = take(UID * uids.length), view = this.#view;
-    for (let i = 0; i < uids.length; i++) view.setBigUint64(at + UID * i, uids[i], true);
+    for (let i = 0; i < uids.length; i++) {
+      if (typeof uids[i] !== "bigint" || BigInt.asUintN(64, uids[i]) !== uids[i]) throw new TypeError(`no UID: ${uids[i]}`);
+      view.setBigUint64(at + UID * i, uids[i], true);
+    }
     return [at, uids.length];
   }
 
@@ -227,7 +237,8 @@ export class Library {
   openMasks(text) { return this.#listed("open_masks", (take) => this.#put(take, text), MASK, maskAt, roomFor(text)); }
 
   /**
-   * The answer, the UIDs that must be there, and all open masks, of one look at the text.
+   * The answer, the UIDs that must be there, and all open masks, of one look at the text. If it is refused or impossible, any
+   * tag may be there: so `reconcile` doesn't take it for an empty field.
    * @param {Uint8Array | string} text
    * @returns {{answer: Answer, certain: bigint[], open: Mask[]}}
    */
@@ -239,6 +250,7 @@ export class Library {
         this.#call("survey", ...given, answer, uids, uidRoom, uidsNeeded, masks, maskRoom, masksNeeded);
         const view = this.#view, [certain, open] = [uidsNeeded, masksNeeded].map((at) => Number(view.getBigUint64(at, true)));
         const told = this.#answer(answer);
+        if (told.status > 1) return { answer: told, certain: [], open: [ALL] };
         if (certain <= uidRoom && open <= maskRoom) {
           return { answer: told, certain: Array.from({ length: certain }, (_, i) => uidAt(view, uids + i * UID)),
             open: Array.from({ length: open }, (_, i) => maskAt(view, masks + i * MASK)) };
@@ -255,12 +267,15 @@ export class Library {
   margin(text) { return this.#margin("margin", (take) => this.#put(take, text)); }
 
   /**
-   * The same of a text that has no list and ends with an LF, with a list beside it.
+   * The same of a text that has no list, with a list beside it.
    * @param {Uint8Array | string} text
-   * @param {ArrayLike<bigint>} uids
+   * @param {bigint[] | BigUint64Array} uids
    */
   marginListed(text, uids) {
-    return this.#margin("margin_listed", (take) => [...this.#put(take, text), ...this.#putUids(take, uids)]);
+    return this.#margin("margin_listed", (take) => {
+      const [at, length] = this.#put(take, text), isEnded = this.#bytes[at + length - 1] === LINE_FEED;
+      return [at, isEnded ? length : length + 1, ...this.#putUids(take, uids)];
+    });
   }
 
   /**
@@ -281,7 +296,7 @@ export class Library {
   /**
    * The answer, and in how many slots of a log each of these UIDs was overlooked.
    * @param {Uint8Array | string} text
-   * @param {ArrayLike<bigint>} uids
+   * @param {bigint[] | BigUint64Array} uids
    */
   overlooked(text, uids) {
     return this.#within((take) => {
@@ -293,8 +308,8 @@ export class Library {
   }
 
   /**
-   * @param {ArrayLike<bigint>} expected
-   * @param {ArrayLike<bigint>} certain
+   * @param {bigint[] | BigUint64Array} expected
+   * @param {bigint[] | BigUint64Array} certain
    * @param {Mask[]} masks
    */
   reconcile(expected, certain, masks) {

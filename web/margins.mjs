@@ -28,17 +28,14 @@ export function marginFields(weakest) {
 }
 
 /**
- * A log without its own list, whose last line has its end.
+ * A log without its own list.
  * @param {Uint8Array} text
  */
 export function withoutList(text) {
   for (let end = text.indexOf(LF); end >= 0; end = text.indexOf(LF, end + 1)) {
     if (text[end + 1] === LISTING) return text.subarray(0, end + 1);
   }
-  if (text[text.length - 1] === LF) return text;
-  const ended = new Uint8Array(text.length + 1).fill(LF);
-  ended.set(text);
-  return ended;
+  return text;
 }
 
 /**

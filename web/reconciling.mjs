@@ -3,6 +3,7 @@ import { withCaptures } from "./captured.mjs";
 import { readCatalogue } from "./expected.mjs";
 import { fields, judge, sumOf } from "./judge.mjs";
 import { FOUND, KIND } from "./kinds.mjs";
+import { ALL } from "./library.mjs";
 import { leastOf, marginFields, maskFields, overlookedIn, withoutList } from "./margins.mjs";
 import { maskKey } from "./frames.mjs";
 import { placesOf } from "./places.mjs";
@@ -18,7 +19,6 @@ import { UID_BITS, hex } from "./words.mjs";
  *   captured?: OfField}} Surveyed */
 
 const COUNT_IT = "count it again", CORRECT_IT = "correct it, or count it again";
-const ALL = { fault: 0, len: 0, value: 0n };
 /** How many of the open masks of a log are told. */
 const MOST_OPEN = 16;
 /** @type {Record<number, State>} */
@@ -102,7 +102,7 @@ const sumGiven = async (what, { name, text }) => ({ what, file: name, sha256: aw
 async function surveyed(library, { name, text }) {
   const { answer, certain, open } = library.survey(text), aside = answer.status > 1;
   const object = await judge(library, text, name, aside ? undefined : { certain, open });
-  if (aside) return { text, file: name, weakest: null, object, aside, certain: [], open: [ALL], captured: object.captured };
+  if (aside) return { text, file: name, weakest: null, object, aside, certain, open, captured: object.captured };
   const read = withCaptures(text), known = new Set(open.map(maskKey));
   const opened = read && library.openMasks(read).list.find((mask) => !known.has(maskKey(mask)));
   const { weakest } = library.marginListed(withoutList(text), certain);

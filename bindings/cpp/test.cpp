@@ -3,9 +3,27 @@
 
 #include <cstdlib>
 #include <iostream>
+#include <new>
 #include <utility>
 
 static int passed;
+static bool has_memory = true;
+
+void *operator new(std::size_t size)
+{
+    void *block = has_memory ? std::malloc(size) : nullptr;
+    return block ? block : throw std::bad_alloc();
+}
+
+void operator delete(void *block) noexcept
+{
+    std::free(block);
+}
+
+void operator delete(void *block, std::size_t) noexcept
+{
+    std::free(block);
+}
 
 static void is(bool holds, const char *what)
 {
@@ -93,6 +111,18 @@ static void try_many()
     IS(thrown<vicinity::NoLogs>([] { vicinity::reconcile({}, {}); }) == "no logs");
     vicinity::Survey read = vicinity::survey(ONE), kept(std::move(read));
     IS(thrown<vicinity::NoLogs>([&] { vicinity::reconcile({A}, {kept, read}); }) == "no logs");
+    vicinity::Survey &same = kept; // as in a loop that keeps some elements of a vector
+    kept = std::move(same);
+    IS(vicinity::reconcile({A}, {kept}).answer.is_complete());
+    const vicinity::Survey unread = vicinity::survey("vicinity-log 1\n");
+    has_memory = false;
+    try {
+        read = unread;
+    } catch (const std::bad_alloc &) {
+        has_memory = true;
+    }
+    IS(has_memory);
+    IS(thrown<vicinity::NoLogs>([&] { vicinity::reconcile({}, {read}); }) == "no logs");
     IS(thrown<vicinity::NoLogs>([] { vicinity::reconcile({}, {vicinity::Survey()}); }) ==
        "no logs");
     IS(thrown<vicinity::Refused>([&] {

@@ -118,10 +118,11 @@ struct Answer : vicinity_answer {
     Answer(const Answer &) = default;
     Answer &operator=(const Answer &) = default;
     Answer(Answer &&from) noexcept : Answer() { std::swap<vicinity_answer>(*this, from); }
+    // Moved to itself it is none too.
     Answer &operator=(Answer &&from) noexcept
     {
-        Answer moved(std::move(from));
-        std::swap<vicinity_answer>(*this, moved);
+        vicinity_answer::operator=(from);
+        from.vicinity_answer::operator=(Answer());
         return *this;
     }
 
@@ -182,6 +183,19 @@ struct Survey {
     Answer answer;                      // which says what the list of the log is worth
     std::vector<std::uint64_t> certain; // the UIDs that must be there, in rising order
     std::vector<vicinity_mask> masks;   // all whose UIDs may be there or not
+
+    Survey() = default;
+    Survey(const Survey &) = default;
+    Survey(Survey &&) = default;
+    // All is assigned, also of itself, or nothing where memory runs out: without its masks a survey
+    // would say that nothing else can be there.
+    Survey &operator=(Survey other) noexcept
+    {
+        std::swap(answer, other.answer);
+        certain.swap(other.certain);
+        masks.swap(other.masks);
+        return *this;
+    }
 };
 
 // ---- what the calls share

@@ -204,6 +204,10 @@ int main(int argc, char **argv)
     }
     const size_t reached = find_all(margin, &answer);
     const int is_done = answer.kind == VICINITY_COMPLETE && reached >= margin;
+    if (answer.kind == VICINITY_NO_ANSWER) {
+        fprintf(stderr, "vicinity: out of memory\n");
+        return 4;
+    }
     printf("%.*s after %zu rounds, %zu field cycles and %zu calls of the checker\n",
            (int)strcspn(answer.text, "\n"), answer.text, rounds, cycles, calls);
     if (!is_done && rounds >= MOST_ROUNDS)

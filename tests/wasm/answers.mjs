@@ -3,7 +3,7 @@
  *
  *     node answers.mjs MODULE.wasm <TEXTS
  */
-import { Library } from "../../web/library.mjs";
+import { ALL, Library } from "../../web/library.mjs";
 
 const EXPECTED = [0xE0040100000000B2n, 0xE0040100000000A1n];
 
@@ -42,7 +42,8 @@ function surveyed(library, text) {
   const said = (/** @type {bigint[]} */ uids, /** @type {import("../../web/library.mjs").Mask[]} */ masks) =>
     [...uids.map((uid) => ` ${hex(uid)}`), ...masks.map((mask) => ` ${mask.fault} ${mask.len} ${hex(mask.value)}`), "\n"].join("");
   const written = [shown(certain.answer), shown(open.answer), said(certain.list, open.list)];
-  if (shown(left.answer) + said(left.certain, left.open) !== shown(certain.answer) + said(certain.list, open.list)) {
+  const masks = certain.answer.status > 1 ? [ALL] : open.list; // what says nothing isn't an empty field
+  if (shown(left.answer) + said(left.certain, left.open) !== shown(certain.answer) + said(certain.list, masks)) {
     written.push("the survey differs\n");
   }
   const { answer, list } = library.reconcile(EXPECTED, certain.list, open.list);
