@@ -236,6 +236,8 @@ class Catalogues(Command):
                 ("uid\n", [], "row 1: no column is also in"),
                 ("barcode,tag\n", [], "row 1: no column is named uid"),
                 ("uid,barcode\nx,17\n", [], "row 2: 'x' isn't a UID"),
+                ("uid,barcode\nE0040100000000A1,017\n", [],
+                 "row 1: no cell of its column barcode is a key of"),
                 ("uid,barcode\n", ["--column", "shelf"], "row 1: no column is named shelf")):
             name = self.write("tags.csv", tags.encode())
             said, errors, status = here("lines", catalogue, self.names[1],
@@ -271,6 +273,15 @@ class Catalogues(Command):
                           ["5", ""]])
         self.catalogue(first[0])
         self.assertEqual(here("csv", name, self.both(), options=options), first)
+
+    def test_places_in_what_was_written_with_tags_and_moved(self):
+        """The column that --tags replaces stands before that of the places."""
+        tags = self.write("tags.csv", b"uid,code\nE0040100000000A1,1\n")
+        name = self.catalogue("uid,shelf,note,code,state,certain in,may be in\n"
+                              "E0040100000000A1,0,,1,there,,\n")
+        self.assertEqual(here("lines", name, *self.names[:2],
+                              options=["--tags", tags, "--place", "shelf"]),
+                         (f"misplaced E0040100000000A1 in {self.names[1]}, belongs to 0\n", "", 1))
 
     def test_places(self):
         catalogue = self.catalogue("uid,shelf\nE0040100000000A1,North\nE0040100000000B2,South\n")
@@ -329,13 +340,16 @@ class Catalogues(Command):
     def test_wrong_places(self):
         catalogue = self.catalogue("uid,shelf\nE0040100000000A1,a\n")
         one, other = self.write("a.log", NOTHING), self.write("a.txt", NOTHING)
+        places = self.write("places.csv", b"place,log\na,a.log\nb,A\n")
         for logs, options, why in (
                 ([one, other], ["--place", "shelf"], "two logs are of the place a, by their names"),
                 ([self.names[0]], ["--place", "shelf"],
                  "no log is of any place of the catalogue, such as a"),
                 ([one], ["--place", "room"], "row 1: no column is named room"),
                 ([one], ["--place", "shelf", "--places", catalogue],
-                 "row 1: no column is named place")):
+                 "row 1: no column is named place"),
+                ([one, other], ["--place", "shelf", "--places", places],
+                 f"{places}, row 3: two logs may be A: {one} and {other}")):
             said, errors, status = here("lines", catalogue, *logs, options=options)
             self.assertEqual((said, status), ("", 3))
             self.assertIn(why, errors)

@@ -265,6 +265,8 @@ class Calls(unittest.TestCase):
                      memoryview(b"".join(bytes([it, 0]) for it in text))[::2]):
             self.assertTrue(vicinity.check(same).is_complete)
             self.assertTrue(vicinity.explain(same).answer.is_complete)
+        shorter = type("Shorter", (bytes,), {"__len__": lambda _: len(text)})
+        self.assertEqual(vicinity.check(shorter(text + ALL + b"C\n")).kind, Kind.IMPOSSIBLE)
         for other in (5, None, "vicinity-log 1\n", [118, 105], object()):
             for call in (vicinity.check, vicinity.explain):
                 with self.assertRaisesRegex(TypeError, type(other).__name__):

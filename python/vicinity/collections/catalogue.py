@@ -93,6 +93,8 @@ def catalogue(name: str, text: bytes, how: How = How()) -> Catalogue:
             table.wrong(row, f"{uid_text(uid)} is also in row {rows[uid]}")
     if how.place is None:
         return found
+    # with tags, what an earlier run has added to the table isn't there any more
+    table = table._replace(heads=[*found.heads])
     at = table.column(how.place, "--place NAME names the one with the places", True)
     return found._replace(entries=[entry._replace(belongs=entry.cells[at].strip())
                                    for entry in found.entries])
@@ -189,6 +191,9 @@ def _tagged(table: Table, is_ours: bool, how: How, tags: Table) -> Catalogue:
     entries = [Entry(row, uid, [*cells, "" if uid is None else uid_text(uid)])
                for row, cells in table.rows
                for uid in by_key.get(cells[key_at].strip().casefold(), [None])]
+    if by_key and entries and all(entry.uid is None for entry in entries):
+        table.wrong(1, f"no cell of its column {shown(column)} is a key of {shown(tags.name)}, "
+                    f"such as {shown(next(iter(keys.values())))}")
     return Catalogue(table.name, table.form, [*table.heads, head], entries, len(table.heads),
                      key_at, keys=keys)
 
