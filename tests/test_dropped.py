@@ -189,6 +189,13 @@ def test_a_table_of_places_may_have_some_without_a_log(drop):
     assert (said["kind"], said["uid"], said["counts"]["there"]) == ("absent", UID_B, 1)
 
 
+def test_a_row_of_a_table_of_places_names_one_log(drop):
+    """The tag is in the field of the other log alone, which is of another place."""
+    said = drop({"books.csv": f"uid,shelf\n{UID_A},North\n", "a.log": SHELF, "A.log": field(),
+                 "places.csv": "place,log\nNorth,A.log\nSouth,a.log\n"})
+    assert said["error"] == "places.csv, row 2: two logs may be A.log: a.log and A.log"
+
+
 def test_a_table_of_places_has_its_columns(drop):
     """Where commas separate them."""
     said = drop({"books.csv": f"uid,shelf\n{UID_A},A\n", "shelf.log": SHELF,
