@@ -149,6 +149,12 @@ def test_no_column_of_two_with_one_name_is_taken(drop, table, head):
     assert said["error"] == f"{[*table][-1]}, row 1: two columns are named {head}"
 
 
+def test_no_item_is_lost_behind_the_names_of_the_columns(drop):
+    """Where a file with these alone, without a line end, stood before another one."""
+    said = drop({"books.csv": f"uid,title{UID_B},Emma\n{UID_A},Kim\n", "shelf.log": SHELF})
+    assert said["error"].startswith(f"books.csv, row 1: title{UID_B} names a column: perhaps")
+
+
 def field(*uids):
     """A log of a field in which only these tags are, and all is asked."""
     asked = [line for uid in (int(it, 16) for it in uids) for line in (

@@ -12,6 +12,7 @@ import { count, hex, listing, printable } from "./words.mjs";
 const BETWEEN = /[\s:\-\u2010-\u2013]/g, BEFORE = /^'?(0x)?/i, DIGITS = /^E0[0-9A-F]{14}$/;
 const OF_A_LIST = "A list has the header 'vicinity-log 1', and then for each UID a line: U, one space and its 16 digits. If the file was " +
   "cut off, copy it again";
+const GLUED = "perhaps a line end is missing behind the names of the columns";
 /** How many columns are named, where none has the UIDs. */
 const MOST_HEADS = 12;
 /** The columns that `reconcile --csv` has added, what stands behind such a name once more than behind the catalogue's own, and the state of
@@ -119,5 +120,7 @@ function refuseSwallowed(table) {
       throw new Wrong(`${table.name}, row ${row}: a cell in quotes has a UID and a line end in it: perhaps a quote is missing`);
     }
   }
+  const glued = table.heads.find((head) => /E0[0-9A-F]{14}/i.test(digitsOf(head)));
+  if (glued) throw new Wrong(`${table.name}, row 1: ${printable(glued)} names a column: ${GLUED}`);
   return table;
 }

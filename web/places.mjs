@@ -87,7 +87,9 @@ function logsByTable(file, byName, spelled, names) {
   if (placeAt < 0 || logAt < 0) throw new Wrong(`${file.name}, row 1: the columns place and log aren't both there`);
   for (const { row, cells } of table.rows) {
     const place = cells[placeAt].trim(), key = keyOf(place), these = byName.get(keyOf(cells[logAt])) ?? [], [one, other] = these;
-    if (other !== undefined) throw new Wrong(`${file.name}, row ${row}: two logs may be ${printable(cells[logAt].trim())}: ${names[one]} and ${names[other]}`);
+    if (other !== undefined) {
+      throw new Wrong(`${file.name}, row ${row}: two logs may be ${printable(cells[logAt].trim())}: ${names[one]} and ${names[other]}`);
+    }
     if (place && !spelled.has(key)) spelled.set(key, place);
     if (place) add(logs, key, these);
   }

@@ -372,6 +372,9 @@ class Catalogues(Command):
                  "no column is named uid; the columns are: tag, title; "
                  "name the one with the UIDs uid, or say by --column NAME which it is"),
                 ("", None, 1, "the columns are: none"),
+                ("uid,title" + first.replace("uid,title\n", "") + "E0040100000000B2,b\n", None, 1,
+                 "titleE0040100000000A1 names a column: perhaps a line end is missing"),
+                ("uid,e0:04:01:00:00:00:00:a1,a\n", None, 1, "a1 names a column"),
                 ("uid,UID\n", None, 1, "two columns are named uid"),
                 ("uid,x,x\n", None, 1, "two columns are named x"),
                 (first.encode() + b"E0040100000000B2,\xff\n", None, 3,

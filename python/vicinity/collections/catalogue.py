@@ -2,6 +2,7 @@
 or a CSV file with a column of UIDs, or of something by which another file has the UIDs."""
 from __future__ import annotations
 
+import re
 from contextlib import suppress
 from typing import Callable, NamedTuple, Optional, Sequence
 
@@ -9,7 +10,7 @@ from .._answers import ListFault
 from .._calls import listed
 from .._fields import refusal
 from .._process import shown
-from ..frames import parse_uid, uid_text
+from ..frames import BETWEEN_DIGITS, parse_uid, uid_text
 from .tables import Form, Table, Wrong, read_table
 
 #: The column of the UIDs, if none is named.
@@ -21,6 +22,9 @@ ADDED, TWIN, UNEXPECTED = ("state", "certain in", "may be in"), " (found)", "une
 CUT = ("of the columns state, certain in and may be in, which reconcile --csv has written, one is "
        "missing: leave all three, or delete them and the rows of unexpected tags")
 SWALLOWED = "a cell in quotes has {} and a line end in it: perhaps a quote is missing"
+#: A UID in the name of a column, and what it tells: the first item would be lost.
+HAS_UID = re.compile("E0[0-9A-F]{14}", re.IGNORECASE)
+GLUED = "{} names a column: perhaps a line end is missing behind the names of the columns"
 NAMES_IT = "name the one with the UIDs uid, or say by --column NAME which it is"
 NAMES_KEY = "--column NAME names the one by which --tags has the UIDs"
 
@@ -133,6 +137,9 @@ def _table(name: str, text: bytes, encoding: Optional[str]) -> Table:
     """The table in a file, with all its rows."""
     table = read_table(name, text, encoding)
     _refuse_swallowed(table, "a UID", _is_uid)
+    for head in table.heads:
+        if HAS_UID.search(BETWEEN_DIGITS.sub("", head)):
+            table.wrong(1, GLUED.format(shown(head)))
     return table
 
 
