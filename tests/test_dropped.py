@@ -155,6 +155,13 @@ def test_no_item_is_lost_behind_the_names_of_the_columns(drop):
     assert said["error"].startswith(f"books.csv, row 1: title{UID_B} names a column: perhaps")
 
 
+def test_no_uid_of_another_column_is_lost(drop):
+    """Where a line end in a title, without quotes, has moved the cells behind it."""
+    said = drop({"books.csv": f"title,shelf,uid\nKim,A,{UID_A}\nE\nmma,{UID_B}\n",
+                 "shelf.log": SHELF})
+    assert said["error"].startswith(f"books.csv, row 4: {UID_B} isn't in the column uid")
+
+
 def field(*uids):
     """A log of a field in which only these tags are, and all is asked."""
     asked = [line for uid in (int(it, 16) for it in uids) for line in (

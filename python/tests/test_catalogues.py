@@ -236,6 +236,7 @@ class Catalogues(Command):
                 ("uid\n", [], "row 1: no column is also in"),
                 ("barcode,tag\n", [], "row 1: no column is named uid"),
                 ("uid,barcode\nx,17\n", [], "row 2: 'x' isn't a UID"),
+                ("uid,barcode\n,E0040100000000A1\n", [], "row 2: E0040100000000A1 isn't in"),
                 ("uid,barcode\nE0040100000000A1,017\n", [],
                  "row 1: no cell of its column barcode is a key of"),
                 ("uid,barcode\n", ["--column", "shelf"], "row 1: no column is named shelf")):
@@ -375,6 +376,8 @@ class Catalogues(Command):
                 ("uid,title" + first.replace("uid,title\n", "") + "E0040100000000B2,b\n", None, 1,
                  "titleE0040100000000A1 names a column: perhaps a line end is missing"),
                 ("uid,e0:04:01:00:00:00:00:a1,a\n", None, 1, "a1 names a column"),
+                ("title,,uid\nx,E0040100000000A1\n", None, 2,
+                 "E0040100000000A1 isn't in the column uid, which is blank"),
                 ("uid,UID\n", None, 1, "two columns are named uid"),
                 ("uid,x,x\n", None, 1, "two columns are named x"),
                 (first.encode() + b"E0040100000000B2,\xff\n", None, 3,

@@ -25,6 +25,7 @@ SWALLOWED = "a cell in quotes has {} and a line end in it: perhaps a quote is mi
 #: A UID in the name of a column, and what it tells: the first item would be lost.
 HAS_UID = re.compile("E0[0-9A-F]{14}", re.IGNORECASE)
 GLUED = "{} names a column: perhaps a line end is missing behind the names of the columns"
+MOVED = "{} isn't in the column {}, which is blank: perhaps cells are missing, or too many"
 NAMES_IT = "name the one with the UIDs uid, or say by --column NAME which it is"
 NAMES_KEY = "--column NAME names the one by which --tags has the UIDs"
 
@@ -89,7 +90,7 @@ def catalogue(name: str, text: bytes, how: How = How()) -> Catalogue:
         found = _tagged(table, is_ours, how, _table(*how.tags, how.encoding))
     else:
         at = table.column(how.column or COLUMN, NAMES_IT, bool(how.column))
-        entries = [Entry(row, _uid(table, row, cells[at]), cells) for row, cells in table.rows]
+        entries = [Entry(row, _uid(table, row, cells, at), cells) for row, cells in table.rows]
         found = Catalogue(name, table.form, table.heads, entries, at)
     rows: dict[int, int] = {}
     for row, uid, *_ in found.entries:
@@ -187,7 +188,7 @@ def _tagged(table: Table, is_ours: bool, how: How, tags: Table) -> Catalogue:
     by_key: dict[str, list[Optional[int]]] = {}
     keys: dict[int, str] = {}
     for row, cells in tags.rows:
-        uid = _uid(tags, row, cells[uid_at])
+        uid = _uid(tags, row, cells, uid_at)
         if uid is None or not cells[theirs].strip():
             continue
         if uid in keys:
@@ -212,11 +213,14 @@ def _is_uid(text: str) -> bool:
     return False
 
 
-def _uid(table: Table, row: int, cell: str) -> Optional[int]:
-    """The UID in a cell, or None if it is blank."""
-    if not cell.strip():
-        return None
+def _uid(table: Table, row: int, cells: Sequence[str], at: int) -> Optional[int]:
+    """The UID in a cell of a row, or None if it is blank, and no other cell has one."""
+    if not cells[at].strip():
+        moved = next(filter(_is_uid, cells), None)
+        if moved is None:
+            return None
+        table.wrong(row, MOVED.format(shown(moved), shown(table.heads[at])))
     try:
-        return parse_uid(cell)
+        return parse_uid(cells[at])
     except ValueError as error:
         table.wrong(row, str(error))
