@@ -120,6 +120,7 @@ class Catalogues(Command):
                                                           "K\u00f6ln,0.log\n".encode())]
         wanted = f"misplaced E0040100000000A1 in {self.names[1]}, belongs to K\u00f6ln\n"
         self.assertEqual(self.ask(*words, *self.names[:2], **plain), (wanted.encode(), b"", 1))
+        self.assertEqual(self.ask("--page", *words, *self.names[:2], **plain)[1:], (b"", 1))
         said, errors, status = self.ask(*words, self.names[1], **plain)
         self.assertEqual((said, status), (b"", 3))
         self.assertIn("such as K\u00f6ln;".encode(), errors)
