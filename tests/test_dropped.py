@@ -149,6 +149,19 @@ def test_no_column_of_two_with_one_name_is_taken(drop, table, head):
     assert said["error"] == f"{[*table][-1]}, row 1: two columns are named {head}"
 
 
+def test_no_item_is_lost_behind_the_names_of_the_columns(drop):
+    """Where a file with these alone, without a line end, stood before another one."""
+    said = drop({"books.csv": f"uid,title{UID_B},Emma\n{UID_A},Kim\n", "shelf.log": SHELF})
+    assert said["error"].startswith(f"books.csv, row 1: title{UID_B} names a column: perhaps")
+
+
+def test_no_uid_of_another_column_is_lost(drop):
+    """Where a line end in a title, without quotes, has moved the cells behind it."""
+    said = drop({"books.csv": f"title,shelf,uid\nKim,A,{UID_A}\nE\nmma,{UID_B}\n",
+                 "shelf.log": SHELF})
+    assert said["error"].startswith(f"books.csv, row 4: {UID_B} isn't in the column uid")
+
+
 def field(*uids):
     """A log of a field in which only these tags are, and all is asked."""
     asked = [line for uid in (int(it, 16) for it in uids) for line in (
@@ -187,6 +200,13 @@ def test_a_table_of_places_may_have_some_without_a_log(drop):
         "2. Add the places that it lacks, written as there, also those without a log")
     said = drop({**files, "places.csv": "place,log\nSouth,shelf.log\nNorth,\n"})
     assert (said["kind"], said["uid"], said["counts"]["there"]) == ("absent", UID_B, 1)
+
+
+def test_a_row_of_a_table_of_places_names_one_log(drop):
+    """The tag is in the field of the other log alone, which is of another place."""
+    said = drop({"books.csv": f"uid,shelf\n{UID_A},North\n", "a.log": SHELF, "A.log": field(),
+                 "places.csv": "place,log\nNorth,A.log\nSouth,a.log\n"})
+    assert said["error"] == "places.csv, row 2: two logs may be A.log: a.log and A.log"
 
 
 def test_a_table_of_places_has_its_columns(drop):

@@ -12,6 +12,8 @@ import { count, hex, listing, printable } from "./words.mjs";
 const BETWEEN = /[\s:\-\u2010-\u2013]/g, BEFORE = /^'?(0x)?/i, DIGITS = /^E0[0-9A-F]{14}$/;
 const OF_A_LIST = "A list has the header 'vicinity-log 1', and then for each UID a line: U, one space and its 16 digits. If the file was " +
   "cut off, copy it again";
+const GLUED = "perhaps a line end is missing behind the names of the columns";
+const MOVED = "perhaps cells are missing, or too many";
 /** How many columns are named, where none has the UIDs. */
 const MOST_HEADS = 12;
 /** The columns that `reconcile --csv` has added, what stands behind such a name once more than behind the catalogue's own, and the state of
@@ -33,7 +35,7 @@ export function readCatalogue(library, file) {
   }
   const table = withoutAdded(refuseSwallowed(readTable(file.name, file.text))), uidAt = columnOf(table, OF_UIDS), rows = new Map();
   if (uidAt < 0) throw new Wrong(`${file.name}, row 1: no column is named uid. Name the column of UIDs 'uid'. ${found(table.heads)}`);
-  const entries = table.rows.map(({ row, cells }) => ({ row, uid: uidOfCell(file.name, row, cells[uidAt]), cells }));
+  const entries = table.rows.map(({ row, cells }) => ({ row, uid: uidOfRow(file.name, row, cells, uidAt), cells }));
   for (const { row, uid } of entries) {
     if (uid !== null && rows.has(uid)) throw new Wrong(`${file.name}, row ${row}: ${hex(uid)} is also in row ${rows.get(uid)}`);
     if (uid !== null) rows.set(uid, row);
@@ -91,12 +93,15 @@ function lastAdded(heads, name) {
 }
 
 /**
- * The UID in a cell, or null if it is blank.
+ * The UID in a cell of a row, or null if it is blank, and no other cell has one.
  * @param {string} name
  * @param {number} row
- * @param {string} cell
+ * @param {string[]} cells
+ * @param {number} at
  */
-function uidOfCell(name, row, cell) {
+function uidOfRow(name, row, cells, at) {
+  const cell = cells[at], moved = cell.trim() ? undefined : cells.find(isUid);
+  if (moved !== undefined) throw new Wrong(`${name}, row ${row}: ${moved} isn't in the column uid, which is blank: ${MOVED}`);
   if (!cell.trim()) return null;
   if (!isUid(cell)) throw new Wrong(`${name}, row ${row}: ${cell} isn't a UID: 16 hex digits that begin with E0`);
   return BigInt(`0x${digitsOf(cell)}`);
@@ -119,5 +124,7 @@ function refuseSwallowed(table) {
       throw new Wrong(`${table.name}, row ${row}: a cell in quotes has a UID and a line end in it: perhaps a quote is missing`);
     }
   }
+  const glued = table.heads.find((head) => /E0[0-9A-F]{14}/i.test(digitsOf(head)));
+  if (glued) throw new Wrong(`${table.name}, row 1: ${printable(glued)} names a column: ${GLUED}`);
   return table;
 }

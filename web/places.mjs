@@ -30,7 +30,7 @@ const add = (to, key, more) => to.set(key, [...to.get(key) ?? [], ...more]);
  */
 export function placesOf(catalogue, file, names) {
   const byName = logsByName(names), [spelled, belongs] = [new Map(), /** @type {Map<string, string>} */ (new Map())];
-  const logs = file ? logsByTable(file, byName, spelled) : byName, { best, rows } = placeColumn(catalogue, logs);
+  const logs = file ? logsByTable(file, byName, spelled, names) : byName, { best, rows } = placeColumn(catalogue, logs);
   const { name, heads, entries } = catalogue, at = 2 * rows > entries.length ? best : -1;
   if (file && at < 0 && entries.length) {
     const some = rows ? `: ${printable(heads[best])} has one in ${rows} of ${entries.length}` : "";
@@ -79,15 +79,19 @@ function logsByName(names) {
  * @param {Given} file
  * @param {ByKey} byName
  * @param {Map<string, string>} spelled gets each place as the table writes it first
+ * @param {string[]} names
  */
-function logsByTable(file, byName, spelled) {
+function logsByTable(file, byName, spelled, names) {
   const table = readTable(file.name, file.text), placeAt = columnOf(table, PLACE), logAt = columnOf(table, LOG);
   const logs = /** @type {ByKey} */ (new Map());
   if (placeAt < 0 || logAt < 0) throw new Wrong(`${file.name}, row 1: the columns place and log aren't both there`);
-  for (const { cells } of table.rows) {
-    const place = cells[placeAt].trim(), key = keyOf(place);
+  for (const { row, cells } of table.rows) {
+    const place = cells[placeAt].trim(), key = keyOf(place), these = byName.get(keyOf(cells[logAt])) ?? [], [one, other] = these;
+    if (other !== undefined) {
+      throw new Wrong(`${file.name}, row ${row}: two logs may be ${printable(cells[logAt].trim())}: ${names[one]} and ${names[other]}`);
+    }
     if (place && !spelled.has(key)) spelled.set(key, place);
-    if (place) add(logs, key, byName.get(keyOf(cells[logAt])) ?? []);
+    if (place) add(logs, key, these);
   }
   return logs;
 }

@@ -120,6 +120,7 @@ class Catalogues(Command):
                                                           "K\u00f6ln,0.log\n".encode())]
         wanted = f"misplaced E0040100000000A1 in {self.names[1]}, belongs to K\u00f6ln\n"
         self.assertEqual(self.ask(*words, *self.names[:2], **plain), (wanted.encode(), b"", 1))
+        self.assertEqual(self.ask("--page", *words, *self.names[:2], **plain)[1:], (b"", 1))
         said, errors, status = self.ask(*words, self.names[1], **plain)
         self.assertEqual((said, status), (b"", 3))
         self.assertIn("such as K\u00f6ln;".encode(), errors)
@@ -236,6 +237,9 @@ class Catalogues(Command):
                 ("uid\n", [], "row 1: no column is also in"),
                 ("barcode,tag\n", [], "row 1: no column is named uid"),
                 ("uid,barcode\nx,17\n", [], "row 2: 'x' isn't a UID"),
+                ("uid,barcode\n,E0040100000000A1\n", [], "row 2: E0040100000000A1 isn't in"),
+                ("uid,barcode\nE0040100000000A1,017\n", [],
+                 "row 1: no cell of its column barcode is a key of"),
                 ("uid,barcode\n", ["--column", "shelf"], "row 1: no column is named shelf")):
             name = self.write("tags.csv", tags.encode())
             said, errors, status = here("lines", catalogue, self.names[1],
@@ -271,6 +275,15 @@ class Catalogues(Command):
                           ["5", ""]])
         self.catalogue(first[0])
         self.assertEqual(here("csv", name, self.both(), options=options), first)
+
+    def test_places_in_what_was_written_with_tags_and_moved(self):
+        """The column that --tags replaces stands before that of the places."""
+        tags = self.write("tags.csv", b"uid,code\nE0040100000000A1,1\n")
+        name = self.catalogue("uid,shelf,note,code,state,certain in,may be in\n"
+                              "E0040100000000A1,0,,1,there,,\n")
+        self.assertEqual(here("lines", name, *self.names[:2],
+                              options=["--tags", tags, "--place", "shelf"]),
+                         (f"misplaced E0040100000000A1 in {self.names[1]}, belongs to 0\n", "", 1))
 
     def test_places(self):
         catalogue = self.catalogue("uid,shelf\nE0040100000000A1,North\nE0040100000000B2,South\n")
@@ -329,13 +342,16 @@ class Catalogues(Command):
     def test_wrong_places(self):
         catalogue = self.catalogue("uid,shelf\nE0040100000000A1,a\n")
         one, other = self.write("a.log", NOTHING), self.write("a.txt", NOTHING)
+        places = self.write("places.csv", b"place,log\na,a.log\nb,A\n")
         for logs, options, why in (
                 ([one, other], ["--place", "shelf"], "two logs are of the place a, by their names"),
                 ([self.names[0]], ["--place", "shelf"],
                  "no log is of any place of the catalogue, such as a"),
                 ([one], ["--place", "room"], "row 1: no column is named room"),
                 ([one], ["--place", "shelf", "--places", catalogue],
-                 "row 1: no column is named place")):
+                 "row 1: no column is named place"),
+                ([one, other], ["--place", "shelf", "--places", places],
+                 f"{places}, row 3: two logs may be A: {one} and {other}")):
             said, errors, status = here("lines", catalogue, *logs, options=options)
             self.assertEqual((said, status), ("", 3))
             self.assertIn(why, errors)
@@ -358,6 +374,11 @@ class Catalogues(Command):
                  "no column is named uid; the columns are: tag, title; "
                  "name the one with the UIDs uid, or say by --column NAME which it is"),
                 ("", None, 1, "the columns are: none"),
+                ("uid,title" + first.replace("uid,title\n", "") + "E0040100000000B2,b\n", None, 1,
+                 "titleE0040100000000A1 names a column: perhaps a line end is missing"),
+                ("uid,e0:04:01:00:00:00:00:a1,a\n", None, 1, "a1 names a column"),
+                ("title,,uid\nx,E0040100000000A1\n", None, 2,
+                 "E0040100000000A1 isn't in the column uid, which is blank"),
                 ("uid,UID\n", None, 1, "two columns are named uid"),
                 ("uid,x,x\n", None, 1, "two columns are named x"),
                 (first.encode() + b"E0040100000000B2,\xff\n", None, 3,

@@ -30,6 +30,10 @@ class Misread(Command):
                 self.assertEqual(self.made(header + lines), header + wanted)
             self.assertEqual(self.made(third(lines)), third(wanted.replace(b"\nR ", b"\nH ")))
 
+    def test_the_tags_of_a_log_that_ends_in_half_a_line(self):
+        text = log(ALL + HEARD_A + LIST_A + b"# end")
+        self.assertEqual(self.made(text), text + b"\n")
+
     def test_one_reply_is_read_over_others(self):
         for text, replies in ((log(ALL + b"C\n" + BOTH), {HEARD_A + LIST_A, HEARD_B + LIST_B}),
                               (third(ALL + b"C\n" + BOTH),

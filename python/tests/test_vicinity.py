@@ -1,5 +1,6 @@
 """The package over the library that LIBVICINITY names, or the installed one."""
 import ctypes
+import io
 import os
 import pathlib
 import pickle
@@ -167,11 +168,11 @@ class Calls(unittest.TestCase):
     def test_a_text_is_no_list_of_numbers(self):
         """Nor is that of a list, which would be none if it is empty."""
         silent, there = log(ALL + b"S\n"), vicinity.survey(log(ALL + b"S\n"))
-        for text in (b"", log(LIST_A), b"\xa1\0\0\0\0\1\4\xe0", ""):
-            for uids in (text,) if isinstance(text, str) else (
+        for text in (b"", log(LIST_A), b"\xa1\0\0\0\0\1\4\xe0", "", io.StringIO(), io.BytesIO()):
+            for uids in (text,) if not isinstance(text, bytes) else (
                     text, bytearray(text), memoryview(text)):
                 for call in (vicinity.check_listed, vicinity.report_listed, vicinity.overlooked):
-                    with self.assertRaisesRegex(TypeError, "UIDs are numbers, not (b|m|str)"):
+                    with self.assertRaisesRegex(TypeError, "UIDs are numbers, not "):
                         call(silent, uids)
                 with self.assertRaisesRegex(TypeError, "listed reads those of a list"):
                     vicinity.reconcile(uids, [there])
@@ -265,6 +266,8 @@ class Calls(unittest.TestCase):
                      memoryview(b"".join(bytes([it, 0]) for it in text))[::2]):
             self.assertTrue(vicinity.check(same).is_complete)
             self.assertTrue(vicinity.explain(same).answer.is_complete)
+        shorter = type("Shorter", (bytes,), {"__len__": lambda _: len(text)})
+        self.assertEqual(vicinity.check(shorter(text + ALL + b"C\n")).kind, Kind.IMPOSSIBLE)
         for other in (5, None, "vicinity-log 1\n", [118, 105], object()):
             for call in (vicinity.check, vicinity.explain):
                 with self.assertRaisesRegex(TypeError, type(other).__name__):

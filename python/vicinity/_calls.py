@@ -7,6 +7,7 @@ import re
 import struct
 from array import array
 from html import escape
+from io import IOBase
 from typing import Any, Iterable, Optional, Sequence
 
 from ._answers import (Answer, Explanation, Fault, Finding, FindingKind, Kind, ListFault, Margin,
@@ -39,7 +40,7 @@ def _text_and_list(text: BytesLike, uids: Iterable[int]) -> Sequence[Any]:
 
 def _numbers(uids: Iterable[int]) -> ctypes.Array[ctypes.c_uint64]:
     """UIDs as a C array. Raises OverflowError if a number doesn't fit into 64 bits."""
-    if isinstance(uids, (str, bytes, bytearray, memoryview)):
+    if isinstance(uids, (str, bytes, bytearray, memoryview, IOBase)):
         raise TypeError(f"UIDs are numbers, not {type(uids).__name__}: "
                         "listed reads those of a list, parse_uid one")
     numbers = array("Q", uids)

@@ -74,8 +74,9 @@ CALLS = {
 
 def bytes_of(text: BytesLike) -> bytes:
     """The bytes of a text or a frame.
-    Other threads run during a call, so anything that can change is copied."""
-    if isinstance(text, bytes):
+    Other threads run during a call, so anything that can change is copied,
+    or that may tell another length."""
+    if type(text) is bytes:
         return text
     try:
         return memoryview(text).tobytes()

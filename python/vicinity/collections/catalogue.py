@@ -2,6 +2,7 @@
 or a CSV file with a column of UIDs, or of something by which another file has the UIDs."""
 from __future__ import annotations
 
+import re
 from contextlib import suppress
 from typing import Callable, NamedTuple, Optional, Sequence
 
@@ -9,7 +10,7 @@ from .._answers import ListFault
 from .._calls import listed
 from .._fields import refusal
 from .._process import shown
-from ..frames import parse_uid, uid_text
+from ..frames import BETWEEN_DIGITS, parse_uid, uid_text
 from .tables import Form, Table, Wrong, read_table
 
 #: The column of the UIDs, if none is named.
@@ -21,6 +22,10 @@ ADDED, TWIN, UNEXPECTED = ("state", "certain in", "may be in"), " (found)", "une
 CUT = ("of the columns state, certain in and may be in, which reconcile --csv has written, one is "
        "missing: leave all three, or delete them and the rows of unexpected tags")
 SWALLOWED = "a cell in quotes has {} and a line end in it: perhaps a quote is missing"
+#: A UID in the name of a column, and what it tells: the first item would be lost.
+HAS_UID = re.compile("E0[0-9A-F]{14}", re.IGNORECASE)
+GLUED = "{} names a column: perhaps a line end is missing behind the names of the columns"
+MOVED = "{} isn't in the column {}, which is blank: perhaps cells are missing, or too many"
 NAMES_IT = "name the one with the UIDs uid, or say by --column NAME which it is"
 NAMES_KEY = "--column NAME names the one by which --tags has the UIDs"
 
@@ -85,7 +90,7 @@ def catalogue(name: str, text: bytes, how: How = How()) -> Catalogue:
         found = _tagged(table, is_ours, how, _table(*how.tags, how.encoding))
     else:
         at = table.column(how.column or COLUMN, NAMES_IT, bool(how.column))
-        entries = [Entry(row, _uid(table, row, cells[at]), cells) for row, cells in table.rows]
+        entries = [Entry(row, _uid(table, row, cells, at), cells) for row, cells in table.rows]
         found = Catalogue(name, table.form, table.heads, entries, at)
     rows: dict[int, int] = {}
     for row, uid, *_ in found.entries:
@@ -93,6 +98,8 @@ def catalogue(name: str, text: bytes, how: How = How()) -> Catalogue:
             table.wrong(row, f"{uid_text(uid)} is also in row {rows[uid]}")
     if how.place is None:
         return found
+    # with tags, what an earlier run has added to the table isn't there any more
+    table = table._replace(heads=[*found.heads])
     at = table.column(how.place, "--place NAME names the one with the places", True)
     return found._replace(entries=[entry._replace(belongs=entry.cells[at].strip())
                                    for entry in found.entries])
@@ -131,6 +138,9 @@ def _table(name: str, text: bytes, encoding: Optional[str]) -> Table:
     """The table in a file, with all its rows."""
     table = read_table(name, text, encoding)
     _refuse_swallowed(table, "a UID", _is_uid)
+    for head in table.heads:
+        if HAS_UID.search(BETWEEN_DIGITS.sub("", head)):
+            table.wrong(1, GLUED.format(shown(head)))
     return table
 
 
@@ -178,7 +188,7 @@ def _tagged(table: Table, is_ours: bool, how: How, tags: Table) -> Catalogue:
     by_key: dict[str, list[Optional[int]]] = {}
     keys: dict[int, str] = {}
     for row, cells in tags.rows:
-        uid = _uid(tags, row, cells[uid_at])
+        uid = _uid(tags, row, cells, uid_at)
         if uid is None or not cells[theirs].strip():
             continue
         if uid in keys:
@@ -189,6 +199,9 @@ def _tagged(table: Table, is_ours: bool, how: How, tags: Table) -> Catalogue:
     entries = [Entry(row, uid, [*cells, "" if uid is None else uid_text(uid)])
                for row, cells in table.rows
                for uid in by_key.get(cells[key_at].strip().casefold(), [None])]
+    if by_key and entries and all(entry.uid is None for entry in entries):
+        table.wrong(1, f"no cell of its column {shown(column)} is a key of {shown(tags.name)}, "
+                    f"such as {shown(next(iter(keys.values())))}")
     return Catalogue(table.name, table.form, [*table.heads, head], entries, len(table.heads),
                      key_at, keys=keys)
 
@@ -200,11 +213,14 @@ def _is_uid(text: str) -> bool:
     return False
 
 
-def _uid(table: Table, row: int, cell: str) -> Optional[int]:
-    """The UID in a cell, or None if it is blank."""
-    if not cell.strip():
-        return None
+def _uid(table: Table, row: int, cells: Sequence[str], at: int) -> Optional[int]:
+    """The UID in a cell of a row, or None if it is blank, and no other cell has one."""
+    if not cells[at].strip():
+        moved = next(filter(_is_uid, cells), None)
+        if moved is None:
+            return None
+        table.wrong(row, MOVED.format(shown(moved), shown(table.heads[at])))
     try:
-        return parse_uid(cell)
+        return parse_uid(cells[at])
     except ValueError as error:
         table.wrong(row, str(error))

@@ -29,9 +29,13 @@ def places_of(expected: Catalogue, names: Sequence[str], file: Optional[tuple[st
         place_at, log_at = (table.column(it, "it has the columns place and log")
                             for it in ("place", "log"))
         by_name, places = places, {}
-        for _, cells in table.rows:
+        for row, cells in table.rows:
             place, log = (cells[at].strip() for at in (place_at, log_at))
-            places.setdefault(place.casefold(), []).extend(by_name.get(log.casefold(), []))
+            these = by_name.get(log.casefold(), [])
+            if len(these) > 1:
+                one, other = (shown(names[it]) for it in these[:2])
+                table.wrong(row, f"two logs may be {shown(log)}: {one} and {other}")
+            places.setdefault(place.casefold(), []).extend(these)
             spelled.setdefault(place.casefold(), place)
     belongs = {it.belongs.casefold(): it.belongs for it in expected.entries if it.belongs}
     for key, place in belongs.items():

@@ -43,7 +43,7 @@ def misread(asked: argparse.Namespace) -> int:
     """Writes what a reader would have written, and returns 0;
     of a text that is refused the refusal, and 3."""
     text = read_log(asked.names[0])
-    answer, lines = check(text), list(BytesIO(text))
+    answer, lines = check(text), [line.rstrip(b"\n") + b"\n" for line in BytesIO(text)]
     requests = b"".join(line for line in lines if line[0] not in OUTCOMES and line[:1] != b"U")
     made = simulate(requests)
     if answer.status == REFUSED or made.status:
