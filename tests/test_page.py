@@ -742,6 +742,9 @@ def test_a_file_that_cannot_be_read(page):
     assert page.driver.title == page.run(
         "return document.getElementById('said').textContent") == page.texts(".error")[0]
     assert "listed tag" not in page.said()
+    # a text that is pasted then isn't called by its name
+    type_in(page, log_of("I1 RA UA").decode())
+    page.until(".banner div > p", "pasted text · ")
 
 
 def test_a_file_is_chosen_again(page, tmp_path):
@@ -1473,7 +1476,7 @@ def test_the_answer_to_an_earlier_text_goes_if_judging_takes_long(page):
 
 
 def test_the_answer_to_an_earlier_text_is_neither_printed_nor_pressed(page):
-    """A press on a line of it put lines of the earlier text back into an empty field."""
+    """A press on a line of it, also by a key, put the earlier text back into an empty field."""
     page.drop(log=log_of("I1 RA UA"))
     page.until("h1", "The one listed tag is here")
     page.run("window.setTimeout = () => 0")
@@ -1483,6 +1486,8 @@ def test_the_answer_to_an_earlier_text_is_neither_printed_nor_pressed(page):
     for kind in "mousePressed", "mouseReleased":
         page.driver.execute_cdp_cmd("Input.dispatchMouseEvent", {
             "type": kind, "x": x, "y": y, "button": "left", "clickCount": 1})
+    page.run("document.querySelector('#told .to-line').focus()")
+    page.driver.switch_to.active_element.send_keys(Keys.ENTER)
     assert page.driver.find_element("id", "text").get_property("value") == ""
     page.media("print")
     assert not page.driver.find_element("id", "told").is_displayed()
@@ -1502,6 +1507,8 @@ def test_what_is_waited_for_is_said(page):
     page.until("#status", "Judging slow.log ..")
     page.drop(one=log_of("I1 RA UA"), two=log_of("I1 S UA"))
     page.until("#status", "Judging 2 logs ..")
+    page.drop(**{"fold\u202Eer": log_of("I1 S")})
+    page.until("#status", "Judging fold‹202E›er ..")
 
 
 def test_an_answer_that_is_shown_is_not_stopped(page):

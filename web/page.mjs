@@ -1,14 +1,14 @@
 /** The page that judges: what is opened or typed is judged, and one of it is shown. */
 import { withRoom } from "./collection.mjs";
 import { at, bytesIn } from "./elements.mjs";
-import { gathered, isUnanswered, read } from "./opened.mjs";
+import { gathered, isLacking, isUnanswered, read } from "./opened.mjs";
 import { Pane } from "./pane.mjs";
 import { unfoldOnPaper } from "./printing.mjs";
 import { pageOf, save } from "./saving.mjs";
 import { overview, show, shown, titleOfEntry } from "./shown.mjs";
 import { isSpreadsheet } from "./tables.mjs";
 import { Trial } from "./trial.mjs";
-import { count, EDITED } from "./words.mjs";
+import { count, EDITED, printable } from "./words.mjs";
 import { Work } from "./work.mjs";
 
 /** @typedef {import("./opened.mjs").Entry} Entry */
@@ -64,7 +64,7 @@ function wait() {
     const left = entries.filter(isUnanswered);
     if (!pending && !left.length) return;
     stop.hidden = false;
-    status.textContent = pending ? `Reading ${pending.name} ..` : `Judging ${left.length > 1 ? count(left.length, "log") : left[0].name} ..`;
+    status.textContent = printable(pending ? `Reading ${pending.name} ..` : `Judging ${left.length > 1 ? count(left.length, "log") : left[0].name} ..`);
     if (shown.getAttribute("aria-busy") === "false") return;
     answered = undefined;
     draw();
@@ -172,16 +172,17 @@ function changed(name, pause, before) {
   entries[current] = entry;
   answered = entry;
   saves.hidden = true;
-  document.title = `${name} ..`;
+  document.title = titleOfEntry(entry);
   drawList();
   entry.pause = window.setTimeout(() => { if (entries.includes(entry)) ask(entry); }, pause);
 }
 
+const shownLog = () => entries[current];
 field.addEventListener("input", () => {
   trial.end();
-  changed(entries.length ? entries[current].name.replace(EDITED, "") + EDITED : "pasted text", PAUSE);
+  // what is typed is no text of a file that wasn't read
+  changed(entries.length && !isLacking(shownLog()) ? shownLog().name.replace(EDITED, "") + EDITED : "pasted text", PAUSE);
 });
-const shownLog = () => entries[current];
 const trial = new Trial(at("trial"), pane, shownLog, (name) => changed(name, 0, shownLog().before ?? shownLog()), asBefore);
 
 /** Takes a trial back: the log is the file again, byte for byte. */
