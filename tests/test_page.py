@@ -1567,16 +1567,28 @@ def test_what_is_shown_of_a_log_stays_while_another_is_judged(page):
     assert page.run("return document.activeElement.parentElement.open")
 
 
+# For how many milliseconds the page does nothing else at most.
+FROZEN = """
+window.longest = 0;
+let last = performance.now();
+setInterval(() => {
+  window.longest = Math.max(window.longest, performance.now() - last);
+  last = performance.now();
+}, 10);
+"""
+
+
+def test_a_large_file_that_is_no_log_does_not_freeze_the_page(page, tmp_path):
+    """As the image of a disk, of which one line is all; a larger one ended the page."""
+    page.run(FROZEN)
+    page.choose(tmp_path, {"disk": bytes(40_000_000)})
+    page.until("h1", "This text isn't a log. Line 1: a line has at most 128 bytes.")
+    assert page.run("return window.longest") < 3000
+
+
 def test_many_logs_do_not_freeze_the_page(page):
     """Nor is the focus lost while they are judged."""
-    page.run("""
-      window.longest = 0;
-      let last = performance.now();
-      setInterval(() => {
-        window.longest = Math.max(window.longest, performance.now() - last);
-        last = performance.now();
-      }, 10);
-    """)
+    page.run(FROZEN)
     page.drop_files({f"{number}.log": log_of("I1 RA QA I1 S UA") for number in range(400)})
     page.run("document.querySelector('#logs button').focus()")
     page.until("h1", "Complete: 400 of 400.")
