@@ -1578,12 +1578,18 @@ setInterval(() => {
 """
 
 
-def test_a_large_file_that_is_no_log_does_not_freeze_the_page(page, tmp_path):
+@pytest.mark.parametrize(("files", "words"), [
+    ({"disk": bytes(40_000_000)}, "Line 1: a line has at most 128 bytes."),
+    ({"books.csv": bytes(5_000_000), "A.log": log_of("I1 S")}, "no column is named uid."),
+    ({"books.csv": b"uid\n" + b"x" * 5_000_000, "A.log": log_of("I1 S")}, "row 2: xxx"),
+    ({"list.log": log_of("UA"), "A.log": log_of("V1") + b"\n" * 40_000}, "again.")],
+    ids=["disk", "heads", "cell", "lines"])
+def test_a_large_file_that_is_no_log_does_not_freeze_the_page(page, tmp_path, files, words):
     """As the image of a disk, of which one line is all; a larger one ended the page."""
     page.run(FROZEN)
-    page.choose(tmp_path, {"disk": bytes(40_000_000)})
-    page.until("h1", "This text isn't a log. Line 1: a line has at most 128 bytes.")
-    assert page.run("return window.longest") < 3000
+    page.choose(tmp_path, files)
+    page.until("h1", words)
+    assert page.run("return window.longest") < 3000 and len(page.said()) < 5000
 
 
 def test_many_logs_do_not_freeze_the_page(page):

@@ -12,8 +12,8 @@ import { count, hex, listing, printable } from "./words.mjs";
 const BETWEEN = /[\s:\-\u2010-\u2013]/g, BEFORE = /^'?(0x)?/i, DIGITS = /^E0[0-9A-F]{14}$/;
 const OF_A_LIST = "A list has the header 'vicinity-log 1', and then for each UID a line: U, one space and its 16 digits. If the file was " +
   "cut off, copy it again";
-/** How many columns are named, where none has the UIDs. */
-const MOST_HEADS = 12;
+/** How many columns are named, where none has the UIDs, by how many characters at most. */
+const MOST_HEADS = 12, MOST_HEAD = 80;
 /** The columns that `reconcile --csv` has added, what stands behind such a name once more than behind the catalogue's own, and the state of
  *  rows that it has. */
 const ADDED = ["state", "certain in", "may be in"], TWIN = " (found)", UNEXPECTED = "unexpected";
@@ -58,7 +58,7 @@ function listedIn(library, { name, text }) {
  * @param {string[]} heads
  */
 function found(heads) {
-  const named = heads.filter((head) => head).map((head) => `'${printable(head)}'`), more = named.length - MOST_HEADS;
+  const named = heads.filter((head) => head).map((head) => `'${printable(head.slice(0, MOST_HEAD))}'`), more = named.length - MOST_HEADS;
   if (!named.length) return "No column has a name";
   return `The columns found are ${listing(more > 1 ? [...named.slice(0, MOST_HEADS), count(more, "other")] : named)}`;
 }

@@ -10,6 +10,8 @@ import { count, printable, TRIAL } from "./words.mjs";
 /** @typedef {import("./opened.mjs").Entry} Entry */
 
 const TOGETHER = "Press one to see it. For one answer about all of them, open them together with one catalogue (CSV).";
+/** How much is said of what is wrong. */
+const MOST_SAID = 2000;
 const OPEN_AGAIN = "Open all files again, together: the logs and the catalogue.";
 
 const several = at("several"), each = at("each"), list = at("logs");
@@ -89,7 +91,7 @@ function saidBy(told) {
  * @param {string} name
  * @param {string} error
  */
-const unanswered = (name, error) => printable(error.startsWith(name) ? `No answer: ${error}.` : `${name}: no answer (${error}).`);
+const unanswered = (name, error) => printable((error.startsWith(name) ? `No answer: ${error}.` : `${name}: no answer (${error}).`).slice(0, MOST_SAID));
 
 /**
  * What becomes of the logs of a collection that has no answer.
