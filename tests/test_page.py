@@ -742,6 +742,9 @@ def test_a_file_that_cannot_be_read(page):
     assert page.driver.title == page.run(
         "return document.getElementById('said').textContent") == page.texts(".error")[0]
     assert "listed tag" not in page.said()
+    # a text that is pasted then isn't called by its name
+    type_in(page, log_of("I1 RA UA").decode())
+    page.until(".banner div > p", "pasted text · ")
 
 
 def test_a_file_is_chosen_again(page, tmp_path):
@@ -1473,7 +1476,7 @@ def test_the_answer_to_an_earlier_text_goes_if_judging_takes_long(page):
 
 
 def test_the_answer_to_an_earlier_text_is_neither_printed_nor_pressed(page):
-    """A press on a line of it put lines of the earlier text back into an empty field."""
+    """A press on a line of it, also by a key, put the earlier text back into an empty field."""
     page.drop(log=log_of("I1 RA UA"))
     page.until("h1", "The one listed tag is here")
     page.run("window.setTimeout = () => 0")
@@ -1483,6 +1486,8 @@ def test_the_answer_to_an_earlier_text_is_neither_printed_nor_pressed(page):
     for kind in "mousePressed", "mouseReleased":
         page.driver.execute_cdp_cmd("Input.dispatchMouseEvent", {
             "type": kind, "x": x, "y": y, "button": "left", "clickCount": 1})
+    page.run("document.querySelector('#told .to-line').focus()")
+    page.driver.switch_to.active_element.send_keys(Keys.ENTER)
     assert page.driver.find_element("id", "text").get_property("value") == ""
     page.media("print")
     assert not page.driver.find_element("id", "told").is_displayed()
@@ -1502,6 +1507,8 @@ def test_what_is_waited_for_is_said(page):
     page.until("#status", "Judging slow.log ..")
     page.drop(one=log_of("I1 RA UA"), two=log_of("I1 S UA"))
     page.until("#status", "Judging 2 logs ..")
+    page.drop(**{"fold\u202Eer": log_of("I1 S")})
+    page.until("#status", "Judging fold‹202E›er ..")
 
 
 def test_an_answer_that_is_shown_is_not_stopped(page):
@@ -1560,16 +1567,34 @@ def test_what_is_shown_of_a_log_stays_while_another_is_judged(page):
     assert page.run("return document.activeElement.parentElement.open")
 
 
+# For how many milliseconds the page does nothing else at most.
+FROZEN = """
+window.longest = 0;
+let last = performance.now();
+setInterval(() => {
+  window.longest = Math.max(window.longest, performance.now() - last);
+  last = performance.now();
+}, 10);
+"""
+
+
+@pytest.mark.parametrize(("files", "words"), [
+    ({"disk": bytes(40_000_000)}, "Line 1: a line has at most 128 bytes."),
+    ({"books.csv": bytes(5_000_000), "A.log": log_of("I1 S")}, "no column is named uid."),
+    ({"books.csv": b"uid\n" + b"x" * 5_000_000, "A.log": log_of("I1 S")}, "row 2: xxx"),
+    ({"list.log": log_of("UA"), "A.log": log_of("V1") + b"\n" * 40_000}, "again.")],
+    ids=["disk", "heads", "cell", "lines"])
+def test_a_large_file_that_is_no_log_does_not_freeze_the_page(page, tmp_path, files, words):
+    """As the image of a disk, of which one line is all; a larger one ended the page."""
+    page.run(FROZEN)
+    page.choose(tmp_path, files)
+    page.until("h1", words)
+    assert page.run("return window.longest") < 3000 and len(page.said()) < 5000
+
+
 def test_many_logs_do_not_freeze_the_page(page):
     """Nor is the focus lost while they are judged."""
-    page.run("""
-      window.longest = 0;
-      let last = performance.now();
-      setInterval(() => {
-        window.longest = Math.max(window.longest, performance.now() - last);
-        last = performance.now();
-      }, 10);
-    """)
+    page.run(FROZEN)
     page.drop_files({f"{number}.log": log_of("I1 RA QA I1 S UA") for number in range(400)})
     page.run("document.querySelector('#logs button').focus()")
     page.until("h1", "Complete: 400 of 400.")

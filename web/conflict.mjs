@@ -1,5 +1,5 @@
 /** What there is of a conflict's lines: the slots that its form is told by. */
-import { linkOf, uidIn } from "./frames.mjs";
+import { hasUid, linkOf, uidIn } from "./frames.mjs";
 
 /** @typedef {import("./log.mjs").Log} Log */
 /** @typedef {import("./log.mjs").Slot} Slot */
@@ -66,7 +66,7 @@ function lastSilence(log, uid, from, to) {
   for (let at = to - 1; at > from; at--) {
     const row = log.isRound(at) ? log.row(at) : null;
     if (row?.kind !== "round") continue;
-    const slot = row.slots.find(({ reading, mask }) => reading === "silent" && !BigInt.asUintN(mask.len, mask.value ^ uid));
+    const slot = row.slots.find(({ reading, mask }) => reading === "silent" && hasUid(mask, uid));
     if (slot) return slot.line;
   }
   return 0;
@@ -102,7 +102,7 @@ function stayedSilent(log, round, till, except) {
   }
   silenced.delete(except ?? 0n);
   const slots = asked.kind === "round" ? asked.slots.filter(({ reading }) => reading === "silent" || reading === "heard") : [];
-  return slots.some(({ mask, uid: read }) => [...silenced].some((uid) => uid !== read && !BigInt.asUintN(mask.len, mask.value ^ uid)));
+  return slots.some(({ mask, uid: read }) => [...silenced].some((uid) => uid !== read && hasUid(mask, uid)));
 }
 
 /**

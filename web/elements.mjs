@@ -9,6 +9,12 @@
 export const at = (id) => /** @type {HTMLElement} */ (document.getElementById(id));
 
 /**
+ * What the element with an id has in base64.
+ * @param {string} id
+ */
+export const bytesIn = (id) => Uint8Array.from(atob(at(id).textContent ?? ""), (letter) => letter.charCodeAt(0));
+
+/**
  * An element with attributes and children, whose texts need no escaping.
  * @param {string} tag
  * @param {Record<string, string>} attributes

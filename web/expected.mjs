@@ -14,8 +14,8 @@ const OF_A_LIST = "A list has the header 'vicinity-log 1', and then for each UID
   "cut off, copy it again";
 const GLUED = "perhaps a line end is missing behind the names of the columns";
 const MOVED = "perhaps cells are missing, or too many";
-/** How many columns are named, where none has the UIDs. */
-const MOST_HEADS = 12;
+/** How many columns are named, where none has the UIDs, by how many characters at most. */
+const MOST_HEADS = 12, MOST_HEAD = 80;
 /** The columns that `reconcile --csv` has added, what stands behind such a name once more than behind the catalogue's own, and the state of
  *  rows that it has. */
 const ADDED = ["state", "certain in", "may be in"], TWIN = " (found)", UNEXPECTED = "unexpected";
@@ -60,7 +60,7 @@ function listedIn(library, { name, text }) {
  * @param {string[]} heads
  */
 function found(heads) {
-  const named = heads.filter((head) => head).map((head) => `'${printable(head)}'`), more = named.length - MOST_HEADS;
+  const named = heads.filter((head) => head).map((head) => `'${printable(head.slice(0, MOST_HEAD))}'`), more = named.length - MOST_HEADS;
   if (!named.length) return "No column has a name";
   return `The columns found are ${listing(more > 1 ? [...named.slice(0, MOST_HEADS), count(more, "other")] : named)}`;
 }

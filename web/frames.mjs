@@ -65,16 +65,13 @@ export function linkIn(text) {
  */
 export const uidIn = (frame) => numberOf(frame.slice(UID_AT, UID_AT + UID_DIGITS));
 
-/** @param {number} byte */
-const pairOf = (byte) => hex(BigInt(byte), 2);
-
 /**
  * The frame that silences a tag.
  * @param {bigint} uid
  * @param {number} link
  */
 export function stayQuietOf(uid, link) {
-  return withCrc(pairOf(ADDRESSED | link) + pairOf(STAY_QUIET) + turnedOf(hex(uid)));
+  return withCrc(hex(ADDRESSED | link, 2) + hex(STAY_QUIET, 2) + turnedOf(hex(uid)));
 }
 
 /**
@@ -84,7 +81,7 @@ export function stayQuietOf(uid, link) {
  * @param {number} link
  */
 export function requestOf(slots, { len, value }, link) {
-  const frame = pairOf((slots === 1 ? ONE_SLOT : 0) | INVENTORY_FLAG | link) + pairOf(INVENTORY) + pairOf(len);
+  const frame = hex((slots === 1 ? ONE_SLOT : 0) | INVENTORY_FLAG | link, 2) + hex(INVENTORY, 2) + hex(len, 2);
   return withCrc(frame + (len ? turnedOf(hex(value, 2 * Math.ceil(len / 8))) : ""));
 }
 
@@ -103,6 +100,13 @@ export function maskOf({ mask_len, mask_value }) {
 export const maskKey = ({ len, value }) => `${len}:${value}`;
 
 /**
+ * Whether a UID is in a mask.
+ * @param {Mask} mask
+ * @param {bigint} uid
+ */
+export const hasUid = ({ len, value }, uid) => !BigInt.asUintN(len, value ^ uid);
+
+/**
  * The line that asks for a mask in sixteen slots, or in one if it is too narrow for these.
  * @param {Mask} mask
  * @param {number} link
@@ -119,7 +123,7 @@ export function crcOf(digits) {
     crc ^= parseInt(pair, 16);
     for (let bit = 0; bit < 8; bit++) crc = crc & 1 ? crc >> 1 ^ CRC_POLYNOMIAL : crc >> 1;
   }
-  const sent = hex(BigInt(crc ^ CRC_START), CRC_DIGITS);
+  const sent = hex(crc ^ CRC_START, CRC_DIGITS);
   return sent.slice(2) + sent.slice(0, 2);
 }
 

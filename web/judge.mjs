@@ -103,7 +103,7 @@ export function fields(library, { kind: number, status, count, line, fault, mask
 
 /** @param {Uint8Array} bytes */
 function hexOf(bytes) {
-  return Array.from(bytes, (byte) => hex(BigInt(byte), 2)).join("");
+  return Array.from(bytes, (byte) => hex(byte, 2)).join("");
 }
 
 /**

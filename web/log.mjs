@@ -24,6 +24,8 @@ Object.assign(READINGS, { [codeOf("S")]: "silent", [codeOf("R")]: "heard", [code
 const REPLIES = new Set(["heard", "captured"]), UNREAD = new Set(["captured", "collision", "garbled", "unknown"]);
 /** Where a frame begins in its line. */
 const FRAME_AT = 2;
+/** A log has no more lines, and none that is longer: of what is refused the rest isn't looked at. */
+const MOST_LINES = 1_000_000, LONGEST = 4096;
 /** A byte order mark stays, since it is why a text is refused. */
 const LINES = new TextDecoder("utf-8", { ignoreBOM: true });
 
@@ -39,7 +41,7 @@ export class Log {
   constructor(text) {
     this.text = text;
     const starts = [0];
-    for (let at = text.indexOf(LF); at >= 0; at = text.indexOf(LF, at + 1)) starts.push(at + 1);
+    for (let at = text.indexOf(LF); at >= 0 && starts.length <= MOST_LINES; at = text.indexOf(LF, at + 1)) starts.push(at + 1);
     if (starts[starts.length - 1] !== text.length) starts.push(text.length + 1);
     this.#starts = Uint32Array.from(starts);
     this.counts.lines = starts.length - 1;
@@ -74,7 +76,7 @@ export class Log {
     const from = this.#starts[line - 1];
     let to = this.#starts[line] - 1;
     if (this.text[to] === LF && this.text[to - 1] === CR) to--;
-    return LINES.decode(this.text.subarray(from, to));
+    return LINES.decode(this.text.subarray(from, Math.min(to, from + LONGEST)));
   }
 
   /**

@@ -54,7 +54,7 @@ export class Pane {
    * @param {number} line
    */
   select(line) {
-    if (!this.field.value || this.#firstLine > 1 || this.field.placeholder === LARGE) this.#excerpt(line);
+    if (this.field.placeholder === LARGE) this.#excerpt(line);
     const above = line - this.#firstLine, lines = this.field.value.split(NEW_LINE).slice(0, above);
     const before = lines.join(NEW_LINE).length + (above > 0 ? 1 : 0);
     const end = this.field.value.indexOf(NEW_LINE, before);

@@ -1,5 +1,5 @@
 /** What is left to ask, as lines that send it. */
-import { linkIn, linkOf, maskKey, maskOf, requestOf, sixteen, SLOTS, stayQuietOf, UID_LEN, uidIn } from "./frames.mjs";
+import { hasUid, linkIn, linkOf, maskKey, maskOf, requestOf, sixteen, SLOTS, stayQuietOf, UID_LEN, uidIn } from "./frames.mjs";
 import { MOST_NOTES } from "./notes.mjs";
 
 /** @typedef {import("./frames.mjs").Mask} Mask */
@@ -96,7 +96,7 @@ function around(causes, open, most) {
   const rounds = causes.filter(isCut), cut = new Set(rounds.map((cause) => cause.round));
   const slots = causes.filter(({ reading, round }) => reading !== "captured" && !cut.has(round)).flatMap((cause) => cause.masks);
   const asked = [...rounds.map((cause) => cause.asked), ...slots];
-  const isIn = (/** @type {Mask} */ { len, value }) => asked.some((mask) => mask.len <= len && !BigInt.asUintN(mask.len, mask.value ^ value));
+  const isIn = (/** @type {Mask} */ { len, value }) => asked.some((mask) => mask.len <= len && hasUid(mask, value));
   if (asked.length >= most || !open.every(isIn)) return { asked: [], by: BY_MASK };
   const by = !rounds.length ? "slot that left UIDs open" : !slots.length ? "round that was cut short" : "slot or round that left UIDs open";
   return { asked, by };

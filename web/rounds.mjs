@@ -175,7 +175,7 @@ function marked(named) {
 }
 
 /** @param {number} slot */
-const slotName = (slot) => slot.toString(16).toUpperCase();
+const slotName = (slot) => hex(slot, 1);
 
 /**
  * Words for who doesn't see the signs.

@@ -8,7 +8,7 @@
 import { causesOf, silencedUnheard, widthOf } from "./causes.mjs";
 import { conflictOf, isLarge, keyLines } from "./conflict.mjs";
 import { drawn } from "./drawn.mjs";
-import { maskOf } from "./frames.mjs";
+import { hasUid, maskOf } from "./frames.mjs";
 import { KIND } from "./kinds.mjs";
 import { Log } from "./log.mjs";
 import { notesOf } from "./notes.mjs";
@@ -138,8 +138,8 @@ function explain(log, told) {
  */
 function hasMore(causes, { certain: { count, uids } }) {
   if (count > uids.length) return false;
-  const certain = uids.map((uid) => BigInt(`0x${uid}`)), isIn = (/** @type {Mask} */ { len, value }) =>
-    certain.filter((uid) => !BigInt.asUintN(len, uid ^ value)).length < 2;
+  const certain = uids.map((uid) => BigInt(`0x${uid}`)), isIn = (/** @type {Mask} */ mask) =>
+    certain.filter((uid) => hasUid(mask, uid)).length < 2;
   return causes.some(({ reading, masks }) => reading === "collision" && masks.some(isIn));
 }
 

@@ -1,6 +1,6 @@
 /** Why UIDs are open, in sentences: a cause each, or one for all slots that held the same. */
 import { ORDER, widthOf } from "./causes.mjs";
-import { count, lines, listing, short, whom } from "./words.mjs";
+import { count, hex, lines, listing, short, whom } from "./words.mjs";
 
 /** @typedef {import("./told.mjs").Told} Told */
 /** @typedef {import("./causes.mjs").Cause} Cause */
@@ -86,7 +86,7 @@ function readIn(uids) {
  * @param {number[]} slots
  */
 function runs(slots) {
-  const parts = /** @type {number[][]} */ ([]), name = (/** @type {number} */ slot) => slot.toString(16).toUpperCase();
+  const parts = /** @type {number[][]} */ ([]), name = (/** @type {number} */ slot) => hex(slot, 1);
   for (const slot of slots) {
     const last = parts[parts.length - 1];
     if (last && last[last.length - 1] === slot - 1) last.push(slot); else parts.push([slot]);

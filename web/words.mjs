@@ -37,7 +37,7 @@ export function listing(items, last = "and") {
 }
 
 /**
- * @param {bigint} value
+ * @param {bigint | number} value
  * @param {number} [digits]
  */
 export function hex(value, digits = 16) {
@@ -66,7 +66,7 @@ export function ending(mask) {
   const top = Number(mask.value >> BigInt(4 * digits));
   if (bits === 1) return `UIDs ending in an ${top ? "odd" : "even"} digit${low && ` before ${low}`}`;
   const heads = [...Array(16).keys()].filter((head) => head % (1 << bits) === top);
-  return `UIDs ending in ${listing(heads.map((head) => head.toString(16).toUpperCase() + low), "or")}`;
+  return `UIDs ending in ${listing(heads.map((head) => hex(head, 1) + low), "or")}`;
 }
 
 /**
@@ -107,7 +107,7 @@ export function visible(line) {
  * @param {string} text
  */
 export function printable(text) {
-  return text.replace(/[\p{C}\u2028\u2029]/gu, (it) => `‹${(it.codePointAt(0) ?? 0).toString(16).toUpperCase().padStart(4, "0")}›`);
+  return text.replace(/[\p{C}\u2028\u2029]/gu, (it) => `‹${hex(it.codePointAt(0) ?? 0, 4)}›`);
 }
 
 /**

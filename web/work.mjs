@@ -16,11 +16,11 @@ export class Work {
 
   /**
    * @param {string} code the worker's script
-   * @param {string} module the library as WebAssembly, in base64
+   * @param {Uint8Array} module the library as WebAssembly
    */
   constructor(code, module) {
     this.code = URL.createObjectURL(new Blob([code], { type: "text/javascript" }));
-    this.module = Uint8Array.from(atob(module), (letter) => letter.charCodeAt(0));
+    this.module = module;
     this.#begin();
   }
 

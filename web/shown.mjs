@@ -1,0 +1,112 @@
+/** Shows what is here: several logs, each with what it says, and what is told of one. */
+import { collectionView, headlineOf } from "./collection.mjs";
+import { at, el } from "./elements.mjs";
+import { KIND } from "./kinds.mjs";
+import { isLacking, isUnanswered } from "./opened.mjs";
+import { nameOfText } from "./refused.mjs";
+import { headOf, titleOf, view } from "./view.mjs";
+import { count, printable, TRIAL } from "./words.mjs";
+
+/** @typedef {import("./opened.mjs").Entry} Entry */
+
+const TOGETHER = "Press one to see it. For one answer about all of them, open them together with one catalogue (CSV).";
+/** How much is said of what is wrong. */
+const MOST_SAID = 2000;
+const OPEN_AGAIN = "Open all files again, together: the logs and the catalogue.";
+
+const several = at("several"), each = at("each"), list = at("logs");
+export const shown = at("told");
+
+/**
+ * Shows what is told of a log or a collection. Until it is judged, what is shown is that to its text before it was changed.
+ * @param {Entry | undefined} entry
+ * @param {boolean} isShown whether what is shown is of it
+ */
+export function show(entry, isShown) {
+  const isOld = entry !== undefined && isUnanswered(entry);
+  shown.setAttribute("aria-busy", String(isOld));
+  at("named").textContent = entry?.told ? nameOfText(entry.told, false) : "The log";
+  if (!entry || isOld && isShown) return;
+  shown.replaceChildren(...nodesOf(entry));
+  headed(titleOfEntry(entry));
+}
+
+/**
+ * @param {Entry} entry
+ * @returns {Node[]}
+ */
+function nodesOf({ told, collection, error, given, name }) {
+  if (error) return [el("h1", { class: "error" }, unanswered(name, error)), ...given ? [el("p", {}, kept(given.logs))] : []];
+  return told ? view(told) : collection ? collectionView(collection) : [];
+}
+
+/** @param {Entry} entry */
+export function titleOfEntry({ told, collection, error, name }) {
+  if (error) return unanswered(name, error);
+  return told ? titleOf(told) : printable(collection ? `${headlineOf(collection)} ${collection.name}` : `${name} ..`);
+}
+
+/**
+ * Shows several logs with what each says. Of all together nothing is said but how many are complete, once all are judged.
+ * @param {Entry[]} entries
+ * @param {number} current which is shown, less than 0 if none is
+ */
+export function overview(entries, current) {
+  const many = entries.length, isOne = many < 2;
+  several.hidden = isOne;
+  if (isOne || list.childElementCount !== many) list.replaceChildren(...isOne ? [] : entries.map(() => el("li", {}, el("button", { type: "button" }))));
+  each.replaceChildren();
+  if (isOne) return;
+  list.querySelectorAll("button").forEach((button, index) => label(button, entries[index], index === current));
+  const whole = entries.filter(({ told, name }) => told?.object.kind === KIND.COMPLETE && !TRIAL.test(name)).length;
+  const how = entries.some(isUnanswered) ? "" : ` Complete: ${whole.toLocaleString("en")} of ${many.toLocaleString("en")}.`;
+  const words = `${count(many, "log")}, each with its own answer.${how}`;
+  each.append(el(current < 0 ? "h1" : "p", {}, words), el("p", { class: "hint" }, TOGETHER));
+  if (current >= 0) return;
+  shown.replaceChildren();
+  headed(words);
+}
+
+/**
+ * Says on its button what a log says. The button stays, with the focus that it may have.
+ * @param {HTMLElement} button
+ * @param {Entry} entry
+ * @param {boolean} isPressed
+ */
+function label(button, entry, isPressed) {
+  const { told, error = "..", words = told ? saidBy(told) : error } = entry, name = printable(entry.name);
+  if (told) entry.words = words;
+  button.setAttribute("aria-pressed", String(isPressed));
+  if (button.textContent !== `${name} ${words}`) button.replaceChildren(el("b", {}, name), ` ${words}`);
+}
+
+/** @param {import("./told.mjs").Told} told */
+function saidBy(told) {
+  const { sign, headline } = headOf(told);
+  return `${sign} ${headline}`;
+}
+
+/**
+ * Why there is no answer. What is wrong with a catalogue begins with its name.
+ * @param {string} name
+ * @param {string} error
+ */
+const unanswered = (name, error) => printable((error.startsWith(name) ? `No answer: ${error}.` : `${name}: no answer (${error}).`).slice(0, MOST_SAID));
+
+/**
+ * What becomes of the logs of a collection that has no answer.
+ * @param {Entry[]} logs
+ */
+const kept = (logs) => logs.some(isLacking) ? OPEN_AGAIN
+  : logs.length === 1 ? "The log is still here: the next catalogue will be compared with it."
+    : `The ${count(logs.length, "log")} are still here: the next catalogue will be compared with them.`;
+
+/**
+ * Says what is shown, to whoever doesn't see it.
+ * @param {string} title
+ */
+function headed(title) {
+  document.title = title;
+  const said = at("said"), words = document.querySelector("#each h1, #told h1")?.textContent ?? "";
+  if (said.textContent !== words) said.textContent = words;
+}
