@@ -12,8 +12,7 @@ use Rattle.vic_report.specs.declared.conflict.Conflict.{Conflict}
 use Rattle.vic_verdict.specs.declared.judging.Verdict.TheVariants.{Impossible}
 use Rattle.vic_verdict.specs.Verdict.{IsVerdict}
 
--- the population fits the lines with these numbers: those of the population who answer at one of
--- them fit it
+-- each line with one of these numbers fits the tags of the population that answer there
 abbrev pub FitsLines : List LogLine → List ℕ → List ℕ → Type 0
 FitsLines lines numbers p =
     (i : ℕ) (l : LogLine) → slice_get lines i ≡ Some l → has numbers l.number ≡ true

@@ -1,7 +1,7 @@
 //! Lines that show that UIDs are there.
 //!
-//! The first line is noted for each UID: of replies, and then of the unread slots that require all
-//! who answer there. That a reply is the first one is only tested.
+//! For each UID its first reply is noted, or, if it was never heard, the first unread slot that
+//! requires all who answer there. That a reply is the first one is only tested.
 
 ghost use Rattle.std.specs.Prelude.{◌≡◌, ℕ, IfOk, OnOk, Some, List, slice_get, true};
 ghost use Rattle.std.specs.List.{All};

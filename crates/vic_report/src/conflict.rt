@@ -24,7 +24,8 @@ pub struct Conflict {
     pub line: u32,
     /// The numbers of slot lines that no population fits together, in rising order; `line` is the
     /// last. Each line counts with its mask and with the tags that are Quiet there. That none can
-    /// be left out is only tested; if the guess at them fails, all slot lines are named.
+    /// be left out is only tested; if the guess at them fails, then all slot lines up to `line` are
+    /// named, except unknown ones.
     pub lines: Vec<u32>,
     /// If `line` is a reply of a tag that is Quiet there, the number of the last Stay Quiet that
     /// silenced it.

@@ -42,7 +42,7 @@ pub struct Facts<S: OpenSet> {
 pub struct Met {
     /// The UIDs that were heard, as often as they were heard, in any order.
     pub heard: Vec<Uid>,
-    /// Of each unread slot, which open UIDs answer there.
+    /// Of each unread slot, open UIDs that answer there: three, or all if there are fewer.
     pub unread: Vec<Answering>,
 }
 
@@ -116,16 +116,16 @@ fn open_and_met<S: OpenSet>(
         broken,
     } = walk_log(alloc, lines)?;
     if let Some(at) = broken {
-        // the replies aren't borne out at `at`, but an earlier line may have left an unread slot
-        // too few open UIDs: `first_lack` returns the position of the first that has, or `at`
+        // the replies aren't borne out at `at`; but before that line an unread slot may already
+        // lack open UIDs: `first_lack` returns the first position at which one does, or `at`
         return Ok(Err(first_lack(alloc, lines, &parts, &walk, at)?));
     }
     let closed = closed_keys(alloc, &parts, &walk)?;
     let set = S::without(alloc, closed)?;
     let unread = open_answers(alloc, lines, &parts, &mut walk)?;
     if !are_met(&unread) {
-        // after all lines a slot has too few open UIDs: `first_lack` returns the position of the
-        // first line after which one has
+        // after all lines an unread slot lacks open UIDs: `first_lack` returns the first position
+        // at which one does
         return Ok(Err(first_lack(alloc, lines, &parts, &walk, lines.len())?));
     }
     let heard = heard_uids(alloc, lines)?;

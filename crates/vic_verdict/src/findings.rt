@@ -8,7 +8,7 @@ ghost use Rattle.vic_verdict.specs.Differences.{AreDifferences};
 ghost use Rattle.vic_verdict.specs.Rising.{IsFailing, IsListOf, SameMembers};
 
 use std::alloc::{AllocError, Global};
-use vic_frame::{Mask, Uid};
+use vic_frame::Mask;
 use vic_log::{Entry, Log, PackedLine};
 use vic_tree::outside::uids_outside;
 use vic_tree::{OpenSet, RisingUids, SortedKeys};
@@ -26,7 +26,8 @@ pub struct Differences {
     pub unsettled: Option<Mask>,
 }
 
-/// How a list differs from what is possible (open or certain) and from what is certain.
+/// How a list differs from what may be there (in the set, or certain) and from what must be
+/// (certain).
 pub fn compare<S: OpenSet>(
     alloc: Global,
     set: S,
@@ -82,7 +83,7 @@ fn keys_of_both(
     SortedKeys::of(alloc, &both)
 }
 
-/// The first UIDs without the second.
+/// Those of `uids` that aren't among `others`.
 pub fn missing_from(
     alloc: Global,
     uids: &RisingUids,
@@ -131,7 +132,8 @@ pub fn count_listed(log: &Log) -> u32
     count
 }
 
-/// How many UIDs a line lists, one or none.
+/// How many UIDs a line lists, one or none. Clause `number` restates, for proofs, that its number
+/// fits 32 bits.
 fn count_one(line: PackedLine) -> u32
     ensures value { result ≡ length (listed (line.item ∷ [])) }
     ensures small { result ≤ 1 }
