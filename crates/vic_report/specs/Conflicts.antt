@@ -19,7 +19,7 @@ FitsLines lines numbers p =
     → Fits l.item (answerers_at (entries lines) i p)
 
 -- the line with this number is a slot line that tells something
-pub record IsSlotLine (lines : List LogLine) (n : ℕ) : Type 0 where
+pub record IsTellingLine (lines : List LogLine) (n : ℕ) : Type 0 where
   pub place : ℕ
   pub line : LogLine
   pub there : slice_get lines place ≡ Some line
@@ -31,7 +31,7 @@ pub record IsConflictAt (lines : List LogLine) (n : ℕ) (numbers : List ℕ) : 
   pub rising : IsStrictlyIncreasing numbers
   pub ends : has numbers n ≡ true
   pub upto : (m : ℕ) → has numbers m ≡ true → m ≤ n
-  pub slots : (m : ℕ) → has numbers m ≡ true → IsSlotLine lines m
+  pub slots : (m : ℕ) → has numbers m ≡ true → IsTellingLine lines m
   pub unfit : (p : List ℕ) → IsPopulation p → FitsLines lines numbers p → ⊥
 
 -- the tag with UID u is Quiet at position i by the line with number n: the last Stay Quiet with the

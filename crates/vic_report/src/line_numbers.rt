@@ -1,6 +1,6 @@
 //! Sets of line numbers.
 
-ghost use Rattle.std.specs.Prelude.{◌≡◌, ℕ, ◌≤◌, IfSome, true};
+ghost use Rattle.std.specs.Prelude.{◌≡◌, ℕ, ◌≤◌, [], IfNone, IfSome, true};
 ghost use Rattle.std.specs.List.Sorted.{IsStrictlyIncreasing};
 ghost use Rattle.vic_frame.specs.Uids.{has};
 
@@ -42,6 +42,7 @@ impl LineNumbers {
 
     /// The last one.
     pub(crate) fn last(&self) -> Option<u32>
+        ensures none { IfNone result (self.now ≡ []) }
         ensures member { IfSome result (λ last. has self.now last ≡ true) }
         ensures above { IfSome result (λ last. (n : ℕ) → has self.now n ≡ true → n ≤ last) }
     {

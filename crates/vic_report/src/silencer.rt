@@ -18,13 +18,13 @@ pub(crate) fn silencer_of_line(log: &Log, number: u32) -> Option<u32>
 {
     let lines = log.lines();
     match lines.binary_search_by_key(&number, |line| line.number()) {
-        Ok(place) => silencer_of_reply(lines, place),
+        Ok(place) => silencer_at(lines, place),
         Err(_) => None,
     }
 }
 
-/// The same by position.
-fn silencer_of_reply(lines: &[PackedLine], place: usize) -> Option<u32>
+/// The same for the line at a position.
+fn silencer_at(lines: &[PackedLine], place: usize) -> Option<u32>
     ensures { MatchOption result
         ((u : ℕ) → hears (slice_get (entries lines.now) place) u ≡ true
         → is_quiet (entries lines.now) place u ≡ false)

@@ -9,7 +9,7 @@ use Rattle.vic_log.specs.declared.entry.Entry.{Entry}
 use Rattle.vic_log.specs.Order.{listed}
 use Rattle.vic_verdict.specs.Possible.{IsPossibleUid, IsCertainUid}
 use Rattle.vic_verdict.specs.Rising.{IsFailing, IsListOf}
-use Rattle.vic_verdict.specs.declared.findings.Differences.{Differences}
+use Rattle.vic_verdict.specs.declared.differences.Differences.{Differences}
 
 -- a UID that may be there and may be missing: possible, and not certain
 abbrev pub IsUndecided : List Entry → ℕ → Type 0
@@ -39,3 +39,5 @@ pub record AreDifferences (set : ℕ → Bool) (certain us : List ℕ) (d : Diff
   pub unlisted : IsListOf (IsFailing certain (has us)) d.unlisted
   pub unsettled : MatchOption d.unsettled (SameUids (left_by set certain us) (λ _. false))
       (IsWidest (left_by set certain us))
+  pub doubtful : IsListOf (λ u. (has us u ≡ true) × (set u ≡ true) × (has certain u ≡ false))
+      d.doubtful

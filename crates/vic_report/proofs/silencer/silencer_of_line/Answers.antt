@@ -9,8 +9,8 @@ returns-in-Ok c =
     let d : LogLine = record { number = 0; item = FieldCycle } in
     let line = get_or lines place d in
     let there : slice_get lines place ≡ Some line = slice_get_read lines (length lines) place line refl c.in-Ok.ensures.bound (get_or_default lines place d line c.in-Ok.ensures.bound) in
-    rw (← c.lines-lines.ensures.value) (silenced_there lines c.args.number place line c.silencer_of_reply.result (first_lines _ _ c.lines-lines.ensures.log).rising there
-    (found_number lines c.args.number place line (c.in-Ok.ensures.position (λ (l : LogLine). l.number) (answers_always _ _ _ (λ f a s g called. search rules))) there) c.silencer_of_reply.ensures)
+    rw (← c.lines-lines.ensures.value) (silenced_there lines c.args.number place line c.silencer_at.result (first_lines _ _ c.lines-lines.ensures.log).rising there
+    (found_number lines c.args.number place line (c.in-Ok.ensures.position (λ (l : LogLine). l.number) (answers_always _ _ _ (λ f a s g called. search rules))) there) c.silencer_at.ensures)
 
 pub returns-in-Err : goal.returns-in-Err
 returns-in-Err c = rw (← c.lines-lines.ensures.value) (λ i x u there number heard.

@@ -1,6 +1,6 @@
 use Rattle.vic_report.proofs.Words.{answers_always, length, refl, sym, ap, ◌∙◌, rules, LogLine, tells, slice_get_read}
 use Rattle.vic_report.proofs.Conflicts.{found_number}
-use Rattle.vic_report.proofs.conflict.is_slot_line.Goals as goal
+use Rattle.vic_report.proofs.conflict.is_telling_line.Goals as goal
 
 pub returns-in-Ok : goal.returns-in-Ok
 returns-in-Ok c told =
