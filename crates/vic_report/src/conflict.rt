@@ -9,7 +9,7 @@ ghost use Rattle.vic_verdict.specs.declared.judging.Verdict.TheVariants.{Impossi
 ghost use Rattle.vic_walk.specs.LogLines.{AreLogLines};
 
 use crate::kept_log::KeptLog;
-use crate::line_numbers::LineNumbers;
+use crate::line_numbers::{LineNumbers, place_of};
 use crate::silencer::silencer_of_line;
 use std::alloc::{AllocError, Global};
 use vic_guess::guess_conflict;
@@ -84,9 +84,9 @@ fn all_tell(lines: &[PackedLine], numbers: &[u32]) -> bool
 fn is_telling_line(lines: &[PackedLine], number: u32) -> bool
     ensures { result ≡ true → IsTellingLine lines.now number }
 {
-    match lines.binary_search_by_key(&number, |line| line.number()) {
-        Ok(place) => lines[place].item().tells(),
-        Err(_) => false,
+    match place_of(lines, number) {
+        Some(place) => lines[place].item().tells(),
+        None => false,
     }
 }
 

@@ -7,6 +7,7 @@ ghost use Rattle.vic_log.specs.Slots.{hears};
 ghost use Rattle.vic_log.specs.declared.entry.LogLine.{LogLine as LogLineValue};
 ghost use Rattle.vic_report.specs.Conflicts.{IsNoQuietReply, IsSilencedBefore, IsSilencedBy};
 
+use crate::line_numbers::place_of;
 use vic_frame::{Request, Uid};
 use vic_log::{Entry, Log, PackedLine};
 
@@ -17,10 +18,7 @@ pub(crate) fn silencer_of_line(log: &Log, number: u32) -> Option<u32>
         (IsSilencedBy log.now.lines number) }
 {
     let lines = log.lines();
-    match lines.binary_search_by_key(&number, |line| line.number()) {
-        Ok(place) => silencer_at(lines, place),
-        Err(_) => None,
-    }
+    silencer_at(lines, place_of(lines, number)?)
 }
 
 /// The same for the line at a position.
