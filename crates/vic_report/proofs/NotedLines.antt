@@ -64,11 +64,11 @@ heard_within es i u long h = elim (cases_lt h.0 (length es)) [
 ]
 
 -- some of the first n slots needs the UID
-abbrev pub IsExactBefore : List Answering → ℕ → ℕ → Type 0
-IsExactBefore fs n u = (k : ℕ) × (f : Answering) × (k < n) × (get_or fs k f ≡ f) × ForcesThere f u
+abbrev pub SomeForcesBefore : List Answering → ℕ → ℕ → Type 0
+SomeForcesBefore fs n u = (k : ℕ) × (f : Answering) × (k < n) × (get_or fs k f ≡ f) × ForcesThere f u
 
-pub exact_split : (fs : List Answering) (i u : ℕ) (f : Answering) → i < length fs → f ≡ get_or fs i f → IsExactBefore fs (i + 1) u → IsExactBefore fs i u ⊎ ForcesThere f u
-exact_split fs i u f below is w = elim (cases_eq w.0 i) [
+pub forces_split : (fs : List Answering) (i u : ℕ) (f : Answering) → i < length fs → f ≡ get_or fs i f → SomeForcesBefore fs (i + 1) u → SomeForcesBefore fs i u ⊎ ForcesThere f u
+forces_split fs i u f below is w = elim (cases_eq w.0 i) [
   | inl here ↦
       let there : get_or fs i w.1 ≡ w.1 = subst (λ n. get_or fs n w.1 ≡ w.1) here w.3 in
       let same : w.1 ≡ f = sym there ∙ (get_or_default fs i w.1 f below ∙ sym is) in
@@ -76,8 +76,8 @@ exact_split fs i u f below is w = elim (cases_eq w.0 i) [
   | inr other ↦ let lt = w.2 in inl (w.0, w.1, omega (arith, lt, other), w.3, w.4)
 ]
 
-pub exact_within : (fs : List Answering) (i u : ℕ) → length fs ≤ i → SomeForces fs u → IsExactBefore fs i u
-exact_within fs i u long w = let lt = w.2 in (w.0, w.1, omega (arith, lt, long), w.3, w.4)
+pub forces_within : (fs : List Answering) (i u : ℕ) → length fs ≤ i → SomeForces fs u → SomeForcesBefore fs i u
+forces_within fs i u long w = let lt = w.2 in (w.0, w.1, omega (arith, lt, long), w.3, w.4)
 
 pub member_split : (us : List ℕ) (i u own : ℕ) → i < length us → own ≡ get_or us i own → has (take (i + 1) us) u ≡ true → (has (take i us) u ≡ true) ⊎ (u ≡ own)
 member_split us i u own below is h = elim (or_cases _ _ (sym (list_any_more (nat_eq u) us i own below) ∙ h)) [
