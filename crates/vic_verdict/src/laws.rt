@@ -56,7 +56,7 @@ pub fn exactly_one_verdict()
 {}
 
 /// Some mask is unsettled if and only if some UID that isn't listed is possible.
-pub fn unsettled_where_unlisted_is_possible()
+pub fn unsettled_if_another_is_possible()
     ensures { (es : List Entry) → ((m : BitMask) × IsUnsettled es m)
         ↔ ((u : ℕ) × IsPossibleUid es u × (has (listed es) u ≡ false)) }
 {}
@@ -89,8 +89,6 @@ pub fn weaker_is_complete()
 
 /// A complete list has every UID that was never overlooked, whatever is true of other tags.
 pub fn never_overlooked_is_listed()
-    ensures complete { (lines : List LogLine) (count u : ℕ) → IsVerdict lines (Complete count)
-        → IsUid u → IsNeverOverlooked (entries lines) u → has (listed (entries lines)) u ≡ true }
-    ensures whole { (es : List Entry) (u : ℕ) → IsWhole es → IsUid u → IsNeverOverlooked es u
-        → has (listed es) u ≡ true }
+    ensures { (lines : List LogLine) (count u : ℕ) → IsVerdict lines (Complete count) → IsUid u
+        → IsNeverOverlooked (entries lines) u → has (listed (entries lines)) u ≡ true }
 {}

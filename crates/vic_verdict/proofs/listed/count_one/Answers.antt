@@ -1,6 +1,6 @@
 use Rattle.vic_verdict.proofs.Words.{[], ◌∷◌, ◌∙◌, ap, arith, length, listed, sym}
 use Rattle.vic_verdict.proofs.Listing.{lists_none}
-use Rattle.vic_verdict.proofs.findings.count_one.Goals as goal
+use Rattle.vic_verdict.proofs.listed.count_one.Goals as goal
 
 pub returns-in-Listed-clause-number : goal.returns-in-Listed-clause-number
 returns-in-Listed-clause-number c = let w = c.well_formed.0 in grind (arith, w)

@@ -1,6 +1,6 @@
 use Rattle.vic_verdict.proofs.Words.{◌≡◌, ◌<◌, ◌≤◌, ◌-◌, length, get_or, not, take, filter, has}
 use Rattle.vic_verdict.proofs.Merging.{AreBelow}
-use Rattle.vic_verdict.proofs.findings.missing_from.Given as goal
+use Rattle.vic_verdict.proofs.differences.missing_from.Given as goal
 
 abbrev pub invariant-loop-uid : goal.invariant-loop-uid
 invariant-loop-uid l = record {

@@ -3,8 +3,8 @@ use Rattle.std.specs.Ordering.{is_lt, nat_cmp}
 use Rattle.std.proofs.lemmas.Map.Keys.{ge_from_not_lt}
 use Rattle.vic_verdict.proofs.Failing.{failing_list}
 use Rattle.vic_verdict.proofs.Merging.{IsIndexOf, below_next, is_here, is_past}
-use Rattle.vic_verdict.proofs.findings.missing_from.Goals as goal
-use Rattle.vic_verdict.proofs.findings.missing_from.Goals.{then-loop-next-test+else-lt, else-loop-next-test, then-next-others+in_ok-push, then-next-others-via-then-next-others, then-next-others-via-else-next-others+then-ne, else-next-others+else-ne}
+use Rattle.vic_verdict.proofs.differences.missing_from.Goals as goal
+use Rattle.vic_verdict.proofs.differences.missing_from.Goals.{then-loop-next-test+else-lt, else-loop-next-test, then-next-others+in_ok-push, then-next-others-via-then-next-others, then-next-others-via-else-next-others+then-ne, else-next-others+else-ne}
 
 is_missing : (vs us old : List ℕ) (i u : ℕ) → i < length us → u ≡ get_or us i u → has vs u ≡ false → old ≡ filter (λ v. not (has vs v)) (take i us) → old ++ u ∷ [] ≡ filter (λ v. not (has vs v)) (take (i + 1) us)
 is_missing vs us old i u lt is new h = rw (filter_more (λ v. not (has vs v)) us i u lt, ← is, new, h)

@@ -1,7 +1,7 @@
 use Rattle.vic_verdict.proofs.Words.{IsUid, rules, arith, nat_tests, length, refl, sym, ap, ◌∙◌, add-one, [], ◌∷◌, list_any-append, slice_get_read, listed, append-nil}
 use Rattle.vic_verdict.proofs.Listing.{lists_none, listed_more}
-use Rattle.vic_verdict.proofs.findings.listed_uids.Goals as goal
-use Rattle.vic_verdict.proofs.findings.listed_uids.Goals.{in-Listed+in_ok-push, in_default}
+use Rattle.vic_verdict.proofs.listed.listed_uids.Goals as goal
+use Rattle.vic_verdict.proofs.listed.listed_uids.Goals.{in-Listed+in_ok-push, in_default}
 
 pub loop-line-preserved : goal.loop-line-preserved
 loop-line-preserved c =

@@ -5,7 +5,7 @@ use Rattle.std.proofs.lemmas.Result.{IfOk-weaker}
 use Rattle.vic_log.specs.declared.entry.LogLine.{LogLine}
 use Rattle.vic_report.proofs.Words.{first_lines}
 use Rattle.vic_report.proofs.Conflicts.{is_slot_to, slots_to_line}
-use Rattle.vic_report.proofs.conflict.slot_numbers_to.Goals as goal
+use Rattle.vic_report.proofs.conflict.telling_numbers_to.Goals as goal
 
 pub returns-clause-numbers : goal.returns-clause-numbers
 returns-clause-numbers c =

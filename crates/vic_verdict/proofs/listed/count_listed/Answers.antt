@@ -2,7 +2,7 @@ use Rattle.vic_verdict.proofs.Words.{length, refl, arith, add-one, length-append
 use Rattle.vic_verdict.proofs.Listing.{listed_more, number_above}
 use Rattle.std.proofs.lemmas.Grind.{common_steps}
 use Rattle.vic_walk.proofs.LineLaws.{first_lines}
-use Rattle.vic_verdict.proofs.findings.count_listed.Goals as goal
+use Rattle.vic_verdict.proofs.listed.count_listed.Goals as goal
 
 pub overflow_add-count : goal.overflow_add-count
 overflow_add-count c =
