@@ -90,40 +90,52 @@ fn fields_of(answer: &Answer) -> VicinityAnswer
     ensures { result ≡ spec.fields_of answer.now }
 {
     match *answer {
-        Answer::Judged(Verdict::Complete { count }) => VicinityAnswer {
+        Answer::Judged(verdict) => verdict_fields(&verdict),
+        Answer::RefusedAt { line, fault } => VicinityAnswer {
+            kind: Kind::Refused as u32,
+            line,
+            fault: fault_number(&fault),
+            ..NO_ANSWER
+        },
+    }
+}
+
+/// The fields of a verdict.
+fn verdict_fields(verdict: &Verdict) -> VicinityAnswer
+    ensures { result ≡ spec.fields_of (Judged verdict.now) }
+{
+    match *verdict {
+        Verdict::Complete { count } => VicinityAnswer {
             kind: Kind::Complete as u32,
             count,
             ..NO_ANSWER
         },
-        Answer::Judged(Verdict::Absent(uid)) => VicinityAnswer {
+        Verdict::Absent(uid) => VicinityAnswer {
             kind: Kind::Absent as u32,
             uid: uid.number(),
             ..NO_ANSWER
         },
-        Answer::Judged(Verdict::Unlisted(uid)) => VicinityAnswer {
+        Verdict::Unlisted(uid) => VicinityAnswer {
             kind: Kind::Unlisted as u32,
             uid: uid.number(),
             ..NO_ANSWER
         },
-        Answer::Judged(Verdict::Unsettled(mask)) => VicinityAnswer {
+        Verdict::Unsettled(mask) => VicinityAnswer {
             kind: Kind::Unsettled as u32,
             mask_len: u32::from(mask.len()),
             mask_value: mask.value(),
             ..NO_ANSWER
         },
-        Answer::Judged(Verdict::Doubtful(uid)) => VicinityAnswer {
+        Verdict::Doubtful(uid) => VicinityAnswer {
             kind: Kind::Doubtful as u32,
             uid: uid.number(),
             ..NO_ANSWER
         },
-        Answer::Judged(Verdict::Impossible { line }) => VicinityAnswer {
+        Verdict::Impossible { line } => VicinityAnswer {
             kind: Kind::Impossible as u32,
             line,
             ..NO_ANSWER
         },
-        Answer::RefusedAt { line, fault } => {
-            refusal_numbers(line, fault_number(&fault), fault.name())
-        }
     }
 }
 
