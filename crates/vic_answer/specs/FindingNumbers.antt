@@ -1,5 +1,5 @@
 -- The findings of a log, in numbers: the lines of `report`, one finding after another.
-use Rattle.std.specs.Prelude.{◌≡◌, ℕ, Bool, Option, Some, None, List, [], ◌∷◌, ◌++◌, map, length, if◌then◌else◌}
+use Rattle.std.specs.Prelude.{◌≡◌, ℕ, Bool, Option, Some, None, List, [], ◌∷◌, ◌++◌, map, if◌then◌else◌}
 use Rattle.vic_frame.specs.Masks.{BitMask}
 use Rattle.vic_report.specs.Reports.{IsReport, verdict_of}
 use Rattle.vic_report.specs.declared.conflict.Conflict.{Conflict}
@@ -12,7 +12,7 @@ use Rattle.vic_answer.specs.declared.answered.Answered.{Answered}
 use Rattle.vic_answer.specs.declared.answered.Answered.TheVariants.{Judged, RefusedAt}
 use Rattle.vic_answer.specs.declared.finding_numbers.VicinityFinding.{VicinityFinding}
 use Rattle.vic_answer.specs.declared.numbers.VicinityAnswer.{VicinityAnswer}
-use Rattle.vic_answer.specs.ExplainedNumbers.{IsPutInto}
+use Rattle.vic_answer.specs.Buffers.{IsReturned}
 use Rattle.vic_answer.specs.Numbers.{numbers_of}
 
 -- a finding of a kind, without what goes with some kinds
@@ -82,5 +82,4 @@ pub record AreReportedNumbersFor (text : List ℕ) (numbers : VicinityAnswer) (c
   pub reported : Answered LogReport
   pub right : IsAnswered IsReport text reported
   pub numbers_are : numbers ≡ numbers_of (answer_of verdict_of reported)
-  pub counted : count ≡ length (reported_findings reported)
-  pub put : IsPutInto (reported_findings reported) room room'
+  pub returned : IsReturned (reported_findings reported) room room' count

@@ -14,7 +14,7 @@ use Rattle.vic_answer.specs.declared.fault_numbers.TheConstants.{NOT_LISTED}
 use Rattle.vic_answer.specs.declared.numbers.TheConstants.{LISTED}
 use Rattle.vic_answer.specs.declared.numbers.VicinityAnswer.{VicinityAnswer}
 use Rattle.vic_answer.specs.Answered.{HasLog}
-use Rattle.vic_answer.specs.ExplainedNumbers.{IsPutInto}
+use Rattle.vic_answer.specs.Buffers.{IsReturned}
 use Rattle.vic_answer.specs.FaultNumbers.{fault_number}
 use Rattle.vic_answer.specs.Numbers.{no_answer, padded, refusal_numbers}
 
@@ -59,5 +59,4 @@ pub record AreListedNumbersFor (text : List ℕ) (numbers : VicinityAnswer) (cou
   pub listing : Listing
   pub right : IsListing text listing
   pub numbers_are : numbers ≡ numbers_of listing
-  pub counted : count ≡ length (uids_of listing)
-  pub put : IsPutInto (uids_of listing) room room'
+  pub returned : IsReturned (uids_of listing) room room' count

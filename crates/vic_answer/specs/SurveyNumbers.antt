@@ -1,5 +1,5 @@
 -- The survey of a log, and findings from surveys, in numbers: no line shows them.
-use Rattle.std.specs.Prelude.{◌≡◌, ℕ, List, [], ◌∷◌, ◌++◌, Option, Some, None, map, length}
+use Rattle.std.specs.Prelude.{◌≡◌, ℕ, List, [], ◌∷◌, ◌++◌, Option, Some, None, map}
 use Rattle.vic_frame.specs.Masks.{BitMask}
 use Rattle.vic_log.specs.Lines.{lines_of_text}
 use Rattle.vic_log.specs.declared.entry.LogLine.{LogLine}
@@ -14,7 +14,7 @@ use Rattle.vic_answer.specs.declared.answered.Answered.{Answered}
 use Rattle.vic_answer.specs.declared.answered.Answered.TheVariants.{Judged, RefusedAt}
 use Rattle.vic_answer.specs.declared.finding_numbers.VicinityFinding.{VicinityFinding}
 use Rattle.vic_answer.specs.declared.numbers.VicinityAnswer.{VicinityAnswer}
-use Rattle.vic_answer.specs.ExplainedNumbers.{IsPutInto}
+use Rattle.vic_answer.specs.Buffers.{IsReturned}
 use Rattle.vic_answer.specs.FindingNumbers.{mask_finding, uid_finding}
 use Rattle.vic_answer.specs.Numbers.{numbers_of}
 
@@ -38,8 +38,7 @@ pub record AreNumbersWith {T R : Type 0} (P : List LogLine → List T → Type 0
   pub items : List T
   pub right : IsAnswerWith P text answer items
   pub numbers_are : numbers ≡ numbers_of answer
-  pub counted : count ≡ length items
-  pub put : IsPutInto (map number_of items) room room'
+  pub returned : IsReturned (map number_of items) room room' count
 
 -- ---- of several
 

@@ -1,7 +1,6 @@
 //! The findings of a log, in numbers.
 
 ghost use Rattle.std.specs.Prelude.{◌≡◌, ◌++◌, IfOk, OnOk, map};
-ghost use Rattle.vic_answer.specs.ExplainedNumbers.{IsPutInto};
 ghost use Rattle.vic_answer.specs.FindingNumbers as spec;
 
 use crate::answered::Answered;
@@ -74,15 +73,6 @@ pub fn findings_of(
         }
     }
     Ok(list)
-}
-
-/// Puts findings at the start of a buffer, if they fit.
-pub fn put_findings(findings: &[VicinityFinding], room: &mut [VicinityFinding])
-    ensures { IsPutInto findings.now room.old room.new }
-{
-    if findings.len() <= room.len() {
-        room[..findings.len()].copy_from_slice(findings);
-    }
 }
 
 /// Adds the lines of a conflict, and the line that silenced its tag.

@@ -12,7 +12,7 @@ use Rattle.vic_answer.specs.declared.answered.Answered.TheVariants.{Judged, Refu
 use Rattle.vic_answer.specs.declared.numbers.VicinityAnswer.{VicinityAnswer}
 use Rattle.vic_answer.specs.declared.overlooked.Overlooked.{Overlooked}
 use Rattle.vic_answer.specs.Answered.{IsAnswered, answer_of}
-use Rattle.vic_answer.specs.ExplainedNumbers.{IsPutInto}
+use Rattle.vic_answer.specs.Buffers.{IsPutInto}
 use Rattle.vic_answer.specs.MarginText.{IsMarginOfLines}
 use Rattle.vic_answer.specs.Numbers.{numbers_of}
 use Rattle.vic_answer.specs.OverlookedText.{AreOverlooked}
