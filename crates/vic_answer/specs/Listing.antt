@@ -11,7 +11,6 @@ use Rattle.vic_reconcile.specs.Findings.{IsFirstNotListed, IsList}
 use Rattle.vic_answer.specs.declared.listing.Listing.{Listing}
 use Rattle.vic_answer.specs.declared.listing.Listing.TheVariants.{Listed, NotListedAt, RefusedAt}
 use Rattle.vic_answer.specs.declared.fault_numbers.TheConstants.{NOT_LISTED}
-use Rattle.vic_answer.specs.declared.numbers.TheConstants.{LISTED}
 use Rattle.vic_answer.specs.declared.numbers.VicinityAnswer.{VicinityAnswer}
 use Rattle.vic_answer.specs.Answered.{HasLog}
 use Rattle.vic_answer.specs.Buffers.{IsReturned}
@@ -44,7 +43,7 @@ uids_of (NotListedAt n) = []
 
 abbrev pub numbers_of : Listing → VicinityAnswer
 numbers_of (Listed us count) = record no_answer {
-  kind = LISTED;
+  kind = 12;
   status = 0;
   count = count;
   text = padded (codes "listed " ++ decimal count ++ codes "\n");

@@ -42,7 +42,7 @@ pub use finding_numbers::{FindingKind, VicinityFinding, findings_of};
 pub use frame::run_frame;
 pub use listing::{Listing, list_text, listed_in, listing_numbers};
 pub use margin::run_margin;
-pub use numbers::{Kind, LISTED, NO_ANSWER, VicinityAnswer, numbers_of, refusal_numbers};
+pub use numbers::{Kind, NO_ANSWER, VicinityAnswer, numbers_of, refusal_numbers};
 pub use overlooked::{Overlooked, overlooked_answer, overlooked_text};
 pub use reconcile::{
     Reconciled, Reconciling, read_expected, read_next, reconciled_answer, write_reconciled,

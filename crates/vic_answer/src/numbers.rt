@@ -25,10 +25,9 @@ pub enum Kind {
     Doubtful = 5,
     Impossible = 6,
     Refused = 7,
+    /// The UIDs of a list: no answer to a log.
+    Listed = 12,
 }
-
-/// The kind of the numbers of a list, which is no answer and no finding.
-pub const LISTED: u32 = 12;
 
 /// The answer to a text, in numbers. Fields that the kind doesn't use are 0.
 ///
@@ -42,6 +41,7 @@ pub const LISTED: u32 = 12;
 /// | 5 | doubtful | 1 | `uid` |
 /// | 6 | impossible | 2 | `line` |
 /// | 7 | refused | 3 | `line`, `fault` |
+/// | 12 | the UIDs of a list | 0 | `count` |
 #[repr(C)]
 #[derive(Clone, Copy, Debug, PartialEq, Eq)]
 pub struct VicinityAnswer {
