@@ -1,18 +1,16 @@
 -- The UIDs of a text that has only `U` lines, and the numbers that say it.
 use Rattle.std.specs.Prelude.{◌≡◌, ℕ, true, List, [], ◌++◌, codes, decimal, length}
 use Rattle.vic_frame.specs.Uids.{has}
-use Rattle.vic_log.specs.Lines.{lines_of_text}
 use Rattle.vic_log.specs.Log.{LogValue}
 use Rattle.vic_log.specs.Names.{line_fault_name}
 use Rattle.vic_log.specs.Order.{entries, listed}
-use Rattle.vic_log.specs.Text.{IsFirstFault}
 use Rattle.vic_verdict.specs.Rising.{IsListOf}
 use Rattle.vic_reconcile.specs.Findings.{IsFirstNotListed, IsList}
 use Rattle.vic_answer.specs.declared.listing.Listing.{Listing}
 use Rattle.vic_answer.specs.declared.listing.Listing.TheVariants.{Listed, NotListedAt, RefusedAt}
 use Rattle.vic_answer.specs.declared.fault_numbers.TheConstants.{NOT_LISTED}
 use Rattle.vic_answer.specs.declared.numbers.VicinityAnswer.{VicinityAnswer}
-use Rattle.vic_answer.specs.Answered.{HasLog}
+use Rattle.vic_answer.specs.Answered.{HasLog, IsRefusedAt}
 use Rattle.vic_answer.specs.Buffers.{IsReturned}
 use Rattle.vic_answer.specs.FaultNumbers.{fault_number}
 use Rattle.vic_answer.specs.Numbers.{no_answer, padded, refusal_numbers}
@@ -29,7 +27,7 @@ pub record Lists (text : List ℕ) (uids : List ℕ) (count : ℕ) : Type 0 wher
 -- what a text lists; or its first fault, or the first line of its log that lists no UID
 abbrev pub IsListing : List ℕ → Listing → Type 0
 IsListing text (Listed us count) = Lists text us.items count
-IsListing text (RefusedAt n fault) = IsFirstFault (lines_of_text text) n fault
+IsListing text (RefusedAt n fault) = IsRefusedAt text n fault
 IsListing text (NotListedAt n) =
     (log : LogValue) × HasLog text log × IsFirstNotListed log.lines n
 

@@ -1,15 +1,13 @@
 -- The survey of a log, and findings from surveys, in numbers: no line shows them.
 use Rattle.std.specs.Prelude.{◌≡◌, ℕ, List, [], ◌∷◌, ◌++◌, Option, Some, None, map}
 use Rattle.vic_frame.specs.Masks.{BitMask}
-use Rattle.vic_log.specs.Lines.{lines_of_text}
 use Rattle.vic_log.specs.declared.entry.LogLine.{LogLine}
 use Rattle.vic_log.specs.Log.{LogValue}
-use Rattle.vic_log.specs.Text.{IsFirstFault}
 use Rattle.vic_verdict.specs.Verdict.{IsVerdict}
 use Rattle.vic_verdict.specs.declared.judging.Verdict.{Verdict}
 use Rattle.vic_verdict.specs.declared.judging.Verdict.TheVariants as verdict
 use Rattle.vic_reconcile.specs.declared.surveys.PlainFindings.{PlainFindings}
-use Rattle.vic_answer.specs.Answered.{HasLog}
+use Rattle.vic_answer.specs.Answered.{HasLog, IsRefusedAt}
 use Rattle.vic_answer.specs.declared.answered.Answered.{Answered}
 use Rattle.vic_answer.specs.declared.answered.Answered.TheVariants.{Judged, RefusedAt}
 use Rattle.vic_answer.specs.declared.finding_numbers.VicinityFinding.{VicinityFinding}
@@ -26,8 +24,7 @@ abbrev pub IsAnswerWith : {T : Type 0} → (List LogLine → List T → Type 0) 
     → Answered Verdict → List T → Type 0
 IsAnswerWith P text (Judged v) xs =
     (log : LogValue) × HasLog text log × IsVerdict log.lines v × P log.lines xs
-IsAnswerWith P text (RefusedAt n fault) xs =
-    IsFirstFault (lines_of_text text) n fault × (xs ≡ [])
+IsAnswerWith P text (RefusedAt n fault) xs = IsRefusedAt text n fault × (xs ≡ [])
 
 -- these are the numbers of the answer to a text, there are `count` items, which P has of its log,
 -- and this is what becomes of the buffer for them

@@ -7,6 +7,7 @@ ghost use Rattle.vic_frame.specs.Bytes.{AreBytes};
 ghost use Rattle.vic_frame.specs.Reading.{request_reading, reply_reading};
 ghost use Rattle.vic_frame.specs.Replies.{Reply};
 ghost use Rattle.vic_answer.specs.declared.spell.Said.{Said};
+ghost use Rattle.vic_answer.specs.Answered.{HasLog};
 ghost use Rattle.vic_answer.specs.CheckText.{BeginsAsCheck};
 ghost use Rattle.vic_answer.specs.ExplainText.{IsExplanationOf};
 ghost use Rattle.vic_answer.specs.MarginText.{IsMarginOf};
@@ -17,9 +18,7 @@ ghost use Rattle.vic_answer.specs.SpellText.{line_of, words_of, words_reading, s
 ghost use Rattle.vic_answer.specs.SpellText.{request_words, reply_words};
 ghost use Rattle.vic_answer.specs.SimulateText.{IsSimulationOf};
 ghost use Rattle.vic_answer.specs.declared.status.Status.TheVariants.{Whole};
-ghost use Rattle.vic_log.specs.Lines.{lines_of_text};
 ghost use Rattle.vic_log.specs.Log.{LogValue};
-ghost use Rattle.vic_log.specs.Text.{IsLogOf};
 
 use vic_log::laws::text_reads_back;
 
@@ -51,7 +50,7 @@ pub fn answers_begin_as_check()
 /// What `simulate` writes with status `Whole` is the text of a log.
 pub fn simulation_is_a_log()
     ensures { (text answer : List ℕ) → IsSimulationOf text answer Whole
-        → (log : LogValue) × IsLogOf (lines_of_text answer) log }
+        → (log : LogValue) × HasLog answer log }
 {
     text_reads_back();
 }
