@@ -60,7 +60,7 @@ possible_findings f =
     ++ map (λ s. uid_finding 3 s.uid s.line) f.unlisted.items
     ++ unsettled_findings f.unsettled ++ map (λ u. uid_finding 5 u 0) f.doubtful.items
 
--- the lines of a conflict, in rising order, and the line that silenced its tag
+-- the lines of a conflict, and the line that silenced its tag
 abbrev pub conflict_findings : Conflict → List VicinityFinding
 conflict_findings c = map (line_finding 10) c.lines.items ++ silenced_findings c.silenced_by
 
