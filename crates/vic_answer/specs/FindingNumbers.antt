@@ -30,6 +30,10 @@ finding kind = record {
 abbrev pub uid_finding : (kind uid line : ℕ) → VicinityFinding
 uid_finding kind u n = record (finding kind) { line = n; uid = u }
 
+-- of each UID, without a line
+abbrev pub uid_findings : ℕ → List ℕ → List VicinityFinding
+uid_findings kind us = map (λ u. uid_finding kind u 0) us
+
 -- of a mask
 abbrev pub mask_finding : ℕ → BitMask → VicinityFinding
 mask_finding kind m = record (finding kind) { mask_len = m.len; mask_value = m.value }
@@ -58,7 +62,7 @@ abbrev pub possible_findings : Findings → List VicinityFinding
 possible_findings f =
     map (λ s. uid_finding 2 s.uid s.line) f.absent.items
     ++ map (λ s. uid_finding 3 s.uid s.line) f.unlisted.items
-    ++ unsettled_findings f.unsettled ++ map (λ u. uid_finding 5 u 0) f.doubtful.items
+    ++ unsettled_findings f.unsettled ++ uid_findings 5 f.doubtful.items
 
 -- the lines of a conflict, and the line that silenced its tag
 abbrev pub conflict_findings : Conflict → List VicinityFinding

@@ -13,7 +13,7 @@ use Rattle.vic_answer.specs.declared.answered.Answered.TheVariants.{Judged, Refu
 use Rattle.vic_answer.specs.declared.finding_numbers.VicinityFinding.{VicinityFinding}
 use Rattle.vic_answer.specs.declared.numbers.VicinityAnswer.{VicinityAnswer}
 use Rattle.vic_answer.specs.Buffers.{IsReturned}
-use Rattle.vic_answer.specs.FindingNumbers.{mask_finding, uid_finding}
+use Rattle.vic_answer.specs.FindingNumbers.{mask_finding, uid_findings}
 use Rattle.vic_answer.specs.Numbers.{numbers_of}
 
 -- ---- of one log
@@ -52,12 +52,12 @@ plain_answer f count =
     Judged (first_of f.absent.items f.unlisted.items f.unsettled f.doubtful.items count)
 
 -- the unsettled mask, if there is one
-abbrev pub unsettled_findings : Option BitMask → List VicinityFinding
-unsettled_findings None = []
-unsettled_findings (Some m) = mask_finding 4 m ∷ []
+abbrev pub unsettled_finding : Option BitMask → List VicinityFinding
+unsettled_finding None = []
+unsettled_finding (Some m) = mask_finding 4 m ∷ []
 
 -- the findings, in their order
 abbrev pub plain_findings : PlainFindings → List VicinityFinding
 plain_findings f =
-    map (λ u. uid_finding 2 u 0) f.absent.items ++ map (λ u. uid_finding 3 u 0) f.unlisted.items
-    ++ unsettled_findings f.unsettled ++ map (λ u. uid_finding 5 u 0) f.doubtful.items
+    uid_findings 2 f.absent.items ++ uid_findings 3 f.unlisted.items
+    ++ unsettled_finding f.unsettled ++ uid_findings 5 f.doubtful.items

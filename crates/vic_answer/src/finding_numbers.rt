@@ -107,12 +107,7 @@ fn push_findings(list: &mut Vec<VicinityFinding>, findings: &Findings) -> Result
         |shown| uid_finding(FindingKind::Unlisted as u32, shown.uid, shown.line),
     )?;
     push_unsettled(list, &findings.unsettled)?;
-    push_each(
-        list,
-        findings.doubtful.as_slice(),
-        |uid| uid_finding(FindingKind::Doubtful as u32, uid, 0),
-    )?;
-    Ok(())
+    push_uids(list, FindingKind::Doubtful as u32, &findings.doubtful)
 }
 
 /// Adds what is left to ask for, if anything is.
@@ -138,8 +133,19 @@ fn push_unsettled(
     Ok(())
 }
 
+/// Adds a finding of a kind for each UID, without a line.
+pub(crate) fn push_uids(
+    list: &mut Vec<VicinityFinding>,
+    kind: u32,
+    uids: &[Uid],
+) -> Result<(), AllocError>
+    ensures { OnOk result (list.new.items ≡ list.old.items ++ spec.uid_findings kind uids.now) }
+{
+    push_each(list, uids, |uid| uid_finding(kind, uid, 0))
+}
+
 /// Adds the finding of each item.
-pub(crate) fn push_each<T: Copy, F: Fn(T) -> VicinityFinding>(
+fn push_each<T: Copy, F: Fn(T) -> VicinityFinding>(
     list: &mut Vec<VicinityFinding>,
     items: &[T],
     finding_of: F,
@@ -156,7 +162,7 @@ pub(crate) fn push_each<T: Copy, F: Fn(T) -> VicinityFinding>(
 }
 
 /// A finding of a UID, with the line that shows it, or 0.
-pub(crate) fn uid_finding(kind: u32, uid: Uid, line: u32) -> VicinityFinding
+fn uid_finding(kind: u32, uid: Uid, line: u32) -> VicinityFinding
     ensures { result ≡ spec.uid_finding kind uid line }
 {
     VicinityFinding {
