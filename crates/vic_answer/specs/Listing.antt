@@ -34,20 +34,20 @@ IsListing text (NotListedAt n) =
 -- ---- in numbers
 
 -- the UIDs that are listed, none if the text is refused
-abbrev pub uids_of : Listing → List ℕ
-uids_of (Listed us count) = us.items
-uids_of (RefusedAt n fault) = []
-uids_of (NotListedAt n) = []
+abbrev pub listed_in : Listing → List ℕ
+listed_in (Listed us count) = us.items
+listed_in (RefusedAt n fault) = []
+listed_in (NotListedAt n) = []
 
-abbrev pub numbers_of : Listing → VicinityAnswer
-numbers_of (Listed us count) = record no_answer {
+abbrev pub listing_numbers : Listing → VicinityAnswer
+listing_numbers (Listed us count) = record no_answer {
   kind = 12;
   status = 0;
   count = count;
   text = padded (codes "listed " ++ decimal count ++ codes "\n");
 }
-numbers_of (RefusedAt n fault) = refusal_numbers n (fault_number fault) (line_fault_name fault)
-numbers_of (NotListedAt n) = refusal_numbers n NOT_LISTED (codes "NotListed")
+listing_numbers (RefusedAt n fault) = refusal_numbers n (fault_number fault) (line_fault_name fault)
+listing_numbers (NotListedAt n) = refusal_numbers n NOT_LISTED (codes "NotListed")
 
 -- these are the numbers of what a text lists, there are `count` UIDs, and this is what becomes of
 -- the buffer for them
@@ -55,5 +55,5 @@ pub record AreListedNumbersFor (text : List ℕ) (numbers : VicinityAnswer) (cou
     (room room' : List ℕ) : Type 0 where
   pub listing : Listing
   pub right : IsListing text listing
-  pub numbers_are : numbers ≡ numbers_of listing
-  pub returned : IsReturned (uids_of listing) room room' count
+  pub numbers_are : numbers ≡ listing_numbers listing
+  pub returned : IsReturned (listed_in listing) room room' count

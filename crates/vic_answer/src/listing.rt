@@ -53,7 +53,7 @@ fn list_log(alloc: Global, log: &Log) -> Result<Listing, AllocError>
 
 /// The UIDs that are listed, none if the text is refused.
 pub fn listed_in(listing: &Listing) -> &[Uid]
-    ensures { result.now ≡ spec.uids_of listing.now }
+    ensures { result.now ≡ spec.listed_in listing.now }
 {
     match listing {
         Listing::Listed { uids, .. } => uids.as_slice(),
@@ -63,7 +63,7 @@ pub fn listed_in(listing: &Listing) -> &[Uid]
 
 /// What a text lists, in numbers: its kind is 12, or that of a refusal.
 pub fn listing_numbers(listing: &Listing) -> VicinityAnswer
-    ensures numbers { result ≡ spec.numbers_of listing.now }
+    ensures numbers { result ≡ spec.listing_numbers listing.now }
     ensures nonzero { result.kind ≢ 0 }
 {
     match *listing {
