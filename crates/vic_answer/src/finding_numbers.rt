@@ -11,7 +11,7 @@ use vic_report::{Conflict, Findings, LogReport, Unsettled};
 /// The kind of a finding in numbers. The first four have the numbers of the answers that say the
 /// same.
 #[derive(Clone, Copy, Debug, PartialEq, Eq)]
-pub enum FindingKind {
+pub(crate) enum FindingKind {
     Absent = 2,
     Unlisted = 3,
     Unsettled = 4,

@@ -15,7 +15,7 @@ use vic_verdict::Verdict;
 
 /// The kind of an answer in numbers.
 #[derive(Clone, Copy, Debug, PartialEq, Eq)]
-pub enum Kind {
+pub(crate) enum Kind {
     /// No answer: memory was refused.
     NoAnswer = 0,
     Complete = 1,

@@ -23,7 +23,7 @@ const MAX_LINK: u8 = 3;
 
 /// Why words don't spell a frame.
 #[derive(Clone, Copy, Debug, Drop, PartialEq, Eq)]
-pub enum SpellFault {
+enum SpellFault {
     /// They aren't a line of `frame`.
     Words,
     /// The link is above 3, or the mask is longer than its request allows, or its value has bits
