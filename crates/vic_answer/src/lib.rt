@@ -49,7 +49,7 @@ pub use reconcile::{
 };
 pub use reconcile_run::run_reconcile;
 pub use report::run_report;
-pub use simulate::{Simulation, run_simulate, simulate_text};
+pub use simulate::{SimulatedText, run_simulate, simulate_text};
 pub use spell::run_spell;
 pub use status::{RunFault, Status, fault_text};
 pub use survey::{certain_of, open_masks_of};
