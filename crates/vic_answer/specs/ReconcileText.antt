@@ -41,10 +41,6 @@ doubtful_in u = codes "doubtful " ++ uid_text u ++ codes " in "
 
 -- ---- the findings
 
--- an expected UID that is nowhere
-abbrev pub absent_line : ℕ → List ℕ
-absent_line u = verdict_line (Absent u)
-
 -- a UID that is somewhere and isn't expected, and a line that shows it
 abbrev pub unlisted_text : List (List ℕ) → UnlistedUid → List ℕ
 unlisted_text names s =
@@ -80,7 +76,7 @@ doubtful_text names d = with_name (doubtful_in d.uid) names d.log
 -- the findings, in their order
 abbrev pub findings_text : List (List ℕ) → Findings → List ℕ
 findings_text names f =
-    flat_map absent_line f.absent.items
+    flat_map (λ u. verdict_line (Absent u)) f.absent.items
     ++ flat_map (unlisted_text names) f.unlisted.items
     ++ unsettled_text names f.unsettled
     ++ flat_map (doubtful_text names) f.doubtful.items

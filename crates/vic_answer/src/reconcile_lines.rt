@@ -2,6 +2,8 @@
 
 ghost use Rattle.std.specs.Prelude.{◌≡◌, ◌≤◌, ◌++◌, IfOk, OnOk, length, map, string_bytes};
 ghost use Rattle.std.specs.List.{flat_map};
+ghost use Rattle.vic_verdict.specs.declared.judging.Verdict.TheVariants.{Absent};
+ghost use Rattle.vic_answer.specs.CheckText.{verdict_line};
 ghost use Rattle.vic_answer.specs.ReconcileText as spec;
 
 use crate::ending::Ending;
@@ -76,7 +78,7 @@ fn add_named(
 /// Adds the lines of the expected UIDs that are nowhere.
 fn add_absent(text: &mut Vec<u8>, absent: &[Uid]) -> Result<(), AllocError>
     ensures { OnOk result (text.new.items
-        ≡ text.old.items ++ flat_map spec.absent_line absent.now) }
+        ≡ text.old.items ++ flat_map (λ u. verdict_line (Absent u)) absent.now) }
 {
     for uid in absent {
         text.extend_from_slice(verdict_line(&Verdict::Absent(*uid)).as_slice())?;
