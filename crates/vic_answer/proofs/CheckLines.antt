@@ -137,17 +137,13 @@ longer {line} ys h = record { more = h.more ++ ys; is = ap (λ zs. zs ++ ys) h.i
 -- of findings that aren't all empty the first line is that of the first
 findings_begin : (absent unlisted : List ShownUid) (x : Option LeftToAsk) (doubtful : List ℕ) → (absent ≡ [] → unlisted ≡ [] → x ≡ None → doubtful ≡ [] → ⊥)
     → Begins (verdict_line (verdict_by (uids_of absent) (uids_of unlisted) (option_map (λ y. y.mask) x) doubtful))
-    (flat_map reporting.absent_text absent ++ flat_map reporting.unlisted_text unlisted ++ reporting.unsettled_text x ++ flat_map reporting.doubtful_line doubtful)
-findings_begin (s ∷ absent) unlisted x doubtful some =
-    longer (flat_map reporting.doubtful_line doubtful) (longer (reporting.unsettled_text x) (longer (flat_map reporting.unlisted_text unlisted)
-    (longer (flat_map reporting.absent_text absent) (begins (verdict_line (Absent s.uid)) (reporting.by_line s.line)))))
-findings_begin [] (s ∷ unlisted) x doubtful some =
-    longer (flat_map reporting.doubtful_line doubtful) (longer (reporting.unsettled_text x)
-    (longer (flat_map reporting.unlisted_text unlisted) (begins (verdict_line (Unlisted s.uid)) (reporting.by_line s.line))))
+    (flat_map (λ s. reporting.shown_text (Absent s.uid) s.line) absent ++ flat_map (λ s. reporting.shown_text (Unlisted s.uid) s.line) unlisted
+    ++ reporting.unsettled_text x ++ flat_map (λ u. verdict_line (Doubtful u)) doubtful)
+findings_begin (s ∷ absent) unlisted x doubtful some = longer _ (longer _ (longer _ (longer _ (begins (verdict_line (Absent s.uid)) (reporting.by_line s.line)))))
+findings_begin [] (s ∷ unlisted) x doubtful some = longer _ (longer _ (longer _ (begins (verdict_line (Unlisted s.uid)) (reporting.by_line s.line))))
 findings_begin [] [] (Some x) doubtful some =
-    longer (flat_map reporting.doubtful_line doubtful) (longer (reporting.more_line x.open.more)
-    (begins (verdict_line (Unsettled x.mask)) (flat_map reporting.open_line x.open.masks.items)))
-findings_begin [] [] None (u ∷ doubtful) some = begins (verdict_line (Doubtful u)) (flat_map reporting.doubtful_line doubtful)
+    longer _ (longer (reporting.more_line x.open.more) (begins (verdict_line (Unsettled x.mask)) (flat_map reporting.open_line x.open.masks.items)))
+findings_begin [] [] None (u ∷ doubtful) some = begins (verdict_line (Doubtful u)) _
 findings_begin [] [] None [] some = absurd (some refl refl refl refl)
 
 report_begins_so : (lines : List LogLine) (r : LogReport) → IsReport lines r → Begins (verdict_line (verdict_of r)) (reporting.report_text r)

@@ -1,5 +1,5 @@
 -- What a list and logs say together, text by text.
-use Rattle.vic_answer.proofs.Words.{◌≡◌, ◌↔◌, ◌<◌, ◌≤◌, ℕ, zero, suc, List, [], ◌∷◌, ◌++◌, get_or, get_or-take, length-take-le, take, length, map, Some, None, Option, codes, refl, sym, ap, subst, ◌∙◌, IfOk, OnOk, Result, Ok, Err, decimal, slice_get, All, flat_map, arith, HasWrittenPrefix, length-map, map-append, lines_of_text, LogValue, entries, listed, IsFirstFault, IsVerdict, Impossible, IsReconciling, Reconciling, RunFault, Status, WritesAnswer, GoOn, logs_before, logs_for, AreComplete, EndsAt, HasLog, HasPossibleLog, IsKept, IsReconciled, lines_of, absent_line, doubtful_text, ending_text, reconciled_status, reconciled_text, unlisted_text, LogLine, AllZip, take-append_seam, AllZip-long, all_zipped_more, All-cons, All-head, All-nil, All-tail, LineFault, AreFindings, AreNone, IsJoined, DoubtfulUid, Findings, UnlistedUid, Reconciliation, IsPossibleLog, family_of, slice_get_seam, none_is_whole, Ending, Reconciled, Found, Ended, Write}
+use Rattle.vic_answer.proofs.Words.{◌≡◌, ◌↔◌, ◌<◌, ◌≤◌, ℕ, zero, suc, List, [], ◌∷◌, ◌++◌, get_or, get_or-take, length-take-le, take, length, map, Some, None, Option, codes, refl, sym, ap, subst, ◌∙◌, IfOk, OnOk, Result, Ok, Err, decimal, slice_get, All, flat_map, arith, HasWrittenPrefix, length-map, map-append, lines_of_text, LogValue, entries, listed, IsFirstFault, IsVerdict, Impossible, IsReconciling, Reconciling, RunFault, Status, WritesAnswer, GoOn, logs_before, logs_for, AreComplete, EndsAt, HasLog, HasPossibleLog, IsKept, IsReconciled, lines_of, Absent, verdict_line, doubtful_text, ending_text, reconciled_status, reconciled_text, unlisted_text, LogLine, AllZip, take-append_seam, AllZip-long, all_zipped_more, All-cons, All-head, All-nil, All-tail, LineFault, AreFindings, AreNone, IsJoined, DoubtfulUid, Findings, UnlistedUid, Reconciliation, IsPossibleLog, family_of, slice_get_seam, none_is_whole, Ending, Reconciled, Found, Ended, Write}
 use Rattle.vic_answer.specs.Reconciled.{HaveLogs}
 use Rattle.vic_reconcile.specs.declared.findings.Unsettled.{Unsettled}
 use Rattle.vic_answer.specs.declared.ending.Ending.TheVariants.{ListRefusedAt, NotListedAt, RefusedAt, ImpossibleAt}
@@ -69,7 +69,7 @@ reconciled_found list texts r f k found some = have_logs _ k (found, some)
 
 -- findings don't begin as a complete answer does
 found_begins : (names : List (List ℕ)) (absent : List ℕ) (unlisted : List UnlistedUid) (x : Option Unsettled) (doubtful : List DoubtfulUid) (rest : List ℕ) → (absent ≡ [] → unlisted ≡ [] → x ≡ None → doubtful ≡ [] → ⊥)
-    → flat_map absent_line absent ++ flat_map (unlisted_text names) unlisted ++ unsettled_text names x ++ flat_map (doubtful_text names) doubtful ≡ codes "complete " ++ rest → ⊥
+    → flat_map (λ u. verdict_line (Absent u)) absent ++ flat_map (unlisted_text names) unlisted ++ unsettled_text names x ++ flat_map (doubtful_text names) doubtful ≡ codes "complete " ++ rest → ⊥
 found_begins names [] [] None [] rest some h = some refl refl refl refl
 found_begins names _ _ _ _ rest some h = omega (arith, first h)
 

@@ -39,7 +39,7 @@ impl Judgement for Explanation {
 }
 
 /// The UIDs of an answer's population, none if it has no population.
-pub(crate) fn uids_of(explained: &Answered<Explanation>) -> &[Uid]
+pub fn uids_of(explained: &Answered<Explanation>) -> &[Uid]
     ensures { result.now ≡ uids_of explained.now }
 {
     if let Answered::Judged(explanation) = explained {
