@@ -1,10 +1,10 @@
 //! The command `explain`.
 
-ghost use Rattle.std.specs.Prelude.{◌≡◌, ◌<◌, ◌++◌};
+ghost use Rattle.std.specs.Prelude.{◌≡◌, ◌<◌, ◌++◌, option_copied};
 ghost use Rattle.arrayvec.specs.ArrayVec.{array_vec_len};
 ghost use Rattle.vic_log.specs.Writing.{listed_text};
 ghost use Rattle.vic_verdict.specs.Explained.{IsExplanation};
-ghost use Rattle.vic_answer.specs.ExplainText.{IsExplanationOf, explained_text, population_line, uids_of};
+ghost use Rattle.vic_answer.specs.ExplainText.{IsExplanationOf, explained_text, population_line, population_of, uids_of};
 ghost use Rattle.vic_answer.specs.CompleteRun.{IsCompleteWhereSaid, IsCompleteWhereWritten};
 ghost use Rattle.vic_answer.specs.Runs.{LeavesSink, LeavesSource, Runs, RunsOver};
 
@@ -48,16 +48,21 @@ impl Written for Explanation {
     }
 }
 
+/// The population of an answer, if it has one.
+fn population_of(explained: &Answered<Explanation>) -> Option<&[Uid]>
+    ensures { option_copied result ≡ population_of explained.now }
+{
+    match explained {
+        Answered::Judged(found) => found.population.as_ref().map(|uids| uids.as_slice()),
+        Answered::RefusedAt { .. } => None,
+    }
+}
+
 /// The UIDs of an answer's population, none if it has no population.
 pub(crate) fn uids_of(explained: &Answered<Explanation>) -> &[Uid]
     ensures { result.now ≡ uids_of explained.now }
 {
-    if let Answered::Judged(explanation) = explained {
-        if let Some(uids) = &explanation.population {
-            return uids.as_slice();
-        }
-    }
-    &[]
+    population_of(explained).unwrap_or(&[])
 }
 
 /// Judges the log that is read from a source and writes the line of `check`; if a population can
@@ -90,10 +95,8 @@ fn opening(explained: &Answered<Explanation>) -> Text
     ensures { result.items ++ listed_text (uids_of explained.now) ≡ explained_text explained.now }
 {
     let mut text = answer_line(&answer_of(explained));
-    if let Answered::Judged(explanation) = explained {
-        if let Some(uids) = &explanation.population {
-            put_size(&mut text, uids.len());
-        }
+    if let Some(uids) = population_of(explained) {
+        put_size(&mut text, uids.len());
     }
     text
 }
