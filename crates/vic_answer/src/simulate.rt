@@ -51,6 +51,7 @@ pub fn simulate_text(alloc: Global, text: &[u8]) -> Result<Simulation, AllocErro
             text: sink.into_inner(),
             status,
         }),
+        // a write to memory fails only if memory is refused
         Err(_) => Err(AllocError),
     }
 }
