@@ -104,10 +104,8 @@ reconciled_text list_name names (Found f) = findings_text names f
 reconciled_text list_name names (Ended e) = ending_text list_name names e
 
 abbrev pub ending_status : Ending → Status
-ending_status (ListRefusedAt n fault) = Refused
-ending_status (NotListedAt n) = Refused
-ending_status (RefusedAt k n fault) = Refused
 ending_status (ImpossibleAt k n) = Impossible
+ending_status ending = Refused
 
 abbrev pub reconciled_status : Reconciled → Status
 reconciled_status (Complete count) = Whole

@@ -6,9 +6,8 @@ ghost use Rattle.vic_answer.specs.Numbers as spec;
 ghost use Rattle.vic_answer.specs.declared.answered.Answered.TheVariants.{Judged};
 
 use crate::answered::Answer;
-use crate::check::{answer_line, answer_status};
 use crate::fault_numbers::fault_number;
-use crate::lines::{MAX_NAME_LEN, refused_at};
+use crate::lines::{MAX_NAME_LEN, answer_line, answer_status, refused_at};
 use crate::status::Status;
 use crate::text::LINE_ROOM;
 use vic_verdict::Verdict;

@@ -53,6 +53,7 @@ pub fn simulate_text(alloc: Global, text: &[u8]) -> Result<SimulatedText, AllocE
             text: sink.into_inner(),
             status,
         }),
+        // a write to memory fails only if memory is refused
         Err(_) => Err(AllocError),
     }
 }
