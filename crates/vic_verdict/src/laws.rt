@@ -89,6 +89,8 @@ pub fn weaker_is_complete()
 
 /// A complete list has every UID that was never overlooked, whatever is true of other tags.
 pub fn never_overlooked_is_listed()
-    ensures { (lines : List LogLine) (count u : ℕ) → IsVerdict lines (Complete count) → IsUid u
-        → IsNeverOverlooked (entries lines) u → has (listed (entries lines)) u ≡ true }
+    ensures complete { (lines : List LogLine) (count u : ℕ) → IsVerdict lines (Complete count)
+        → IsUid u → IsNeverOverlooked (entries lines) u → has (listed (entries lines)) u ≡ true }
+    ensures whole { (es : List Entry) (u : ℕ) → IsWhole es → IsUid u → IsNeverOverlooked es u
+        → has (listed es) u ≡ true }
 {}
