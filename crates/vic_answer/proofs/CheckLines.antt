@@ -1,5 +1,5 @@
 -- Answers that begin with the line of `check`, and which of them with `complete `.
-use Rattle.vic_answer.proofs.Words.{◌≡◌, ℕ, List, [], ◌∷◌, ◌++◌, ap, append_assoc, append-nil, arith, refl, subst, sym, ◌∙◌, codes, decimal, Option, Some, None, MatchOption, flat_map, option_map, LogLine, Impossible, Absent, Unlisted, Unsettled, Doubtful, Complete, BeginsAsCheck, IsAnswer, IsAnswerText, IsCheckOf, IsCompleteText, answer_line, verdict_line, Status, Entry, IsReport, verdict_by, verdict_of, uids_of, LogReport, ShownUid, report_begins, none_where_complete, IsPopulationBehind, IsShownByNone, Shows, Verdict, complete_whole, complete_second, complete_third, Answered, Judged, RefusedAt, IsAnswered, answer_of, IsVerdict, Explanation, IsExplanation, Margin, get_or}
+use Rattle.vic_answer.proofs.Words.{◌≡◌, ℕ, List, [], ◌∷◌, ◌++◌, ap, append_assoc, append-nil, arith, refl, subst, sym, ◌∙◌, codes, decimal, Option, Some, None, MatchOption, flat_map, option_map, LogLine, Impossible, Absent, Unlisted, Unsettled, Doubtful, Complete, BeginsAsCheck, IsAnswer, IsAnswerText, IsCheckOf, IsCompleteText, answer_line, answer_status, verdict_line, Status, Entry, IsReport, verdict_by, verdict_of, uids_of, LogReport, ShownUid, report_begins, none_where_complete, IsPopulationBehind, IsShownByNone, Shows, Verdict, complete_whole, complete_second, complete_third, Answered, Judged, RefusedAt, IsAnswered, answer_of, IsVerdict, Explanation, IsExplanation, Margin, get_or}
 use Rattle.vic_report.specs.declared.findings.Unsettled.{Unsettled as LeftToAsk}
 use Rattle.vic_report.specs.declared.reporting.LogReport.TheVariants as report
 use Rattle.vic_answer.specs.CompleteRun.{BeginWith}
@@ -69,7 +69,12 @@ alone text rest more answer right is nothing =
     }
 
 pub check_tells : TellComplete IsCheckOf
-check_tells text rest status h = alone text rest [] h.answer h.right (h.line_is ∙ sym (append-nil _)) (λ count is. refl)
+check_tells text rest status h = alone text rest [] h.answered h.right (h.answer_is ∙ sym (append-nil _)) (λ count is. refl)
+
+-- the answer of `check` is its own
+answer_of-same : (a : Answered Verdict) → answer_of (λ v. v) a ≡ a
+answer_of-same (Judged v) = refl
+answer_of-same (RefusedAt n fault) = refl
 
 -- the text of an answer begins as that of `check` if it has the line first
 begins_as_check : {A : Type 0} {P : List LogLine → A → Type 0} {verdict_of : A → Verdict} {text_of : Answered A → List ℕ} {text answer : List ℕ} {status : Status}
@@ -77,7 +82,7 @@ begins_as_check : {A : Type 0} {P : List LogLine → A → Type 0} {verdict_of :
 begins_as_check {verdict_of = verdict_of} h right more is = record {
   line = answer_line (answer_of verdict_of h.answered);
   more = more;
-  right = record { answer = answer_of verdict_of h.answered; right = right; line_is = refl; status_is = h.status_is };
+  right = record { answered = answer_of verdict_of h.answered; right = right; answer_is = refl; status_is = h.status_is ∙ ap answer_status (sym (answer_of-same (answer_of verdict_of h.answered))) };
   answer_is = h.answer_is ∙ is;
 }
 
@@ -137,17 +142,13 @@ longer {line} ys h = record { more = h.more ++ ys; is = ap (λ zs. zs ++ ys) h.i
 -- of findings that aren't all empty the first line is that of the first
 findings_begin : (absent unlisted : List ShownUid) (x : Option LeftToAsk) (doubtful : List ℕ) → (absent ≡ [] → unlisted ≡ [] → x ≡ None → doubtful ≡ [] → ⊥)
     → Begins (verdict_line (verdict_by (uids_of absent) (uids_of unlisted) (option_map (λ y. y.mask) x) doubtful))
-    (flat_map reporting.absent_text absent ++ flat_map reporting.unlisted_text unlisted ++ reporting.unsettled_text x ++ flat_map reporting.doubtful_line doubtful)
-findings_begin (s ∷ absent) unlisted x doubtful some =
-    longer (flat_map reporting.doubtful_line doubtful) (longer (reporting.unsettled_text x) (longer (flat_map reporting.unlisted_text unlisted)
-    (longer (flat_map reporting.absent_text absent) (begins (verdict_line (Absent s.uid)) (reporting.by_line s.line)))))
-findings_begin [] (s ∷ unlisted) x doubtful some =
-    longer (flat_map reporting.doubtful_line doubtful) (longer (reporting.unsettled_text x)
-    (longer (flat_map reporting.unlisted_text unlisted) (begins (verdict_line (Unlisted s.uid)) (reporting.by_line s.line))))
+    (flat_map (λ s. reporting.shown_text (Absent s.uid) s.line) absent ++ flat_map (λ s. reporting.shown_text (Unlisted s.uid) s.line) unlisted
+    ++ reporting.unsettled_text x ++ flat_map (λ u. verdict_line (Doubtful u)) doubtful)
+findings_begin (s ∷ absent) unlisted x doubtful some = longer _ (longer _ (longer _ (longer _ (begins (verdict_line (Absent s.uid)) (reporting.by_line s.line)))))
+findings_begin [] (s ∷ unlisted) x doubtful some = longer _ (longer _ (longer _ (begins (verdict_line (Unlisted s.uid)) (reporting.by_line s.line))))
 findings_begin [] [] (Some x) doubtful some =
-    longer (flat_map reporting.doubtful_line doubtful) (longer (reporting.more_line x.open.more)
-    (begins (verdict_line (Unsettled x.mask)) (flat_map reporting.open_line x.open.masks.items)))
-findings_begin [] [] None (u ∷ doubtful) some = begins (verdict_line (Doubtful u)) (flat_map reporting.doubtful_line doubtful)
+    longer _ (longer (reporting.more_line x.open.more) (begins (verdict_line (Unsettled x.mask)) (flat_map reporting.open_line x.open.masks.items)))
+findings_begin [] [] None (u ∷ doubtful) some = begins (verdict_line (Doubtful u)) _
 findings_begin [] [] None [] some = absurd (some refl refl refl refl)
 
 report_begins_so : (lines : List LogLine) (r : LogReport) → IsReport lines r → Begins (verdict_line (verdict_of r)) (reporting.report_text r)

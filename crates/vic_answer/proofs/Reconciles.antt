@@ -1,5 +1,5 @@
 -- What a list and logs say together, text by text.
-use Rattle.vic_answer.proofs.Words.{◌≡◌, ◌↔◌, ◌<◌, ◌≤◌, ℕ, zero, suc, List, [], ◌∷◌, ◌++◌, get_or, get_or-take, length-take-le, take, length, map, Some, None, Option, codes, refl, sym, ap, subst, ◌∙◌, IfOk, OnOk, Result, Ok, Err, decimal, slice_get, All, flat_map, arith, HasWrittenPrefix, length-map, map-append, lines_of_text, LogValue, entries, listed, IsFirstFault, IsVerdict, Impossible, IsReconciling, Reconciling, RunFault, Status, WritesAnswer, GoOn, logs_before, logs_for, AreComplete, EndsAt, HasLog, HasPossibleLog, IsKept, IsReconciled, lines_of, absent_line, doubtful_text, ending_text, reconciled_status, reconciled_text, unlisted_text, LogLine, AllZip, take-append_seam, AllZip-long, all_zipped_more, All-cons, All-head, All-nil, All-tail, LineFault, AreFindings, AreNone, IsJoined, DoubtfulUid, Findings, UnlistedUid, Reconciliation, IsPossibleLog, family_of, slice_get_seam, none_is_whole, Ending, Reconciled, Found, Ended, Write}
+use Rattle.vic_answer.proofs.Words.{◌≡◌, ◌↔◌, ◌<◌, ◌≤◌, ℕ, zero, suc, List, [], ◌∷◌, ◌++◌, get_or, get_or-take, length-take-le, take, length, map, Some, None, Option, codes, refl, sym, ap, subst, ◌∙◌, IfOk, OnOk, Result, Ok, Err, decimal, slice_get, All, flat_map, arith, HasWrittenPrefix, length-map, map-append, lines_of_text, LogValue, entries, listed, IsFirstFault, IsVerdict, Impossible, IsReconciling, Reconciling, RunFault, Status, WritesAnswer, GoOn, logs_read_by, logs_for, logs_up_to, AreComplete, EndsAt, HasLog, HasPossibleLog, IsKept, IsReconciled, lines_of, Absent, verdict_line, doubtful_text, ending_text, reconciled_status, reconciled_text, unlisted_text, LogLine, AllZip, take-append_seam, AllZip-long, all_zipped_more, All-cons, All-head, All-nil, All-tail, LineFault, AreFindings, AreNone, IsJoined, DoubtfulUid, Findings, UnlistedUid, Reconciliation, IsPossibleLog, family_of, slice_get_seam, none_is_whole, Ending, Reconciled, Found, Ended, Write}
 use Rattle.vic_answer.specs.Reconciled.{HaveLogs}
 use Rattle.vic_reconcile.specs.declared.findings.Unsettled.{Unsettled}
 use Rattle.vic_answer.specs.declared.ending.Ending.TheVariants.{ListRefusedAt, NotListedAt, RefusedAt, ImpossibleAt}
@@ -39,10 +39,14 @@ last_there : (texts : List (List ℕ)) (text : List ℕ) (n : ℕ) → n ≡ len
 last_there texts text n e = subst (λ m. slice_get (texts ++ text ∷ []) m ≡ Some text) (sym e) (slice_get_seam texts text [])
 
 pub ends_refused : (list text : List ℕ) (texts : List (List ℕ)) (r : Reconciliation) (n line : ℕ) (fault : LineFault) → IsKept list texts r → n ≡ length texts → IsFirstFault (lines_of_text text) line fault → EndsAt list (texts ++ text ∷ []) (RefusedAt n line fault)
-ends_refused list text texts r n line fault k e h = ((k.expected, k.is_list, k.listed_alone), kept_before list text texts r n k e, (text, last_there texts text n e, h))
+ends_refused list text texts r n line fault k e h = (((k.expected, k.is_list, k.listed_alone), kept_before list text texts r n k e), (text, last_there texts text n e, h))
 
 pub ends_impossible : (list text : List ℕ) (texts : List (List ℕ)) (r : Reconciliation) (n line : ℕ) (log : LogValue) → IsKept list texts r → n ≡ length texts → HasLog text log → IsVerdict log.lines (Impossible line) → EndsAt list (texts ++ text ∷ []) (ImpossibleAt n line)
-ends_impossible list text texts r n line log k e is h = ((k.expected, k.is_list, k.listed_alone), kept_before list text texts r n k e, (text, log, last_there texts text n e, is, h))
+ends_impossible list text texts r n line log k e is h = (((k.expected, k.is_list, k.listed_alone), kept_before list text texts r n k e), (text, log, last_there texts text n e, is, h))
+
+-- an ending by a text is by that text
+pub ends_at : (e d : Ending) (n : ℕ) → state.Ended e ≡ state.Ended d → logs_up_to e ≡ n → logs_up_to d ≡ n
+ends_at e d n is up = let same : e ≡ d = cc is in subst (λ x. logs_up_to x ≡ n) same up
 
 -- ---- the answer
 
@@ -69,7 +73,7 @@ reconciled_found list texts r f k found some = have_logs _ k (found, some)
 
 -- findings don't begin as a complete answer does
 found_begins : (names : List (List ℕ)) (absent : List ℕ) (unlisted : List UnlistedUid) (x : Option Unsettled) (doubtful : List DoubtfulUid) (rest : List ℕ) → (absent ≡ [] → unlisted ≡ [] → x ≡ None → doubtful ≡ [] → ⊥)
-    → flat_map absent_line absent ++ flat_map (unlisted_text names) unlisted ++ unsettled_text names x ++ flat_map (doubtful_text names) doubtful ≡ codes "complete " ++ rest → ⊥
+    → flat_map (λ u. verdict_line (Absent u)) absent ++ flat_map (unlisted_text names) unlisted ++ unsettled_text names x ++ flat_map (doubtful_text names) doubtful ≡ codes "complete " ++ rest → ⊥
 found_begins names [] [] None [] rest some h = some refl refl refl refl
 found_begins names _ _ _ _ rest some h = omega (arith, first h)
 
@@ -95,7 +99,7 @@ complete_written file names (Ended e) list texts rest right same = absurd (endin
 
 -- ---- as many logs were read as the answer needs
 
-pub answered_all : (r : Reconciling) (a : Reconciled) (logs texts : ℕ) → texts ≡ logs_before r logs → ((e : Ending) → (r ≡ state.Ended e) ↔ (a ≡ Ended e)) → texts ≡ logs_for a logs
+pub answered_all : (r : Reconciling) (a : Reconciled) (logs texts : ℕ) → texts ≡ logs_read_by r logs → ((e : Ending) → (r ≡ state.Ended e) ↔ (a ≡ Ended e)) → texts ≡ logs_for a logs
 answered_all (state.Going j) (Ended e) logs texts all ended = absurd (cc ((ended e).1 refl))
 answered_all (state.Going j) (Complete count) logs texts all ended = all
 answered_all (state.Going j) (Found f) logs texts all ended = all
@@ -117,13 +121,13 @@ All-take : (texts : List (List ℕ)) (n : ℕ) → n ≤ length texts → All Ha
 All-take texts n le all = λ k d lt. let below : k < n = omega (arith, lt, length-take-le n texts le) in rw (get_or-take n texts k d below) (all k d (omega (arith, below, le)))
 
 -- so does each text before the last that is read
-pub go_on_before : (list : List ℕ) (texts : List (List ℕ)) (r : Reconciling) (logs n : ℕ) → n ≡ length texts → IsReconciling list texts r → length texts ≡ logs_before r logs → GoOn (take n (list ∷ texts))
+pub go_on_before : (list : List ℕ) (texts : List (List ℕ)) (r : Reconciling) (logs n : ℕ) → n ≡ length texts → IsReconciling list texts r → length texts ≡ logs_read_by r logs → GoOn (take n (list ∷ texts))
 go_on_before list texts r logs zero is h all = tt
 go_on_before list texts (state.Going r) logs (suc n) is h all = let g = kept_go_on list texts r h in (g.0, All-take texts n (omega (arith, is)) g.1)
 go_on_before list texts (state.Ended (ListRefusedAt line fault)) logs (suc n) is h all = absurd (omega (arith, is, all))
 go_on_before list texts (state.Ended (NotListedAt line)) logs (suc n) is h all = absurd (omega (arith, is, all))
-go_on_before list texts (state.Ended (RefusedAt k line fault)) logs (suc n) is h all = let e : k ≡ n = omega (arith, is, all) in (h.0, subst (λ m. All HasPossibleLog (take m texts)) e h.1)
-go_on_before list texts (state.Ended (ImpossibleAt k line)) logs (suc n) is h all = let e : k ≡ n = omega (arith, is, all) in (h.0, subst (λ m. All HasPossibleLog (take m texts)) e h.1)
+go_on_before list texts (state.Ended (RefusedAt k line fault)) logs (suc n) is h all = let e : k ≡ n = omega (arith, is, all) in subst (λ m. GoOn (list ∷ take m texts)) e h.0
+go_on_before list texts (state.Ended (ImpossibleAt k line)) logs (suc n) is h all = let e : k ≡ n = omega (arith, is, all) in subst (λ m. GoOn (list ∷ take m texts)) e h.0
 
 -- each of some texts with logs has its log
 pub log_at : (texts : List (List ℕ)) (logs : List LogValue) (k : ℕ) → AllZip HasLog texts logs → k < length texts → (log : LogValue) × HasLog (get_or texts k []) log

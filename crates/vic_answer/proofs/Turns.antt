@@ -1,5 +1,5 @@
 -- Sources are read in turn.
-use Rattle.vic_answer.proofs.Words.{◌≡◌, ◌≢◌, ◌↔◌, ℕ, zero, suc, ◌+◌, ◌<◌, ◌≤◌, List, [], ◌∷◌, ◌++◌, length, take, get_or, set, Bool, true, false, Err, IfErr, IsErrAnd, Ok, Result, refl, sym, ap, subst, ◌∙◌, arith, cases_lt, cases_order, get_or-append_seam, get_or-set_other, get_or-set_same, get_or-take, get_or_append_left, get_or_default, inl, inr, length-append, length-take-le, AllZip, Grows, LogValue, AreComplete, Ended, Ending, GivesNoEarlyFault, GoOn, HasLog, HasReadText, IsAnswerable, IsKept, IsLast, IsReadToEnd, IsReadWithin, IsReconciled, IsReconciling, LeavesSource, Memory, Read, ReadsListAndLogs, ReadsTexts, Reconciled, Reconciles, Reconciling, Reconciliation, RunFault, StopsBy, Write, logs_before}
+use Rattle.vic_answer.proofs.Words.{◌≡◌, ◌≢◌, ◌↔◌, ℕ, zero, suc, ◌+◌, ◌<◌, ◌≤◌, List, [], ◌∷◌, ◌++◌, length, take, get_or, set, Bool, true, false, Err, IfErr, IsErrAnd, Ok, Result, refl, sym, ap, subst, ◌∙◌, arith, cases_lt, cases_order, get_or-append_seam, get_or-set_other, get_or-set_same, get_or-take, get_or_append_left, get_or_default, inl, inr, length-append, length-take-le, AllZip, Grows, LogValue, AreComplete, Ended, Ending, GivesNoEarlyFault, GoOn, HasLog, HasReadText, IsAnswerable, IsKept, IsLast, IsReadToEnd, IsReadWithin, IsReconciled, IsReconciling, LeavesSource, Memory, Read, ReadsListAndLogs, ReadsTexts, Reconciled, Reconciles, Reconciling, Reconciliation, RunFault, StopsBy, Write, logs_read_by, logs_up_to}
 use Rattle.vic_answer.specs.declared.reconcile.Reconciling.TheVariants as state
 use Rattle.vic_answer.specs.declared.ending.Ending.TheVariants.{ListRefusedAt, NotListedAt, RefusedAt, ImpossibleAt}
 use Rattle.vic_answer.proofs.CompleteRuns.{over}
@@ -22,32 +22,30 @@ pub record HaveRead {R : Type 0} (returned : R → List ℕ) (IsRead : R → Lis
 pub within_same : {R : Type 0} (reads : R → ℕ) (has_failed : R → Bool) (s : R) → IsReadWithin reads has_failed s s
 within_same reads has_failed s = record { at_most = omega arith; untouched = λ _. refl }
 
-pub within : {R A : Type 0} {reads : R → ℕ} {has_failed : R → Bool} {old new : R} {r : Result A RunFault} → LeavesSource reads has_failed old new r → IsReadWithin reads has_failed old new
-within h = record { at_most = h.at_most; untouched = h.untouched }
-
 -- where no log was read, no log has ended the run
-none_before : (list : List ℕ) (begun : Reconciling) → IsReconciling list [] begun → 0 ≡ logs_before begun 0
+none_before : (list : List ℕ) (begun : Reconciling) → IsReconciling list [] begun → 0 ≡ logs_read_by begun 0
 none_before list (state.Going r) h = refl
 none_before list (state.Ended (ListRefusedAt line fault)) h = refl
 none_before list (state.Ended (NotListedAt line)) h = refl
-none_before list (state.Ended (RefusedAt k line fault)) h = cc h.2.1
-none_before list (state.Ended (ImpossibleAt k line)) h = cc h.2.2
+none_before list (state.Ended (RefusedAt k line fault)) h = cc h.1.1
+none_before list (state.Ended (ImpossibleAt k line)) h = cc h.1.2
 
 -- none is read yet
 pub none_left : {R : Type 0} (reads : R → ℕ) (has_failed : R → Bool) (old : List R) → AreLeft reads has_failed old old 0
 none_left reads has_failed old = record { others = λ k s le. refl; within = λ k s. within_same reads has_failed (get_or old k s) }
 
 pub none_read : {R : Type 0} (returned : R → List ℕ) (IsRead : R → List ℕ → Type 0) (old : List R) (list : List ℕ) (begun : Reconciling) → IsReconciling list [] begun
-    → HaveRead returned IsRead old old 0 (λ texts. IsReconciling list texts begun × (length texts ≡ logs_before begun 0))
+    → HaveRead returned IsRead old old 0 (λ texts. IsReconciling list texts begun × (length texts ≡ logs_read_by begun 0))
 none_read returned IsRead old list begun h = record { texts = []; as_many = refl; each = λ k s lt. absurd (omega (arith, lt)); holds = (h, none_before list begun h) }
 
 -- what is said of a log that was read, where its text ends the run or not
-pub now_ending : (texts : List (List ℕ)) (text : List ℕ) (read : Reconciling) (at : ℕ) → length texts ≡ at → logs_before read (length texts + 1) ≡ length texts + 1 → length (texts ++ text ∷ []) ≡ logs_before read (at + 1)
-now_ending texts text read at e last = length-append texts (text ∷ []) ∙ (sym last ∙ ap (λ n. logs_before read (n + 1)) e)
+pub now_ending : (texts : List (List ℕ)) (text : List ℕ) (read : Reconciling) (at : ℕ) → length texts ≡ at → ((e : Ending) → read ≡ state.Ended e → logs_up_to e ≡ length texts + 1) → length (texts ++ text ∷ []) ≡ logs_read_by read (at + 1)
+now_ending texts text (state.Going r) at is last = length-append texts (text ∷ []) ∙ ap (λ n. n + 1) is
+now_ending texts text (state.Ended e) at is last = length-append texts (text ∷ []) ∙ sym (last e refl)
 
 -- and where all were read
-pub all_ending : (read : Reconciling) (texts at logs : ℕ) → texts ≡ logs_before read at → at ≡ logs → texts ≡ logs_before read logs
-all_ending read texts at logs h e = h ∙ ap (logs_before read) e
+pub all_ending : (read : Reconciling) (texts at logs : ℕ) → texts ≡ logs_read_by read at → at ≡ logs → texts ≡ logs_read_by read logs
+all_ending read texts at logs h e = h ∙ ap (logs_read_by read) e
 
 module _ {R : Type 0} (reads : R → ℕ) (has_failed : R → Bool) (old new : List R) (at : ℕ) where
   -- the source that is read next
@@ -191,7 +189,7 @@ module _ {R : Type 0} (returned : R → List ℕ) (ended has_failed : R → Bool
 
     -- all sources that an answer needs were read
     pub stops_answered : (e : RunFault) (text : List ℕ) (read : Reconciling) → e ≢ Read → HasReadText returned (IsAnswerable ended has_failed) list list' text
-        → ReadsTexts returned (IsAnswerable ended has_failed) logs logs' (λ texts. IsReconciling text texts read × (length texts ≡ logs_before read (length logs)))
+        → ReadsTexts returned (IsAnswerable ended has_failed) logs logs' (λ texts. IsReconciling text texts read × (length texts ≡ logs_read_by read (length logs)))
         → StopsBy returned ended has_failed GoOn (list ∷ logs) (list' ∷ logs') e
     stops_answered e text read other first h = record {
       texts = before;
@@ -246,7 +244,7 @@ if_err_other (Err e) P Q f h = f e h
 module _ {R : Type 0} (returned : R → List ℕ) (ended has_failed : R → Bool) (list list' : R) (logs logs' : List R) where
   pub reconciles : (begun read : Reconciling) (answer : Reconciled) (text : List ℕ)
       → HasReadText returned (IsAnswerable ended has_failed) list list' text
-      → ReadsTexts returned (IsAnswerable ended has_failed) logs logs' (λ texts. IsReconciling text texts read × (length texts ≡ logs_before read (length logs)))
+      → ReadsTexts returned (IsAnswerable ended has_failed) logs logs' (λ texts. IsReconciling text texts read × (length texts ≡ logs_read_by read (length logs)))
       → ((text : List ℕ) (texts : List (List ℕ)) → IsReconciling text texts read → IsReconciled text texts answer)
       → ((e : Ending) → (read ≡ state.Ended e) ↔ (answer ≡ Ended e))
       → Reconciles returned ended has_failed list list' logs logs' answer

@@ -1,11 +1,11 @@
 -- The words of proofs, from one place: what files name from outside of the crate, and the definitions that several of them name.
-pub use Rattle.std.proofs.Common.{All, Bool, Err, IfErr, IfOk, IsErr, IsErrAnd, List, MatchOption, MatchResult, None, Ok, OnOk, Option, Result, Some, [], ap, append-nil, append_assoc, arith, bytes_eq, codes, decimal, drop, eq-eqb, eqb-true, false, flat_map, get_or, if◌then◌else◌, inl, inr, le-leb, length, lt-ltb, map, nat_lt, ne_eqb, option_map, refl, replicate, rules, set, slice_get, slice_index, string_bytes, subst, suc, sym, take, take-append-drop, true, w64, zero, ℕ, ⊎_elim, ◌%◌, ◌&&◌, ◌*◌, ◌++◌, ◌+◌, ◌-◌, ◌/◌, ◌<◌, ◌==◌, ◌^◌, ◌∙◌, ◌∷◌, ◌≡◌, ◌≤◌}
+pub use Rattle.std.proofs.Common.{All, Bool, Err, IfErr, IfOk, IsErr, IsErrAnd, List, MatchOption, MatchResult, None, Ok, OnOk, Option, Result, Some, [], add-one, ap, append-nil, append_assoc, arith, bytes_eq, codes, decimal, drop, eq-eqb, eqb-true, false, flat_map, get_or, if◌then◌else◌, inl, inr, le-leb, length, lt-ltb, map, nat_lt, ne_eqb, option_map, refl, replicate, rules, set, slice_get, slice_index, string_bytes, subst, suc, sym, take, take-append-drop, true, w64, zero, ℕ, ⊎_elim, ◌%◌, ◌&&◌, ◌*◌, ◌++◌, ◌+◌, ◌-◌, ◌/◌, ◌<◌, ◌==◌, ◌^◌, ◌∙◌, ◌∷◌, ◌≡◌, ◌≤◌}
 pub use Rattle.std.proofs.KnownBytes.{Appends-nil, Appends-trans}
 pub use Rattle.std.proofs.Math.Nat.{pow-le-pow_right}
 pub use Rattle.std.proofs.Math.Seq.{get_or-append_seam, take-append-add, take-append_seam}
 pub use Rattle.std.proofs.lemmas.Bool.{and_parts, cases_lt, cases_order, false≢true}
 pub use Rattle.std.proofs.lemmas.Fmt.{decimal_is_IsNumeral, parse-decimal}
-pub use Rattle.std.proofs.lemmas.List.{append_cancel_left, at_drop_all, at_drop_more, drop-replicate, flat_map_more, get_or-drop, get_or-set_other, get_or-set_same, get_or-take, get_or_append_left, get_or_default, length-append, length-drop, length-map, length-set, length-take-le, map-append, map_more, take-append-le, take_all, take_more}
+pub use Rattle.std.proofs.lemmas.List.{append_cancel_left, at_drop_all, at_drop_more, drop-replicate, flat_map_more, get_or-drop, get_or-set_other, get_or-set_same, get_or-take, get_or_append_left, get_or_default, length-append, length-drop, length-map, length-set, length-take-le, map-append, map-id, map_more, take-append-le, take_all, take_more}
 pub use Rattle.std.proofs.lemmas.List.Concat.{flat_map-append}
 pub use Rattle.std.proofs.lemmas.List.FromFn.{fill_by_all}
 pub use Rattle.std.proofs.lemmas.List.Elements.{All-cons, All-head, All-nil, All-tail}
@@ -73,13 +73,14 @@ pub use Rattle.vic_answer.specs.Answered.{answer_of, HasLog, IsAnswered, IsReadi
 pub use Rattle.vic_answer.specs.CheckText.{BeginsAsCheck, IsAnswer, IsAnswerText, IsCheckOf, IsCompleteText, answer_line, answer_status, verdict_line}
 pub use Rattle.vic_answer.specs.Digits.{hex_bytes, value_text}
 pub use Rattle.vic_answer.specs.ExplainText.{IsExplanationOf, explained_text, population_line, population_of}
-pub use Rattle.vic_answer.specs.ReconcileRun.{GoOn, HasReadText, IsAnswerable, IsLast, IsReadToEnd, IsReadWithin, ReadsListAndLogs, ReadsTexts, Reconciles, StopsAtSource, StopsBy, WritesAnswer, logs_before, logs_for, logs_up_to}
-pub use Rattle.vic_answer.specs.ReconcileText.{absent_line, all_masks_text, doubtful_text, ending_text, masks_text, open_text, reconciled_status, reconciled_text, unlisted_text}
-pub use Rattle.vic_answer.specs.Reconciled.{AreComplete, EndsAt, HasList, HasPossibleLog, IsKept, IsReconciled, IsReconciling, ReadsText, lines_of}
-pub use Rattle.vic_answer.specs.ReportText.{IsReportOf, absent_text, by_line, doubtful_line, more_line, open_line, reported_text, silenced_line, unsettled_text}
-pub use Rattle.vic_answer.specs.Runs.{GivesNoEarlyFault, IsEnough, LeavesSource, Reads, Runs, RunsOver, RunsWhere, Writes}
+pub use Rattle.vic_answer.specs.FrameText.{reply_words, request_words}
+pub use Rattle.vic_answer.specs.ReconcileRun.{HasReadText, IsAnswerable, IsLast, IsReadToEnd, ReadsListAndLogs, ReadsTexts, Reconciles, StopsAtSource, StopsBy, WritesAnswer, logs_read_by, logs_for, logs_up_to}
+pub use Rattle.vic_answer.specs.ReconcileText.{all_masks_text, doubtful_text, ending_text, masks_text, open_text, reconciled_status, reconciled_text, unlisted_text}
+pub use Rattle.vic_answer.specs.Reconciled.{AreComplete, EndsAt, GoOn, HasList, HasPossibleLog, IsKept, IsReconciled, IsReconciling, lines_of}
+pub use Rattle.vic_answer.specs.ReportText.{IsReportOf, by_line, more_line, open_line, reported_text, silenced_line, unsettled_text}
+pub use Rattle.vic_answer.specs.Runs.{GivesNoEarlyFault, IsEnough, IsReadWithin, LeavesSource, Reads, Runs, RunsOver, RunsWhere, Writes}
 pub use Rattle.vic_answer.specs.SimulateText.{IsSimulationOf, simulated_status, simulated_text}
-pub use Rattle.vic_answer.specs.SpellText.{and_then, hex_decoded, hex_number_in, inventory_in, longest_mask, mask_in, number_ending, number_in, number_up_to, reply_in, reply_words, request_words, says_inventory, says_reply, says_stay_quiet, sixteen_in, spelled_text, stay_quiet_in, value_in, word, words_of, words_reading}
+pub use Rattle.vic_answer.specs.SpellText.{and_then, hex_decoded, hex_number_in, inventory_in, longest_mask, mask_in, number_ending, number_in, number_up_to, reply_in, says_inventory, says_reply, says_stay_quiet, sixteen_in, spelled_text, stay_quiet_in, value_in, word, words_of, words_reading}
 pub use Rattle.vic_answer.specs.declared.answered.Answered.{Answered}
 pub use Rattle.vic_answer.specs.declared.answered.Answered.TheVariants.{Judged, RefusedAt}
 pub use Rattle.vic_answer.specs.declared.ending.Ending.{Ending}

@@ -4,6 +4,7 @@ use Rattle.vic_log.specs.Lines.{lines_of_text}
 use Rattle.vic_log.specs.Log.{LogValue}
 use Rattle.vic_log.specs.Text.{IsLogOf, IsFirstFault}
 use Rattle.vic_log.specs.declared.entry.LogLine.{LogLine}
+use Rattle.vic_log.specs.declared.fault.LineFault.{LineFault}
 use Rattle.vic_verdict.specs.declared.judging.Verdict.{Verdict}
 use Rattle.vic_answer.specs.declared.answered.Answered.{Answered}
 use Rattle.vic_answer.specs.declared.answered.Answered.TheVariants.{Judged, RefusedAt}
@@ -12,11 +13,15 @@ use Rattle.vic_answer.specs.declared.answered.Answered.TheVariants.{Judged, Refu
 abbrev pub HasLog : List ℕ → LogValue → Type 0
 HasLog text log = IsLogOf (lines_of_text text) log
 
+-- this is the text's first fault
+abbrev pub IsRefusedAt : List ℕ → ℕ → LineFault → Type 0
+IsRefusedAt text n fault = IsFirstFault (lines_of_text text) n fault
+
 -- the answer to a text: what was found in its log, which P relates to the log's lines, or its first
 -- fault
 abbrev pub IsAnswered : {A : Type 0} → (List LogLine → A → Type 0) → List ℕ → Answered A → Type 0
 IsAnswered P text (Judged found) = (log : LogValue) × HasLog text log × P log.lines found
-IsAnswered P text (RefusedAt n fault) = IsFirstFault (lines_of_text text) n fault
+IsAnswered P text (RefusedAt n fault) = IsRefusedAt text n fault
 
 -- the answer of `check` to the same text, by the verdict in what was found
 abbrev pub answer_of : {A : Type 0} → (A → Verdict) → Answered A → Answered Verdict
@@ -26,4 +31,4 @@ answer_of verdict_of (RefusedAt n fault) = RefusedAt n fault
 -- the log of a text, or its first fault
 abbrev pub IsReading : List ℕ → Answered LogValue → Type 0
 IsReading text (Judged log) = HasLog text log
-IsReading text (RefusedAt n fault) = IsFirstFault (lines_of_text text) n fault
+IsReading text (RefusedAt n fault) = IsRefusedAt text n fault

@@ -48,13 +48,6 @@ abbrev pub answer_status : Answered Verdict → Status
 answer_status (Judged v) = verdict_status v
 answer_status (RefusedAt n fault) = Refused
 
--- the line and the status of the answer to a text
-pub record IsCheckOf (text line : List ℕ) (status : Status) : Type 0 where
-  pub answer : Answered Verdict
-  pub right : IsAnswer text answer
-  pub line_is : line ≡ answer_line answer
-  pub status_is : status ≡ answer_status answer
-
 -- the text and the status of the answer to a text, where P relates what was found to the lines of
 -- its log: the status is that of `check`
 pub record IsAnswerText {A : Type 0} (P : List LogLine → A → Type 0) (verdict_of : A → Verdict)
@@ -63,6 +56,10 @@ pub record IsAnswerText {A : Type 0} (P : List LogLine → A → Type 0) (verdic
   pub right : IsAnswered P text answered
   pub answer_is : answer ≡ text_of answered
   pub status_is : status ≡ answer_status (answer_of verdict_of answered)
+
+-- the line and the status of the answer to a text
+abbrev pub IsCheckOf : List ℕ → List ℕ → Status → Type 0
+IsCheckOf = IsAnswerText IsVerdict (λ v. v) answer_line
 
 -- an answer that begins with the line of `check` for the text, and has its status
 pub record BeginsAsCheck (text answer : List ℕ) (status : Status) : Type 0 where

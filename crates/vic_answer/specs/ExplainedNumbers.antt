@@ -1,18 +1,13 @@
 -- An explained answer in numbers, with its population in a caller's buffer.
-use Rattle.std.specs.Prelude.{◌≡◌, ℕ, ◌<◌, ◌≤◌, List, ◌++◌, length, drop}
+use Rattle.std.specs.Prelude.{◌≡◌, ℕ, List}
 use Rattle.vic_verdict.specs.Explained.{IsExplanation}
 use Rattle.vic_verdict.specs.declared.explanation.Explanation.{Explanation}
 use Rattle.vic_answer.specs.Answered.{IsAnswered, answer_of}
 use Rattle.vic_answer.specs.declared.answered.Answered.{Answered}
 use Rattle.vic_answer.specs.declared.numbers.VicinityAnswer.{VicinityAnswer}
+use Rattle.vic_answer.specs.Buffers.{IsReturned}
 use Rattle.vic_answer.specs.ExplainText.{uids_of}
 use Rattle.vic_answer.specs.Numbers.{numbers_of}
-
--- a list is at the start of a buffer, which is unchanged after it; a buffer that is too small is
--- unchanged
-pub record IsPutInto {T : Type 0} (list room room' : List T) : Type 0 where
-  pub fits : length list ≤ length room → room' ≡ list ++ drop (length list) room
-  pub too_small : length room < length list → room' ≡ room
 
 -- these are the numbers of the explained answer to a text, its population has `count` UIDs, and
 -- this is what becomes of the buffer for them
@@ -21,5 +16,4 @@ pub record AreExplainedNumbersFor (text : List ℕ) (numbers : VicinityAnswer) (
   pub explained : Answered Explanation
   pub right : IsAnswered IsExplanation text explained
   pub numbers_are : numbers ≡ numbers_of (answer_of (λ x. x.verdict) explained)
-  pub counted : count ≡ length (uids_of explained)
-  pub put : IsPutInto (uids_of explained) room room'
+  pub returned : IsReturned (uids_of explained) room room' count

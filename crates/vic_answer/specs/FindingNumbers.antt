@@ -1,5 +1,5 @@
 -- The findings of a log, in numbers: the lines of `report`, one finding after another.
-use Rattle.std.specs.Prelude.{◌≡◌, ℕ, Bool, Option, Some, None, List, [], ◌∷◌, ◌++◌, map, length, if◌then◌else◌}
+use Rattle.std.specs.Prelude.{◌≡◌, ℕ, Bool, Option, Some, None, List, [], ◌∷◌, ◌++◌, map, if◌then◌else◌}
 use Rattle.vic_frame.specs.Masks.{BitMask}
 use Rattle.vic_report.specs.Reports.{IsReport, verdict_of}
 use Rattle.vic_report.specs.declared.conflict.Conflict.{Conflict}
@@ -12,7 +12,7 @@ use Rattle.vic_answer.specs.declared.answered.Answered.{Answered}
 use Rattle.vic_answer.specs.declared.answered.Answered.TheVariants.{Judged, RefusedAt}
 use Rattle.vic_answer.specs.declared.finding_numbers.VicinityFinding.{VicinityFinding}
 use Rattle.vic_answer.specs.declared.numbers.VicinityAnswer.{VicinityAnswer}
-use Rattle.vic_answer.specs.ExplainedNumbers.{IsPutInto}
+use Rattle.vic_answer.specs.Buffers.{IsReturned}
 use Rattle.vic_answer.specs.Numbers.{numbers_of}
 
 -- a finding of a kind, without what goes with some kinds
@@ -29,6 +29,10 @@ finding kind = record {
 -- of a UID, with the line that shows it, or 0
 abbrev pub uid_finding : (kind uid line : ℕ) → VicinityFinding
 uid_finding kind u n = record (finding kind) { line = n; uid = u }
+
+-- of each UID, without a line
+abbrev pub uid_findings : ℕ → List ℕ → List VicinityFinding
+uid_findings kind us = map (λ u. uid_finding kind u 0) us
 
 -- of a mask
 abbrev pub mask_finding : ℕ → BitMask → VicinityFinding
@@ -58,9 +62,9 @@ abbrev pub possible_findings : Findings → List VicinityFinding
 possible_findings f =
     map (λ s. uid_finding 2 s.uid s.line) f.absent.items
     ++ map (λ s. uid_finding 3 s.uid s.line) f.unlisted.items
-    ++ unsettled_findings f.unsettled ++ map (λ u. uid_finding 5 u 0) f.doubtful.items
+    ++ unsettled_findings f.unsettled ++ uid_findings 5 f.doubtful.items
 
--- the lines of a conflict, in rising order, and the line that silenced its tag
+-- the lines of a conflict, and the line that silenced its tag
 abbrev pub conflict_findings : Conflict → List VicinityFinding
 conflict_findings c = map (line_finding 10) c.lines.items ++ silenced_findings c.silenced_by
 
@@ -82,5 +86,4 @@ pub record AreReportedNumbersFor (text : List ℕ) (numbers : VicinityAnswer) (c
   pub reported : Answered LogReport
   pub right : IsAnswered IsReport text reported
   pub numbers_are : numbers ≡ numbers_of (answer_of verdict_of reported)
-  pub counted : count ≡ length (reported_findings reported)
-  pub put : IsPutInto (reported_findings reported) room room'
+  pub returned : IsReturned (reported_findings reported) room room' count

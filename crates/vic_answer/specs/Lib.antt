@@ -14,6 +14,7 @@ pub mod ReportText
 pub mod MarginText
 pub mod FaultNumbers
 pub mod Numbers
+pub mod Buffers
 pub mod ExplainedNumbers
 pub mod FindingNumbers
 pub mod ReconcileText

@@ -1,20 +1,17 @@
 -- The UIDs of a text that has only `U` lines, and the numbers that say it.
 use Rattle.std.specs.Prelude.{◌≡◌, ℕ, true, List, [], ◌++◌, codes, decimal, length}
 use Rattle.vic_frame.specs.Uids.{has}
-use Rattle.vic_log.specs.Lines.{lines_of_text}
 use Rattle.vic_log.specs.Log.{LogValue}
 use Rattle.vic_log.specs.Names.{line_fault_name}
 use Rattle.vic_log.specs.Order.{entries, listed}
-use Rattle.vic_log.specs.Text.{IsFirstFault}
 use Rattle.vic_verdict.specs.Rising.{IsListOf}
 use Rattle.vic_reconcile.specs.Findings.{IsFirstNotListed, IsList}
 use Rattle.vic_answer.specs.declared.listing.Listing.{Listing}
 use Rattle.vic_answer.specs.declared.listing.Listing.TheVariants.{Listed, NotListedAt, RefusedAt}
 use Rattle.vic_answer.specs.declared.fault_numbers.TheConstants.{NOT_LISTED}
-use Rattle.vic_answer.specs.declared.numbers.TheConstants.{LISTED}
 use Rattle.vic_answer.specs.declared.numbers.VicinityAnswer.{VicinityAnswer}
-use Rattle.vic_answer.specs.Answered.{HasLog}
-use Rattle.vic_answer.specs.ExplainedNumbers.{IsPutInto}
+use Rattle.vic_answer.specs.Answered.{HasLog, IsRefusedAt}
+use Rattle.vic_answer.specs.Buffers.{IsReturned}
 use Rattle.vic_answer.specs.FaultNumbers.{fault_number}
 use Rattle.vic_answer.specs.Numbers.{no_answer, padded, refusal_numbers}
 
@@ -30,27 +27,27 @@ pub record Lists (text : List ℕ) (uids : List ℕ) (count : ℕ) : Type 0 wher
 -- what a text lists; or its first fault, or the first line of its log that lists no UID
 abbrev pub IsListing : List ℕ → Listing → Type 0
 IsListing text (Listed us count) = Lists text us.items count
-IsListing text (RefusedAt n fault) = IsFirstFault (lines_of_text text) n fault
+IsListing text (RefusedAt n fault) = IsRefusedAt text n fault
 IsListing text (NotListedAt n) =
     (log : LogValue) × HasLog text log × IsFirstNotListed log.lines n
 
 -- ---- in numbers
 
 -- the UIDs that are listed, none if the text is refused
-abbrev pub uids_of : Listing → List ℕ
-uids_of (Listed us count) = us.items
-uids_of (RefusedAt n fault) = []
-uids_of (NotListedAt n) = []
+abbrev pub listed_in : Listing → List ℕ
+listed_in (Listed us count) = us.items
+listed_in (RefusedAt n fault) = []
+listed_in (NotListedAt n) = []
 
-abbrev pub numbers_of : Listing → VicinityAnswer
-numbers_of (Listed us count) = record no_answer {
-  kind = LISTED;
+abbrev pub listing_numbers : Listing → VicinityAnswer
+listing_numbers (Listed us count) = record no_answer {
+  kind = 12;
   status = 0;
   count = count;
   text = padded (codes "listed " ++ decimal count ++ codes "\n");
 }
-numbers_of (RefusedAt n fault) = refusal_numbers n (fault_number fault) (line_fault_name fault)
-numbers_of (NotListedAt n) = refusal_numbers n NOT_LISTED (codes "NotListed")
+listing_numbers (RefusedAt n fault) = refusal_numbers n (fault_number fault) (line_fault_name fault)
+listing_numbers (NotListedAt n) = refusal_numbers n NOT_LISTED (codes "NotListed")
 
 -- these are the numbers of what a text lists, there are `count` UIDs, and this is what becomes of
 -- the buffer for them
@@ -58,6 +55,5 @@ pub record AreListedNumbersFor (text : List ℕ) (numbers : VicinityAnswer) (cou
     (room room' : List ℕ) : Type 0 where
   pub listing : Listing
   pub right : IsListing text listing
-  pub numbers_are : numbers ≡ numbers_of listing
-  pub counted : count ≡ length (uids_of listing)
-  pub put : IsPutInto (uids_of listing) room room'
+  pub numbers_are : numbers ≡ listing_numbers listing
+  pub returned : IsReturned (listed_in listing) room room' count

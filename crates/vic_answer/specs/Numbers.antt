@@ -1,6 +1,5 @@
 -- An answer in numbers, with its line.
 use Rattle.std.specs.Prelude.{◌≡◌, ℕ, ◌-◌, List, ◌++◌, length, replicate}
-use Rattle.vic_log.specs.Names.{line_fault_name}
 use Rattle.vic_verdict.specs.declared.judging.Verdict.{Verdict}
 use Rattle.vic_verdict.specs.declared.judging.Verdict.TheVariants.{Impossible, Absent, Unlisted, Unsettled, Doubtful, Complete}
 use Rattle.vic_answer.specs.declared.answered.Answered.{Answered}
@@ -50,7 +49,7 @@ fields_of (Judged (Unsettled m)) =
     record no_answer { kind = 4; mask_len = m.len; mask_value = m.value }
 fields_of (Judged (Doubtful u)) = record no_answer { kind = 5; uid = u }
 fields_of (Judged (Impossible n)) = record no_answer { kind = 6; line = n }
-fields_of (RefusedAt n f) = refusal_numbers n (fault_number f) (line_fault_name f)
+fields_of (RefusedAt n f) = record no_answer { kind = 7; line = n; fault = fault_number f }
 
 -- the fields of an answer, with the exit status and the line of the program
 abbrev pub numbers_of : Answered Verdict → VicinityAnswer

@@ -1,10 +1,8 @@
 -- What a run of `reconcile` reads from its sources, and what it writes.
-use Rattle.std.specs.Prelude.{◌≡◌, ℕ, ◌+◌, ◌<◌, ◌≤◌, Bool, true, false, ⊤, [], ◌∷◌, List, ◌++◌, Result, Ok, Err, length, slice_index_or}
-use Rattle.std.specs.List.{All}
-use Rattle.vic_log.specs.declared.reader.TheConstants.{MAX_READS}
+use Rattle.std.specs.Prelude.{◌≡◌, ℕ, ◌+◌, ◌<◌, ◌≤◌, Bool, true, false, ⊤, [], List, ◌++◌, Result, Ok, Err, length, slice_index_or}
 use Rattle.vic_log.specs.Device.{Grows, HasWrittenPrefix}
 use Rattle.vic_answer.specs.ReconcileText.{reconciled_status, reconciled_text}
-use Rattle.vic_answer.specs.Reconciled.{HasList, HasPossibleLog, IsReconciled}
+use Rattle.vic_answer.specs.Reconciled.{IsReconciled}
 use Rattle.vic_answer.specs.Runs.{GivesNoEarlyFault, IsEnough}
 use Rattle.vic_answer.specs.declared.ending.Ending.{Ending}
 use Rattle.vic_answer.specs.declared.ending.Ending.TheVariants.{ListRefusedAt, NotListedAt, RefusedAt, ImpossibleAt}
@@ -13,7 +11,7 @@ use Rattle.vic_answer.specs.declared.reconcile.Reconciled.TheVariants.{Complete,
 use Rattle.vic_answer.specs.declared.reconcile.Reconciling.{Reconciling}
 use Rattle.vic_answer.specs.declared.reconcile.Reconciling.TheVariants as state
 use Rattle.vic_answer.specs.declared.status.RunFault.{RunFault}
-use Rattle.vic_answer.specs.declared.status.RunFault.TheVariants.{Read, Write, Memory}
+use Rattle.vic_answer.specs.declared.status.RunFault.TheVariants.{Read, Write}
 use Rattle.vic_answer.specs.declared.status.Status.{Status}
 
 -- ---- what is read
@@ -24,15 +22,21 @@ abbrev pub HasReadText : {R : Type 0} → (R → List ℕ) → (R → List ℕ �
 HasReadText returned IsRead old new text =
     Grows (returned old) (returned new) text × IsRead new text
 
+-- of some sources, in their order, one for each of these texts was read, and returned it
+abbrev pub AreRead : {R : Type 0} → (R → List ℕ) → (R → List ℕ → Type 0)
+    → List R → List R → List (List ℕ) → Type 0
+AreRead {R} returned IsRead old new texts =
+    (k : ℕ) (s : R) → k < length texts
+    → HasReadText returned IsRead (slice_index_or old k s) (slice_index_or new k s)
+    (slice_index_or texts k [])
+
 -- of some sources, in their order, as many were read as there are texts, those after them are
 -- untouched, and P holds of the texts
 pub record ReadsTexts {R : Type 0} (returned : R → List ℕ) (IsRead : R → List ℕ → Type 0)
     (old new : List R) (P : List (List ℕ) → Type 0) : Type 0 where
   pub texts : List (List ℕ)
   pub as_many : length texts ≤ length old
-  pub each : (k : ℕ) (s : R) → k < length texts
-      → HasReadText returned IsRead (slice_index_or old k s) (slice_index_or new k s)
-      (slice_index_or texts k [])
+  pub each : AreRead returned IsRead old new texts
   pub others : (k : ℕ) (s : R) → length texts ≤ k
       → slice_index_or new k s ≡ slice_index_or old k s
   pub holds : P texts
@@ -64,9 +68,9 @@ logs_for (Found f) logs = logs
 logs_for (Ended e) logs = logs_up_to e
 
 -- how many of the logs are read in this state: all, or those up to the one that ends the run
-abbrev pub logs_before : Reconciling → ℕ → ℕ
-logs_before (state.Going r) logs = logs
-logs_before (state.Ended e) logs = logs_up_to e
+abbrev pub logs_read_by : Reconciling → ℕ → ℕ
+logs_read_by (state.Going r) logs = logs
+logs_read_by (state.Ended e) logs = logs_up_to e
 
 -- this is the answer to the list and the logs that were read, each up to its end or an early fault
 abbrev pub Reconciles : {R : Type 0} → (R → List ℕ) → (ended has_failed : R → Bool)
@@ -77,11 +81,6 @@ Reconciles returned ended has_failed list list' logs logs' answer =
     × (length texts ≡ logs_for answer (length logs)))
 
 -- ---- where a run without an answer stops
-
--- texts that let the run go on: that of a list, and then those of possible logs
-abbrev pub GoOn : List (List ℕ) → Type 0
-GoOn [] = ⊤
-GoOn (list ∷ texts) = HasList list × All HasPossibleLog texts
 
 -- the source was read to its end, and works
 abbrev pub IsReadToEnd : {R : Type 0} → (R → Bool) → (R → Bool) → R → List ℕ → Type 0
@@ -94,9 +93,7 @@ pub record StopsAtSource {R : Type 0} (returned : R → List ℕ) (IsRead : R �
     (LetGoOn : List (List ℕ) → Type 0) (old new : List R) (P : R → R → Type 0) : Type 0 where
   pub texts : List (List ℕ)
   pub one_more : length texts < length old
-  pub each : (k : ℕ) (s : R) → k < length texts
-      → HasReadText returned IsRead (slice_index_or old k s) (slice_index_or new k s)
-      (slice_index_or texts k [])
+  pub each : AreRead returned IsRead old new texts
   pub go_on : LetGoOn texts
   pub last : (s : R)
       → P (slice_index_or old (length texts) s) (slice_index_or new (length texts) s)
@@ -108,8 +105,7 @@ pub record StopsAtSource {R : Type 0} (returned : R → List ℕ) (IsRead : R �
 abbrev pub IsLast : {R : Type 0} → (R → List ℕ) → (R → Bool) → RunFault → R → R → Type 0
 IsLast returned has_failed Read old new =
     (has_failed new ≡ true) × GivesNoEarlyFault (Grows (returned old) (returned new))
-IsLast returned has_failed Memory old new = has_failed new ≡ false
-IsLast returned has_failed Write old new = has_failed new ≡ false
+IsLast returned has_failed fault old new = has_failed new ≡ false
 
 -- where a run stopped that answers a fault
 abbrev pub StopsBy : {R : Type 0} → (R → List ℕ) → (ended has_failed : R → Bool)
@@ -117,12 +113,6 @@ abbrev pub StopsBy : {R : Type 0} → (R → List ℕ) → (ended has_failed : R
 StopsBy returned ended has_failed LetGoOn old new fault =
     StopsAtSource returned (IsReadToEnd ended has_failed) LetGoOn old new
     (IsLast returned has_failed fault)
-
--- a source was read at most so many times, and not at all if it had failed before
-pub record IsReadWithin {R : Type 0} (reads : R → ℕ) (has_failed : R → Bool)
-    (old new : R) : Type 0 where
-  pub at_most : reads new ≤ reads old + MAX_READS
-  pub untouched : has_failed old ≡ true → new ≡ old
 
 -- ---- what is written
 
@@ -136,5 +126,4 @@ WritesAnswer IsRight list_name names written written' (Ok status) =
 WritesAnswer IsRight list_name names written written' (Err Write) =
     (answer : Reconciled) × IsRight answer
     × HasWrittenPrefix written written' (reconciled_text list_name names answer)
-WritesAnswer IsRight list_name names written written' (Err Read) = ⊤
-WritesAnswer IsRight list_name names written written' (Err Memory) = ⊤
+WritesAnswer IsRight list_name names written written' (Err fault) = ⊤

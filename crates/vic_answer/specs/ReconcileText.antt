@@ -30,8 +30,8 @@ with_name before names k = before ++ name_of names k ++ codes "\n"
 
 -- ---- what stands before a name
 
-abbrev pub line_of : List ℕ → ℕ → List ℕ
-line_of words n = words ++ decimal n ++ codes " of "
+abbrev pub at_line_of : List ℕ → ℕ → List ℕ
+at_line_of words n = words ++ decimal n ++ codes " of "
 
 abbrev pub open_in : BitMask → List ℕ
 open_in m = codes "open " ++ mask_text m ++ codes " in "
@@ -41,15 +41,11 @@ doubtful_in u = codes "doubtful " ++ uid_text u ++ codes " in "
 
 -- ---- the findings
 
--- an expected UID that is nowhere
-abbrev pub absent_line : ℕ → List ℕ
-absent_line u = verdict_line (Absent u)
-
 -- a UID that is somewhere and isn't expected, and a line that shows it
 abbrev pub unlisted_text : List (List ℕ) → UnlistedUid → List ℕ
 unlisted_text names s =
     verdict_line (Unlisted s.uid)
-    ++ with_name (line_of (codes "by line ") s.place.line) names s.place.log
+    ++ with_name (at_line_of (codes "by line ") s.place.line) names s.place.log
 
 -- the open masks of log k, and that there are more
 abbrev pub open_text : List (List ℕ) → ℕ → BitMask → List ℕ
@@ -80,7 +76,7 @@ doubtful_text names d = with_name (doubtful_in d.uid) names d.log
 -- the findings, in their order
 abbrev pub findings_text : List (List ℕ) → Findings → List ℕ
 findings_text names f =
-    flat_map absent_line f.absent.items
+    flat_map (λ u. verdict_line (Absent u)) f.absent.items
     ++ flat_map (unlisted_text names) f.unlisted.items
     ++ unsettled_text names f.unsettled
     ++ flat_map (doubtful_text names) f.doubtful.items
@@ -90,7 +86,7 @@ findings_text names f =
 -- the line of the first fault of a text
 abbrev pub refused_text : ℕ → List ℕ → List ℕ → List ℕ
 refused_text n file name =
-    line_of (codes "refused at line ") n ++ file ++ codes ": " ++ name ++ codes "\n"
+    at_line_of (codes "refused at line ") n ++ file ++ codes ": " ++ name ++ codes "\n"
 
 -- where it ended: the first text that is refused or impossible
 abbrev pub ending_text : List ℕ → List (List ℕ) → Ending → List ℕ
@@ -100,7 +96,7 @@ ending_text list_name names (NotListedAt n) = refused_text n list_name (codes "N
 ending_text list_name names (RefusedAt k n fault) =
     refused_text n (name_of names k) (line_fault_name fault)
 ending_text list_name names (ImpossibleAt k n) =
-    with_name (line_of (codes "impossible at line ") n) names k
+    with_name (at_line_of (codes "impossible at line ") n) names k
 
 abbrev pub reconciled_text : List ℕ → List (List ℕ) → Reconciled → List ℕ
 reconciled_text list_name names (Complete count) = verdict_line (verdict.Complete count)
@@ -108,10 +104,8 @@ reconciled_text list_name names (Found f) = findings_text names f
 reconciled_text list_name names (Ended e) = ending_text list_name names e
 
 abbrev pub ending_status : Ending → Status
-ending_status (ListRefusedAt n fault) = Refused
-ending_status (NotListedAt n) = Refused
-ending_status (RefusedAt k n fault) = Refused
 ending_status (ImpossibleAt k n) = Impossible
+ending_status ending = Refused
 
 abbrev pub reconciled_status : Reconciled → Status
 reconciled_status (Complete count) = Whole

@@ -1,7 +1,6 @@
 -- What a list of what is expected and logs say together, by their texts.
-use Rattle.std.specs.Prelude.{◌≡◌, ℕ, Bool, true, List, ◌++◌, Some, codes, decimal, length, map, slice_get, take}
+use Rattle.std.specs.Prelude.{◌≡◌, ℕ, ⊤, [], ◌∷◌, List, ◌++◌, Some, codes, decimal, length, map, slice_get, take}
 use Rattle.std.specs.List.{All, AllZip}
-use Rattle.vic_log.specs.Device.{Grows}
 use Rattle.vic_log.specs.Lines.{lines_of_text}
 use Rattle.vic_log.specs.Log.{LogValue}
 use Rattle.vic_log.specs.Order.{entries, listed}
@@ -14,7 +13,6 @@ use Rattle.vic_reconcile.specs.Findings.{AreFindings, AreNone, IsFirstNotListed,
 use Rattle.vic_reconcile.specs.Joined.{IsJoined}
 use Rattle.vic_reconcile.specs.declared.reconciliation.Reconciliation.{Reconciliation}
 use Rattle.vic_answer.specs.Answered.{HasLog}
-use Rattle.vic_answer.specs.Runs.{Reads}
 use Rattle.vic_answer.specs.declared.ending.Ending.{Ending}
 use Rattle.vic_answer.specs.declared.ending.Ending.TheVariants.{ListRefusedAt, NotListedAt, RefusedAt, ImpossibleAt}
 use Rattle.vic_answer.specs.declared.reconcile.Reconciled.{Reconciled}
@@ -33,17 +31,22 @@ lines_of log = log.lines
 abbrev pub HasList : List ℕ → Type 0
 HasList list = (log : LogValue) × HasLog list log × IsList log.lines
 
+-- texts that let the run go on: that of a list, and then those of possible logs
+abbrev pub GoOn : List (List ℕ) → Type 0
+GoOn [] = ⊤
+GoOn (list ∷ texts) = HasList list × All HasPossibleLog texts
+
 -- where the texts end: no text before is refused or impossible
 abbrev pub EndsAt : List ℕ → List (List ℕ) → Ending → Type 0
 EndsAt list texts (ListRefusedAt n fault) = IsFirstFault (lines_of_text list) n fault
 EndsAt list texts (NotListedAt n) =
     (log : LogValue) × HasLog list log × IsFirstNotListed log.lines n
 EndsAt list texts (RefusedAt k n fault) =
-    HasList list × All HasPossibleLog (take k texts)
+    GoOn (list ∷ take k texts)
     × ((text : List ℕ) × (slice_get texts k ≡ Some text)
     × IsFirstFault (lines_of_text text) n fault)
 EndsAt list texts (ImpossibleAt k n) =
-    HasList list × All HasPossibleLog (take k texts)
+    GoOn (list ∷ take k texts)
     × ((text : List ℕ) × (log : LogValue) × (slice_get texts k ≡ Some text)
     × HasLog text log × IsVerdict log.lines (Impossible n))
 
@@ -80,7 +83,3 @@ abbrev pub AreComplete : List ℕ → List (List ℕ) → List ℕ → Type 0
 AreComplete list texts rest =
     HaveLogs list texts (λ expected logs. IsWhole expected logs
     × (rest ≡ decimal (length expected) ++ codes "\n"))
-
--- the source's reads returned a text, up to its end or an early fault, and P holds of it
-abbrev pub ReadsText : List ℕ → List ℕ → Bool → (List ℕ → Type 0) → Type 0
-ReadsText returned returned' ended P = Reads (Grows returned returned') (ended ≡ true) P

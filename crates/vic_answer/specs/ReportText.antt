@@ -8,7 +8,7 @@ use Rattle.vic_report.specs.declared.findings.Findings.{Findings}
 use Rattle.vic_report.specs.declared.findings.Unsettled.{Unsettled as LeftToAsk}
 use Rattle.vic_report.specs.declared.reporting.LogReport.{LogReport}
 use Rattle.vic_report.specs.declared.reporting.LogReport.TheVariants as report
-use Rattle.vic_report.specs.declared.shown.ShownUid.{ShownUid}
+use Rattle.vic_verdict.specs.declared.judging.Verdict.{Verdict}
 use Rattle.vic_verdict.specs.declared.judging.Verdict.TheVariants.{Impossible, Absent, Unlisted, Unsettled, Doubtful, Complete}
 use Rattle.vic_report.specs.Reports.{IsReport, verdict_of}
 use Rattle.vic_answer.specs.CheckText.{IsAnswerText, verdict_line}
@@ -24,13 +24,9 @@ use Rattle.vic_answer.specs.declared.status.Status.{Status}
 abbrev pub by_line : ℕ → List ℕ
 by_line n = codes "by line " ++ decimal n ++ codes "\n"
 
--- a listed UID that can't be there, and the line that rules it out
-abbrev pub absent_text : ShownUid → List ℕ
-absent_text s = verdict_line (Absent s.uid) ++ by_line s.line
-
--- a UID that must be there and isn't listed, and the line that shows it
-abbrev pub unlisted_text : ShownUid → List ℕ
-unlisted_text s = verdict_line (Unlisted s.uid) ++ by_line s.line
+-- the line of a verdict that a line of the log shows, and which that is
+abbrev pub shown_text : Verdict → ℕ → List ℕ
+shown_text v n = verdict_line v ++ by_line n
 
 -- an open mask
 abbrev pub open_line : BitMask → List ℕ
@@ -47,15 +43,12 @@ unsettled_text (Some x) =
     verdict_line (Unsettled x.mask) ++ flat_map open_line x.open.masks.items
     ++ more_line x.open.more
 
--- a listed UID that may be missing
-abbrev pub doubtful_line : ℕ → List ℕ
-doubtful_line u = verdict_line (Doubtful u)
-
 -- the findings, in their order
 abbrev pub findings_text : Findings → List ℕ
 findings_text f =
-    flat_map absent_text f.absent.items ++ flat_map unlisted_text f.unlisted.items
-    ++ unsettled_text f.unsettled ++ flat_map doubtful_line f.doubtful.items
+    flat_map (λ s. shown_text (Absent s.uid) s.line) f.absent.items
+    ++ flat_map (λ s. shown_text (Unlisted s.uid) s.line) f.unlisted.items
+    ++ unsettled_text f.unsettled ++ flat_map (λ u. verdict_line (Doubtful u)) f.doubtful.items
 
 -- the line that silenced the tag whose reply is the last line of a conflict
 abbrev pub silenced_line : Option ℕ → List ℕ

@@ -29,16 +29,12 @@ pub record Reads (HasRead : List ℕ → Type 0) (IsOver : Type 0) (P : List ℕ
 
 -- bytes that determine the answer were read, and the sink accepted that answer, or a prefix of it,
 -- as Accepted says
-pub record Answers (IsAnswerTo : List ℕ → List ℕ → Status → Type 0)
-    (HasRead : List ℕ → Type 0) (IsOver : Type 0)
-    (Accepted : Option (List ℕ) → Option (List ℕ) → List ℕ → Type 0)
-    (taken taken' : Option (List ℕ)) (status : Status) : Type 0 where
-  pub text : List ℕ
-  pub given : HasRead text
-  pub enough : IsEnough IsOver text
-  pub answer : List ℕ
-  pub right : IsAnswerTo text answer status
-  pub accepted : Accepted taken taken' answer
+abbrev pub Answers : (List ℕ → List ℕ → Status → Type 0) → (List ℕ → Type 0) → Type 0
+    → (Option (List ℕ) → Option (List ℕ) → List ℕ → Type 0)
+    → Option (List ℕ) → Option (List ℕ) → Status → Type 0
+Answers IsAnswerTo HasRead IsOver Accepted taken taken' status =
+    Reads HasRead IsOver (λ text.
+    (answer : List ℕ) × IsAnswerTo text answer status × Accepted taken taken' answer)
 
 -- bytes without an early fault were read
 pub record GivesNoEarlyFault (HasRead : List ℕ → Type 0) : Type 0 where
@@ -52,12 +48,13 @@ pub record GivesNoEarlyFault (HasRead : List ℕ → Type 0) : Type 0 where
 abbrev pub RunsWhere : (List ℕ → List ℕ → Status → Type 0)
     → (List ℕ → Type 0) → (List ℕ → Type 0) → Type 0
     → Option (List ℕ) → Option (List ℕ) → Result Status RunFault → Type 0
-RunsWhere IsAnswerTo HasRead HadRead IsOver taken taken' (Ok status) =
+RunsWhere IsAnswerTo HasRead HasHandedOut IsOver taken taken' (Ok status) =
     Answers IsAnswerTo HasRead IsOver Appends taken taken' status
-RunsWhere IsAnswerTo HasRead HadRead IsOver taken taken' (Err Write) =
+RunsWhere IsAnswerTo HasRead HasHandedOut IsOver taken taken' (Err Write) =
     (status : Status) × Answers IsAnswerTo HasRead IsOver HasTakenPrefix taken taken' status
-RunsWhere IsAnswerTo HasRead HadRead IsOver taken taken' (Err Read) = GivesNoEarlyFault HadRead
-RunsWhere IsAnswerTo HasRead HadRead IsOver taken taken' (Err Memory) = ⊤
+RunsWhere IsAnswerTo HasRead HasHandedOut IsOver taken taken' (Err Read) =
+    GivesNoEarlyFault HasHandedOut
+RunsWhere IsAnswerTo HasRead HasHandedOut IsOver taken taken' (Err Memory) = ⊤
 
 -- over the bytes that the source and the sink revealed before and after; this says nothing if they
 -- reveal none
@@ -83,14 +80,18 @@ IsWritten text status written written' result =
     IfOk result (λ s. s ≡ status) × OnOk result (written' ≡ written ++ text)
     × HasWrittenPrefix written written' text
 
--- how a run leaves its source: failed if and only if the result is `Read`, and untouched if it had
--- failed before; it reads at most `MAX_READS` times more
+-- a source was read at most `MAX_READS` times, and not at all if it had failed before
+pub record IsReadWithin {R : Type 0} (reads : R → ℕ) (has_failed : R → Bool)
+    (old new : R) : Type 0 where
+  pub at_most : reads new ≤ reads old + MAX_READS
+  pub untouched : has_failed old ≡ true → new ≡ old
+
+-- how a run leaves its source: failed if and only if the result is `Read`
 pub record LeavesSource {R A : Type 0} (reads : R → ℕ) (has_failed : R → Bool)
     (old new : R) (result : Result A RunFault) : Type 0 where
   pub works : OnOk result (has_failed new ≡ false)
   pub read : IfErr result (λ e. (e ≡ Read) ↔ (has_failed new ≡ true))
-  pub untouched : has_failed old ≡ true → new ≡ old
-  pub at_most : reads new ≤ reads old + MAX_READS
+  pub within : IsReadWithin reads has_failed old new
 
 -- how a run leaves its sink: flushed if the run ended with a status, failed if the result is
 -- `Write`, untouched at any other fault and if it had failed before

@@ -37,9 +37,7 @@ simulated_text TooManyLines = refusal_line (MAX_LINES + 1) ManyLines
 
 abbrev pub simulated_status : Simulated → Status
 simulated_status (Filled log) = Whole
-simulated_status (RefusedAt n fault) = Refused
-simulated_status (OutcomeGiven n) = Refused
-simulated_status TooManyLines = Refused
+simulated_status simulated = Refused
 
 -- the text and the status of the answer to a text
 pub record IsSimulationOf (text answer : List ℕ) (status : Status) : Type 0 where

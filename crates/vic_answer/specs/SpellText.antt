@@ -1,7 +1,7 @@
 -- What `spell` answers to words: the frame that `frame` describes by these words, or why there is
 -- none. Words that aren't of one of the three forms are `Words`; otherwise the first value that
 -- doesn't fit decides.
-use Rattle.std.specs.Prelude.{ℕ, ◌-◌, ◌^◌, ◌%◌, ◌==◌, ◌&&◌, Bool, true, false, List, [], ◌∷◌, ◌++◌, length, replicate, slice_index_or, bytes_eq, nat_le, nat_lt, codes, decimal, Result, Ok, Err, if◌then◌else◌, ⊤}
+use Rattle.std.specs.Prelude.{ℕ, ◌-◌, ◌^◌, ◌%◌, ◌==◌, ◌&&◌, Bool, true, false, List, [], ◌++◌, length, replicate, slice_index_or, bytes_eq, nat_le, nat_lt, codes, decimal, Result, Ok, Err, if◌then◌else◌, ⊤}
 use Rattle.std.specs.Int.{from_be_bytes, w64}
 use Rattle.std.specs.Str.Parse.{digits_value}
 use Rattle.hex.specs.Hex.{decode_sized, encode_upper}
@@ -12,9 +12,9 @@ use Rattle.vic_frame.specs.declared.request.Request.TheVariants.{Inventory, Stay
 use Rattle.vic_frame.specs.Masks.{BitMask}
 use Rattle.vic_frame.specs.Replies.{Reply, reply_spelling}
 use Rattle.vic_frame.specs.Requests.{IsValid, byte_count, request_spelling}
-use Rattle.vic_frame.specs.Slots.{slot_count}
 use Rattle.vic_frame.specs.Uids.{is_uid}
-use Rattle.vic_answer.specs.Digits.{hex_bytes, uid_text, value_text}
+use Rattle.vic_answer.specs.Digits.{hex_bytes}
+use Rattle.vic_answer.specs.FrameText.{reply_words, request_words}
 use Rattle.vic_answer.specs.Refusals.{refused_word}
 use Rattle.vic_answer.specs.declared.spell.TheConstants.{MAX_LINK}
 use Rattle.vic_answer.specs.declared.spell.Said.{Said}
@@ -23,28 +23,6 @@ use Rattle.vic_answer.specs.declared.spell.SpellFault.{SpellFault}
 use Rattle.vic_answer.specs.declared.spell.SpellFault.TheVariants.{Words, Range}
 use Rattle.vic_answer.specs.declared.status.Status.{Status}
 use Rattle.vic_answer.specs.declared.status.Status.TheVariants.{Whole, Refused}
-
--- the words of the line that `frame` writes for a request
-abbrev pub request_words : Request → List (List ℕ)
-request_words (Inventory link sixteen m) =
-    codes "request" ∷ codes "inventory" ∷ codes "link" ∷ decimal link
-    ∷ codes "slots" ∷ decimal (slot_count (Inventory link sixteen m))
-    ∷ codes "mask" ∷ decimal m.len ∷ value_text m ∷ []
-request_words (StayQuiet link uid) =
-    codes "request" ∷ codes "stay-quiet" ∷ codes "link" ∷ decimal link
-    ∷ codes "uid" ∷ uid_text uid ∷ []
-
--- the words of the line that it writes for a reply
-abbrev pub reply_words : Reply → List (List ℕ)
-reply_words r =
-    codes "response" ∷ codes "flags" ∷ hex_bytes 1 r.flags ∷ codes "dsfid" ∷ hex_bytes 1 r.dsfid
-    ∷ codes "uid" ∷ uid_text r.uid ∷ []
-
--- words on a line, separated by spaces
-abbrev pub line_of : List (List ℕ) → List ℕ
-line_of [] = codes "\n"
-line_of (w ∷ []) = w ++ codes "\n"
-line_of (w ∷ v ∷ words) = w ++ codes " " ++ line_of (v ∷ words)
 
 -- the second reading, unless the first is a fault
 abbrev pub and_then : {A B : Type 0}

@@ -13,7 +13,7 @@ status_code Impossible = 2
 status_code Refused = 3
 
 -- what standard error says
-abbrev pub fault_line : RunFault → List ℕ
-fault_line Read = codes "vicinity: read failed"
-fault_line Write = codes "vicinity: write failed"
-fault_line Memory = codes "vicinity: out of memory"
+abbrev pub fault_text : RunFault → List ℕ
+fault_text Read = codes "vicinity: read failed"
+fault_text Write = codes "vicinity: write failed"
+fault_text Memory = codes "vicinity: out of memory"

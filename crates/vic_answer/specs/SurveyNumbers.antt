@@ -1,21 +1,19 @@
 -- The survey of a log, and findings from surveys, in numbers: no line shows them.
-use Rattle.std.specs.Prelude.{◌≡◌, ℕ, List, [], ◌∷◌, ◌++◌, Option, Some, None, map, length}
+use Rattle.std.specs.Prelude.{◌≡◌, ℕ, List, [], ◌∷◌, ◌++◌, Option, Some, None, map}
 use Rattle.vic_frame.specs.Masks.{BitMask}
-use Rattle.vic_log.specs.Lines.{lines_of_text}
 use Rattle.vic_log.specs.declared.entry.LogLine.{LogLine}
 use Rattle.vic_log.specs.Log.{LogValue}
-use Rattle.vic_log.specs.Text.{IsFirstFault}
 use Rattle.vic_verdict.specs.Verdict.{IsVerdict}
 use Rattle.vic_verdict.specs.declared.judging.Verdict.{Verdict}
 use Rattle.vic_verdict.specs.declared.judging.Verdict.TheVariants as verdict
 use Rattle.vic_reconcile.specs.declared.surveys.PlainFindings.{PlainFindings}
-use Rattle.vic_answer.specs.Answered.{HasLog}
+use Rattle.vic_answer.specs.Answered.{HasLog, IsRefusedAt}
 use Rattle.vic_answer.specs.declared.answered.Answered.{Answered}
 use Rattle.vic_answer.specs.declared.answered.Answered.TheVariants.{Judged, RefusedAt}
 use Rattle.vic_answer.specs.declared.finding_numbers.VicinityFinding.{VicinityFinding}
 use Rattle.vic_answer.specs.declared.numbers.VicinityAnswer.{VicinityAnswer}
-use Rattle.vic_answer.specs.ExplainedNumbers.{IsPutInto}
-use Rattle.vic_answer.specs.FindingNumbers.{mask_finding, uid_finding}
+use Rattle.vic_answer.specs.Buffers.{IsReturned}
+use Rattle.vic_answer.specs.FindingNumbers.{mask_finding, uid_findings}
 use Rattle.vic_answer.specs.Numbers.{numbers_of}
 
 -- ---- of one log
@@ -26,8 +24,7 @@ abbrev pub IsAnswerWith : {T : Type 0} → (List LogLine → List T → Type 0) 
     → Answered Verdict → List T → Type 0
 IsAnswerWith P text (Judged v) xs =
     (log : LogValue) × HasLog text log × IsVerdict log.lines v × P log.lines xs
-IsAnswerWith P text (RefusedAt n fault) xs =
-    IsFirstFault (lines_of_text text) n fault × (xs ≡ [])
+IsAnswerWith P text (RefusedAt n fault) xs = IsRefusedAt text n fault × (xs ≡ [])
 
 -- these are the numbers of the answer to a text, there are `count` items, which P has of its log,
 -- and this is what becomes of the buffer for them
@@ -38,8 +35,7 @@ pub record AreNumbersWith {T R : Type 0} (P : List LogLine → List T → Type 0
   pub items : List T
   pub right : IsAnswerWith P text answer items
   pub numbers_are : numbers ≡ numbers_of answer
-  pub counted : count ≡ length items
-  pub put : IsPutInto (map number_of items) room room'
+  pub returned : IsReturned (map number_of items) room room' count
 
 -- ---- of several
 
@@ -56,12 +52,12 @@ plain_answer f count =
     Judged (first_of f.absent.items f.unlisted.items f.unsettled f.doubtful.items count)
 
 -- the unsettled mask, if there is one
-abbrev pub unsettled_findings : Option BitMask → List VicinityFinding
-unsettled_findings None = []
-unsettled_findings (Some m) = mask_finding 4 m ∷ []
+abbrev pub unsettled_finding : Option BitMask → List VicinityFinding
+unsettled_finding None = []
+unsettled_finding (Some m) = mask_finding 4 m ∷ []
 
 -- the findings, in their order
 abbrev pub plain_findings : PlainFindings → List VicinityFinding
 plain_findings f =
-    map (λ u. uid_finding 2 u 0) f.absent.items ++ map (λ u. uid_finding 3 u 0) f.unlisted.items
-    ++ unsettled_findings f.unsettled ++ map (λ u. uid_finding 5 u 0) f.doubtful.items
+    uid_findings 2 f.absent.items ++ uid_findings 3 f.unlisted.items
+    ++ unsettled_finding f.unsettled ++ uid_findings 5 f.doubtful.items

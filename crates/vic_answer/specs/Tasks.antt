@@ -1,5 +1,6 @@
 -- What each task reads and writes.
-use Rattle.std.specs.Prelude.{◌≡◌, ℕ, Bool, List, Result, map, string_bytes}
+use Rattle.std.specs.Prelude.{◌≡◌, ℕ, Bool, List, Option, None, Result, map, string_bytes}
+use Rattle.std.specs.Option.{option_map}
 use Rattle.vic_answer.specs.declared.task.Task.{Task}
 use Rattle.vic_answer.specs.declared.task.Task.TheVariants.{Check, Simulate, Explain, Report, Margin, Frame, Spell}
 use Rattle.vic_answer.specs.declared.status.RunFault.{RunFault}
@@ -13,6 +14,15 @@ use Rattle.vic_answer.specs.ReportText.{IsReportOf}
 use Rattle.vic_answer.specs.Runs.{IsWritten, LeavesSource, RunsOver}
 use Rattle.vic_answer.specs.SimulateText.{IsSimulationOf}
 use Rattle.vic_answer.specs.SpellText.{spell_text, spell_status}
+
+-- the file that it reads, if one is named
+abbrev pub file_of : Task → Option (List ℕ)
+file_of (Check file) = option_map string_bytes file
+file_of (Simulate file) = option_map string_bytes file
+file_of (Explain file) = option_map string_bytes file
+file_of (Report file) = option_map string_bytes file
+file_of (Margin file) = option_map string_bytes file
+file_of task = None
 
 -- what a task does, over the bytes that the source's reads returned, until one returned none, and
 -- that the sink's writes accepted
@@ -40,18 +50,10 @@ Does (Spell words) returned returned' ended written written' result =
     × IsWritten (spell_text (map string_bytes words.items))
     (spell_status (map string_bytes words.items)) written written' result
 
--- how a task leaves its source: as a run does, or untouched if it reads none
+-- how a task leaves its source: untouched if it reads none, else as a run does
 abbrev pub LeavesSourceAfter : {R : Type 0} → Task → (R → ℕ) → (R → Bool) → R → R
     → Result Status RunFault → Type 0
-LeavesSourceAfter (Check file) reads has_failed old new result =
-    LeavesSource reads has_failed old new result
-LeavesSourceAfter (Simulate file) reads has_failed old new result =
-    LeavesSource reads has_failed old new result
-LeavesSourceAfter (Explain file) reads has_failed old new result =
-    LeavesSource reads has_failed old new result
-LeavesSourceAfter (Report file) reads has_failed old new result =
-    LeavesSource reads has_failed old new result
-LeavesSourceAfter (Margin file) reads has_failed old new result =
-    LeavesSource reads has_failed old new result
 LeavesSourceAfter (Frame word) reads has_failed old new result = new ≡ old
 LeavesSourceAfter (Spell words) reads has_failed old new result = new ≡ old
+LeavesSourceAfter task reads has_failed old new result =
+    LeavesSource reads has_failed old new result

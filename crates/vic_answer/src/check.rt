@@ -1,20 +1,18 @@
 //! The command `check`.
 
-ghost use Rattle.std.specs.Prelude.{◌≡◌, ◌<◌, ℕ, IfOk};
-ghost use Rattle.arrayvec.specs.ArrayVec.{array_vec_len};
+ghost use Rattle.std.specs.Prelude.{◌≡◌, ℕ, IfOk};
 ghost use Rattle.vic_verdict.specs.Verdict.{IsVerdict};
 ghost use Rattle.vic_verdict.specs.declared.judging.Verdict.TheVariants.{Complete};
-ghost use Rattle.vic_answer.specs.CheckText.{IsAnswer, IsCheckOf, IsCompleteText, answer_line, answer_status, verdict_status};
+ghost use Rattle.vic_answer.specs.CheckText.{IsAnswer, IsCheckOf, IsCompleteText, answer_line};
 ghost use Rattle.vic_answer.specs.CompleteRun.{IsCompleteWhereSaid, IsCompleteWhereWritten};
-ghost use Rattle.vic_answer.specs.Runs.{Runs, RunsOver, LeavesSource, LeavesSink, Writes};
+ghost use Rattle.vic_answer.specs.Runs.{LeavesSink, LeavesSource, Runs, RunsOver};
 ghost use Rattle.vic_answer.specs.declared.answered.Answered.TheVariants.{Judged};
 
-use crate::answered::{Answer, Judgement, answer_reading, answer_text};
-use crate::input::read_source;
-use crate::lines::{refusal_line, verdict_line};
+use crate::answered::{Answer, Judgement, answer_text};
+use crate::lines::answer_line;
 use crate::output::write_and_flush;
+use crate::run::{Written, run_judged};
 use crate::status::{RunFault, Status};
-use crate::text::{LINE_ROOM, Text};
 use std::alloc::{AllocError, Global};
 use vic_log::{Log, Sink, Source};
 use vic_verdict::{Verdict, judge};
@@ -46,6 +44,15 @@ impl Judgement for Verdict {
     ghost tells = { λ lines v h. h };
 }
 
+/// What `check` writes.
+impl Written for Verdict {
+    ghost text_of = { answer_line };
+
+    fn write<W: Sink>(answered: &Answer, sink: &mut W) -> Result<(), RunFault> {
+        write_and_flush(sink, answer_line(answered).as_slice())
+    }
+}
+
 /// Judges the log that is read from a source, writes the one line of the answer and flushes it. The
 /// status is that of the answer. It reads to the end or an early fault.
 pub fn run_check<R: Source, W: Sink>(
@@ -67,50 +74,5 @@ pub fn run_check<R: Source, W: Sink>(
     ensures leaves_source { LeavesSource R.reads R.has_failed source.old source.new result }
     ensures leaves_sink { LeavesSink W.is_flushed W.has_failed sink.old sink.new result }
 {
-    let reading = read_source(alloc, source)?;
-    let answer = answer_reading(alloc, reading)?;
-    write_answer(&answer, sink)
-}
-
-/// Writes the line of an answer, and flushes.
-fn write_answer<W: Sink>(answer: &Answer, sink: &mut W) -> Result<Status, RunFault>
-    ensures status { IfOk result (λ s. s ≡ answer_status answer.now) }
-    ensures written { Writes W.written W.taken W.is_flushed W.has_failed
-        sink.old sink.new (answer_line answer.now) result }
-{
-    write_and_flush(sink, answer_line(answer).as_slice())?;
-    Ok(answer_status(answer))
-}
-
-/// The line of an answer, with its LF.
-pub fn answer_line(answer: &Answer) -> Text
-    ensures items { result.items ≡ answer_line answer.now }
-    ensures len { array_vec_len result < LINE_ROOM }
-{
-    match answer {
-        Answer::Judged(verdict) => verdict_line(verdict),
-        Answer::RefusedAt { line, fault } => refusal_line(*line, fault),
-    }
-}
-
-/// The status of an answer.
-pub fn answer_status(answer: &Answer) -> Status
-    ensures { result ≡ answer_status answer.now }
-{
-    match answer {
-        Answer::Judged(verdict) => verdict_status(verdict),
-        Answer::RefusedAt { .. } => Status::Refused,
-    }
-}
-
-/// The status of a verdict.
-pub(crate) fn verdict_status(verdict: &Verdict) -> Status
-    ensures { result ≡ verdict_status verdict.now }
-{
-    match verdict {
-        Verdict::Complete { .. } => Status::Whole,
-        Verdict::Impossible { .. } => Status::Impossible,
-        Verdict::Absent(_) | Verdict::Unlisted(_) | Verdict::Unsettled(_) | Verdict::Doubtful(_) =>
-            Status::NotWhole,
-    }
+    run_judged::<Verdict, R, W>(alloc, source, sink)
 }

@@ -1,18 +1,16 @@
 //! The command `explain`.
 
-ghost use Rattle.std.specs.Prelude.{◌≡◌, ◌<◌, ◌++◌, IfOk};
+ghost use Rattle.std.specs.Prelude.{◌≡◌, ◌<◌, ◌++◌, option_copied};
 ghost use Rattle.arrayvec.specs.ArrayVec.{array_vec_len};
 ghost use Rattle.vic_log.specs.Writing.{listed_text};
 ghost use Rattle.vic_verdict.specs.Explained.{IsExplanation};
-ghost use Rattle.vic_answer.specs.Answered as spec;
-ghost use Rattle.vic_answer.specs.CheckText.{answer_status};
-ghost use Rattle.vic_answer.specs.ExplainText.{IsExplanationOf, explained_text, population_line, uids_of};
+ghost use Rattle.vic_answer.specs.ExplainText.{IsExplanationOf, explained_text, population_line, population_of, uids_of};
 ghost use Rattle.vic_answer.specs.CompleteRun.{IsCompleteWhereSaid, IsCompleteWhereWritten};
-ghost use Rattle.vic_answer.specs.Runs.{Runs, RunsOver, LeavesSource, LeavesSink, Writes};
+ghost use Rattle.vic_answer.specs.Runs.{LeavesSink, LeavesSource, Runs, RunsOver};
 
-use crate::answered::{Answered, Judgement, answer_of, answer_reading};
-use crate::check::{answer_line, answer_status};
-use crate::input::read_source;
+use crate::answered::{Answered, Judgement, answer_of};
+use crate::lines::answer_line;
+use crate::run::{Written, run_judged};
 use crate::status::{RunFault, Status};
 use crate::text::{LINE_ROOM, Text, put};
 use itoa::Buffer;
@@ -38,16 +36,33 @@ impl Judgement for Explanation {
     ghost tells = { λ lines e h. h.verdict };
 }
 
-/// The UIDs of an answer's population, none if it has no population.
-pub(crate) fn uids_of(explained: &Answered<Explanation>) -> &[Uid]
-    ensures { result.now ≡ uids_of explained.now }
-{
-    if let Answered::Judged(explanation) = explained {
-        if let Some(uids) = &explanation.population {
-            return uids.as_slice();
+/// What `explain` writes.
+impl Written for Explanation {
+    ghost text_of = { explained_text };
+
+    fn write<W: Sink>(answered: &Answered<Explanation>, sink: &mut W) -> Result<(), RunFault> {
+        match write_listed(opening(answered).as_slice(), uids_of(answered), sink) {
+            Ok(()) => Ok(()),
+            Err(_) => Err(RunFault::Write),
         }
     }
-    &[]
+}
+
+/// The population of an answer, if it has one.
+fn population_of(explained: &Answered<Explanation>) -> Option<&[Uid]>
+    ensures { option_copied result ≡ population_of explained.now }
+{
+    match explained {
+        Answered::Judged(found) => found.population.as_ref().map(|uids| uids.as_slice()),
+        Answered::RefusedAt { .. } => None,
+    }
+}
+
+/// The UIDs of an answer's population, none if it has no population.
+pub fn uids_of(explained: &Answered<Explanation>) -> &[Uid]
+    ensures { result.now ≡ uids_of explained.now }
+{
+    population_of(explained).unwrap_or(&[])
 }
 
 /// Judges the log that is read from a source and writes the line of `check`; if a population can
@@ -72,25 +87,7 @@ pub fn run_explain<R: Source, W: Sink>(
     ensures leaves_source { LeavesSource R.reads R.has_failed source.old source.new result }
     ensures leaves_sink { LeavesSink W.is_flushed W.has_failed sink.old sink.new result }
 {
-    let reading = read_source(alloc, source)?;
-    let explained = answer_reading(alloc, reading)?;
-    write_explained(&explained, sink)
-}
-
-/// Writes the line of `check` and the population, and flushes.
-fn write_explained<W: Sink>(
-    explained: &Answered<Explanation>,
-    sink: &mut W,
-) -> Result<Status, RunFault>
-    ensures status { IfOk result (λ s.
-        s ≡ answer_status (spec.answer_of (λ x. x.verdict) explained.now)) }
-    ensures written { Writes W.written W.taken W.is_flushed W.has_failed
-        sink.old sink.new (explained_text explained.now) result }
-{
-    match write_listed(opening(explained).as_slice(), uids_of(explained), sink) {
-        Ok(()) => Ok(answer_status(&answer_of(explained))),
-        Err(_) => Err(RunFault::Write),
-    }
+    run_judged::<Explanation, R, W>(alloc, source, sink)
 }
 
 /// The text up to the UIDs.
@@ -98,10 +95,8 @@ fn opening(explained: &Answered<Explanation>) -> Text
     ensures { result.items ++ listed_text (uids_of explained.now) ≡ explained_text explained.now }
 {
     let mut text = answer_line(&answer_of(explained));
-    if let Answered::Judged(explanation) = explained {
-        if let Some(uids) = &explanation.population {
-            put_size(&mut text, uids.len());
-        }
+    if let Some(uids) = population_of(explained) {
+        put_size(&mut text, uids.len());
     }
     text
 }

@@ -7,7 +7,7 @@ use vic_frame::FrameFault;
 use vic_log::LineFault;
 
 /// The number of the fault of a line that lists no UID, where a list is expected.
-pub const NOT_LISTED: u32 = 11;
+pub(crate) const NOT_LISTED: u32 = 11;
 
 /// The number of a frame's fault, above 100.
 pub fn frame_fault_number(fault: &FrameFault) -> u32

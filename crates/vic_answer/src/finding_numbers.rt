@@ -1,7 +1,6 @@
 //! The findings of a log, in numbers.
 
 ghost use Rattle.std.specs.Prelude.{◌≡◌, ◌++◌, IfOk, OnOk, map};
-ghost use Rattle.vic_answer.specs.ExplainedNumbers.{IsPutInto};
 ghost use Rattle.vic_answer.specs.FindingNumbers as spec;
 
 use crate::answered::Answered;
@@ -12,7 +11,7 @@ use vic_report::{Conflict, Findings, LogReport, Unsettled};
 /// The kind of a finding in numbers. The first four have the numbers of the answers that say the
 /// same.
 #[derive(Clone, Copy, Debug, PartialEq, Eq)]
-pub enum FindingKind {
+pub(crate) enum FindingKind {
     Absent = 2,
     Unlisted = 3,
     Unsettled = 4,
@@ -76,15 +75,6 @@ pub fn findings_of(
     Ok(list)
 }
 
-/// Puts findings at the start of a buffer, if they fit.
-pub fn put_findings(findings: &[VicinityFinding], room: &mut [VicinityFinding])
-    ensures { IsPutInto findings.now room.old room.new }
-{
-    if findings.len() <= room.len() {
-        room[..findings.len()].copy_from_slice(findings);
-    }
-}
-
 /// Adds the lines of a conflict, and the line that silenced its tag.
 fn push_conflict(list: &mut Vec<VicinityFinding>, conflict: &Conflict) -> Result<(), AllocError>
     ensures { OnOk result (list.new.items
@@ -117,12 +107,7 @@ fn push_findings(list: &mut Vec<VicinityFinding>, findings: &Findings) -> Result
         |shown| uid_finding(FindingKind::Unlisted as u32, shown.uid, shown.line),
     )?;
     push_unsettled(list, &findings.unsettled)?;
-    push_each(
-        list,
-        findings.doubtful.as_slice(),
-        |uid| uid_finding(FindingKind::Doubtful as u32, uid, 0),
-    )?;
-    Ok(())
+    push_uids(list, FindingKind::Doubtful as u32, &findings.doubtful)
 }
 
 /// Adds what is left to ask for, if anything is.
@@ -148,8 +133,19 @@ fn push_unsettled(
     Ok(())
 }
 
+/// Adds a finding of a kind for each UID, without a line.
+pub(crate) fn push_uids(
+    list: &mut Vec<VicinityFinding>,
+    kind: u32,
+    uids: &[Uid],
+) -> Result<(), AllocError>
+    ensures { OnOk result (list.new.items ≡ list.old.items ++ spec.uid_findings kind uids.now) }
+{
+    push_each(list, uids, |uid| uid_finding(kind, uid, 0))
+}
+
 /// Adds the finding of each item.
-pub(crate) fn push_each<T: Copy, F: Fn(T) -> VicinityFinding>(
+fn push_each<T: Copy, F: Fn(T) -> VicinityFinding>(
     list: &mut Vec<VicinityFinding>,
     items: &[T],
     finding_of: F,
@@ -166,7 +162,7 @@ pub(crate) fn push_each<T: Copy, F: Fn(T) -> VicinityFinding>(
 }
 
 /// A finding of a UID, with the line that shows it, or 0.
-pub(crate) fn uid_finding(kind: u32, uid: Uid, line: u32) -> VicinityFinding
+fn uid_finding(kind: u32, uid: Uid, line: u32) -> VicinityFinding
     ensures { result ≡ spec.uid_finding kind uid line }
 {
     VicinityFinding {

@@ -7,19 +7,17 @@ ghost use Rattle.vic_frame.specs.Bytes.{AreBytes};
 ghost use Rattle.vic_frame.specs.Reading.{request_reading, reply_reading};
 ghost use Rattle.vic_frame.specs.Replies.{Reply};
 ghost use Rattle.vic_answer.specs.declared.spell.Said.{Said};
+ghost use Rattle.vic_answer.specs.Answered.{HasLog};
 ghost use Rattle.vic_answer.specs.CheckText.{BeginsAsCheck};
 ghost use Rattle.vic_answer.specs.ExplainText.{IsExplanationOf};
 ghost use Rattle.vic_answer.specs.MarginText.{IsMarginOf};
 ghost use Rattle.vic_answer.specs.ReportText.{IsReportOf};
 ghost use Rattle.vic_answer.specs.declared.status.Status.{Status};
-ghost use Rattle.vic_answer.specs.FrameText.{request_line, response_line};
-ghost use Rattle.vic_answer.specs.SpellText.{line_of, words_of, words_reading, spell_text};
-ghost use Rattle.vic_answer.specs.SpellText.{request_words, reply_words};
+ghost use Rattle.vic_answer.specs.FrameText.{reply_words, request_words};
+ghost use Rattle.vic_answer.specs.SpellText.{spell_text, words_of, words_reading};
 ghost use Rattle.vic_answer.specs.SimulateText.{IsSimulationOf};
 ghost use Rattle.vic_answer.specs.declared.status.Status.TheVariants.{Whole};
-ghost use Rattle.vic_log.specs.Lines.{lines_of_text};
 ghost use Rattle.vic_log.specs.Log.{LogValue};
-ghost use Rattle.vic_log.specs.Text.{IsLogOf};
 
 use vic_log::laws::text_reads_back;
 
@@ -31,8 +29,6 @@ pub fn spell_undoes_frame()
         → spell_text (request_words q) ≡ encode_upper f ++ codes "\n" }
     ensures reply { (f : List ℕ) (r : Reply) → AreBytes f → reply_reading f ≡ Ok r
         → spell_text (reply_words r) ≡ encode_upper f ++ codes "\n" }
-    ensures request_line { (q : Request) → request_line (Ok q) ≡ line_of (request_words q) }
-    ensures reply_line { (r : Reply) → response_line (Ok r) ≡ line_of (reply_words r) }
     ensures only { (words : List (List ℕ)) (what : Said)
         → words_reading words ≡ Ok what → words ≡ words_of what }
 {}
@@ -51,7 +47,7 @@ pub fn answers_begin_as_check()
 /// What `simulate` writes with status `Whole` is the text of a log.
 pub fn simulation_is_a_log()
     ensures { (text answer : List ℕ) → IsSimulationOf text answer Whole
-        → (log : LogValue) × IsLogOf (lines_of_text answer) log }
+        → (log : LogValue) × HasLog answer log }
 {
     text_reads_back();
 }

@@ -3,6 +3,7 @@
 #![tactic(auto)]
 
 mod answered;
+mod buffers;
 mod check;
 mod ending;
 mod explain;
@@ -18,12 +19,12 @@ mod numbers;
 mod output;
 mod overlooked;
 mod pieces;
-mod population;
 mod reconcile;
 mod reconcile_lines;
 mod reconcile_run;
 mod report;
 mod report_lines;
+mod run;
 mod simulate;
 mod spell;
 mod status;
@@ -33,26 +34,26 @@ mod task;
 mod text;
 
 pub use answered::{Answer, Answered, Judgement, Reading, answer_of, answer_text, read_text};
-pub use check::{answer_line, answer_status, judge_text, run_check};
+pub use buffers::{copy_each, copy_list, copy_uids};
+pub use check::{judge_text, run_check};
 pub use ending::Ending;
-pub use explain::run_explain;
-pub use fault_numbers::{NOT_LISTED, fault_number, frame_fault_number};
-pub use finding_numbers::{FindingKind, VicinityFinding, findings_of, put_findings};
+pub use explain::{run_explain, uids_of};
+pub use fault_numbers::{fault_number, frame_fault_number};
+pub use finding_numbers::{VicinityFinding, findings_of};
 pub use frame::run_frame;
+pub use lines::{answer_line, answer_status};
 pub use listing::{Listing, list_text, listed_in, listing_numbers};
 pub use margin::run_margin;
-pub use numbers::{Kind, LISTED, NO_ANSWER, VicinityAnswer, numbers_of, refusal_numbers};
+pub use numbers::{NO_ANSWER, VicinityAnswer, numbers_of, refusal_numbers};
 pub use overlooked::{Overlooked, overlooked_answer, overlooked_text};
-pub use population::{put_population, put_uids};
 pub use reconcile::{
     Reconciled, Reconciling, read_expected, read_next, reconciled_answer, write_reconciled,
 };
 pub use reconcile_run::run_reconcile;
 pub use report::run_report;
-pub use simulate::{Simulation, run_simulate, simulate_text};
-pub use spell::{SpellFault, run_spell};
+pub use simulate::{SimulatedText, run_simulate, simulate_text};
+pub use spell::run_spell;
 pub use status::{RunFault, Status, fault_text};
 pub use survey::{certain_of, open_masks_of};
 pub use survey_numbers::{plain_answer, plain_findings};
 pub use task::{Task, do_task};
-pub use text::LINE_ROOM;

@@ -1,10 +1,12 @@
-//! Lines that several commands write: of a verdict, and of refusals.
+//! Lines that several commands write, of verdicts and of refusals; and the status of an answer.
 
 ghost use Rattle.std.specs.Prelude.{◌≡◌, ◌<◌, ◌≤◌, length};
 ghost use Rattle.arrayvec.specs.ArrayVec.{array_vec_len};
 ghost use Rattle.vic_answer.specs.CheckText as spec;
 ghost use Rattle.vic_answer.specs.Refusals as refusals;
 
+use crate::answered::Answer;
+use crate::status::Status;
 use crate::text::{LINE_ROOM, Text, put, put_decimal, put_mask, put_uid};
 use arrayvec::ArrayVec;
 use vic_log::LineFault;
@@ -12,6 +14,39 @@ use vic_verdict::Verdict;
 
 /// The greatest length of a fault's name.
 pub(crate) const MAX_NAME_LEN: usize = 16;
+
+/// The line of an answer, with its LF.
+pub fn answer_line(answer: &Answer) -> Text
+    ensures items { result.items ≡ spec.answer_line answer.now }
+    ensures len { array_vec_len result < LINE_ROOM }
+{
+    match answer {
+        Answer::Judged(verdict) => verdict_line(verdict),
+        Answer::RefusedAt { line, fault } => refusal_line(*line, fault),
+    }
+}
+
+/// The status of an answer.
+pub fn answer_status(answer: &Answer) -> Status
+    ensures { result ≡ spec.answer_status answer.now }
+{
+    match answer {
+        Answer::Judged(verdict) => verdict_status(verdict),
+        Answer::RefusedAt { .. } => Status::Refused,
+    }
+}
+
+/// The status of a verdict.
+fn verdict_status(verdict: &Verdict) -> Status
+    ensures { result ≡ spec.verdict_status verdict.now }
+{
+    match verdict {
+        Verdict::Complete { .. } => Status::Whole,
+        Verdict::Impossible { .. } => Status::Impossible,
+        Verdict::Absent(_) | Verdict::Unlisted(_) | Verdict::Unsettled(_) | Verdict::Doubtful(_) =>
+            Status::NotWhole,
+    }
+}
 
 /// The line of a verdict.
 pub(crate) fn verdict_line(verdict: &Verdict) -> Text

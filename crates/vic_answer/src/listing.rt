@@ -7,7 +7,7 @@ ghost use Rattle.vic_answer.specs.Listing as spec;
 
 use crate::answered::{Answered, read_text};
 use crate::fault_numbers::{NOT_LISTED, fault_number};
-use crate::numbers::{LISTED, NO_ANSWER, VicinityAnswer, padded, refusal_numbers};
+use crate::numbers::{Kind, NO_ANSWER, VicinityAnswer, padded, refusal_numbers};
 use crate::text::{LINE_ROOM, Text, put, put_decimal};
 use arrayvec::ArrayVec;
 use std::alloc::{AllocError, Global};
@@ -18,8 +18,7 @@ use vic_reconcile::Reconciliation;
 /// What a text lists.
 #[derive(Drop)]
 pub enum Listing {
-    /// It has a log without other entries, which lists these UIDs, in rising order, on so many
-    /// lines.
+    /// It has a log without other entries, which lists these `count` UIDs, in rising order.
     Listed { uids: Vec<Uid>, count: u32 },
     /// A line of it has a fault, and this is the first.
     RefusedAt { line: u32, fault: LineFault },
@@ -54,7 +53,7 @@ fn list_log(alloc: Global, log: &Log) -> Result<Listing, AllocError>
 
 /// The UIDs that are listed, none if the text is refused.
 pub fn listed_in(listing: &Listing) -> &[Uid]
-    ensures { result.now ≡ spec.uids_of listing.now }
+    ensures { result.now ≡ spec.listed_in listing.now }
 {
     match listing {
         Listing::Listed { uids, .. } => uids.as_slice(),
@@ -62,14 +61,14 @@ pub fn listed_in(listing: &Listing) -> &[Uid]
     }
 }
 
-/// What a text lists, in numbers: its kind is `LISTED`, or that of a refusal.
+/// What a text lists, in numbers: its kind is 12, or that of a refusal.
 pub fn listing_numbers(listing: &Listing) -> VicinityAnswer
-    ensures numbers { result ≡ spec.numbers_of listing.now }
+    ensures numbers { result ≡ spec.listing_numbers listing.now }
     ensures nonzero { result.kind ≢ 0 }
 {
     match *listing {
         Listing::Listed { count, .. } => VicinityAnswer {
-            kind: LISTED,
+            kind: Kind::Listed as u32,
             status: 0,
             count,
             text: padded(listed_line(count).as_slice()),

@@ -1,17 +1,15 @@
 //! The command `margin`.
 
-ghost use Rattle.std.specs.Prelude.{◌≡◌, ◌<◌, ◌++◌, IfOk};
+ghost use Rattle.std.specs.Prelude.{◌≡◌, ◌<◌, ◌++◌};
 ghost use Rattle.arrayvec.specs.ArrayVec.{array_vec_len};
-ghost use Rattle.vic_answer.specs.Answered as spec;
-ghost use Rattle.vic_answer.specs.CheckText.{answer_status};
 ghost use Rattle.vic_answer.specs.CompleteRun.{IsCompleteWhereSaidFirst, IsCompleteWhereWrittenFirst};
 ghost use Rattle.vic_answer.specs.MarginText.{IsMarginOf, IsMarginOfLines, measured_text, weakest_text};
-ghost use Rattle.vic_answer.specs.Runs.{LeavesSink, LeavesSource, Runs, RunsOver, Writes};
+ghost use Rattle.vic_answer.specs.Runs.{LeavesSink, LeavesSource, Runs, RunsOver};
 
-use crate::answered::{Answered, Judgement, answer_of, answer_reading};
-use crate::check::{answer_line, answer_status};
-use crate::input::read_source;
+use crate::answered::{Answered, Judgement, answer_of};
+use crate::lines::answer_line;
 use crate::output::write_and_flush;
+use crate::run::{Written, run_judged};
 use crate::status::{RunFault, Status};
 use crate::text::{LINE_ROOM, Text, put, put_decimal, put_mask};
 use std::alloc::{AllocError, Global};
@@ -36,6 +34,15 @@ impl Judgement for Margin {
     ghost tells = { λ lines m h. h.verdict };
 }
 
+/// What `margin` writes.
+impl Written for Margin {
+    ghost text_of = { measured_text };
+
+    fn write<W: Sink>(answered: &Answered<Margin>, sink: &mut W) -> Result<(), RunFault> {
+        write_and_flush(sink, measured_lines(answered).as_slice())
+    }
+}
+
 /// Judges the log that is read from a source and writes the line of `check`; if it is `complete`,
 /// also the margin of the log and its weakest mask, each on a line; and flushes. The status is that
 /// of `check`. It reads to the end or an early fault.
@@ -58,20 +65,7 @@ pub fn run_margin<R: Source, W: Sink>(
     ensures leaves_source { LeavesSource R.reads R.has_failed source.old source.new result }
     ensures leaves_sink { LeavesSink W.is_flushed W.has_failed sink.old sink.new result }
 {
-    let reading = read_source(alloc, source)?;
-    let measured = answer_reading(alloc, reading)?;
-    write_measured(&measured, sink)
-}
-
-/// Writes the lines of an answer, and flushes.
-fn write_measured<W: Sink>(measured: &Answered<Margin>, sink: &mut W) -> Result<Status, RunFault>
-    ensures status { IfOk result (λ s.
-        s ≡ answer_status (spec.answer_of (λ x. x.verdict) measured.now)) }
-    ensures written { Writes W.written W.taken W.is_flushed W.has_failed
-        sink.old sink.new (measured_text measured.now) result }
-{
-    write_and_flush(sink, measured_lines(measured).as_slice())?;
-    Ok(answer_status(&answer_of(measured)))
+    run_judged::<Margin, R, W>(alloc, source, sink)
 }
 
 /// The lines of an answer: after that of `check` the margin and the weakest mask, if it is

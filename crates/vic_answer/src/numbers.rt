@@ -6,16 +6,15 @@ ghost use Rattle.vic_answer.specs.Numbers as spec;
 ghost use Rattle.vic_answer.specs.declared.answered.Answered.TheVariants.{Judged};
 
 use crate::answered::Answer;
-use crate::check::{answer_line, answer_status};
 use crate::fault_numbers::fault_number;
-use crate::lines::{MAX_NAME_LEN, refused_at};
+use crate::lines::{MAX_NAME_LEN, answer_line, answer_status, refused_at};
 use crate::status::Status;
 use crate::text::LINE_ROOM;
 use vic_verdict::Verdict;
 
 /// The kind of an answer in numbers.
 #[derive(Clone, Copy, Debug, PartialEq, Eq)]
-pub enum Kind {
+pub(crate) enum Kind {
     /// No answer: memory was refused.
     NoAnswer = 0,
     Complete = 1,
@@ -25,10 +24,9 @@ pub enum Kind {
     Doubtful = 5,
     Impossible = 6,
     Refused = 7,
+    /// The UIDs of a list: no answer to a log.
+    Listed = 12,
 }
-
-/// The kind of the numbers of a list, which is no answer and no finding.
-pub const LISTED: u32 = 12;
 
 /// The answer to a text, in numbers. Fields that the kind doesn't use are 0.
 ///
@@ -42,6 +40,7 @@ pub const LISTED: u32 = 12;
 /// | 5 | doubtful | 1 | `uid` |
 /// | 6 | impossible | 2 | `line` |
 /// | 7 | refused | 3 | `line`, `fault` |
+/// | 12 | the UIDs of a list | 0 | `count` |
 #[repr(C)]
 #[derive(Clone, Copy, Debug, PartialEq, Eq)]
 pub struct VicinityAnswer {
@@ -90,40 +89,52 @@ fn fields_of(answer: &Answer) -> VicinityAnswer
     ensures { result ≡ spec.fields_of answer.now }
 {
     match *answer {
-        Answer::Judged(Verdict::Complete { count }) => VicinityAnswer {
+        Answer::Judged(verdict) => verdict_fields(&verdict),
+        Answer::RefusedAt { line, fault } => VicinityAnswer {
+            kind: Kind::Refused as u32,
+            line,
+            fault: fault_number(&fault),
+            ..NO_ANSWER
+        },
+    }
+}
+
+/// The fields of a verdict.
+fn verdict_fields(verdict: &Verdict) -> VicinityAnswer
+    ensures { result ≡ spec.fields_of (Judged verdict.now) }
+{
+    match *verdict {
+        Verdict::Complete { count } => VicinityAnswer {
             kind: Kind::Complete as u32,
             count,
             ..NO_ANSWER
         },
-        Answer::Judged(Verdict::Absent(uid)) => VicinityAnswer {
+        Verdict::Absent(uid) => VicinityAnswer {
             kind: Kind::Absent as u32,
             uid: uid.number(),
             ..NO_ANSWER
         },
-        Answer::Judged(Verdict::Unlisted(uid)) => VicinityAnswer {
+        Verdict::Unlisted(uid) => VicinityAnswer {
             kind: Kind::Unlisted as u32,
             uid: uid.number(),
             ..NO_ANSWER
         },
-        Answer::Judged(Verdict::Unsettled(mask)) => VicinityAnswer {
+        Verdict::Unsettled(mask) => VicinityAnswer {
             kind: Kind::Unsettled as u32,
             mask_len: u32::from(mask.len()),
             mask_value: mask.value(),
             ..NO_ANSWER
         },
-        Answer::Judged(Verdict::Doubtful(uid)) => VicinityAnswer {
+        Verdict::Doubtful(uid) => VicinityAnswer {
             kind: Kind::Doubtful as u32,
             uid: uid.number(),
             ..NO_ANSWER
         },
-        Answer::Judged(Verdict::Impossible { line }) => VicinityAnswer {
+        Verdict::Impossible { line } => VicinityAnswer {
             kind: Kind::Impossible as u32,
             line,
             ..NO_ANSWER
         },
-        Answer::RefusedAt { line, fault } => {
-            refusal_numbers(line, fault_number(&fault), fault.name())
-        }
     }
 }
 

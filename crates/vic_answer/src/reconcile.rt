@@ -2,14 +2,14 @@
 
 ghost use Rattle.std.specs.Prelude.{◌≡◌, ◌≢◌, ◌↔◌, ◌+◌, ◌++◌, ℕ, [], ◌∷◌, List, IfErr, IfOk, OnOk, length};
 ghost use Rattle.std.specs.Prelude.{codes, map, string_bytes};
-ghost use Rattle.vic_log.specs.Device.{Grows};
 ghost use Rattle.vic_answer.specs.Answered.{IsReading};
-ghost use Rattle.vic_answer.specs.Reconciled.{AreComplete, IsKept, IsReconciled, IsReconciling, ReadsText};
-ghost use Rattle.vic_answer.specs.ReconcileRun.{logs_before};
+ghost use Rattle.vic_answer.specs.Reconciled.{AreComplete, IsKept, IsReconciled, IsReconciling};
+ghost use Rattle.vic_answer.specs.Readings.{GivesOver};
+ghost use Rattle.vic_answer.specs.ReconcileRun.{logs_up_to};
 ghost use Rattle.vic_answer.specs.ReconcileText as spec;
-ghost use Rattle.vic_answer.specs.Runs.{GivesNoEarlyFault, IsWritten, LeavesSink, LeavesSource};
+ghost use Rattle.vic_answer.specs.Runs.{IsWritten, LeavesSink, LeavesSource};
 ghost use Rattle.vic_answer.specs.declared.ending.Ending.{Ending as EndingValue};
-ghost use Rattle.vic_answer.specs.declared.status.RunFault.TheVariants.{Read, Write};
+ghost use Rattle.vic_answer.specs.declared.status.RunFault.TheVariants.{Read};
 
 use crate::answered::Reading;
 use crate::ending::Ending;
@@ -45,12 +45,9 @@ pub enum Reconciled {
 
 /// Reads the list of what is expected from a source, to its end or an early fault.
 pub fn read_expected<R: Source>(alloc: Global, source: &mut R) -> Result<Reconciling, RunFault>
-    ensures text { IfOk result (λ r. ReadsText (R.returned source.old) (R.returned source.new)
-        (R.ended source.new) (λ text. IsReconciling text [] r)) }
-    ensures no_early_fault { IfErr result (λ e. e ≡ Read
-        → GivesNoEarlyFault (Grows (R.returned source.old) (R.returned source.new))) }
+    ensures text { GivesOver (λ text r. IsReconciling text [] r) (R.returned source.old)
+        (R.returned source.new) (R.ended source.new) result }
     ensures leaves_source { LeavesSource R.reads R.has_failed source.old source.new result }
-    ensures fault { IfErr result (λ e. e ≢ Write) }
 {
     let reading = read_source(alloc, source)?;
     Ok(begin(alloc, reading)?)
@@ -79,16 +76,14 @@ pub fn read_next<R: Source>(
     joined: Reconciliation,
     source: &mut R,
 ) -> Result<Reconciling, RunFault>
-    ensures text { IfOk result (λ r. ReadsText (R.returned source.old) (R.returned source.new)
-        (R.ended source.new) (λ text. (list : List ℕ) (texts : List (List ℕ))
-        → IsKept list texts joined → IsReconciling list (texts ++ text ∷ []) r)) }
+    ensures text { GivesOver (λ text r. (list : List ℕ) (texts : List (List ℕ))
+        → IsKept list texts joined → IsReconciling list (texts ++ text ∷ []) r)
+        (R.returned source.old) (R.returned source.new) (R.ended source.new) result }
     // if a text ends the run, it is this one
-    ensures last { IfOk result (λ r. (list : List ℕ) (texts : List (List ℕ))
-        → IsKept list texts joined → logs_before r (length texts + 1) ≡ length texts + 1) }
-    ensures no_early_fault { IfErr result (λ e. e ≡ Read
-        → GivesNoEarlyFault (Grows (R.returned source.old) (R.returned source.new))) }
+    ensures last { IfOk result (λ r. (list : List ℕ) (texts : List (List ℕ)) (e : EndingValue)
+        → IsKept list texts joined → r ≡ Reconciling.Ended e
+        → logs_up_to e ≡ length texts + 1) }
     ensures leaves_source { LeavesSource R.reads R.has_failed source.old source.new result }
-    ensures fault { IfErr result (λ e. e ≢ Write) }
 {
     let reading = read_source(alloc, source)?;
     Ok(join(joined, reading)?)
@@ -99,8 +94,9 @@ fn join(joined: Reconciliation, reading: Reading) -> Result<Reconciling, AllocEr
     ensures text { IfOk result (λ r. (text list : List ℕ) (texts : List (List ℕ))
         → IsReading text reading → IsKept list texts joined
         → IsReconciling list (texts ++ text ∷ []) r) }
-    ensures last { IfOk result (λ r. (list : List ℕ) (texts : List (List ℕ))
-        → IsKept list texts joined → logs_before r (length texts + 1) ≡ length texts + 1) }
+    ensures last { IfOk result (λ r. (list : List ℕ) (texts : List (List ℕ)) (e : EndingValue)
+        → IsKept list texts joined → r ≡ Reconciling.Ended e
+        → logs_up_to e ≡ length texts + 1) }
 {
     let mut joined = joined;
     let log = joined.log_count();

@@ -2,11 +2,13 @@
 
 ghost use Rattle.std.specs.Prelude.{◌≡◌, ◌≤◌, ◌++◌, IfOk, OnOk, length, map, string_bytes};
 ghost use Rattle.std.specs.List.{flat_map};
+ghost use Rattle.vic_verdict.specs.declared.judging.Verdict.TheVariants.{Absent};
+ghost use Rattle.vic_answer.specs.CheckText.{verdict_line};
 ghost use Rattle.vic_answer.specs.ReconcileText as spec;
 
 use crate::ending::Ending;
 use crate::lines::verdict_line;
-use crate::text::{Text, put, put_decimal, put_mask, put_uid};
+use crate::text::{LINE_ROOM, Text, put, put_decimal, put_mask, put_uid};
 use arrayvec::ArrayVec;
 use std::alloc::{AllocError, Global};
 use vic_frame::{Mask, Uid};
@@ -25,9 +27,9 @@ fn name_of(names: &[String], log: usize) -> &str
 }
 
 /// `words`, a line number and ` of `; a file's name follows.
-fn line_of(words: &str, line: u32) -> Text
-    requires { length words.now ≤ 32 }
-    ensures { result.items ≡ spec.line_of words.now line }
+fn at_line_of(words: &str, line: u32) -> Text
+    requires { length words.now ≤ LINE_ROOM }
+    ensures { result.items ≡ spec.at_line_of words.now line }
 {
     let mut text = ArrayVec::new();
     put(&mut text, words);
@@ -76,7 +78,7 @@ fn add_named(
 /// Adds the lines of the expected UIDs that are nowhere.
 fn add_absent(text: &mut Vec<u8>, absent: &[Uid]) -> Result<(), AllocError>
     ensures { OnOk result (text.new.items
-        ≡ text.old.items ++ flat_map spec.absent_line absent.now) }
+        ≡ text.old.items ++ flat_map (λ u. verdict_line (Absent u)) absent.now) }
 {
     for uid in absent {
         text.extend_from_slice(verdict_line(&Verdict::Absent(*uid)).as_slice())?;
@@ -94,7 +96,7 @@ fn add_one_unlisted(
         ≡ text.old.items ++ spec.unlisted_text (map string_bytes names.now) one.now) }
 {
     text.extend_from_slice(verdict_line(&Verdict::Unlisted(one.uid)).as_slice())?;
-    let before = line_of("by line ", one.place.line);
+    let before = at_line_of("by line ", one.place.line);
     add_named(text, before.as_slice(), names, one.place.log)
 }
 
@@ -208,7 +210,7 @@ pub(crate) fn findings_text(
 fn refused_text(alloc: Global, line: u32, file: &str, name: &str) -> Result<Vec<u8>, AllocError>
     ensures { IfOk result (λ text. text.items ≡ spec.refused_text line file.now name.now) }
 {
-    let mut text = Vec::from_slice(alloc, line_of("refused at line ", line).as_slice())?;
+    let mut text = Vec::from_slice(alloc, at_line_of("refused at line ", line).as_slice())?;
     text.extend_from_slice(file.as_bytes())?;
     text.extend_from_slice(b": ")?;
     text.extend_from_slice(name.as_bytes())?;
@@ -237,7 +239,7 @@ pub(crate) fn ending_text(
         ),
         Ending::ImpossibleAt { log, line } => {
             let mut text = Vec::new(alloc);
-            let before = line_of("impossible at line ", line);
+            let before = at_line_of("impossible at line ", line);
             add_named(&mut text, before.as_slice(), names, log)?;
             Ok(text)
         }

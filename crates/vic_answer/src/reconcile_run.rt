@@ -3,9 +3,9 @@
 ghost use Rattle.std.specs.Prelude.{◌≡◌, ◌≢◌, ◌++◌, ℕ, [], ◌∷◌, List, IfErr, IfOk, OnOk, length, true};
 ghost use Rattle.std.specs.Prelude.{codes, map, string_bytes};
 ghost use Rattle.std.specs.List.{AllZip};
-ghost use Rattle.vic_answer.specs.Reconciled.{AreComplete, IsReconciling};
-ghost use Rattle.vic_answer.specs.ReconcileRun.{GoOn, IsAnswerable, IsReadWithin, ReadsListAndLogs, ReadsTexts, Reconciles, StopsBy, WritesAnswer, logs_before};
-ghost use Rattle.vic_answer.specs.Runs.{LeavesSink};
+ghost use Rattle.vic_answer.specs.Reconciled.{AreComplete, GoOn, IsReconciling};
+ghost use Rattle.vic_answer.specs.ReconcileRun.{IsAnswerable, ReadsListAndLogs, ReadsTexts, Reconciles, StopsBy, WritesAnswer, logs_read_by};
+ghost use Rattle.vic_answer.specs.Runs.{IsReadWithin, LeavesSink};
 ghost use Rattle.vic_answer.specs.declared.status.RunFault.TheVariants.{Write};
 
 use crate::reconcile::{
@@ -60,7 +60,7 @@ fn read_logs<R: Source>(
 ) -> Result<Reconciling, RunFault>
     ensures texts { IfOk result (λ read. (list : List ℕ) → IsReconciling list [] begun
         → ReadsTexts R.returned (IsAnswerable R.ended R.has_failed) logs.old logs.new (λ texts.
-        IsReconciling list texts read × (length texts ≡ logs_before read (length logs.old)))) }
+        IsReconciling list texts read × (length texts ≡ logs_read_by read (length logs.old)))) }
     ensures stops { IfErr result (λ e. (list : List ℕ) → IsReconciling list [] begun
         → StopsBy R.returned R.ended R.has_failed (λ texts. GoOn (list ∷ texts))
         logs.old logs.new e) }

@@ -1,22 +1,18 @@
 //! The command `report`.
 
-ghost use Rattle.std.specs.Prelude.{◌≡◌, IfOk};
 ghost use Rattle.vic_report.proofs.AllFindings.{report_begins};
 ghost use Rattle.vic_report.specs.Reports.{IsReport, verdict_of};
-ghost use Rattle.vic_answer.specs.Answered as spec;
-ghost use Rattle.vic_answer.specs.CheckText.{answer_status};
 ghost use Rattle.vic_answer.specs.inner.Pieces.{Puts};
 ghost use Rattle.vic_answer.specs.CompleteRun.{IsCompleteWhereSaid, IsCompleteWhereWritten};
 ghost use Rattle.vic_answer.specs.ReportText.{IsReportOf, reported_text};
-ghost use Rattle.vic_answer.specs.Runs.{LeavesSink, LeavesSource, Runs, RunsOver, Writes};
+ghost use Rattle.vic_answer.specs.Runs.{LeavesSink, LeavesSource, Runs, RunsOver};
 
-use crate::answered::{Answered, Judgement, answer_of, answer_reading};
-use crate::check::answer_status;
-use crate::input::read_source;
+use crate::answered::{Answered, Judgement};
 use crate::lines::refusal_line;
 use crate::output::write_and_flush;
 use crate::pieces::{Piece, put_text};
 use crate::report_lines::put_report;
+use crate::run::{Written, run_judged};
 use crate::status::{RunFault, Status};
 use arrayvec::ArrayVec;
 use std::alloc::{AllocError, Global};
@@ -41,6 +37,17 @@ impl Judgement for LogReport {
     ghost tells = { report_begins };
 }
 
+/// What `report` writes.
+impl Written for LogReport {
+    ghost text_of = { reported_text };
+
+    fn write<W: Sink>(answered: &Answered<LogReport>, sink: &mut W) -> Result<(), RunFault> {
+        let mut piece = ArrayVec::new();
+        put_reported(&mut piece, sink, answered)?;
+        write_and_flush(sink, piece.as_slice())
+    }
+}
+
 /// Judges the log that is read from a source, writes every finding with its lines, and flushes. The
 /// first line and the status are those of `check`. It reads to the end or an early fault.
 pub fn run_report<R: Source, W: Sink>(
@@ -62,29 +69,7 @@ pub fn run_report<R: Source, W: Sink>(
     ensures leaves_source { LeavesSource R.reads R.has_failed source.old source.new result }
     ensures leaves_sink { LeavesSink W.is_flushed W.has_failed sink.old sink.new result }
 {
-    let reading = read_source(alloc, source)?;
-    let reported = answer_reading(alloc, reading)?;
-    write_reported(&reported, sink)
-}
-
-/// Writes the lines of an answer, and flushes; returns its status.
-fn write_reported<W: Sink>(reported: &Answered<LogReport>, sink: &mut W) -> Result<Status, RunFault>
-    ensures status { IfOk result (λ s. s ≡ answer_status (spec.answer_of verdict_of reported.now)) }
-    ensures written { Writes W.written W.taken W.is_flushed W.has_failed
-        sink.old sink.new (reported_text reported.now) result }
-{
-    write_lines(reported, sink)?;
-    Ok(answer_status(&answer_of(reported)))
-}
-
-/// Writes the lines of an answer, and flushes.
-fn write_lines<W: Sink>(reported: &Answered<LogReport>, sink: &mut W) -> Result<(), RunFault>
-    ensures { Writes W.written W.taken W.is_flushed W.has_failed
-        sink.old sink.new (reported_text reported.now) result }
-{
-    let mut piece = ArrayVec::new();
-    put_reported(&mut piece, sink, reported)?;
-    write_and_flush(sink, piece.as_slice())
+    run_judged::<LogReport, R, W>(alloc, source, sink)
 }
 
 /// Adds the text of an answer.

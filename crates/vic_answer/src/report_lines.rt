@@ -2,7 +2,6 @@
 
 ghost use Rattle.std.specs.Prelude.{◌≡◌, ◌<◌, ◌++◌};
 ghost use Rattle.arrayvec.specs.ArrayVec.{array_vec_len};
-ghost use Rattle.vic_answer.specs.CheckText.{verdict_line};
 ghost use Rattle.vic_answer.specs.inner.Pieces.{Puts};
 ghost use Rattle.vic_answer.specs.ReportText as spec;
 
@@ -110,7 +109,7 @@ fn put_unsettled<W: Sink>(
 
 /// The line of a verdict that a line of the log shows, and the line that names it.
 fn shown_text(verdict: &Verdict, line: u32) -> Text
-    ensures { result.items ≡ verdict_line verdict.now ++ spec.by_line line }
+    ensures { result.items ≡ spec.shown_text verdict.now line }
 {
     let mut text = verdict_line(verdict);
     put_by_line(&mut text, line);

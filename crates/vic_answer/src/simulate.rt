@@ -31,26 +31,29 @@ pub(crate) enum Simulated {
     TooManyLines,
 }
 
-/// The text that `simulate` writes for a text, and its status.
+/// What `simulate` answers to a text.
 #[derive(Drop)]
-pub struct Simulation {
+pub struct SimulatedText {
+    /// The text of the log with its slots filled in, or the line of a refusal.
     pub text: Vec<u8>,
+    /// `Whole`, or `Refused`.
     pub status: Status,
 }
 
 /// The log of a text, with its slots filled in as the listed tags would answer: what `run_simulate`
 /// writes for it. It fails only if memory is refused.
-pub fn simulate_text(alloc: Global, text: &[u8]) -> Result<Simulation, AllocError>
+pub fn simulate_text(alloc: Global, text: &[u8]) -> Result<SimulatedText, AllocError>
     ensures { IfOk result (λ s. IsSimulationOf text.now s.text.items s.status) }
 {
     let reading = read_text(alloc, text)?;
     let simulated = simulate_reading(alloc, reading)?;
     let mut sink = ToWrite::new(Vec::new(alloc));
     match write_simulated(simulated, &mut sink) {
-        Ok(status) => Ok(Simulation {
+        Ok(status) => Ok(SimulatedText {
             text: sink.into_inner(),
             status,
         }),
+        // a write to memory fails only if memory is refused
         Err(_) => Err(AllocError),
     }
 }

@@ -1,6 +1,6 @@
 //! The command `spell`: a frame from the words with which `frame` describes it.
 
-ghost use Rattle.std.specs.Prelude.{◌≡◌, ◌<◌, ◌≤◌, ◌++◌, map, length, codes, string_bytes, IfOk, IsTrue};
+ghost use Rattle.std.specs.Prelude.{◌≡◌, ◌<◌, ◌≤◌, ◌++◌, map, length, codes, string_bytes, IfOk};
 ghost use Rattle.hex.specs.Hex.{encode_upper};
 ghost use Rattle.vic_frame.specs.Requests.{IsValid};
 ghost use Rattle.vic_answer.specs.SpellText as spec;
@@ -23,7 +23,7 @@ const MAX_LINK: u8 = 3;
 
 /// Why words don't spell a frame.
 #[derive(Clone, Copy, Debug, Drop, PartialEq, Eq)]
-pub enum SpellFault {
+enum SpellFault {
     /// They aren't a line of `frame`.
     Words,
     /// The link is above 3, or the mask is longer than its request allows, or its value has bits
@@ -122,8 +122,7 @@ fn word(words: &[String], index: usize) -> &str
 
 /// Whether these are the words of an Inventory request.
 fn says_inventory(words: &[String]) -> bool
-    ensures says { result ≡ spec.says_inventory (map string_bytes words.now) }
-    ensures len { IsTrue result → length words.now ≡ 9 }
+    ensures { result ≡ spec.says_inventory (map string_bytes words.now) }
 {
     words.len() == 9
         && word(words, 0) == "request"
@@ -135,8 +134,7 @@ fn says_inventory(words: &[String]) -> bool
 
 /// Whether these are the words of a Stay Quiet request.
 fn says_stay_quiet(words: &[String]) -> bool
-    ensures says { result ≡ spec.says_stay_quiet (map string_bytes words.now) }
-    ensures len { IsTrue result → length words.now ≡ 6 }
+    ensures { result ≡ spec.says_stay_quiet (map string_bytes words.now) }
 {
     words.len() == 6
         && word(words, 0) == "request"
@@ -147,8 +145,7 @@ fn says_stay_quiet(words: &[String]) -> bool
 
 /// Whether these are the words of a reply.
 fn says_reply(words: &[String]) -> bool
-    ensures says { result ≡ spec.says_reply (map string_bytes words.now) }
-    ensures len { IsTrue result → length words.now ≡ 7 }
+    ensures { result ≡ spec.says_reply (map string_bytes words.now) }
 {
     words.len() == 7
         && word(words, 0) == "response"
@@ -195,13 +192,8 @@ fn reply(flags: &str, dsfid: &str, uid: &str) -> Result<Response, SpellFault>
     let flags = byte_in(flags)?;
     let dsfid = byte_in(dsfid)?;
     let number = hex_number_in(8, uid)?;
-    let Some(uid) = Uid::new(number) else {
-        return Err(SpellFault::Words);
-    };
-    match Response::new(flags, dsfid, uid) {
-        Some(reply) => Ok(reply),
-        None => Err(SpellFault::Words),
-    }
+    let uid = Uid::new(number).ok_or(SpellFault::Words)?;
+    Response::new(flags, dsfid, uid).ok_or(SpellFault::Words)
 }
 
 /// One slot or sixteen.
@@ -223,10 +215,7 @@ fn mask_in(len: u8, word: &str) -> Result<Mask, SpellFault>
     ensures { result ≡ spec.mask_in len word.now }
 {
     let value = value_in(len, word)?;
-    match Mask::new(len, value) {
-        Some(mask) => Ok(mask),
-        None => Err(SpellFault::Range),
-    }
+    Mask::new(len, value).ok_or(SpellFault::Range)
 }
 
 /// The value of a mask of `len` bits, `-` if it has none.

@@ -1,7 +1,7 @@
 //! How a run ends.
 
 ghost use Rattle.std.specs.Prelude.{◌≡◌};
-ghost use Rattle.vic_answer.specs.Status.{status_code, fault_line};
+ghost use Rattle.vic_answer.specs.Status.{status_code, fault_text};
 
 use std::alloc::AllocError;
 
@@ -55,7 +55,7 @@ impl Status {
 
 /// What standard error says about a fault, without the LF.
 pub fn fault_text(fault: &RunFault) -> &'static str
-    ensures { result.now ≡ fault_line fault.now }
+    ensures { result.now ≡ fault_text fault.now }
 {
     match fault {
         RunFault::Read => "vicinity: read failed",

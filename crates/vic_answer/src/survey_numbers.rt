@@ -4,7 +4,7 @@ ghost use Rattle.std.specs.Prelude.{◌≡◌, IfOk};
 ghost use Rattle.vic_answer.specs.SurveyNumbers as spec;
 
 use crate::answered::Answer;
-use crate::finding_numbers::{FindingKind, VicinityFinding, mask_finding, push_each, uid_finding};
+use crate::finding_numbers::{FindingKind, VicinityFinding, mask_finding, push_uids};
 use std::alloc::{AllocError, Global};
 use vic_reconcile::PlainFindings;
 use vic_verdict::Verdict;
@@ -45,23 +45,11 @@ pub fn plain_findings(
     ensures { IfOk result (λ list. list.items ≡ spec.plain_findings findings.now) }
 {
     let mut list = Vec::new(alloc);
-    push_each(
-        &mut list,
-        findings.absent.as_slice(),
-        |uid| uid_finding(FindingKind::Absent as u32, uid, 0),
-    )?;
-    push_each(
-        &mut list,
-        findings.unlisted.as_slice(),
-        |uid| uid_finding(FindingKind::Unlisted as u32, uid, 0),
-    )?;
+    push_uids(&mut list, FindingKind::Absent as u32, &findings.absent)?;
+    push_uids(&mut list, FindingKind::Unlisted as u32, &findings.unlisted)?;
     if let Some(mask) = findings.unsettled {
         list.push(mask_finding(FindingKind::Unsettled as u32, mask))?;
     }
-    push_each(
-        &mut list,
-        findings.doubtful.as_slice(),
-        |uid| uid_finding(FindingKind::Doubtful as u32, uid, 0),
-    )?;
+    push_uids(&mut list, FindingKind::Doubtful as u32, &findings.doubtful)?;
     Ok(list)
 }

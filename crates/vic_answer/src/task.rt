@@ -1,7 +1,8 @@
-//! What the program can be asked to do with one text, and how it is done.
+//! What the program can be asked to do with one log, frame or list of words, and how it is done.
 
+ghost use Rattle.std.specs.Prelude.{◌≡◌, option_copied};
 ghost use Rattle.vic_answer.specs.Runs.{LeavesSink};
-ghost use Rattle.vic_answer.specs.Tasks.{Does, LeavesSourceAfter};
+ghost use Rattle.vic_answer.specs.Tasks.{Does, LeavesSourceAfter, file_of};
 
 use crate::check::run_check;
 use crate::explain::run_explain;
@@ -36,7 +37,9 @@ pub enum Task {
 
 impl Task {
     /// The file that it reads, if one is named.
-    pub fn file(&self) -> Option<&str> {
+    pub fn file(&self) -> Option<&str>
+        ensures { option_copied result ≡ file_of self.now }
+    {
         match self {
             Task::Check(file)
             | Task::Simulate(file)

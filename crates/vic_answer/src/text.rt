@@ -10,7 +10,7 @@ use vic_frame::Mask;
 use vic_log::push_hex;
 
 /// The bytes of an answer's line, padded with zeros, at least one: a line has at most 45.
-pub const LINE_ROOM: usize = 64;
+pub(crate) const LINE_ROOM: usize = 64;
 
 /// Room for three lines.
 pub const TEXT_ROOM: usize = 3 * LINE_ROOM;

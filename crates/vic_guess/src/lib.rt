@@ -2,8 +2,8 @@
 //!
 //! It walks over the lines a few times, whatever they are, and is right as far as tests show.
 //! Nothing is promised about it, except that it takes memory from the allocator and reports a
-//! refusal. So no answer rests on it: `vic_report` tests what it says, and names all slot lines if
-//! it is wrong.
+//! refusal. So no answer rests on it: `vic_report` tests what it says, and if it is wrong names all
+//! slot lines up to the first impossible one, except unknown ones.
 #![tactic(auto)]
 
 mod conflict;

@@ -30,7 +30,7 @@ pub fn never_overlooked_has_no_margin()
 {}
 
 /// The margin of a possible log is 0 exactly if some UID is possible and not listed.
-pub fn no_margin_where_unlisted_is_possible()
+pub fn no_margin_if_another_is_possible()
     ensures { (es : List Entry) → IsPossible es → IsMargin es 0
         ↔ ((u : ℕ) × IsPossibleUid es u × (has (listed es) u ≡ false)) }
 {}

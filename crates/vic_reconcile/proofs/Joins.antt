@@ -2,7 +2,7 @@
 use Rattle.vic_reconcile.proofs.Words.{◌≡◌, ℕ, ◌<◌, List, [], ◌∷◌, ◌++◌, length, true, false, Option, Some, None, refl, sym, ap, subst, ◌∙◌, arith, inl, inr, ⊎_elim, ◌⊎◌, MatchOption, cond, is_some, nat_eq, slice_get, nat_cmp, All, Contains, is_at, AllZip, both_ways, cases_eq, false≢true, list_any-append, map-append, All-push, Contains-append_left, Contains-push, has, SameUids, without_keys, is_open_in, LogLine, entries, AreKeysOf, IsListOf, SameMembers, AreFacts, Reconciliation, IsFirstLog, IsFirstTold, IsCertainInNone, IsJoined, IsLeftBy, AreForgotten, AreNoted, AreSomeNoted, is_place_in, slice_get_within, get_or_from_slice_get, AllZip-long, all_zipped_more, slice_get-append, slice_get_seam, common_steps, ShownUid, ShowsCertain, uids_of, open_set, Place, ne_eqb, eqb-true, eq-eqb, take, drop, take-append-drop}
 use Rattle.std.specs.BTreeMap as map
 use Rattle.vic_verdict.specs.Possible as one
-use Rattle.vic_report.specs.Findings.{IsToldOf}
+use Rattle.vic_report.specs.Findings.{IsShownCertain}
 use Rattle.vic_reconcile.proofs.Families.{IsCertainIn, IsPossibleLog, has_mapped}
 
 -- ---- the certain UIDs
@@ -24,7 +24,7 @@ told_later logs more u p t = record {
 }
 
 told_first : (logs : List (List LogLine)) (lines : List LogLine) (certain : List ℕ) (told : List ShownUid) (u : ℕ) (p : Place)
-    → IsListOf (one.IsCertainUid (entries lines)) certain → uids_of told ≡ certain → All (IsToldOf lines) told
+    → IsListOf (one.IsCertainUid (entries lines)) certain → uids_of told ≡ certain → All (IsShownCertain lines) told
     → IsCertainInNone logs u → p.log ≡ length logs → Contains told (record { uid = u; line = p.line }) → IsFirstTold (logs ++ lines ∷ []) u p
 told_first logs lines certain told u p l is shown none at c =
     let s : ShownUid = record { uid = u; line = p.line } in
@@ -41,7 +41,7 @@ told_first logs lines certain told u p l is shown none at c =
       };
       shows = λ others h.
           let same : lines ≡ others = cc in
-          subst (λ ls. ShowsCertain ls p.line u) same (subst (IsToldOf lines) c.2 (shown c.0 s c.1));
+          subst (λ ls. ShowsCertain ls p.line u) same (subst (IsShownCertain lines) c.2 (shown c.0 s c.1));
     }
 
 -- what was noted of a UID, by its place
@@ -49,7 +49,7 @@ abbrev IsNoted : ℕ → List ShownUid → ℕ → Option Place → Type 0
 IsNoted log told u o = MatchOption o (has (uids_of told) u ≡ false) (λ p. (p.log ≡ log) × Contains told (record { uid = u; line = p.line }))
 
 certain_more : (logs : List (List LogLine)) (lines : List LogLine) (certain : List ℕ) (told : List ShownUid) (old new : map.BTreeMap ℕ Place) (u : ℕ)
-    → IsListOf (one.IsCertainUid (entries lines)) certain → uids_of told ≡ certain → All (IsToldOf lines) told
+    → IsListOf (one.IsCertainUid (entries lines)) certain → uids_of told ≡ certain → All (IsShownCertain lines) told
     → AreNoted old new (length logs) told
     → MatchOption (map.get nat_cmp old u) (IsCertainInNone logs u) (IsFirstTold logs u)
     → MatchOption (map.get nat_cmp new u) (IsCertainInNone (logs ++ lines ∷ []) u) (IsFirstTold (logs ++ lines ∷ []) u)
@@ -77,7 +77,7 @@ left_by lines set besides certain keys facts own same u i =
 pub joined_more : (expected : List ℕ) (logs : List (List LogLine)) (lines : List LogLine) (old new : Reconciliation) (set besides : List (ℕ × ℕ)) (certain keys : List ℕ) (told : List ShownUid)
     → one.IsPossible (entries lines)
     → AreFacts (one.IsPossibleUid (entries lines)) (one.IsCertainUid (entries lines)) (is_open_in set) certain
-    → uids_of told ≡ certain → All (IsToldOf lines) told
+    → uids_of told ≡ certain → All (IsShownCertain lines) told
     → AreNoted old.certain new.certain (length old.left.items) told
     → AreKeysOf keys certain → SameUids (is_open_in besides) (without_keys (is_open_in set) keys)
     → new.expected ≡ old.expected → new.count ≡ old.count → new.left.items ≡ old.left.items ++ besides ∷ []

@@ -1,5 +1,5 @@
 -- What one log alone tells together is what the log tells.
-use Rattle.vic_reconcile.proofs.Words.{◌≡◌, ℕ, List, [], ◌∷◌, true, false, refl, sym, subst, ◌↔◌, arith, ◌∙◌, or_left, has, OpenMasks, LogLine, entries, listed, IsLeftOpen, Findings, UnlistedUid, FitsLog, FitsLogs, IsCertainUid, IsPossibleUid, is_somewhere, AreFindings, AreOpenMasksOf, IsToldOf, IsUnsettled, IsWhole, slice_get_within, or_false, ShowsCertain, AgreeWithReport}
+use Rattle.vic_reconcile.proofs.Words.{◌≡◌, ℕ, List, [], ◌∷◌, true, false, refl, sym, subst, ◌↔◌, arith, ◌∙◌, or_left, has, OpenMasks, LogLine, entries, listed, IsLeftOpen, Findings, UnlistedUid, FitsLog, FitsLogs, IsCertainUid, IsPossibleUid, is_somewhere, AreFindings, AreOpenMasksOf, IsShownCertain, IsUnsettled, IsWhole, slice_get_within, or_false, ShowsCertain, AgreeWithReport}
 use Rattle.vic_verdict.specs.Possible as one
 use Rattle.vic_verdict.specs.Verdict as verdict
 use Rattle.vic_report.specs.Reports as report
@@ -60,7 +60,7 @@ one_report lines f g h k =
       doubtful = same_list _ _ _ _ (doubtful_as _ _ _ _ (listed es) same) h.doubtful k.doubtful;
     }
 
-pub one_shown : (lines : List LogLine) (s : UnlistedUid) → IsToldOf (lines ∷ []) s → (s.place.log ≡ 0) × ShowsCertain lines s.place.line s.uid
+pub one_shown : (lines : List LogLine) (s : UnlistedUid) → IsShownCertain (lines ∷ []) s → (s.place.log ≡ 0) × ShowsCertain lines s.place.line s.uid
 one_shown lines s t =
     let at : s.place.log ≡ 0 = omega (arith, slice_get_within (lines ∷ []) s.place.log t.first.lines t.first.there) in
     (at, t.shows lines (rw at refl))

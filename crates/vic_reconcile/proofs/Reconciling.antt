@@ -1,5 +1,5 @@
 -- The findings of joined logs, and that none of them means that everything is there.
-use Rattle.vic_reconcile.proofs.Words.{◌≡◌, ℕ, List, [], ◌∷◌, ◌++◌, get_or, map, Bool, true, false, Option, Some, None, refl, sym, ap, subst, ◌∙◌, arith, ⊎_elim, ◌||◌, IfNone, IfSome, MatchOption, is_some, nat_eq, is_eq, nat_cmp, All, IsStrictlyIncreasing, both_ways, cases_Bool, cases_eq, or_left, list_any-append, IsUid, has, BitMask, SameUids, is_open_in, LogLine, IsUid-member, has_at, AreDifferences, IsFailing, IsListOf, IsFirstMask, NoSuch, all_findings, doubtful_list, none_of, DoubtfulUid, Findings, UnlistedUid, Reconciliation, ArePossible, FitsLog, FitsLogs, IsCertainUid, IsPossibleUid, is_somewhere, AreFindings, AreNone, IsAbsent, IsDoubtful, IsFirstTold, IsToldOf, IsUnlisted, IsUnsettled, IsUnsettledWith, IsWhole, IsCertainInNone, IsJoined, IsFirstLeft, IsLeftToAsk, is_left, all_zipped_more, eq_by_cmp, is_member, common_steps, Differences, IsUid-in, lies_in-uid_in, mask_of, mask_of-alone, mask_of-value, uid_in, length, take-append_seam, true_from_ne_false, map-id, All-take, slice_get-get_or, slice_get_read, slice_get-append}
+use Rattle.vic_reconcile.proofs.Words.{◌≡◌, ℕ, List, [], ◌∷◌, ◌++◌, get_or, map, true, Option, Some, None, refl, sym, ap, subst, ◌∙◌, arith, ⊎_elim, ◌||◌, IfNone, IfSome, MatchOption, is_some, nat_eq, is_eq, nat_cmp, All, IsStrictlyIncreasing, both_ways, cases_eq, or_left, list_any-append, has, BitMask, SameUids, is_open_in, LogLine, IsUid-member, has_at, AreDifferences, IsListOf, IsFirstMask, NoSuch, all_findings, none_of, DoubtfulUid, Findings, UnlistedUid, Reconciliation, ArePossible, FitsLog, FitsLogs, IsCertainUid, IsPossibleUid, is_somewhere, AreFindings, AreNone, IsAbsent, IsDoubtful, IsFirstTold, IsShownCertain, IsUnlisted, IsUnsettled, IsLeftToAsk, IsWhole, IsCertainInNone, IsJoined, IsFirstLeft, HasOpenMasks, is_left, all_zipped_more, eq_by_cmp, is_member, common_steps, Differences, IsUid-in, lies_in-uid_in, mask_of, mask_of-alone, mask_of-value, uid_in, length, take-append_seam, true_from_ne_false, map-id, All-take, slice_get-get_or, slice_get_read, slice_get-append}
 use Rattle.std.specs.BTreeMap as tree
 use Rattle.vic_reconcile.specs.declared.findings.Unsettled.{Unsettled}
 use Rattle.vic_reconcile.proofs.Families.{has_mapped, IsCertainIn, IsCertainUid-iff, IsPossibleLog, all_possible, any_at, certain_by, somewhere_in}
@@ -14,37 +14,23 @@ pub has_member : (ks : List ℕ) (u : ℕ) → has ks u ≡ is_member (eq_by_cmp
 has_member [] u = refl
 has_member (k ∷ ks) u = ap (λ b. b || has ks u) (same_test u k) ∙ ap (λ b. is_eq (nat_cmp u k) || b) (has_member ks u)
 
--- ---- what the calls ask for
-
--- a listed UID that is neither certain nor absent is left open by some log
-pub doubtful_left : (set : ℕ → Bool) (certain us some absent doubtful : List ℕ) (sets : List (List (ℕ × ℕ))) → SameUids set (is_left sets) → ((u : ℕ) → has us u ≡ true → IsUid u)
-    → IsListOf (λ u. IsFailing us set u × (has certain u ≡ false)) absent → IsListOf (IsFailing us (has certain)) some → IsListOf (IsFailing some (has absent)) doubtful
-    → (u : ℕ) → has doubtful u ≡ true → is_left sets u ≡ true
-doubtful_left set certain us some absent doubtful sets same uids out un l u h =
-    let d = (l.members u).0 h in
-    let w = (un.members u).0 d.0 in
-    ⊎_elim
-    (λ e. sym (same u (uids u w.0)) ∙ e)
-    (λ e. absurd (both_ways (has absent u) d.1 ((out.members u).1 ((w.0, e), w.1))))
-    (cases_Bool (set u))
-
 -- ---- the findings
 
-told_at : (expected : List ℕ) (logs : List (List LogLine)) (r : Reconciliation) (s : UnlistedUid) → IsJoined expected logs r → tree.get nat_cmp r.certain s.uid ≡ Some s.place → IsToldOf logs s
+told_at : (expected : List ℕ) (logs : List (List LogLine)) (r : Reconciliation) (s : UnlistedUid) → IsJoined expected logs r → tree.get nat_cmp r.certain s.uid ≡ Some s.place → IsShownCertain logs s
 told_at expected logs r s j e = subst (λ o. MatchOption o (IsCertainInNone logs s.uid) (IsFirstTold logs s.uid)) e (j.certain s.uid)
 
 needed_as : (expected : List ℕ) (logs : List (List LogLine)) (r : Reconciliation) (certain : List ℕ) (m : Option BitMask) (x : Option Unsettled) → IsJoined expected logs r → IsListOf (IsCertainUid logs) certain
     → MatchOption m (NoSuch (IsUnsettled expected logs)) (IsFirstMask (IsUnsettled expected logs))
-    → IfNone m (x ≡ None) → IfSome m (λ k. MatchOption x ⊥ (IsLeftToAsk certain r.left.items k))
-    → MatchOption x (NoSuch (IsUnsettled expected logs)) (IsUnsettledWith expected logs)
-needed_as expected logs r certain None x j l none e s = subst (λ y. MatchOption y (NoSuch (IsUnsettled expected logs)) (IsUnsettledWith expected logs)) (sym e) none
+    → IfNone m (x ≡ None) → IfSome m (λ k. MatchOption x ⊥ (HasOpenMasks certain r.left.items k))
+    → MatchOption x (NoSuch (IsUnsettled expected logs)) (IsLeftToAsk expected logs)
+needed_as expected logs r certain None x j l none e s = subst (λ y. MatchOption y (NoSuch (IsUnsettled expected logs)) (IsLeftToAsk expected logs)) (sym e) none
 needed_as expected logs r certain (Some m) None j l first e s = absurd s
 needed_as expected logs r certain (Some m) (Some x) j l first e s = record {
   mask = subst (IsFirstMask (IsUnsettled expected logs)) (sym s.mask) first;
   open_masks = all_open_masks logs logs r.left.items certain x.masks.items (λ u i. l.members u) (λ k d lt u c. certain_by logs u (any_at (IsCertainIn u) logs k _ (slice_get-get_or logs k d lt) c)) j.left s.masks;
 }
 
-pub findings_of : (expected : List ℕ) (logs : List (List LogLine)) (r : Reconciliation) (all : List (ℕ × ℕ)) (certain some doubtful : List ℕ) (d : Differences) (f : Findings)
+pub findings_of : (expected : List ℕ) (logs : List (List LogLine)) (r : Reconciliation) (all : List (ℕ × ℕ)) (certain : List ℕ) (d : Differences) (f : Findings)
     → IsJoined expected logs r
     → IsStrictlyIncreasing certain → ((u : ℕ) → has certain u ≡ is_some (tree.get nat_cmp r.certain u))
     → SameUids (is_open_in all) (is_left r.left.items)
@@ -52,25 +38,23 @@ pub findings_of : (expected : List ℕ) (logs : List (List LogLine)) (r : Reconc
     → f.absent.items ≡ d.absent
     → map (λ (s : UnlistedUid). s.uid) f.unlisted.items ≡ d.unlisted
     → All (λ (s : UnlistedUid). tree.get nat_cmp r.certain s.uid ≡ Some s.place) f.unlisted.items
-    → IfNone d.unsettled (f.unsettled ≡ None) → IfSome d.unsettled (λ m. MatchOption f.unsettled ⊥ (IsLeftToAsk certain r.left.items m))
-    → IsListOf (IsFailing r.expected (has certain)) some → IsListOf (IsFailing some (has d.absent)) doubtful
-    → map (λ (s : DoubtfulUid). s.uid) f.doubtful.items ≡ doubtful
+    → IfNone d.unsettled (f.unsettled ≡ None) → IfSome d.unsettled (λ m. MatchOption f.unsettled ⊥ (HasOpenMasks certain r.left.items m))
+    → map (λ (s : DoubtfulUid). s.uid) f.doubtful.items ≡ d.doubtful
     → All (IsFirstLeft r.left.items) f.doubtful.items
     → AreFindings expected logs f
-findings_of expected logs r all certain some doubtful d f j rising members same differ is placed places none asked un l firsts lefts =
+findings_of expected logs r all certain d f j rising members same differ is placed places none asked firsts lefts =
     let facts = joined_facts expected logs r all certain j rising members same in
     let own = listed_as expected logs r j in
     let found = all_findings (IsPossibleUid logs) (IsCertainUid logs) (is_open_in all) certain r.expected expected d facts own differ in
-    let doubts : IsListOf (IsDoubtful expected logs) doubtful = doubtful_list (IsPossibleUid logs) (IsCertainUid logs) (is_open_in all) certain r.expected expected some d.absent doubtful facts own un differ.absent l in
     record {
       absent = subst (IsListOf (IsAbsent expected logs)) (sym is) found.absent;
       unlisted = subst (IsListOf (IsUnlisted expected logs)) (sym placed) found.unlisted;
       unlisted_shown = λ k s lt. told_at expected logs r (get_or f.unlisted.items k s) j (places k s lt);
       unsettled = needed_as expected logs r certain d.unsettled f.unsettled j facts.must found.unsettled none asked;
-      doubtful = subst (IsListOf (IsDoubtful expected logs)) (sym firsts) doubts;
+      doubtful = subst (IsListOf (IsDoubtful expected logs)) (sym firsts) found.doubtful;
       doubtful_first = λ k s lt.
           let x = get_or f.doubtful.items k s in
-          let w = (doubts.members x.uid).0 (subst (λ us. has us x.uid ≡ true) firsts (has_mapped (λ (y : DoubtfulUid). y.uid) f.doubtful.items k s lt)) in
+          let w = (found.doubtful.members x.uid).0 (subst (λ us. has us x.uid ≡ true) firsts (has_mapped (λ (y : DoubtfulUid). y.uid) f.doubtful.items k s lt)) in
           first_possible logs r.left.items x j.left (own.are_uids x.uid (own.members x.uid ∙ w.0)) w.1.1 (lefts k s lt);
     }
 
@@ -99,7 +83,7 @@ none_is_whole expected logs f p found none =
     nothing_is_whole expected logs p
     (none_of (IsAbsent expected logs) (subst (IsListOf (IsAbsent expected logs)) none.absent found.absent))
     (none_of (IsUnlisted expected logs) (subst (λ (xs : List UnlistedUid). IsListOf (IsUnlisted expected logs) (map (λ (s : UnlistedUid). s.uid) xs)) none.unlisted found.unlisted))
-    (subst (λ x. MatchOption x (NoSuch (IsUnsettled expected logs)) (IsUnsettledWith expected logs)) none.unsettled found.unsettled)
+    (subst (λ x. MatchOption x (NoSuch (IsUnsettled expected logs)) (IsLeftToAsk expected logs)) none.unsettled found.unsettled)
     (none_of (IsDoubtful expected logs) (subst (λ (xs : List DoubtfulUid). IsListOf (IsDoubtful expected logs) (map (λ (s : DoubtfulUid). s.uid) xs)) none.doubtful found.doubtful))
 
 -- a list of what there is none of is empty
@@ -107,7 +91,7 @@ none_list : {X : Type 0} (P : ℕ → Type 0) (uid : X → ℕ) (xs : List X) �
 none_list P uid [] none l = refl
 none_list P uid (x ∷ xs) none l = absurd (none (uid x) ((l.members (uid x)).0 (has_at (uid x) (uid x) (map uid xs) refl)))
 
-no_mask : (expected : List ℕ) (logs : List (List LogLine)) (x : Option Unsettled) → NoSuch (IsUnsettled expected logs) → MatchOption x (NoSuch (IsUnsettled expected logs)) (IsUnsettledWith expected logs) → x ≡ None
+no_mask : (expected : List ℕ) (logs : List (List LogLine)) (x : Option Unsettled) → NoSuch (IsUnsettled expected logs) → MatchOption x (NoSuch (IsUnsettled expected logs)) (IsLeftToAsk expected logs) → x ≡ None
 no_mask expected logs None none h = refl
 no_mask expected logs (Some x) none h = absurd (none x.mask h.mask.0)
 

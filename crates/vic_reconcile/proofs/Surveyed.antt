@@ -1,5 +1,5 @@
 -- What surveys tell together is what their logs tell.
-use Rattle.vic_reconcile.proofs.Words.{◌≡◌, ℕ, List, [], ◌∷◌, Bool, true, false, refl, sym, subst, ◌∙◌, inl, inr, ⊎_elim, ◌↔◌, MatchOption, All, Any, Contains, AllZip, list_any, IsStrictlyIncreasing, and_from, and_parts, both_ways, or_cases, or_left, or_right, All-contains, All-head, Any-from_list_any, list_any-from_Any, IsUid, has, BitMask, lies_in, SameUids, without_keys, is_open_in, LogLine, AreDifferences, IsFailing, IsListOf, SameMembers, IsFirstMask, NoSuch, AreFacts, AreListed, all_findings, doubtful_list, list_as, none_of, IsCertainUid, IsPossibleUid, IsAbsent, IsDoubtful, IsUnlisted, IsUnsettled, IsWhole, AreAll, IsOpenMask, held, Differences, IsUid-in, lies_in-uid_in, uid_in, AreFindingsBy, AreNoneOf, AreOpenIn, AreTogether, IsAmong, IsSurvey, IsToldBy, IsUnsettledBy, MayBe, ◌⊎◌, slice_get-get_or}
+use Rattle.vic_reconcile.proofs.Words.{◌≡◌, ℕ, List, [], ◌∷◌, Bool, true, false, refl, sym, subst, ◌∙◌, inl, inr, ⊎_elim, ◌↔◌, MatchOption, All, Any, Contains, AllZip, list_any, IsStrictlyIncreasing, and_from, and_parts, both_ways, or_cases, or_left, or_right, All-contains, All-head, Any-from_list_any, list_any-from_Any, IsUid, has, BitMask, lies_in, SameUids, without_keys, is_open_in, LogLine, AreDifferences, IsListOf, SameMembers, IsFirstMask, NoSuch, AreFacts, AreListed, all_findings, list_as, none_of, IsCertainUid, IsPossibleUid, IsAbsent, IsDoubtful, IsUnlisted, IsUnsettled, IsWhole, AreAll, IsOpenMask, held, Differences, IsUid-in, lies_in-uid_in, uid_in, AreFindingsBy, AreNoneOf, AreOpenIn, AreTogether, IsAmong, IsSurvey, IsToldBy, IsUnsettledBy, MayBe, ◌⊎◌, slice_get-get_or}
 use Rattle.vic_reconcile.specs.declared.surveys.PlainFindings.{PlainFindings}
 use Rattle.vic_reconcile.specs.declared.surveys.Survey.{Survey}
 use Rattle.vic_reconcile.proofs.Families.{IsCertainIn, IsCertainUid-iff, IsPossibleLog, family_of, any_back, any_zip, beside, certain_is_possible}
@@ -100,16 +100,15 @@ log_facts logs certain sorted masks set t f = record {
   sure = λ u. certain_is_possible logs u (possible_logs logs t.surveys t.each);
 }
 
-pub found : (P C : ℕ → Type 0) (set : ℕ → Bool) (sorted us expected some : List ℕ) (d : Differences) (f : PlainFindings) → AreFacts P C set sorted → AreListed us expected → AreDifferences set sorted us d
-    → IsListOf (IsFailing us (has sorted)) some → IsListOf (IsFailing some (has d.absent)) f.doubtful.items
-    → f.absent.items ≡ d.absent → f.unlisted.items ≡ d.unlisted → f.unsettled ≡ d.unsettled → AreFindingsBy P C expected f
-found P C set sorted us expected some d f facts own differ un l a b m =
+pub found : (P C : ℕ → Type 0) (set : ℕ → Bool) (sorted us expected : List ℕ) (d : Differences) (f : PlainFindings) → AreFacts P C set sorted → AreListed us expected → AreDifferences set sorted us d
+    → f.absent.items ≡ d.absent → f.unlisted.items ≡ d.unlisted → f.unsettled ≡ d.unsettled → f.doubtful.items ≡ d.doubtful → AreFindingsBy P C expected f
+found P C set sorted us expected d f facts own differ a b m n =
     let all = all_findings P C set sorted us expected d facts own differ in
     record {
       absent = subst (IsListOf (λ u. (has expected u ≡ true) × (P u → ⊥))) (sym a) all.absent;
       unlisted = subst (IsListOf (λ u. C u × (has expected u ≡ false))) (sym b) all.unlisted;
       unsettled = subst (λ x. MatchOption x (NoSuch (IsUnsettledBy P C expected)) (IsFirstMask (IsUnsettledBy P C expected))) (sym m) all.unsettled;
-      doubtful = doubtful_list P C set sorted us expected some d.absent f.doubtful.items facts own un differ.absent l;
+      doubtful = subst (IsListOf (λ u. (has expected u ≡ true) × (P u × (C u → ⊥)))) (sym n) all.doubtful;
     }
 
 pub none_found : (logs : List (List LogLine)) (certain : List ℕ) (masks : List BitMask) (expected : List ℕ) (f : PlainFindings) → AreTogether logs certain masks → AreFindingsBy (IsPossibleUid logs) (IsCertainUid logs) expected f → AreNoneOf f → IsWhole expected logs

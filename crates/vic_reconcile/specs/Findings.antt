@@ -61,8 +61,8 @@ pub record IsFirstTold (logs : List (List LogLine)) (u : ℕ) (p : Place) : Type
       → ShowsCertain lines p.line u
 
 -- the same, for an unlisted UID and its place
-abbrev pub IsToldOf : List (List LogLine) → UnlistedUid → Type 0
-IsToldOf logs s = IsFirstTold logs s.uid s.place
+abbrev pub IsShownCertain : List (List LogLine) → UnlistedUid → Type 0
+IsShownCertain logs s = IsFirstTold logs s.uid s.place
 
 -- the first log in which a UID is possible
 abbrev pub IsFirstPossible : List (List LogLine) → DoubtfulUid → Type 0
@@ -80,7 +80,7 @@ pub record AreOpenMasksOf (logs : List (List LogLine)) (lines : List LogLine) (o
       ↔ ((m : BitMask) × IsOpenMask set m × (Contains o.masks.items m → ⊥))
 
 -- what is left to ask for, log by log
-pub record IsUnsettledWith (expected : List ℕ) (logs : List (List LogLine)) (x : Unsettled)
+pub record IsLeftToAsk (expected : List ℕ) (logs : List (List LogLine)) (x : Unsettled)
     : Type 0 where
   pub mask : IsFirstMask (IsUnsettled expected logs) x.mask
   pub open_masks : AllZip (AreOpenMasksOf logs) logs x.masks.items
@@ -90,9 +90,9 @@ pub record AreFindings (expected : List ℕ) (logs : List (List LogLine)) (f : F
     : Type 0 where
   pub absent : IsListOf (IsAbsent expected logs) f.absent.items
   pub unlisted : IsListOf (IsUnlisted expected logs) (map (λ s. s.uid) f.unlisted.items)
-  pub unlisted_shown : All (IsToldOf logs) f.unlisted.items
+  pub unlisted_shown : All (IsShownCertain logs) f.unlisted.items
   pub unsettled : MatchOption f.unsettled (NoSuch (IsUnsettled expected logs))
-      (IsUnsettledWith expected logs)
+      (IsLeftToAsk expected logs)
   pub doubtful : IsListOf (IsDoubtful expected logs) (map (λ d. d.uid) f.doubtful.items)
   pub doubtful_first : All (IsFirstPossible logs) f.doubtful.items
 

@@ -8,13 +8,13 @@ ghost use Rattle.vic_frame.specs.Uids.{has};
 ghost use Rattle.vic_log.specs.declared.entry.LogLine.{LogLine as LogLineValue};
 ghost use Rattle.vic_reconcile.specs.Findings.{AreFindings, AreNone};
 ghost use Rattle.vic_reconcile.specs.Joined.{IsJoined};
-ghost use Rattle.vic_reconcile.specs.inner.Joined.{IsFirstLeft, IsLeftToAsk, is_left};
+ghost use Rattle.vic_reconcile.specs.inner.Joined.{IsFirstLeft, HasOpenMasks, is_left};
 
 use crate::reconciliation::{Place, Reconciliation};
 use std::alloc::{AllocError, Global};
 use vic_frame::{Mask, Uid};
 use vic_tree::{OpenMasks, OpenSet, RangeSet, RisingUids, SortedKeys};
-use vic_verdict::{compare, missing_from};
+use vic_verdict::compare;
 
 /// What logs tell together against a list of what is expected.
 #[derive(Drop)]
@@ -78,13 +78,11 @@ impl Reconciliation {
         let certain = self.certain_uids()?;
         let all = RangeSet::union(alloc, &self.left)?;
         let found = compare(alloc, all, &certain, &self.expected)?;
-        let uncertain = missing_from(alloc, &self.expected, &certain)?;
-        let doubtful = missing_from(alloc, &uncertain, &found.absent)?;
         Ok(Findings {
             absent: found.absent.into_vec(),
             unlisted: self.places_of(found.unlisted.as_slice())?,
             unsettled: self.left_to_ask(found.unsettled, certain.as_slice())?,
-            doubtful: self.first_logs(doubtful.as_slice())?,
+            doubtful: self.first_logs(found.doubtful.as_slice())?,
         })
     }
 
@@ -155,7 +153,7 @@ impl Reconciliation {
     ) -> Result<Option<Unsettled>, AllocError>
         ensures none { IfOk result (λ x. IfNone unsettled (x ≡ None)) }
         ensures some { IfOk result (λ x. IfSome unsettled (λ m. MatchOption x ⊥
-            (IsLeftToAsk certain.now self.now.left.items m))) }
+            (HasOpenMasks certain.now self.now.left.items m))) }
     {
         match unsettled {
             Some(mask) => Ok(Some(self.open_masks(mask, certain)?)),
@@ -166,7 +164,7 @@ impl Reconciliation {
     /// The open masks of each log without the UIDs that are certain in one, beside the mask that is
     /// unsettled.
     fn open_masks(&self, mask: Mask, certain: &[Uid]) -> Result<Unsettled, AllocError>
-        ensures { IfOk result (IsLeftToAsk certain.now self.now.left.items mask) }
+        ensures { IfOk result (HasOpenMasks certain.now self.now.left.items mask) }
     {
         let keys = SortedKeys::of(self.alloc, certain)?;
         let mut masks = Vec::with_capacity(self.alloc, self.left.len())?;

@@ -16,7 +16,7 @@ ghost use Rattle.vic_reconcile.specs.declared.findings.UnlistedUid.{UnlistedUid}
 ghost use Rattle.vic_reconcile.specs.declared.surveys.PlainFindings.{PlainFindings};
 ghost use Rattle.vic_reconcile.specs.Agreeing.{Agree, AgreeWithPlain, AgreeWithReport};
 ghost use Rattle.vic_reconcile.specs.Families.{ArePossible, IsPossibleUid, IsCertainUid};
-ghost use Rattle.vic_reconcile.specs.Findings.{AreFindings, AreNone, AreOpenMasksOf, IsToldOf, IsWhole};
+ghost use Rattle.vic_reconcile.specs.Findings.{AreFindings, AreNone, AreOpenMasksOf, IsShownCertain, IsWhole};
 ghost use Rattle.vic_reconcile.specs.Surveys.{AreFindingsBy};
 
 /// Logs are possible if each of them is. Then a UID is possible if it is possible in some log, and
@@ -40,7 +40,7 @@ pub fn one_log()
     ensures report { (lines : List LogLine) (f : Findings) (g : LogFindings)
         → AreFindings (listed (entries lines)) (lines ∷ []) f → report.AreFindings lines g
         → AgreeWithReport f g }
-    ensures shown { (lines : List LogLine) (s : UnlistedUid) → IsToldOf (lines ∷ []) s
+    ensures shown { (lines : List LogLine) (s : UnlistedUid) → IsShownCertain (lines ∷ []) s
         → (s.place.log ≡ 0) × ShowsCertain lines s.place.line s.uid }
     ensures open_masks { (lines : List LogLine) (o : OpenMasks)
         → AreOpenMasksOf (lines ∷ []) lines o ↔ report.AreOpenMasks (entries lines) o }

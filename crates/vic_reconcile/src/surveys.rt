@@ -16,7 +16,7 @@ use std::alloc::{AllocError, Global};
 use vic_frame::{Mask, Uid};
 use vic_log::Log;
 use vic_tree::{RangeSet, RisingUids, SortedKeys};
-use vic_verdict::{Facts, Verdict, compare, facts_of, missing_from, verdict_of_facts};
+use vic_verdict::{Facts, Verdict, compare, facts_of, verdict_of_facts};
 
 /// What is left of a log without its lines.
 #[derive(Drop)]
@@ -111,13 +111,11 @@ pub fn compare_surveys(
     let sure = in_order(alloc, certain)?;
     let set = RangeSet::of_masks(alloc, masks)?;
     let found = compare(alloc, set, &sure, &listed)?;
-    let uncertain = missing_from(alloc, &listed, &sure)?;
-    let doubtful = missing_from(alloc, &uncertain, &found.absent)?;
     Ok(PlainFindings {
         absent: found.absent.into_vec(),
         unlisted: found.unlisted.into_vec(),
         unsettled: found.unsettled,
-        doubtful: doubtful.into_vec(),
+        doubtful: found.doubtful.into_vec(),
     })
 }
 

@@ -1,5 +1,5 @@
 -- All findings of a possible log, and that the first of them is its verdict.
-use Rattle.vic_report.proofs.Words.{◌≡◌, ℕ, List, [], ◌∷◌, length, get_or, Bool, true, false, not, ◌&&◌, Option, Some, None, refl, sym, ap, ◌∙◌, ◌↔◌, MatchOption, option_map, All, and_parts, and_from, not-true, not_from_false, IsUid, has, Entry, LogLine, entries, listed, slots_of, is_open, uids_of, IsUndecided, IsLeftOpen, MayBeMissing, IsPossible, IsPossibleUid, IsCertainUid, ShownUid, AreFindings, AreOpenMasks, IsReport, IsUnsettledWith, verdict_by, unsettled_with, verdict_of, IsListOf, IsFailing, IsAbsent, IsUnlisted, IsFirstMask, NoSuch, IsVerdict, head_least, none_of, member_at, BitMask, SameUids, has_key, without_keys, OpenMasks, Complete, AreFacts, first_mask, missing_least, missing_or_absent, none_unsettled, open_iff}
+use Rattle.vic_report.proofs.Words.{◌≡◌, ℕ, List, [], ◌∷◌, length, get_or, Bool, true, false, not, ◌&&◌, Option, Some, None, refl, sym, ap, ◌∙◌, ◌↔◌, MatchOption, option_map, All, and_parts, and_from, not-true, not_from_false, IsUid, has, Entry, LogLine, entries, listed, slots_of, is_open, uids_of, IsUndecided, IsLeftOpen, MayBeMissing, IsPossible, IsPossibleUid, IsCertainUid, ShownUid, AreFindings, AreOpenMasks, IsReport, IsLeftToAsk, verdict_by, verdict_of, IsListOf, IsFailing, IsAbsent, IsUnlisted, IsFirstMask, NoSuch, IsVerdict, head_least, none_of, member_at, BitMask, SameUids, has_key, without_keys, OpenMasks, Complete, AreFacts, first_mask, missing_least, missing_or_absent, none_unsettled, open_iff}
 use Rattle.vic_report.specs.declared.findings.Unsettled.{Unsettled}
 use Rattle.vic_report.specs.declared.reporting.LogReport.{LogReport}
 use Rattle.vic_report.specs.declared.reporting.LogReport.TheVariants as report
@@ -17,7 +17,10 @@ open_set es set certain keys facts named u i =
     )
 
 -- what is left to ask for, with the open masks
-pub left_to_ask : (es : List Entry) (m : Option BitMask) (o : OpenMasks) → MatchOption m (NoSuch (IsLeftOpen es)) (IsFirstMask (IsLeftOpen es)) → AreOpenMasks es o → MatchOption (option_map (λ k. unsettled_with k o) m) (NoSuch (IsLeftOpen es)) (IsUnsettledWith es)
+abbrev unsettled_with : BitMask → OpenMasks → Unsettled
+unsettled_with m o = record { mask = m; «open» = o }
+
+pub left_to_ask : (es : List Entry) (m : Option BitMask) (o : OpenMasks) → MatchOption m (NoSuch (IsLeftOpen es)) (IsFirstMask (IsLeftOpen es)) → AreOpenMasks es o → MatchOption (option_map (λ k. unsettled_with k o) m) (NoSuch (IsLeftOpen es)) (IsLeftToAsk es)
 left_to_ask es None o none masks = none
 left_to_ask es (Some m) o first masks = record { mask = first; open_masks = masks }
 
@@ -47,7 +50,7 @@ none_is_complete lines count p a l f d counted =
     (p, absent, unlisted, none_unsettled es unlisted f, λ u x. missing_or_absent es u absent (none_of (MayBeMissing es) d u) x, counted)
 
 -- the mask of what is left to ask for
-masks_of : (es : List Entry) (x : Option Unsettled) → MatchOption x (NoSuch (IsLeftOpen es)) (IsUnsettledWith es) → MatchOption (option_map (λ (y : Unsettled). y.mask) x) (NoSuch (IsLeftOpen es)) (IsFirstMask (IsLeftOpen es))
+masks_of : (es : List Entry) (x : Option Unsettled) → MatchOption x (NoSuch (IsLeftOpen es)) (IsLeftToAsk es) → MatchOption (option_map (λ (y : Unsettled). y.mask) x) (NoSuch (IsLeftOpen es)) (IsFirstMask (IsLeftOpen es))
 masks_of es None h = h
 masks_of es (Some x) h = h.mask
 

@@ -1,5 +1,5 @@
 -- Slot lines that no population fits together: all up to the first impossible line; or one reply of a UID that is Quiet there.
-use Rattle.vic_report.proofs.Words.{◌≡◌, ℕ, zero, suc, ◌<◌, ◌≤◌, ◌+◌, List, [], ◌∷◌, ◌++◌, length, get_or, Bool, true, false, cond, Some, refl, sym, ap, ◌∙◌, subst, arith, ⊎_elim, slice_get, nat_le, leb, None, Option, MatchOption, option_map, filter, cases_Bool, leb-true, leb-false, map-append, All-get_or, filter_passes, slice_get-map, slice_get_within, get_or_from_slice_get, has, Entry, Sent, Heard, Captured, Unknown, hears, tells, eqb-true, Listed, FieldCycle, LogLine, entries, IsRisingFrom, answerers_at, Fits, CouldHaveGiven, is_quiet, FitsLines, IsConflictAt, IsNoQuietReply, IsSilencedBefore, IsSilencedBy, IsSlotLine, IsPossible, entries_to, IsVerdict, IsStrictlyIncreasing, agree_upto, answerers_agree, CouldHaveGiven-front, slice_get-append, Impossible, cases_eq, true_from_ne_false, get_or_default, slice_get_read, cases_lt, inl, inr, IsNonDecreasingBy, IsPartitionPoint, All, AllPairs, AllPairs-filter, Equal, Greater, HoldsAt, Less, Lone, and_from, and_parts, answers_at, cond_both, false≢true, get_or-map, has_cases, has_here, has_there, le-leb, length-map, map, nat_cmp, nat_tests, not-true, ordering_index, outcome_of, ranked, silenced-quiet, silences, AreSlotLinesTo, ◌&&◌}
+use Rattle.vic_report.proofs.Words.{◌≡◌, ℕ, zero, suc, ◌<◌, ◌≤◌, ◌+◌, List, [], ◌∷◌, ◌++◌, length, get_or, Bool, true, false, cond, Some, refl, sym, ap, ◌∙◌, subst, arith, ⊎_elim, slice_get, nat_le, leb, None, Option, MatchOption, option_map, filter, cases_Bool, leb-true, leb-false, map-append, All-get_or, filter_passes, slice_get-map, slice_get_within, get_or_from_slice_get, has, Entry, Sent, Heard, Captured, Unknown, hears, tells, eqb-true, Listed, FieldCycle, LogLine, entries, IsRisingFrom, answerers_at, Fits, CouldHaveGiven, is_quiet, FitsLines, IsConflictAt, IsNoQuietReply, IsSilencedBefore, IsSilencedBy, IsTellingLine, IsPossible, entries_to, IsVerdict, IsStrictlyIncreasing, agree_upto, answerers_agree, CouldHaveGiven-front, slice_get-append, Impossible, cases_eq, true_from_ne_false, get_or_default, slice_get_read, cases_lt, inl, inr, IsNonDecreasingBy, IsPartitionPoint, All, AllPairs, AllPairs-filter, Equal, Greater, HoldsAt, Less, Lone, and_from, and_parts, answers_at, cond_both, false≢true, get_or-map, has_cases, has_here, has_there, le-leb, length-map, map, nat_cmp, nat_tests, not-true, ordering_index, outcome_of, ranked, silenced-quiet, silences, IsListOf, ◌&&◌}
 use Rattle.vic_verdict.proofs.Listing.{number_above}
 
 -- ---- the lines 1 to n
@@ -118,10 +118,10 @@ is_slot_to n l = nat_le l.number n && tells l.item
 abbrev slots_to : ℕ → List LogLine → List LogLine
 slots_to n lines = filter (is_slot_to n) lines
 
-abbrev slot_numbers_to : ℕ → List LogLine → List ℕ
-slot_numbers_to n lines = map (λ l. l.number) (slots_to n lines)
+abbrev telling_numbers_to : ℕ → List LogLine → List ℕ
+telling_numbers_to n lines = map (λ l. l.number) (slots_to n lines)
 
-slots_rise : (n : ℕ) (lines : List LogLine) → IsRisingFrom 0 lines → IsStrictlyIncreasing (slot_numbers_to n lines)
+slots_rise : (n : ℕ) (lines : List LogLine) → IsRisingFrom 0 lines → IsStrictlyIncreasing (telling_numbers_to n lines)
 slots_rise n lines r k within =
     let number = λ (l : LogLine). l.number in
     let slots = slots_to n lines in
@@ -130,47 +130,47 @@ slots_rise n lines r k within =
     let up = AllPairs-filter (λ (x y : LogLine). x.number < y.number) (is_slot_to n) lines (numbers_rise 0 lines r) k (k + 1) d (omega arith) (omega arith) in
     omega (arith, up, get_or-map number slots k d 0 (omega arith), get_or-map number slots (k + 1) d 0 (omega arith))
 
-slot_behind : (n m : ℕ) (x : LogLine) (lines : List LogLine) → (m ≤ n) × IsSlotLine lines m → (m ≤ n) × IsSlotLine (x ∷ lines) m
+slot_behind : (n m : ℕ) (x : LogLine) (lines : List LogLine) → (m ≤ n) × IsTellingLine lines m → (m ≤ n) × IsTellingLine (x ∷ lines) m
 slot_behind n m x lines w = (w.0, record { place = suc w.1.place; line = w.1.line; there = w.1.there; number = w.1.number; slot = w.1.slot })
 
-slots_among : (n m : ℕ) (lines : List LogLine) → has (slot_numbers_to n lines) m ≡ true → (m ≤ n) × IsSlotLine lines m
+slots_among : (n m : ℕ) (lines : List LogLine) → has (telling_numbers_to n lines) m ≡ true → (m ≤ n) × IsTellingLine lines m
 slots_among n m [] h = absurd (false≢true h)
 slots_among n m (x ∷ lines) h =
     let rest = slots_to n lines in
-    let later = λ (t : has (slot_numbers_to n lines) m ≡ true). slot_behind n m x lines (slots_among n m lines t) in
-    cond_both (is_slot_to n x) (x ∷ rest) rest (λ (ls : List LogLine). has (map (λ (l : LogLine). l.number) ls) m ≡ true → (m ≤ n) × IsSlotLine (x ∷ lines) m)
+    let later = λ (t : has (telling_numbers_to n lines) m ≡ true). slot_behind n m x lines (slots_among n m lines t) in
+    cond_both (is_slot_to n x) (x ∷ rest) rest (λ (ls : List LogLine). has (map (λ (l : LogLine). l.number) ls) m ≡ true → (m ≤ n) × IsTellingLine (x ∷ lines) m)
     (λ yes g.
     let w = and_parts (nat_le x.number n) (tells x.item) yes in
     let small = leb-true x.number n w.0 in
-    ⊎_elim (λ e. (omega arith, record { place = 0; line = x; there = refl; number = sym e; slot = w.1 })) later (has_cases m x.number (slot_numbers_to n lines) g))
+    ⊎_elim (λ e. (omega arith, record { place = 0; line = x; there = refl; number = sym e; slot = w.1 })) later (has_cases m x.number (telling_numbers_to n lines) g))
     (λ no g. later g) h
 
-slots_all : (n : ℕ) (lines : List LogLine) → HaveSlotsTo lines n (slot_numbers_to n lines)
+slots_all : (n : ℕ) (lines : List LogLine) → HaveSlotsTo lines n (telling_numbers_to n lines)
 slots_all n [] k x g small slot = cc
 slots_all n (y ∷ lines) zero x g small slot =
     let same : y ≡ x = cc in
     let rest = slots_to n lines in
-    subst (λ (z : LogLine). has (slot_numbers_to n (z ∷ lines)) x.number ≡ true) (sym same)
+    subst (λ (z : LogLine). has (telling_numbers_to n (z ∷ lines)) x.number ≡ true) (sym same)
     (cond_both (is_slot_to n x) (x ∷ rest) rest (λ (ls : List LogLine). has (map (λ (l : LogLine). l.number) ls) x.number ≡ true)
-    (λ yes. has_here x.number (slot_numbers_to n lines))
+    (λ yes. has_here x.number (telling_numbers_to n lines))
     (λ no. absurd (false≢true (sym no ∙ and_from _ _ (le-leb x.number n small) slot))))
 slots_all n (y ∷ lines) (suc k) x g small slot =
     let rest = slots_to n lines in
     let later = slots_all n lines k x g small slot in
     cond_both (is_slot_to n y) (y ∷ rest) rest (λ (ls : List LogLine). has (map (λ (l : LogLine). l.number) ls) x.number ≡ true)
-    (λ yes. has_there x.number y.number (slot_numbers_to n lines) later) (λ no. later)
+    (λ yes. has_there x.number y.number (telling_numbers_to n lines) later) (λ no. later)
 
-pub slots_to_line : (n : ℕ) (lines : List LogLine) → IsRisingFrom 0 lines → AreSlotLinesTo lines n (slot_numbers_to n lines)
+pub slots_to_line : (n : ℕ) (lines : List LogLine) → IsRisingFrom 0 lines → IsListOf (λ m. (m ≤ n) × IsTellingLine lines m) (telling_numbers_to n lines)
 slots_to_line n lines r = record {
   rising = slots_rise n lines r;
   members = λ m. (
     slots_among n m lines,
-    λ w. let all = slots_all n lines w.1.place w.1.line w.1.there (omega (arith, w.0, w.1.number)) w.1.slot in subst (λ k. has (slot_numbers_to n lines) k ≡ true) w.1.number all,
+    λ w. let all = slots_all n lines w.1.place w.1.line w.1.there (omega (arith, w.0, w.1.number)) w.1.slot in subst (λ k. has (telling_numbers_to n lines) k ≡ true) w.1.number all,
   );
 }
 
 -- all of them are a conflict, if n is the first impossible line
-pub slots_conflict : (lines : List LogLine) (n : ℕ) (numbers : List ℕ) → IsRisingFrom 0 lines → IsVerdict lines (Impossible n) → AreSlotLinesTo lines n numbers → IsConflictAt lines n numbers
+pub slots_conflict : (lines : List LogLine) (n : ℕ) (numbers : List ℕ) → IsRisingFrom 0 lines → IsVerdict lines (Impossible n) → IsListOf (λ m. (m ≤ n) × IsTellingLine lines m) numbers → IsConflictAt lines n numbers
 slots_conflict lines n numbers r least slots =
     let all : HaveSlotsTo lines n numbers = λ k x there small slot. (slots.members x.number).1 (small, record { place = k; line = x; there = there; number = refl; slot = slot }) in
     record {

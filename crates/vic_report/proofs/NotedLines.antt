@@ -7,7 +7,10 @@ use Rattle.std.proofs.lemmas.List.Folds.{list_any_more}
 use Rattle.std.proofs.lemmas.Grind.{common_steps}
 use Rattle.std.specs.BTreeMap as map
 use Rattle.vic_report.specs.inner.NotedLines.{HasNoted, is_noted}
-use Rattle.vic_verdict.specs.Needs.{IsExactAt, IsExactFor, IsMet, IsMetFor}
+use Rattle.vic_verdict.specs.Needs.{ForcesThere, IsMet, SomeForces}
+use Rattle.vic_verdict.specs.Possible.{IsCertainUid, IsPossible}
+use Rattle.vic_verdict.proofs.Decide.{IsCertainUid-iff}
+use Rattle.vic_verdict.proofs.Meeting.{forced_iff}
 use Rattle.vic_verdict.specs.Verdict.{IsHeard}
 use Rattle.vic_verdict.specs.declared.facts.Met.{Met}
 
@@ -61,20 +64,20 @@ heard_within es i u long h = elim (cases_lt h.0 (length es)) [
 ]
 
 -- some of the first n slots needs the UID
-abbrev pub IsExactBefore : List Answering → ℕ → ℕ → Type 0
-IsExactBefore fs n u = (k : ℕ) × (f : Answering) × (k < n) × (get_or fs k f ≡ f) × IsExactAt f u
+abbrev pub SomeForcesBefore : List Answering → ℕ → ℕ → Type 0
+SomeForcesBefore fs n u = (k : ℕ) × (f : Answering) × (k < n) × (get_or fs k f ≡ f) × ForcesThere f u
 
-pub exact_split : (fs : List Answering) (i u : ℕ) (f : Answering) → i < length fs → f ≡ get_or fs i f → IsExactBefore fs (i + 1) u → IsExactBefore fs i u ⊎ IsExactAt f u
-exact_split fs i u f below is w = elim (cases_eq w.0 i) [
+pub forces_split : (fs : List Answering) (i u : ℕ) (f : Answering) → i < length fs → f ≡ get_or fs i f → SomeForcesBefore fs (i + 1) u → SomeForcesBefore fs i u ⊎ ForcesThere f u
+forces_split fs i u f below is w = elim (cases_eq w.0 i) [
   | inl here ↦
       let there : get_or fs i w.1 ≡ w.1 = subst (λ n. get_or fs n w.1 ≡ w.1) here w.3 in
       let same : w.1 ≡ f = sym there ∙ (get_or_default fs i w.1 f below ∙ sym is) in
-      inr (subst (λ a. IsExactAt a u) same w.4)
+      inr (subst (λ a. ForcesThere a u) same w.4)
   | inr other ↦ let lt = w.2 in inl (w.0, w.1, omega (arith, lt, other), w.3, w.4)
 ]
 
-pub exact_within : (fs : List Answering) (i u : ℕ) → length fs ≤ i → IsExactFor fs u → IsExactBefore fs i u
-exact_within fs i u long w = let lt = w.2 in (w.0, w.1, omega (arith, lt, long), w.3, w.4)
+pub forces_within : (fs : List Answering) (i u : ℕ) → length fs ≤ i → SomeForces fs u → SomeForcesBefore fs i u
+forces_within fs i u long w = let lt = w.2 in (w.0, w.1, omega (arith, lt, long), w.3, w.4)
 
 pub member_split : (us : List ℕ) (i u own : ℕ) → i < length us → own ≡ get_or us i own → has (take (i + 1) us) u ≡ true → (has (take i us) u ≡ true) ⊎ (u ≡ own)
 member_split us i u own below is h = elim (or_cases _ _ (sym (list_any_more (nat_eq u) us i own below) ∙ h)) [
@@ -84,8 +87,8 @@ member_split us i u own below is h = elim (or_cases _ _ (sym (list_any_more (nat
 
 -- ---- replies, and then unread slots
 
-pub met_noted : (lines : List LogLine) (met : Met) (a b c : map.BTreeMap ℕ ℕ) (u : ℕ) → IsMet (entries lines) met → HasNoted lines a b (IsHeard (entries lines)) → HasNoted lines b c (IsExactFor met.unread.items) → IsMetFor met u → is_noted c u ≡ true
-met_noted lines met a b c u is replies unread for = elim for [
+pub met_noted : (lines : List LogLine) (met : Met) (a b c : map.BTreeMap ℕ ℕ) (u : ℕ) → IsPossible (entries lines) → IsMet (entries lines) met → HasNoted lines a b (IsHeard (entries lines)) → HasNoted lines b c (SomeForces met.unread.items) → IsCertainUid (entries lines) u → is_noted c u ≡ true
+met_noted lines met a b c u possible is replies unread must = elim ((forced_iff (entries lines) met u is).0 ((IsCertainUid-iff (entries lines) u possible).0 must)) [
   | inl heard ↦ unread.kept u (replies.more u ((is.heard u).0 heard))
   | inr exact ↦ unread.more u exact
 ]

@@ -1,5 +1,5 @@
 -- The first line that rules a UID out, by the end that a walk knows of it.
-use Rattle.vic_report.proofs.Words.{◌≡◌, ℕ, ◌-◌, ◌<◌, ◌≤◌, zero, suc, All, List, length, Bool, true, false, Option, Some, None, refl, sym, ap, ◌∙◌, subst, arith, cases_lt, nat_tests, inl, inr, false≢true, slice_get, get_or, get_or_default, IsUid, Entry, LogLine, IsRisingFrom, entries, answers_at, reading_of, slots_before, is_open, IsPossible, RulesOut, denies_reply_of, entry_allows, [], ◌∷◌, option_map, slice_get-map, open_step}
+use Rattle.vic_report.proofs.Words.{◌≡◌, ℕ, ◌-◌, ◌<◌, ◌≤◌, zero, suc, All, List, length, Bool, true, false, Option, Some, None, refl, sym, ap, ◌∙◌, subst, arith, cases_lt, nat_tests, inl, inr, false≢true, slice_get, get_or, get_or_default, IsUid, Entry, LogLine, IsRisingFrom, entries, answers_at, reading_of, slots_before, is_open, IsPossible, RulesOut, denies_reply_of, some_denies_reply_of, and_from, and_parts, entry_allows, [], ◌∷◌, option_map, slice_get-map, open_step}
 use Rattle.vic_verdict.proofs.Listing.{number_above}
 use Rattle.vic_verdict.proofs.Walking.{broken_log}
 use Rattle.vic_verdict.specs.Verdict.{IsLeast}
@@ -63,9 +63,11 @@ allows_none e u h = grind (arith, nat_tests)
 -- a UID that a line rules out isn't open after it
 shut_after : (lines : List LogLine) (n u : ℕ) (r : RulesOut lines n u) → is_open (slots_before (entries lines) (suc r.place)) u ≡ false
 shut_after lines n u r =
-    let none = allows_none r.line.item u r.lacks in
-    let step = open_step (entries lines) r.place r.line.item u (line_at lines r.place r.line r.there) in
-    grind (arith, step, r.answers, none)
+    let here = line_at lines r.place r.line r.there in
+    let missed = and_parts (answers_at (entries lines) r.place u) (some_denies_reply_of (slice_get (entries lines) r.place) u) r.overlooked in
+    let none = allows_none r.line.item u (rw here at missed.1) in
+    let step = open_step (entries lines) r.place r.line.item u here in
+    grind (arith, step, missed.0, none)
 
 -- the line at the end is the first that rules the UID out
 pub first_ruling : (lines : List LogLine) (u end : ℕ) (l : LogLine) → IsRisingFrom 0 lines → IsEnd (entries lines) (length (entries lines)) u end → 0 < end → slice_get lines (end - 1) ≡ Some l → IsLeast (λ n. RulesOut lines n u) l.number
@@ -74,9 +76,10 @@ first_ruling lines u (suc j) l rising h some read =
     let es = entries lines in
     let back : suc j - 1 ≡ j = omega arith in
     let k : slice_get lines j ≡ Some l = subst (λ n. slice_get lines n ≡ Some l) back read in
-    let step = open_step es j l.item u (line_at lines j l k) in
+    let here = line_at lines j l k in
+    let step = open_step es j l.item u here in
     let not = not_allowed l.item (answers_at es j u) u (grind (arith, step, h.1, h.2)) in (
-      record { place = j; line = l; there = k; number = refl; answers = not.0; lacks = not.1 },
+      record { place = j; line = l; there = k; number = refl; overlooked = and_from _ _ not.0 (ap (λ e. some_denies_reply_of e u) here ∙ not.1) },
       (λ n r. elim (cases_lt r.place j) [
         | inl before ↦ absurd (false≢true (sym (shut_after lines n u r) ∙ open_earlier es u (suc r.place) j (omega (arith, before)) h.1))
         | inr after ↦ rw (← r.number) (rising_numbers 0 lines j r.place l r.line rising after k r.there)

@@ -1,5 +1,5 @@
 -- A search of rising numbers finds each of them, and nothing else.
-use Rattle.vic_report.proofs.Words.{◌≡◌, ℕ, ◌<◌, ◌≤◌, inl, inr, sym, arith, true, false, List, length, get_or, Result, Ok, Err, MatchResult, is_ok, nat_cmp, nat_eq, eq-eqb, ne_eqb, ◌==◌, cases_lt, All-from_get_or, list_any_at, list_any_none, AllPairs-from_increasing, searched, IsBinarySearchResult, IsStrictlyIncreasing, has}
+use Rattle.vic_report.proofs.Words.{◌≡◌, ℕ, ◌<◌, ◌≤◌, inl, inr, sym, arith, false, List, length, get_or, Result, Ok, Err, MatchResult, is_ok, nat_cmp, nat_eq, eq-eqb, ne_eqb, ◌==◌, cases_lt, All-from_get_or, list_any_at, list_any_none, AllPairs-from_increasing, searched, IsBinarySearchResult, IsStrictlyIncreasing, has}
 
 pub found_among : (xs : List ℕ) (x : ℕ) (r : Result ℕ ℕ) → IsBinarySearchResult (λ y. nat_cmp y x) xs r → IsStrictlyIncreasing xs → is_ok r ≡ has xs x
 found_among xs x r h up = at_result r (searched xs x r h rising) where

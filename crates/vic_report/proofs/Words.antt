@@ -35,23 +35,22 @@ pub use Rattle.vic_tree.specs.OpenSet.{SameUids, has_key, without_keys}
 pub use Rattle.vic_tree.specs.Ranges.{is_open_in}
 pub use Rattle.vic_tree.specs.declared.open_masks.OpenMasks.{OpenMasks}
 pub use Rattle.vic_verdict.proofs.Decide.{IsPossibleUid-iff}
-pub use Rattle.vic_verdict.proofs.Differing.{AreFacts, AreListed, all_findings, doubtful_list, first_mask, log_facts, missing_least, missing_or_absent, none_unsettled, open_iff}
+pub use Rattle.vic_verdict.proofs.Differing.{AreFacts, AreListed, all_findings, first_mask, log_facts, missing_least, missing_or_absent, none_unsettled, open_iff}
 pub use Rattle.vic_verdict.proofs.Entries.{entry_allows, forces_one_iff, forces_two_iff, needs_two_or_one, open_step}
 pub use Rattle.vic_verdict.proofs.Failing.{head_least, member_at, none_of, place_of, rising_order}
 pub use Rattle.vic_verdict.proofs.Listing.{entry_at}
 pub use Rattle.vic_walk.proofs.LineLaws.{first_lines}
-pub use Rattle.vic_verdict.specs.Needs.{IsFound, answering}
+pub use Rattle.vic_walk.specs.Answers.{AreAnswering, IsAnsweringAt, is_open_there}
 pub use Rattle.vic_verdict.specs.Differences.{IsLeftOpen, IsUndecided, MayBeMissing}
 pub use Rattle.vic_verdict.specs.Possible.{IsCertainUid, IsPossible, IsPossibleUid}
 pub use Rattle.vic_verdict.specs.Rising.{IsFailing, IsListOf}
 pub use Rattle.vic_verdict.specs.Verdict.{IsAbsent, IsFirstMask, IsUnlisted, IsVerdict, NoSuch, entries_to}
 pub use Rattle.vic_walk.specs.declared.answers.Answering.{Answering}
 pub use Rattle.vic_verdict.specs.declared.judging.Verdict.TheVariants.{Complete, Impossible}
-pub use Rattle.vic_report.specs.Conflicts.{FitsLines, IsConflictAt, IsNoQuietReply, IsSilencedBefore, IsSilencedBy, IsSlotLine}
-pub use Rattle.vic_report.specs.Findings.{IsRuledOut, IsToldOf, MayAnswer, RulesOut, ShowsCertain, TellsOf, uids_of}
-pub use Rattle.vic_log.specs.Overlooked.{denies_reply_of}
-pub use Rattle.vic_report.specs.Reports.{AreFindings, AreOpenMasks, IsReport, IsUnsettledWith, verdict_by, unsettled_with, verdict_of}
+pub use Rattle.vic_report.specs.Conflicts.{FitsLines, IsConflictAt, IsNoQuietReply, IsSilencedBefore, IsSilencedBy, IsTellingLine}
+pub use Rattle.vic_report.specs.Findings.{IsRuledOut, IsShownCertain, MayAnswer, RulesOut, ShowsCertain, ShowsAt, uids_of}
+pub use Rattle.vic_log.specs.Overlooked.{denies_reply_of, some_denies_reply_of}
+pub use Rattle.vic_report.specs.Reports.{AreFindings, AreOpenMasks, IsReport, IsLeftToAsk, verdict_by, verdict_of}
 pub use Rattle.vic_report.specs.declared.shown.ShownUid.{ShownUid}
 pub use Rattle.vic_report.specs.inner.KeptLogs.{IsKeptLog, KeepsLine, SameQuiet, one_slot, with_slot}
-pub use Rattle.vic_report.specs.inner.SlotLines.{AreSlotLinesTo}
 pub use Rattle.std.proofs.lemmas.List.Folds.{list_any_at, list_any_none}

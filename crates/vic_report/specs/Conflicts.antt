@@ -12,15 +12,14 @@ use Rattle.vic_report.specs.declared.conflict.Conflict.{Conflict}
 use Rattle.vic_verdict.specs.declared.judging.Verdict.TheVariants.{Impossible}
 use Rattle.vic_verdict.specs.Verdict.{IsVerdict}
 
--- the population fits the lines with these numbers: those of the population who answer at one of
--- them fit it
+-- each line with one of these numbers fits the tags of the population that answer there
 abbrev pub FitsLines : List LogLine → List ℕ → List ℕ → Type 0
 FitsLines lines numbers p =
     (i : ℕ) (l : LogLine) → slice_get lines i ≡ Some l → has numbers l.number ≡ true
     → Fits l.item (answerers_at (entries lines) i p)
 
 -- the line with this number is a slot line that tells something
-pub record IsSlotLine (lines : List LogLine) (n : ℕ) : Type 0 where
+pub record IsTellingLine (lines : List LogLine) (n : ℕ) : Type 0 where
   pub place : ℕ
   pub line : LogLine
   pub there : slice_get lines place ≡ Some line
@@ -32,7 +31,7 @@ pub record IsConflictAt (lines : List LogLine) (n : ℕ) (numbers : List ℕ) : 
   pub rising : IsStrictlyIncreasing numbers
   pub ends : has numbers n ≡ true
   pub upto : (m : ℕ) → has numbers m ≡ true → m ≤ n
-  pub slots : (m : ℕ) → has numbers m ≡ true → IsSlotLine lines m
+  pub slots : (m : ℕ) → has numbers m ≡ true → IsTellingLine lines m
   pub unfit : (p : List ℕ) → IsPopulation p → FitsLines lines numbers p → ⊥
 
 -- the tag with UID u is Quiet at position i by the line with number n: the last Stay Quiet with the

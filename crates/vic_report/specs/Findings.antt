@@ -4,7 +4,7 @@ use Rattle.vic_log.specs.declared.entry.Entry.{Entry}
 use Rattle.vic_log.specs.declared.entry.Entry.TheVariants.{Collision, Heard, Garbled, Captured}
 use Rattle.vic_log.specs.declared.entry.LogLine.{LogLine}
 use Rattle.vic_log.specs.Order.{entries}
-use Rattle.vic_log.specs.Overlooked.{denies_reply_of}
+use Rattle.vic_log.specs.Overlooked.{is_overlooked}
 use Rattle.vic_log.specs.Populations.{answers_at}
 use Rattle.vic_report.specs.declared.shown.ShownUid.{ShownUid}
 use Rattle.vic_verdict.specs.Possible.{IsPossibleUid}
@@ -17,8 +17,7 @@ pub record RulesOut (lines : List LogLine) (n u : ℕ) : Type 0 where
   pub line : LogLine
   pub there : slice_get lines place ≡ Some line
   pub number : line.number ≡ n
-  pub answers : answers_at (entries lines) place u ≡ true
-  pub lacks : denies_reply_of line.item u ≡ true
+  pub overlooked : is_overlooked (entries lines) place u ≡ true
 
 -- the UID is possible and, if it is in the field, answers in the slot at position i
 abbrev pub MayAnswer : List Entry → ℕ → ℕ → Type 0
@@ -27,15 +26,15 @@ MayAnswer es i u = IsPossibleUid es u × (answers_at es i u ≡ true)
 -- the slot at position i, with this entry, shows that the UID is there: by its reply; or, if two or
 -- more tags answered, as one of the only two UIDs that may have; or, if one or more did, as the
 -- only one
-abbrev pub TellsOf : List Entry → ℕ → ℕ → Entry → Type 0
-TellsOf es i u (Heard r) = r.uid ≡ u
-TellsOf es i u (Captured r) = r.uid ≡ u
-TellsOf es i u Collision =
+abbrev pub ShowsAt : List Entry → ℕ → ℕ → Entry → Type 0
+ShowsAt es i u (Heard r) = r.uid ≡ u
+ShowsAt es i u (Captured r) = r.uid ≡ u
+ShowsAt es i u Collision =
     MayAnswer es i u
     × ((v : ℕ) × (v ≢ u) × MayAnswer es i v
     × ((w : ℕ) → MayAnswer es i w → (w ≡ u) ⊎ (w ≡ v)))
-TellsOf es i u Garbled = MayAnswer es i u × ((w : ℕ) → MayAnswer es i w → w ≡ u)
-TellsOf es i u e = ⊥
+ShowsAt es i u Garbled = MayAnswer es i u × ((w : ℕ) → MayAnswer es i w → w ≡ u)
+ShowsAt es i u e = ⊥
 
 -- the line with this number shows that the UID is there
 pub record ShowsCertain (lines : List LogLine) (n u : ℕ) : Type 0 where
@@ -43,15 +42,15 @@ pub record ShowsCertain (lines : List LogLine) (n u : ℕ) : Type 0 where
   pub line : LogLine
   pub there : slice_get lines place ≡ Some line
   pub number : line.number ≡ n
-  pub tells : TellsOf (entries lines) place u line.item
+  pub shows : ShowsAt (entries lines) place u line.item
 
 -- the line beside a UID rules it out, and no earlier line does
 abbrev pub IsRuledOut : List LogLine → ShownUid → Type 0
 IsRuledOut lines s = IsLeast (λ n. RulesOut lines n s.uid) s.line
 
 -- the line beside a UID shows that it is there
-abbrev pub IsToldOf : List LogLine → ShownUid → Type 0
-IsToldOf lines s = ShowsCertain lines s.line s.uid
+abbrev pub IsShownCertain : List LogLine → ShownUid → Type 0
+IsShownCertain lines s = ShowsCertain lines s.line s.uid
 
 -- the UIDs of a list, without their lines
 abbrev pub uids_of : List ShownUid → List ℕ

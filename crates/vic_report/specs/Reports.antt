@@ -17,7 +17,7 @@ use Rattle.vic_report.specs.declared.reporting.LogReport.TheVariants.{Impossible
 use Rattle.vic_verdict.specs.declared.judging.Verdict.{Verdict}
 use Rattle.vic_verdict.specs.declared.judging.Verdict.TheVariants as verdict
 use Rattle.vic_report.specs.Conflicts.{IsConflict}
-use Rattle.vic_report.specs.Findings.{IsRuledOut, IsToldOf, uids_of}
+use Rattle.vic_report.specs.Findings.{IsRuledOut, IsShownCertain, uids_of}
 use Rattle.vic_verdict.specs.Possible.{IsPossible}
 use Rattle.vic_verdict.specs.Differences.{IsUndecided, IsLeftOpen, MayBeMissing}
 use Rattle.vic_verdict.specs.Rising.{IsListOf}
@@ -32,12 +32,8 @@ pub record AreOpenMasks (es : List Entry) (o : OpenMasks) : Type 0 where
   pub more : (o.more ≡ true)
       ↔ ((m : BitMask) × IsOpenMask set m × (Contains o.masks.items m → ⊥))
 
--- a mask, and the open masks
-abbrev pub unsettled_with : BitMask → OpenMasks → Unsettled
-unsettled_with m o = record { mask = m; «open» = o }
-
 -- what is left to ask for
-pub record IsUnsettledWith (es : List Entry) (x : Unsettled) : Type 0 where
+pub record IsLeftToAsk (es : List Entry) (x : Unsettled) : Type 0 where
   pub mask : IsFirstMask (IsLeftOpen es) x.mask
   pub open_masks : AreOpenMasks es x.open
 
@@ -48,9 +44,9 @@ pub record AreFindings (lines : List LogLine) (f : Findings) : Type 0 where
   pub absent : IsListOf (IsAbsent (entries lines)) (uids_of f.absent.items)
   pub absent_shown : All (IsRuledOut lines) f.absent.items
   pub unlisted : IsListOf (IsUnlisted (entries lines)) (uids_of f.unlisted.items)
-  pub unlisted_shown : All (IsToldOf lines) f.unlisted.items
+  pub unlisted_shown : All (IsShownCertain lines) f.unlisted.items
   pub unsettled : MatchOption f.unsettled (NoSuch (IsLeftOpen (entries lines)))
-      (IsUnsettledWith (entries lines))
+      (IsLeftToAsk (entries lines))
   pub doubtful : IsListOf (MayBeMissing (entries lines)) f.doubtful.items
 
 -- there are no findings

@@ -1,4 +1,3 @@
 -- Definitions that private contracts alone cite.
 pub mod KeptLogs
 pub mod NotedLines
-pub mod SlotLines

@@ -1,19 +1,20 @@
 //! Lines that show that UIDs are there.
 //!
-//! The first line is noted for each UID: of replies, and then of the unread slots that require all
-//! who answer there. That a reply is the first one is only tested.
+//! For each UID its first reply is noted, or, if it was never heard, the first unread slot that
+//! requires all who answer there. That a reply is the first one is only tested.
 
-ghost use Rattle.std.specs.Prelude.{◌≡◌, ℕ, IfOk, OnOk, Some, List, slice_get, true};
+ghost use Rattle.std.specs.Prelude.{◌≡◌, ℕ, IfOk, OnOk, Some, List, length, slice_get, true};
 ghost use Rattle.std.specs.List.{All};
 ghost use Rattle.vic_frame.specs.Uids.{has};
 ghost use Rattle.vic_log.specs.declared.entry.LogLine.{LogLine as LogLineValue};
 ghost use Rattle.vic_log.specs.Order.{entries};
 ghost use Rattle.vic_log.specs.Slots.{hears};
 ghost use Rattle.vic_verdict.specs.Verdict.{IsHeard};
-ghost use Rattle.vic_verdict.specs.Needs.{IsExactFor, IsFound, IsMet, IsMetFor};
-ghost use Rattle.vic_report.specs.Findings.{IsToldOf, ShowsCertain, uids_of};
+ghost use Rattle.vic_verdict.specs.Needs.{IsMet, SomeForces};
+ghost use Rattle.vic_walk.specs.Answers.{AreAnswering};
+ghost use Rattle.vic_report.specs.Findings.{IsShownCertain, ShowsCertain, uids_of};
 ghost use Rattle.vic_report.specs.inner.NotedLines.{HasNoted};
-ghost use Rattle.vic_verdict.specs.Possible.{IsPossible};
+ghost use Rattle.vic_verdict.specs.Possible.{IsCertainUid, IsPossible};
 
 use crate::shown::ShownUid;
 use std::alloc::{AllocError, Global};
@@ -32,9 +33,9 @@ pub fn lines_of_certain(
 ) -> Result<Vec<ShownUid>, AllocError>
     requires possible { IsPossible (entries lines.now) }
     requires met { IsMet (entries lines.now) met.now }
-    requires forced { (u : ℕ) → has certain.now u ≡ true → IsMetFor met.now u }
+    requires certain { (u : ℕ) → has certain.now u ≡ true → IsCertainUid (entries lines.now) u }
     ensures uids { IfOk result (λ v. uids_of v.items ≡ certain.now) }
-    ensures shown { IfOk result (λ v. All (IsToldOf lines.now) v.items) }
+    ensures shown { IfOk result (λ v. All (IsShownCertain lines.now) v.items) }
 {
     let mut shown = Vec::new(alloc);
     if certain.is_empty() {
@@ -97,8 +98,8 @@ fn note_unread(
     unread: &[Answering],
 ) -> Result<(), AllocError>
     requires possible { IsPossible (entries lines.now) }
-    requires found { All (IsFound (entries lines.now)) unread.now }
-    ensures { OnOk result (HasNoted lines.now noted.old noted.new (IsExactFor unread.now)) }
+    requires unread { AreAnswering (entries lines.now) (length (entries lines.now)) unread.now }
+    ensures { OnOk result (HasNoted lines.now noted.old noted.new (SomeForces unread.now)) }
 {
     for slot in unread {
         if slot.uids.len() != slot.need {

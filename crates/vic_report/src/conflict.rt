@@ -1,15 +1,15 @@
 //! Why a log is impossible: slot lines that no population fits.
 
-ghost use Rattle.std.specs.Prelude.{◌≡◌, ℕ, IfOk, IfSome, true};
-ghost use Rattle.vic_frame.specs.Uids.{has};
-ghost use Rattle.vic_report.specs.Conflicts.{IsConflict, IsConflictAt, IsSlotLine};
-ghost use Rattle.vic_report.specs.inner.SlotLines.{AreSlotLinesTo};
+ghost use Rattle.std.specs.Prelude.{◌≡◌, ◌≤◌, IfOk, IfSome, true};
+ghost use Rattle.std.specs.List.{All};
+ghost use Rattle.vic_report.specs.Conflicts.{IsConflict, IsConflictAt, IsTellingLine};
+ghost use Rattle.vic_verdict.specs.Rising.{IsListOf};
 ghost use Rattle.vic_verdict.specs.Verdict.{IsVerdict};
 ghost use Rattle.vic_verdict.specs.declared.judging.Verdict.TheVariants.{Impossible};
 ghost use Rattle.vic_walk.specs.LogLines.{AreLogLines};
 
 use crate::kept_log::KeptLog;
-use crate::line_numbers::LineNumbers;
+use crate::line_numbers::{LineNumbers, place_of};
 use crate::silencer::silencer_of_line;
 use std::alloc::{AllocError, Global};
 use vic_guess::guess_conflict;
@@ -24,7 +24,8 @@ pub struct Conflict {
     pub line: u32,
     /// The numbers of slot lines that no population fits together, in rising order; `line` is the
     /// last. Each line counts with its mask and with the tags that are Quiet there. That none can
-    /// be left out is only tested; if the guess at them fails, all slot lines are named.
+    /// be left out is only tested; if the guess at them fails, then all slot lines up to `line` are
+    /// named, except unknown ones.
     pub lines: Vec<u32>,
     /// If `line` is a reply of a tag that is Quiet there, the number of the last Stay Quiet that
     /// silenced it.
@@ -42,7 +43,7 @@ pub(crate) fn find_conflict(alloc: Global, log: &Log, line: u32) -> Result<Confl
         Some(_) => vec![in alloc; line]?,
         None => match guessed_numbers(alloc, log, line)? {
             Some(guess) => guess.into_vec(),
-            None => slot_numbers_to(alloc, log, line)?,
+            None => telling_numbers_to(alloc, log, line)?,
         },
     };
     Ok(Conflict {
@@ -61,7 +62,7 @@ fn guessed_numbers(alloc: Global, log: &Log, last: u32) -> Result<Option<LineNum
     let count = lines.partition_point(|line| line.number() <= last);
     let guess = guess_conflict(alloc, &LogLines::of(log).first(count))?;
     let numbers = LineNumbers::of(guess);
-    if numbers.last() != Some(last) || !are_slot_lines(lines, numbers.as_slice()) {
+    if numbers.last() != Some(last) || !all_tell(lines, numbers.as_slice()) {
         return Ok(None);
     }
     let kept = KeptLog::of(alloc, log, &numbers)?;
@@ -72,32 +73,28 @@ fn guessed_numbers(alloc: Global, log: &Log, last: u32) -> Result<Option<LineNum
     Ok(Some(numbers))
 }
 
-/// Whether all numbers are those of slot lines that tell something.
-fn are_slot_lines(lines: &[PackedLine], numbers: &[u32]) -> bool
-    ensures { result ≡ true → (m : ℕ) → has numbers.now m ≡ true → IsSlotLine lines.now m }
+/// Whether all numbers are those of slot lines that tell something: not of unknown ones.
+fn all_tell(lines: &[PackedLine], numbers: &[u32]) -> bool
+    ensures { result ≡ true → All (IsTellingLine lines.now) numbers.now }
 {
-    for number in numbers {
-        if !is_slot_line(lines, *number) {
-            return false;
-        }
-    }
-    true
+    numbers.iter().all(|number| is_telling_line(lines, *number))
 }
 
 /// Whether a number is that of a slot line that tells something.
-fn is_slot_line(lines: &[PackedLine], number: u32) -> bool
-    ensures { result ≡ true → IsSlotLine lines.now number }
+fn is_telling_line(lines: &[PackedLine], number: u32) -> bool
+    ensures { result ≡ true → IsTellingLine lines.now number }
 {
-    match lines.binary_search_by_key(&number, |line| line.number()) {
-        Ok(place) => lines[place].item().tells(),
-        Err(_) => false,
+    match place_of(lines, number) {
+        Some(place) => lines[place].item().tells(),
+        None => false,
     }
 }
 
 /// The numbers of the slot lines up to the line with number `last` that tell something. They rise,
 /// as those of all lines do. Clause `log` restates, for proofs, what holds of every `Log`.
-fn slot_numbers_to(alloc: Global, log: &Log, last: u32) -> Result<Vec<u32>, AllocError>
-    ensures numbers { IfOk result (λ numbers. AreSlotLinesTo log.now.lines last numbers.items) }
+fn telling_numbers_to(alloc: Global, log: &Log, last: u32) -> Result<Vec<u32>, AllocError>
+    ensures numbers { IfOk result (λ numbers. IsListOf
+        (λ m. (m ≤ last) × IsTellingLine log.now.lines m) numbers.items) }
     ensures log { AreLogLines log.now.lines }
 {
     log.lines()

@@ -5,7 +5,7 @@ ghost use Rattle.std.specs.Option.{option_map};
 ghost use Rattle.vic_tree.specs.Ranges.{is_open_in};
 ghost use Rattle.vic_log.specs.Order.{entries};
 ghost use Rattle.vic_verdict.specs.Facts.{AreFactsOf};
-ghost use Rattle.vic_report.specs.Reports.{AreFindings, AreNone, first_verdict, unsettled_with};
+ghost use Rattle.vic_report.specs.Reports.{AreFindings, AreNone, first_verdict};
 
 use crate::absent_lines::lines_of_absent;
 use crate::certain_lines::lines_of_certain;
@@ -14,7 +14,7 @@ use std::alloc::{AllocError, Global};
 use vic_frame::{Mask, Uid};
 use vic_log::Log;
 use vic_tree::{OpenMasks, RangeSet, SortedKeys};
-use vic_verdict::{Facts, Verdict, compare, listed_uids, missing_from};
+use vic_verdict::{Facts, Verdict, compare, listed_uids};
 
 /// The findings of a possible log: where it contradicts its list, or leaves it undecided.
 #[derive(Drop)]
@@ -93,19 +93,17 @@ pub(crate) fn find_findings(
     // take one walk over its ranges, and no memory
     let masks = open.open_masks_besides(&certain_keys);
     let differences = compare(alloc, open, &certain, &listed)?;
-    let uncertain = missing_from(alloc, &listed, &certain)?;
-    let doubtful = missing_from(alloc, &uncertain, &differences.absent)?;
     Ok(Findings {
         absent: lines_of_absent(alloc, log, differences.absent.as_slice())?,
         unlisted: lines_of_certain(alloc, lines, &met, differences.unlisted.as_slice())?,
         unsettled: left_to_ask(differences.unsettled, masks),
-        doubtful: doubtful.into_vec(),
+        doubtful: differences.doubtful.into_vec(),
     })
 }
 
 /// What is left to ask for, if a mask is unsettled.
 fn left_to_ask(unsettled: Option<Mask>, masks: OpenMasks) -> Option<Unsettled>
-    ensures { result ≡ option_map (λ m. unsettled_with m masks) unsettled }
+    ensures { result ≡ option_map (λ m. record { mask = m; «open» = masks }) unsettled }
 {
     match unsettled {
         Some(mask) => Some(Unsettled { mask, open: masks }),

@@ -1,10 +1,26 @@
-//! Sets of line numbers.
+//! The line with a number; sets of line numbers.
 
-ghost use Rattle.std.specs.Prelude.{◌≡◌, ℕ, ◌≤◌, IfSome, true};
+ghost use Rattle.std.specs.Prelude.{◌≡◌, ℕ, ◌≤◌, [], IfNone, IfSome, Some, slice_get, true};
 ghost use Rattle.std.specs.List.Sorted.{IsStrictlyIncreasing};
 ghost use Rattle.vic_frame.specs.Uids.{has};
+ghost use Rattle.vic_log.specs.Order.{IsRisingFrom};
+ghost use Rattle.vic_log.specs.declared.entry.LogLine.{LogLine as LogLineValue};
 
 use std::marker::Model;
+use vic_log::PackedLine;
+
+/// The position of the line with a number.
+pub(crate) fn place_of(lines: &[PackedLine], number: u32) -> Option<usize>
+    ensures some { IfSome result (λ i. (l : LogLineValue)
+        × (slice_get lines.now i ≡ Some l) × (l.number ≡ number)) }
+    ensures none { IfNone result (IsRisingFrom 0 lines.now → (i : ℕ) (l : LogLineValue)
+        → slice_get lines.now i ≡ Some l → l.number ≡ number → ⊥) }
+{
+    match lines.binary_search_by_key(&number, |line| line.number()) {
+        Ok(place) => Some(place),
+        Err(_) => None,
+    }
+}
 
 /// Numbers of lines in rising order, each once.
 #[derive(Drop)]
@@ -42,6 +58,7 @@ impl LineNumbers {
 
     /// The last one.
     pub(crate) fn last(&self) -> Option<u32>
+        ensures none { IfNone result (self.now ≡ []) }
         ensures member { IfSome result (λ last. has self.now last ≡ true) }
         ensures above { IfSome result (λ last. (n : ℕ) → has self.now n ≡ true → n ≤ last) }
     {

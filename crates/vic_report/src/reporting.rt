@@ -19,7 +19,7 @@ pub enum LogReport {
     /// No population could have produced the log: its first impossible line, and slot lines that no
     /// population fits.
     Impossible(Conflict),
-    /// The log is possible, and its list isn't known to be complete: at least one finding.
+    /// The log is possible, and its list isn't complete: at least one finding.
     NotWhole(Findings),
     /// The list is complete, and has `count` UIDs.
     Complete { count: u32 },

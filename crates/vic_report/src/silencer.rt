@@ -7,6 +7,7 @@ ghost use Rattle.vic_log.specs.Slots.{hears};
 ghost use Rattle.vic_log.specs.declared.entry.LogLine.{LogLine as LogLineValue};
 ghost use Rattle.vic_report.specs.Conflicts.{IsNoQuietReply, IsSilencedBefore, IsSilencedBy};
 
+use crate::line_numbers::place_of;
 use vic_frame::{Request, Uid};
 use vic_log::{Entry, Log, PackedLine};
 
@@ -17,14 +18,11 @@ pub(crate) fn silencer_of_line(log: &Log, number: u32) -> Option<u32>
         (IsSilencedBy log.now.lines number) }
 {
     let lines = log.lines();
-    match lines.binary_search_by_key(&number, |line| line.number()) {
-        Ok(place) => silencer_of_reply(lines, place),
-        Err(_) => None,
-    }
+    silencer_at(lines, place_of(lines, number)?)
 }
 
-/// The same by position.
-fn silencer_of_reply(lines: &[PackedLine], place: usize) -> Option<u32>
+/// The same for the line at a position.
+fn silencer_at(lines: &[PackedLine], place: usize) -> Option<u32>
     ensures { MatchOption result
         ((u : ℕ) → hears (slice_get (entries lines.now) place) u ≡ true
         → is_quiet (entries lines.now) place u ≡ false)

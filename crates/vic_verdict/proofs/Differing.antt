@@ -1,6 +1,6 @@
 -- How a list differs from what logs tell, and that the first difference is the verdict.
-use Rattle.vic_verdict.proofs.Words.{◌≡◌, ℕ, ◌≤◌, ◌<◌, ◌^◌, List, ◌++◌, Bool, true, false, not, ◌&&◌, ◌||◌, Option, Some, None, sym, ap, ◌∙◌, arith, nat_tests, ◌↔◌, ◌⊎◌, IfSome, IfNone, MatchOption, both_ways, list_any-append, IsUid, has, BitMask, lies_in, SameUids, Entry, listed, AreKeysOf, IsPossible, IsPossibleUid, IsCertainUid, IsFailing, IsListOf, SameMembers, IsAbsent, IsUnlisted, IsUnsettled, IsDoubtful, IsLeast, IsFirstMask, NoSuch, IsWidest, without_keys, UID_BITS, widest_same, IsTold}
-use Rattle.vic_verdict.specs.declared.findings.Differences.{Differences}
+use Rattle.vic_verdict.proofs.Words.{◌≡◌, ℕ, ◌≤◌, ◌<◌, ◌^◌, List, ◌++◌, Bool, true, false, not, ◌&&◌, ◌||◌, Option, Some, None, sym, ap, ◌∙◌, arith, nat_tests, ◌↔◌, ◌⊎◌, IfSome, IfNone, MatchOption, both_ways, list_any-append, IsUid, has, BitMask, lies_in, SameUids, Entry, listed, AreKeysOf, IsPossible, IsPossibleUid, IsCertainUid, IsFailing, IsListOf, SameMembers, IsAbsent, IsUnlisted, IsUnsettled, IsDoubtful, IsLeast, IsFirstMask, NoSuch, IsWidest, without_keys, UID_BITS, widest_same, AreOpenAndCertain}
+use Rattle.vic_verdict.specs.declared.differences.Differences.{Differences}
 use Rattle.vic_verdict.specs.Differences.{AreDifferences, IsLeftOpen, MayBeMissing, left_by}
 use Rattle.vic_verdict.proofs.Decide.{IsPossibleUid-iff, IsPossibleUid-either, IsCertainUid-iff}
 use Rattle.vic_verdict.proofs.Failing.{list_as}
@@ -12,14 +12,15 @@ use Rattle.vic_verdict.proofs.Masks.{uid_in, IsUid-in, lies_in-uid_in}
 pub known_has : (us certain unlisted : List ℕ) (u : ℕ) → IsListOf (IsFailing certain (has us)) unlisted → has (us ++ unlisted) u ≡ (has certain u || has us u)
 known_has us certain unlisted u new = grind (arith, nat_tests, list_any-append, new.members u)
 
-pub neither_by : (set : ℕ → Bool) (us certain outside absent : List ℕ) → IsListOf (IsFailing us set) outside → IsListOf (IsFailing outside (has certain)) absent → IsListOf (λ u. IsFailing us set u × (has certain u ≡ false)) absent
-neither_by set us certain outside absent out l =
-    list_as _ _ absent (λ u. grind (arith, out.members u)) l
-
-pub absent_by : (set : ℕ → Bool) (us certain known absent : List ℕ) → ((u : ℕ) → has known u ≡ (has certain u || has us u)) → IsListOf (λ u. IsFailing known set u × (has certain u ≡ false)) absent
+pub absent_by : (set : ℕ → Bool) (us certain known outside absent : List ℕ) → ((u : ℕ) → has known u ≡ (has certain u || has us u)) → IsListOf (IsFailing known set) outside → IsListOf (IsFailing outside (has certain)) absent
     → IsListOf (λ u. IsFailing us set u × (has certain u ≡ false)) absent
-absent_by set us certain known absent all l =
-    list_as _ _ absent (λ u. grind (arith, nat_tests, all u)) l
+absent_by set us certain known outside absent all out l =
+    list_as _ _ absent (λ u. grind (arith, nat_tests, all u, out.members u)) l
+
+pub doubtful_by : (set : ℕ → Bool) (us certain uncertain absent doubtful : List ℕ) → IsListOf (IsFailing us (has certain)) uncertain → IsListOf (λ u. IsFailing us set u × (has certain u ≡ false)) absent → IsListOf (IsFailing uncertain (has absent)) doubtful
+    → IsListOf (λ u. (has us u ≡ true) × (set u ≡ true) × (has certain u ≡ false)) doubtful
+doubtful_by set us certain uncertain absent doubtful un out l =
+    list_as _ _ doubtful (λ u. grind (arith, nat_tests, un.members u, out.members u)) l
 
 pub unsettled_by : (set : ℕ → Bool) (us certain known keys : List ℕ) (m : Option BitMask) → ((u : ℕ) → has known u ≡ (has certain u || has us u)) → AreKeysOf keys known
     → IfSome m (IsWidest (without_keys set keys)) → IfNone m (SameUids (without_keys set keys) (λ _. false))
@@ -49,10 +50,8 @@ absent_iff P C set certain us all f l u = grind (arith, nat_tests, l.members u, 
 unlisted_iff : (P C : ℕ → Type 0) (set : ℕ → Bool) (certain us all : List ℕ) → AreFacts P C set certain → AreListed us all → (u : ℕ) → IsFailing certain (has us) u ↔ (C u × (has all u ≡ false))
 unlisted_iff P C set certain us all f l u = grind (arith, l.members u, f.must.members u)
 
--- a listed UID that is neither certain nor absent may be there and may be missing
-pub doubtful_list : (P C : ℕ → Type 0) (set : ℕ → Bool) (certain us all some absent doubtful : List ℕ) → AreFacts P C set certain → AreListed us all → IsListOf (IsFailing us (has certain)) some → IsListOf (λ u. IsFailing us set u × (has certain u ≡ false)) absent → IsListOf (IsFailing some (has absent)) doubtful → IsListOf (λ u. (has all u ≡ true) × (P u × (C u → ⊥))) doubtful
-doubtful_list P C set certain us all some absent doubtful f l un out h =
-    list_as _ _ doubtful (λ u. grind (arith, nat_tests, l.members u, l.are_uids u, open_iff P C set certain u f, un.members u, out.members u)) h
+doubtful_iff : (P C : ℕ → Type 0) (set : ℕ → Bool) (certain us all : List ℕ) → AreFacts P C set certain → AreListed us all → (u : ℕ) → ((has us u ≡ true) × (set u ≡ true) × (has certain u ≡ false)) ↔ ((has all u ≡ true) × (P u × (C u → ⊥)))
+doubtful_iff P C set certain us all f l u = grind (arith, nat_tests, l.members u, l.are_uids u, open_iff P C set certain u f)
 
 left_iff : (P C : ℕ → Type 0) (set : ℕ → Bool) (certain us all : List ℕ) → AreFacts P C set certain → AreListed us all → (u : ℕ) → IsUid u → (left_by set certain us u ≡ true) ↔ ((P u × (C u → ⊥)) × (has all u ≡ false))
 left_iff P C set certain us all f l u i = grind (arith, nat_tests, l.members u, open_iff P C set certain u f i)
@@ -76,17 +75,19 @@ pub record AreAllFindings (P C : ℕ → Type 0) (all : List ℕ) (d : Differenc
   pub absent : IsListOf (λ u. (has all u ≡ true) × (P u → ⊥)) d.absent
   pub unlisted : IsListOf (λ u. C u × (has all u ≡ false)) d.unlisted
   pub unsettled : MatchOption d.unsettled (NoSuch (IsLeft P C all)) (IsFirstMask (IsLeft P C all))
+  pub doubtful : IsListOf (λ u. (has all u ≡ true) × (P u × (C u → ⊥))) d.doubtful
 
 pub all_findings : (P C : ℕ → Type 0) (set : ℕ → Bool) (certain us all : List ℕ) (d : Differences) → AreFacts P C set certain → AreListed us all → AreDifferences set certain us d → AreAllFindings P C all d
 all_findings P C set certain us all d f l h = record {
   absent = list_as _ _ d.absent (absent_iff P C set certain us all f l) h.absent;
   unlisted = list_as _ _ d.unlisted (unlisted_iff P C set certain us all f l) h.unlisted;
   unsettled = first_left P C set certain us all d.unsettled f l h.unsettled;
+  doubtful = list_as _ _ d.doubtful (doubtful_iff P C set certain us all f l) h.doubtful;
 }
 
 -- ---- what one log tells
 
-pub log_facts : (es : List Entry) (set : ℕ → Bool) (certain : List ℕ) → IsTold es set certain → AreFacts (IsPossibleUid es) (IsCertainUid es) set certain
+pub log_facts : (es : List Entry) (set : ℕ → Bool) (certain : List ℕ) → AreOpenAndCertain es set certain → AreFacts (IsPossibleUid es) (IsCertainUid es) set certain
 log_facts es set certain t = record {
   may = λ u i. grind (arith, IsPossibleUid-iff es u t.possible, t.uids_open u i, must.members u, sure u);
   must = must;
@@ -121,16 +122,16 @@ missing_least es u possible present h = grind (arith, present, IsPossibleUid-eit
 -- ---- the findings of one log, each by what the judge has of it
 
 pub record AreFindings (es : List Entry) (set : ℕ → Bool) (certain us : List ℕ) : Type 0 where
-  pub absent : (u : ℕ) → (IsFailing us set u × (has certain u ≡ false)) ↔ IsAbsent es u
+  pub absent : (u : ℕ) → IsFailing us set u ↔ IsAbsent es u
   pub unlisted : (u : ℕ) → IsFailing certain (has us) u ↔ IsUnlisted es u
   pub doubtful : (u : ℕ) → IsFailing us (has certain) u ↔ IsDoubtful es u
   pub unsettled : (keys : List ℕ) (m : Option BitMask) → NoSuch (IsUnlisted es) → AreKeysOf keys us → IfSome m (IsWidest (without_keys set keys)) → IfNone m (SameUids (without_keys set keys) (λ _. false))
       → MatchOption m (NoSuch (IsUnsettled es)) (IsFirstMask (IsUnsettled es))
 
 -- where the log tells the set and the certain UIDs, and the list has the listed ones
-pub findings_of : (es : List Entry) (set : ℕ → Bool) (certain us : List ℕ) → IsTold es set certain → SameMembers us (listed es) → ((u : ℕ) → has us u ≡ true → IsUid u) → AreFindings es set certain us
+pub findings_of : (es : List Entry) (set : ℕ → Bool) (certain us : List ℕ) → AreOpenAndCertain es set certain → SameMembers us (listed es) → ((u : ℕ) → has us u ≡ true → IsUid u) → AreFindings es set certain us
 findings_of es set certain us told members uids = record {
-  absent = absent_iff (IsPossibleUid es) (IsCertainUid es) set certain us (listed es) f l;
+  absent = λ u. grind (arith, nat_tests, members u, uids u, IsPossibleUid-iff es u told.possible, told.uids_open u);
   unlisted = unlisted_iff (IsPossibleUid es) (IsCertainUid es) set certain us (listed es) f l;
   doubtful = λ u. grind (arith, nat_tests, members u, f.must.members u);
   unsettled = λ keys m none own found empty. unsettled m none (first_left (IsPossibleUid es) (IsCertainUid es) set certain us (listed es) m f l (unsettled_by set us certain us keys m (all none) own found empty));

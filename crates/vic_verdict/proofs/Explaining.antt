@@ -1,5 +1,5 @@
 -- A gathered population shows the verdict.
-use Rattle.vic_verdict.proofs.Words.{◌≡◌, ℕ, List, [], ◌∷◌, ◌++◌, true, Option, Some, None, has_cases, sym, ap, ◌∙◌, append-nil, arith, nat_eq, list_any-append, ⊎_elim, ◌⊎◌, inl, inr, subst, false≢true, IsStrictlyIncreasing, false_from_ne_true, has, BitMask, lies_in, Entry, LogLine, entries, has_here, Met, IsMet, all_chosen, chosen_population, nat_tests, IsPossible, IsPossibleUid, IsCertainUid, SameMembers, IsVerdict, least_uid_in, Absent, Unlisted, Unsettled, Doubtful, IsSmallPopulation, IsPopulationBehind}
+use Rattle.vic_verdict.proofs.Words.{◌≡◌, ℕ, List, [], ◌∷◌, ◌++◌, true, Option, Some, None, has_cases, sym, ap, ◌∙◌, append-nil, arith, nat_eq, list_any-append, ⊎_elim, ◌⊎◌, inl, inr, subst, false≢true, IsStrictlyIncreasing, false_from_ne_true, has, BitMask, lies_in, Entry, LogLine, entries, has_here, Met, IsMet, chosen, flat_map, chosen_population, nat_tests, IsPossible, IsPossibleUid, IsCertainUid, SameMembers, IsVerdict, least_uid_in, Absent, Unlisted, Unsettled, Doubtful, IsSmallPopulation, IsPopulationBehind}
 use Rattle.vic_verdict.specs.declared.judging.Verdict.{Verdict}
 use Rattle.vic_verdict.proofs.Gathering.{AvoidsNoneCertain, append_right, gathered_small, gathered_other}
 use Rattle.vic_verdict.proofs.Masks.{lies_in-uid_in, IsUid-in}
@@ -35,14 +35,14 @@ turned : (xs ys zs : List ℕ) (u : ℕ) → has ((xs ++ ys) ++ zs) u ≡ has ((
 turned xs ys zs u = grind (arith, nat_tests, list_any-append (nat_eq u) (xs ++ ys) zs, list_any-append (nat_eq u) xs ys, list_any-append (nat_eq u) (xs ++ zs) ys, list_any-append (nat_eq u) xs zs)
 
 -- with the least UID of an unsettled mask, as if it had been heard
-pub unsettled_shown : (lines : List LogLine) (m : Met) (us heard : List ℕ) (k : BitMask) (x : ℕ) → IsVerdict lines (Unsettled k) → IsMet (entries lines) m → x ≡ least_uid_in k → heard ≡ m.heard.items ++ x ∷ [] → IsStrictlyIncreasing us → SameMembers us (heard ++ all_chosen None m.unread.items) → IsPopulationBehind (entries lines) (Unsettled k) us
+pub unsettled_shown : (lines : List LogLine) (m : Met) (us heard : List ℕ) (k : BitMask) (x : ℕ) → IsVerdict lines (Unsettled k) → IsMet (entries lines) m → x ≡ least_uid_in k → heard ≡ m.heard.items ++ x ∷ [] → IsStrictlyIncreasing us → SameMembers us (heard ++ flat_map (chosen None) m.unread.items) → IsPopulationBehind (entries lines) (Unsettled k) us
 unsettled_shown lines m us heard k x v met is more rising same =
     let es = entries lines in
     let all = chosen_population None m in
     let mask = v.3.0 in
     let inside : lies_in k x ≡ true = rw is (lies_in-uid_in k mask.0 mask.1) in
     let may : IsPossibleUid es x = (mask.2 x (rw is (IsUid-in k mask.0 mask.1)) inside).0 in
-    let members : SameMembers us (all ++ x ∷ []) = λ u. same u ∙ ap (λ xs. has (xs ++ all_chosen None m.unread.items) u) more ∙ turned m.heard.items (x ∷ []) (all_chosen None m.unread.items) u in (
+    let members : SameMembers us (all ++ x ∷ []) = λ u. same u ∙ ap (λ xs. has (xs ++ flat_map (chosen None) m.unread.items) u) more ∙ turned m.heard.items (x ∷ []) (flat_map (chosen None) m.unread.items) u in (
       gathered_small es m None (x ∷ []) us v.0 (λ a e. cc) met (λ u h. ⊎_elim (λ e. subst (IsPossibleUid es) (sym e) may) (λ no. absurd (false≢true no)) (has_cases u x [] h)) (omega arith) rising members,
       (x, inside, members x ∙ append_right all (x ∷ []) x (has_here x [])),
     )

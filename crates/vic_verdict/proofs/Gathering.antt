@@ -1,10 +1,11 @@
 -- A small population, gathered from what the slots of a possible log ask for.
-use Rattle.vic_verdict.proofs.Words.{take-append-drop, drop, ◌≡◌, ℕ, suc, ◌+◌, ◌<◌, ◌≤◌, List, [], ◌∷◌, ◌++◌, length, take, get_or, Bool, true, false, ◌||◌, Option, Some, refl, sym, ap, ◌∙◌, subst, arith, nat_tests, inl, inr, ⊎_elim, length-append, ◌⊎◌, nat_eq, slice_get, filter, sum_by, ne_eqb, length-take, IsStrictlyIncreasing, both_ways, and_parts, and_from, or_cases, or_left, or_right, list_any, list_any_at, list_any_none, list_any-append, Any-from_list_any, slice_get_within, IsUid, has, AreDifferent, Entry, Collision, Heard, Captured, Garbled, eq-eqb, IsPopulation, answers_at, Reading, ManyReplies, SomeReply, reading_of, slots_of, is_open, Asks, IsWithin, AreDifferent-population, AreDifferent-filter, has_filter, has_here, has_at, has_there, MeetsAll-iff, IsUid-from, CouldHaveGiven-slots, Answering, Met, AreFound, IsFound, IsMet, UpToThree, is_other, chosen, chosen_population, answering, IsPossible, IsPossibleUid, IsCertainUid, SameMembers, AllPairs-from_increasing, sum_by-cons, AllByRecursion, IsDistinct, or_parts, nat_eq_equiv, IsDistinct-cons, IsDistinct-from_apart, length-le_from_is_member, asks_within, all_chosen, needs_at, needs_of, IsSmallPopulation}
+use Rattle.vic_verdict.proofs.Words.{take-append-drop, drop, ◌≡◌, ℕ, suc, ◌+◌, ◌<◌, ◌≤◌, List, [], ◌∷◌, ◌++◌, length, take, get_or, Bool, true, false, ◌||◌, Option, Some, refl, sym, ap, ◌∙◌, subst, arith, nat_tests, inl, inr, ⊎_elim, length-append, ◌⊎◌, nat_eq, slice_get, filter, sum_by, ne_eqb, length-take, IsStrictlyIncreasing, both_ways, and_parts, and_from, or_cases, or_left, or_right, list_any, list_any_at, list_any_none, list_any-append, Any-from_list_any, slice_get_within, IsUid, has, AreDifferent, Entry, Collision, Heard, Captured, Garbled, eq-eqb, IsPopulation, answers_at, Reading, ManyReplies, SomeReply, reading_of, slots_of, is_open, Asks, IsWithin, AreDifferent-population, AreDifferent-filter, has_filter, has_here, has_at, has_there, MeetsAll-iff, IsUid-from, CouldHaveGiven-slots, Answering, Met, AreFound, IsFound, IsMet, UpToThree, is_other, chosen, chosen_population, answering, IsPossible, IsPossibleUid, IsCertainUid, SameMembers, AllPairs-from_increasing, sum_by-cons, AllByRecursion, IsDistinct, or_parts, nat_eq_equiv, IsDistinct-cons, IsDistinct-from_apart, length-le_from_is_member, asks_within, flat_map, needs_at, needs_of, IsSmallPopulation}
 use Rattle.vic_verdict.specs.Explained.{AreFew}
 use Rattle.vic_verdict.proofs.Decide.{IsPossibleUid-iff, supplied_each}
 use Rattle.vic_verdict.proofs.Entries.{EntryAsks, EntryForces, SuppliesBefore, SuppliesAll-places, forces_two_iff, forces_one_iff, needs_two_or_one}
 use Rattle.vic_verdict.proofs.Populations.{is_open-is_uid}
 use Rattle.vic_verdict.proofs.Possibility.{heard_certain}
+use Rattle.vic_verdict.proofs.Walking.{enough_found}
 
 -- ---- rising lists of UIDs are populations
 
@@ -53,12 +54,12 @@ chosen_parts avoid f u h =
     and_parts _ _ (has_filter (is_other avoid) f.uids.items u (has_take f.need (filter (is_other avoid) f.uids.items) u h))
 
 -- each of all that are chosen is chosen of one that was found
-all_chosen-has : (avoid : Option ℕ) (fs : List Answering) (u : ℕ) → has (all_chosen avoid fs) u ≡ list_any (λ f. has (chosen avoid f) u) fs
-all_chosen-has avoid [] u = refl
-all_chosen-has avoid (f ∷ fs) u = list_any-append (nat_eq u) (chosen avoid f) (all_chosen avoid fs) ∙ ap (λ b. has (chosen avoid f) u || b) (all_chosen-has avoid fs u)
+has-flat_map : (avoid : Option ℕ) (fs : List Answering) (u : ℕ) → has (flat_map (chosen avoid) fs) u ≡ list_any (λ f. has (chosen avoid f) u) fs
+has-flat_map avoid [] u = refl
+has-flat_map avoid (f ∷ fs) u = list_any-append (nat_eq u) (chosen avoid f) (flat_map (chosen avoid) fs) ∙ ap (λ b. has (chosen avoid f) u || b) (has-flat_map avoid fs u)
 
 -- no more than are needed
-few_chosen : (avoid : Option ℕ) (fs : List Answering) → length (all_chosen avoid fs) ≤ sum_by (λ (f : Answering). f.need) fs
+few_chosen : (avoid : Option ℕ) (fs : List Answering) → length (flat_map (chosen avoid) fs) ≤ sum_by (λ (f : Answering). f.need) fs
 few_chosen avoid [] = omega arith
 few_chosen avoid (f ∷ fs) = grind (arith, length-append, length-take, sum_by-cons (λ (g : Answering). g.need) f fs, few_chosen avoid fs)
 
@@ -120,9 +121,9 @@ gathered_from es m avoid u met h =
     ⊎_elim
     (λ a. let heard = (met.heard u).0 a in inl (heard_certain es heard.0 u heard.1))
     (λ b.
-    let w = Any-from_list_any (λ f. has (chosen avoid f) u) m.unread.items (sym (all_chosen-has avoid m.unread.items u) ∙ b) in
-    inr (w.1, subst (IsFound es) w.3 (met.found.found w.0 w.1 w.2), w.4))
-    (append_cases m.heard.items (all_chosen avoid m.unread.items) u h)
+    let w = Any-from_list_any (λ f. has (chosen avoid f) u) m.unread.items (sym (has-flat_map avoid m.unread.items u) ∙ b) in
+    inr (w.1, subst (IsFound es) w.3 ((enough_found es m.unread.items met.unread met.enough).found w.0 w.1 w.2), w.4))
+    (append_cases m.heard.items (flat_map (chosen avoid) m.unread.items) u h)
 
 -- all are open
 gathered_open : (es : List Entry) (m : Met) (avoid : Option ℕ) → IsPossible es → IsMet es m → IsWithin (has (chosen_population avoid m)) (is_open (slots_of es))
@@ -136,15 +137,15 @@ gathered_other es m a n met h =
 -- they are few, also with one more
 gathered_few : (es : List Entry) (m : Met) (avoid : Option ℕ) (xs us : List ℕ) → IsMet es m → AreDifferent us → IsWithin (has us) (has (chosen_population avoid m ++ xs)) → length xs ≤ 1 → AreFew es us
 gathered_few es m avoid xs us met different within one heard all =
-    let picks = all_chosen avoid m.unread.items in
+    let picks = flat_map (chosen avoid) m.unread.items in
     let le = no_more us (heard ++ (picks ++ xs)) different (λ u h. grind (arith, nat_tests, list_any-append, within u h, met.heard u, all u)) in
-    omega (arith, length-append heard (picks ++ xs), length-append picks xs, few_chosen avoid m.unread.items, met.found.few)
+    omega (arith, length-append heard (picks ++ xs), length-append picks xs, few_chosen avoid m.unread.items, (enough_found es m.unread.items met.unread met.enough).few)
 
 -- what a position asks for
 needed_there : (es : List Entry) (m : Met) (avoid : Option ℕ) (i n : ℕ) → needs_at es i ≡ n → 0 < n → AvoidsNoneCertain es avoid → IsMet es m → (xs : List ℕ) × AreDifferent xs × (n ≤ length xs) × IsWithin (has (take n xs)) (answering (has (chosen_population avoid m)) es i)
 needed_there es m avoid i n is some none met =
     let fs = m.unread.items in
-    let w = met_at es fs i met.found (omega arith) in
+    let w = met_at es fs i (enough_found es fs met.unread met.enough) (omega arith) in
     let f = w.1 in
     let need : n ≡ f.need = sym is ∙ w.5 in
     rw need (
@@ -152,16 +153,16 @@ needed_there es m avoid i n is some none met =
       AreDifferent-filter (is_other avoid) f.uids.items w.6.different,
       enough_others es f avoid none w.4,
       λ u c.
-          let member = all_chosen-has avoid fs u ∙ list_any_at (λ g. has (chosen avoid g) u) fs w.0 f w.2 (ap (λ g. has (chosen avoid g) u) w.3 ∙ c) in
-          and_from _ _ (append_right m.heard.items (all_chosen avoid fs) u member) (and_parts (is_open (slots_of es) u) _ (w.6.members u (chosen_parts avoid f u c).0)).1,
+          let member = has-flat_map avoid fs u ∙ list_any_at (λ g. has (chosen avoid g) u) fs w.0 f w.2 (ap (λ g. has (chosen avoid g) u) w.3 ∙ c) in
+          and_from _ _ (append_right m.heard.items (flat_map (chosen avoid) fs) u member) (and_parts (is_open (slots_of es) u) _ (w.6.members u (chosen_parts avoid f u c).0)).1,
     )
 
 gathered_asks : (es : List Entry) (m : Met) (avoid : Option ℕ) → IsPossible es → AvoidsNoneCertain es avoid → IsMet es m → (i : ℕ) (e : Entry) → slice_get es i ≡ Some e → EntryAsks (reading_of e) (answering (has (chosen_population avoid m)) es i)
 gathered_asks es m avoid possible none met i (Heard r) k =
-    let member = append_left m.heard.items (all_chosen avoid m.unread.items) r.uid ((met.heard r.uid).1 (i, rw k (eq-eqb r.uid r.uid refl))) in
+    let member = append_left m.heard.items (flat_map (chosen avoid) m.unread.items) r.uid ((met.heard r.uid).1 (i, rw k (eq-eqb r.uid r.uid refl))) in
     and_from _ _ member (and_parts _ _ (supplied_each es i (Heard r) k possible)).1
 gathered_asks es m avoid possible none met i (Captured r) k =
-    let member = append_left m.heard.items (all_chosen avoid m.unread.items) r.uid ((met.heard r.uid).1 (i, rw k (eq-eqb r.uid r.uid refl))) in
+    let member = append_left m.heard.items (flat_map (chosen avoid) m.unread.items) r.uid ((met.heard r.uid).1 (i, rw k (eq-eqb r.uid r.uid refl))) in
     and_from _ _ member (and_parts _ _ (supplied_each es i (Captured r) k possible)).1
 gathered_asks es m avoid possible none met i Collision k =
     let w = needed_there es m avoid i 2 (ap needs_of k) (omega arith) none met in

@@ -1,4 +1,5 @@
 mod Words
+pub mod Unread
 pub mod Possibility
 pub mod Search
 pub mod Populations

@@ -1,13 +1,12 @@
 -- What is met makes a log possible, and UIDs certain.
-use Rattle.vic_verdict.proofs.Words.{eq-eqb, ne_eqb, or_false, false, false≢true, cases_lt, nat_eq, or_cases, or_left, or_right, ◌≡◌, ℕ, ◌+◌, ◌<◌, ◌≤◌, ◌==◌, ◌&&◌, ◌||◌, ◌++◌, List, [], ◌∷◌, length, take, get_or, Bool, true, Some, sym, ap, ◌∙◌, arith, nat_tests, inl, inr, ◌↔◌, slice_get, Any, list_any, slice_get_within, list_any-append, list_any-from_Any, list_any_more, take_all, Any-from_list_any, has, Entry, hears, reading_of, slots_of, is_open, IsForcedBy, Answering, Met, IsPossible, answering, needs, needs_of, IsFound, AreFound, IsMet, IsMetFor, IsHeard, AreBorneOut, AreDifferent, IsWithin}
+use Rattle.vic_verdict.proofs.Words.{eq-eqb, ne_eqb, or_false, false, false≢true, cases_lt, nat_eq, or_cases, or_left, or_right, ◌≡◌, ℕ, ◌+◌, ◌<◌, ◌≤◌, ◌==◌, ◌&&◌, ◌||◌, ◌++◌, List, [], ◌∷◌, length, take, get_or, Bool, true, Some, sym, ap, ◌∙◌, arith, nat_tests, inl, inr, ◌↔◌, slice_get, Any, list_any, slice_get_within, list_any-append, list_any-from_Any, list_any_more, take_all, Any-from_list_any, has, Entry, hears, reading_of, slots_of, is_open, IsForcedBy, Answering, Met, IsPossible, answering, needs, needs_of, ◌⊎◌, IsFound, AreFound, HasEnough, All, AreAnswering, IsMet, SomeForces, IsHeard, AreBorneOut, AreDifferent, IsWithin}
 use Rattle.std.proofs.Math.Bool.{or-false}
 use Rattle.vic_log.proofs.Sets.{eq_swapped}
 use Rattle.vic_verdict.proofs.Entries.{EntryForces, IsForcedBy-places, enough_forced, forces_cases, hears_forces}
 use Rattle.vic_verdict.proofs.Gathering.{exact_forces, met_at}
 use Rattle.vic_walk.proofs.ListLaws.{heard_past}
 use Rattle.vic_walk.specs.Listing.{IsListFrom}
-use Rattle.vic_walk.specs.Met.{AreMetBefore}
-use Rattle.vic_verdict.proofs.Walking.{supplied_met}
+use Rattle.vic_verdict.proofs.Walking.{enough_found, found_met, supplied_met}
 use Rattle.vic_verdict.proofs.Decide.{supplied_all}
 
 -- ---- who was heard
@@ -67,10 +66,10 @@ met_found es fs i e a k some =
     (w.0, w.1, w.2, w.3, (w.6.different, need, omega (arith, w.4.enough), w.6.members))
 
 -- where the replies are borne out, and the unread slots are met, the log is possible
-pub met_all : (es : List Entry) (m : Met) → AreBorneOut es (length es) → ((u : ℕ) → (has m.heard.items u ≡ true) ↔ IsHeard es u) → AreFound es m.unread.items → AreMetBefore es (length es) → IsPossible es × IsMet es m
-met_all es m borne heard found met = (
-  supplied_all es (λ i e below k. supplied_met es (length es) i e borne met below k),
-  record { heard = heard; found = found },
+pub met_all : (es : List Entry) (m : Met) → AreBorneOut es (length es) → ((u : ℕ) → (has m.heard.items u ≡ true) ↔ IsHeard es u) → AreAnswering es (length es) m.unread.items → All HasEnough m.unread.items → IsPossible es × IsMet es m
+met_all es m borne heard unread enough = (
+  supplied_all es (λ i e below k. supplied_met es (length es) i e borne (found_met es m.unread.items unread enough) below k),
+  record { heard = heard; unread = unread; enough = enough },
 )
 
 -- ---- what makes a UID certain
@@ -93,30 +92,37 @@ pub certain_more : (heard old new : List ℕ) (fs : List Answering) (k : ℕ) (f
 certain_more heard old new fs k f below is adds h u =
     rw (list_any_more (is_exact u) fs k f below, ← is) (grind (arith, nat_tests, h u, adds u))
 
-pub certain_met : (m : Met) (us : List ℕ) (k : ℕ) → length m.unread.items ≤ k → HasCertain m.heard.items (take k m.unread.items) us → (u : ℕ) → (has us u ≡ true) ↔ IsMetFor m u
+-- the UID was heard, or some slot requires it
+abbrev pub IsForcedByMet : Met → ℕ → Type 0
+IsForcedByMet m u = (has m.heard.items u ≡ true) ⊎ SomeForces m.unread.items u
+
+pub certain_met : (m : Met) (us : List ℕ) (k : ℕ) → length m.unread.items ≤ k → HasCertain m.heard.items (take k m.unread.items) us → (u : ℕ) → (has us u ≡ true) ↔ IsForcedByMet m u
 certain_met m us k long h u =
     let is : has us u ≡ (has m.heard.items u || list_any (is_exact u) m.unread.items) = rw (take_all k m.unread.items long) at (h u) in
     grind (arith, nat_tests, Any-from_list_any (is_exact u) m.unread.items, list_any-from_Any (is_exact u) m.unread.items)
 
 -- a UID is forced where it was met
-pub forced_iff : (es : List Entry) (m : Met) (u : ℕ) → IsMet es m → IsForcedBy (is_open (slots_of es)) (slots_of es) u ↔ IsMetFor m u
+pub forced_iff : (es : List Entry) (m : Met) (u : ℕ) → IsMet es m → IsForcedBy (is_open (slots_of es)) (slots_of es) u ↔ IsForcedByMet m u
 forced_iff es m u met = (
   (λ f.
       let w = (IsForcedBy-places (is_open (slots_of es)) es (length es) u).0 f in
       elim (forces_cases w.1 _ u w.4) [
         | inl x ↦ inl ((met.heard u).1 (w.0, ap (λ o. hears o u) w.3 ∙ x))
         | inr some ↦
-            let y = met_found es m.unread.items w.0 w.1 met.found w.3 some in
+            let y = met_found es m.unread.items w.0 w.1 all w.3 some in
             let x = enough_forced w.1 _ y.1.uids.items u some y.4.0 y.4.2 y.4.3 w.4 in
             inr (y.0, y.1, y.2, y.3, (x.0 ∙ y.4.1, x.1))
       ]),
   (λ x. elim x [
     | inl heard ↦ let w = (met.heard u).0 heard in let x = hears_forces (slice_get es w.0) u (answering (is_open (slots_of es)) es w.0) w.1 in there w.0 x.0 x.1 x.2
     | inr some ↦
-        let found : IsFound es some.1 = rw some.3 at (met.found.found some.0 some.1 some.2) in
+        let found : IsFound es some.1 = rw some.3 at (all.found some.0 some.1 some.2) in
         let w = exact_forces es u some.1 found some.4.0 some.4.1 in
         there some.1.at w.0 w.1 w.2
   ]),
 ) where
+  all : AreFound es m.unread.items
+  all = enough_found es m.unread.items met.unread met.enough
+
   there : (i : ℕ) (e : Entry) → slice_get es i ≡ Some e → EntryForces (reading_of e) (answering (is_open (slots_of es)) es i) u → IsForcedBy (is_open (slots_of es)) (slots_of es) u
   there i e k f = (IsForcedBy-places (is_open (slots_of es)) es (length es) u).1 (i, e, slice_get_within es i e k, k, f)

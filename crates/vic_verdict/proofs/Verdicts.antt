@@ -1,5 +1,5 @@
 -- Each log has exactly one verdict.
-use Rattle.vic_verdict.proofs.Words.{◌≡◌, ℕ, suc, ◌<◌, ◌≤◌, ◌+◌, ◌^◌, ◌*◌, ◌%◌, ◌/◌, IsAtMost, take, zero, Some, slice_get, sum_by-cons, nat_tests, pow-le-pow_right, List, [], ◌∷◌, length, true, false, refl, sym, ap, subst, arith, inl, inr, ⊎_elim, ◌⊎◌, ◌↔◌, nat_le, filter, le_refl, sum_by, BitMask, Entry, LogLine, Impossible, Complete, lies_in, has, is_uid, IsUid, IsFirstImpossible, IsPossible, IsPossibleUid, IsCertainUid, entries, IsRisingFrom, listed, IsAbsent, IsUnlisted, IsUnsettled, IsDoubtful, IsLeast, IsFirstMask, NoSuch, IsVerdict, is_uid_from, IsUid-from, IsUid-member, entries_to, IsWhole, IsReached, sum_by_more_le, Absent, Unlisted, Unsettled, Doubtful}
+use Rattle.vic_verdict.proofs.Words.{◌≡◌, ℕ, suc, ◌<◌, ◌≤◌, ◌+◌, ◌^◌, ◌*◌, ◌%◌, ◌/◌, IsAtMost, take, zero, Some, slice_get, sum_by-cons, nat_tests, pow-le-pow_right, List, [], ◌∷◌, length, true, false, refl, sym, ap, subst, arith, inl, inr, ⊎_elim, ◌⊎◌, ◌↔◌, nat_le, filter, le_refl, sum_by, BitMask, Entry, LogLine, Impossible, Complete, lies_in, has, is_uid, IsUid, IsFirstImpossible, IsPossible, IsPossibleUid, IsCertainUid, entries, IsRisingFrom, listed, IsAbsent, IsUnlisted, IsUnsettled, IsDoubtful, IsLeast, IsFirstMask, NoSuch, IsVerdict, is_uid_from, IsUid-from, IsUid-member, entries_to, IsWhole, IsAllHeard, sum_by_more_le, Absent, Unlisted, Unsettled, Doubtful}
 use Rattle.vic_verdict.proofs.Failing.{place_of}
 use Rattle.vic_verdict.specs.declared.judging.Verdict.{Verdict}
 use Rattle.vic_verdict.proofs.FirstLines.{first_entries, possible_first, possible_shorter}
@@ -159,6 +159,6 @@ complete_whole lines count h = (h.0, λ p i g u. grind (arith, nat_tests, (unset
 pub whole_complete : (lines : List LogLine) → IsWhole (entries lines) → IsVerdict lines (Complete (length (listed (entries lines))))
 whole_complete lines h = let p = h.0 in grind (arith, nat_tests, h.1 p.0 p.1 p.2, unsettled_iff (entries lines))
 
--- a log that is reached is complete
-pub reached_complete : (lines : List LogLine) → IsReached (entries lines) → IsVerdict lines (Complete (length (listed (entries lines))))
-reached_complete lines h = whole_complete lines (h.0, λ p i g u. grind (arith, nat_tests, h.1 u, h.2 u, heard_certain (entries lines)))
+-- a log whose listed UIDs were all heard, and no other possible, is complete
+pub all_heard_complete : (lines : List LogLine) → IsAllHeard (entries lines) → IsVerdict lines (Complete (length (listed (entries lines))))
+all_heard_complete lines h = whole_complete lines (h.0, λ p i g u. grind (arith, nat_tests, h.1 u, h.2 u, heard_certain (entries lines)))

@@ -170,7 +170,7 @@ first_unmet es n m long borne unmet le met lack =
 
 -- ---- what meets the unread slots
 
-unread_needs : (o : Option Entry) → is_unread o ≡ true → 0 < needs_of o
+pub unread_needs : (o : Option Entry) → is_unread o ≡ true → 0 < needs_of o
 unread_needs (Some Collision) h = omega arith
 unread_needs (Some Garbled) h = omega arith
 unread_needs (Some e) h = absurd (false≢true h)

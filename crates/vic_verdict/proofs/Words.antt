@@ -1,6 +1,6 @@
 -- The words of proofs, from one place: what files name from outside of the crate, and the definitions that several of them name.
 pub use mathlib.Core.Logic.Iff.{trans}
-pub use Rattle.std.proofs.Common.{All, Any, Bool, IfNone, IfSome, List, MatchOption, None, Option, Some, [], add-one, ap, append-nil, append_assoc, arith, drop, eq-eqb, eqb-true, false, filter, get_or, inl, inr, le_of_lt, le_refl, length, length-append, length-take, length-take-le, nat_eq, nat_le, ne_eqb, not, refl, rules, slice_get, subst, suc, sum_by, sym, take, take-append-drop, take-take, take_all, true, zero, ℕ, ⊎_elim, ◌%◌, ◌&&◌, ◌*◌, ◌++◌, ◌+◌, ◌-◌, ◌/◌, ◌<◌, ◌==◌, ◌^◌, ◌||◌, ◌↔◌, ◌∙◌, ◌∷◌, ◌≡◌, ◌≢◌, ◌≤◌, ◌⊎◌}
+pub use Rattle.std.proofs.Common.{All, Any, Bool, IfNone, IfSome, List, MatchOption, None, Option, Some, [], add-one, ap, append-nil, append_assoc, arith, drop, eq-eqb, eqb-true, false, filter, flat_map, get_or, inl, inr, le_of_lt, le_refl, length, length-append, length-take, length-take-le, nat_eq, nat_le, ne_eqb, not, refl, rules, slice_get, subst, suc, sum_by, sym, take, take-append-drop, take-take, take_all, true, zero, ℕ, ⊎_elim, ◌%◌, ◌&&◌, ◌*◌, ◌++◌, ◌+◌, ◌-◌, ◌/◌, ◌<◌, ◌==◌, ◌^◌, ◌||◌, ◌↔◌, ◌∙◌, ◌∷◌, ◌≡◌, ◌≢◌, ◌≤◌, ◌⊎◌}
 pub use Rattle.std.proofs.Math.Nat.{pow-le-pow_right}
 pub use Rattle.std.proofs.lemmas.Bool.{and_from, and_parts, both_ways, cases_Bool, cases_eq, cases_lt, false_from_ne_true, false≢true, or_cases, or_left, or_parts, or_right, true_from_ne_false}
 pub use Rattle.std.proofs.lemmas.Bool.Decides.{nat_tests}
@@ -43,16 +43,18 @@ pub use Rattle.vic_tree.proofs.BoolLaws.{and_thrice, or_false, same_tests}
 pub use Rattle.vic_tree.proofs.SetLaws.{widest_same}
 pub use Rattle.vic_tree.specs.Keys.{AreKeysOf}
 pub use Rattle.vic_tree.specs.OpenSet.{AreOutside, IsAtMost, IsWidest, SameUids, UpToThree, has_key, without_keys}
-pub use Rattle.vic_verdict.specs.Needs.{AreFound, HasEnough, IsFound, IsMet, IsMetFor, all_needs, answering}
+pub use Rattle.vic_verdict.proofs.Unread.{AreFound, IsFound, answering}
+pub use Rattle.vic_verdict.specs.Needs.{HasEnough, IsMet, SomeForces, all_needs}
 pub use Rattle.vic_verdict.specs.Explained.{IsPopulationBehind, IsSmallPopulation}
-pub use Rattle.vic_verdict.specs.Facts.{IsTold}
-pub use Rattle.vic_verdict.specs.Possible.{IsCertainUid, IsFirstImpossible, IsPossible, IsPossibleUid}
+pub use Rattle.vic_verdict.specs.Facts.{AreOpenAndCertain}
+pub use Rattle.vic_verdict.specs.Possible.{IsCertainUid, IsPossible, IsPossibleUid}
 pub use Rattle.vic_verdict.specs.Rising.{IsFailing, IsListOf, SameMembers}
-pub use Rattle.vic_verdict.specs.Verdict.{IsAbsent, IsDoubtful, IsFirstMask, IsHeard, IsLeast, IsReached, IsUnlisted, IsUnsettled, IsVerdict, IsWhole, NoSuch, entries_to}
+pub use Rattle.vic_verdict.specs.Verdict.{IsAbsent, IsDoubtful, IsFirstMask, IsHeard, IsLeast, IsAllHeard, IsUnlisted, IsUnsettled, IsVerdict, IsWhole, NoSuch, entries_to}
 pub use Rattle.vic_walk.specs.declared.answers.Answering.{Answering}
 pub use Rattle.vic_verdict.specs.declared.facts.Met.{Met}
 pub use Rattle.vic_verdict.specs.declared.judging.Verdict.TheVariants.{Absent, Complete, Doubtful, Impossible, Unlisted, Unsettled}
-pub use Rattle.vic_verdict.specs.inner.Chosen.{all_chosen, chosen, chosen_population, is_other}
+pub use Rattle.vic_verdict.specs.inner.Impossible.{IsFirstImpossible}
+pub use Rattle.vic_verdict.specs.inner.Chosen.{chosen, chosen_population, is_other}
 pub use Rattle.vic_walk.specs.Answers.{AreAnswering, IsAnsweringAt, is_unread}
 pub use Rattle.vic_walk.specs.Needs.{needs, needs_at, needs_of}
 pub use Rattle.vic_walk.specs.Walk.{AreBorneOut, was_heard}

@@ -82,10 +82,9 @@ IsWhole es =
 abbrev pub IsHeard : List Entry → ℕ → Type 0
 IsHeard es u = (i : ℕ) × (hears (slice_get es i) u ≡ true)
 
--- the reader is done: its log is possible, each UID that it lists was heard, and no other is
--- possible
-abbrev pub IsReached : List Entry → Type 0
-IsReached es =
+-- the log is possible, each UID that it lists was heard, and no other is possible
+abbrev pub IsAllHeard : List Entry → Type 0
+IsAllHeard es =
     IsPossible es
     × ((u : ℕ) → has (listed es) u ≡ true → IsHeard es u)
     × ((u : ℕ) → IsPossibleUid es u → has (listed es) u ≡ true)

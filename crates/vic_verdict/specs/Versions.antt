@@ -60,13 +60,13 @@ CouldHaveGivenSecond p es =
 abbrev pub IsWholeSecond : List Entry → Type 0
 IsWholeSecond = HasExactlyListed CouldHaveGivenSecond
 
--- the same with the lines of version 3: the tag whose reply was captured answers, alone or not; an
--- unknown slot says nothing
+-- what the entry at position i says is true of the population, with the lines of version 3 too: the
+-- tag whose reply was captured answers, alone or not; an unknown slot says nothing
 abbrev pub IsTrueOfThird : List ℕ → List Entry → ℕ → Entry → Type 0
 IsTrueOfThird p es i (Captured r) = Answers p es i r.uid
 IsTrueOfThird p es i e = IsTrueOf p es i e
 
--- every slot line is true of the population
+-- every slot line, those of version 3 too, is true of the population
 abbrev pub CouldHaveGivenThird : List ℕ → List Entry → Type 0
 CouldHaveGivenThird p es =
     (i : ℕ) (e : Entry) → slice_get es i ≡ Some e → IsTrueOfThird p es i e

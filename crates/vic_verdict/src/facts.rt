@@ -11,11 +11,12 @@ ghost use Rattle.vic_walk.specs.Borders.{AreBorders};
 ghost use Rattle.vic_walk.specs.Cuts.{AreCut};
 ghost use Rattle.vic_walk.specs.LogLines.{AreLogLines};
 ghost use Rattle.vic_verdict.specs.Facts.{AreFactsOf};
-ghost use Rattle.vic_verdict.specs.Possible.{IsFirstImpossible, IsPossible};
-ghost use Rattle.vic_verdict.specs.Needs.{HasEnough, IsMet, IsMetFor};
+ghost use Rattle.vic_verdict.specs.Possible.{IsPossible};
+ghost use Rattle.vic_verdict.specs.Needs.{HasEnough, IsMet};
 ghost use Rattle.vic_verdict.specs.Rising.{IsListOf};
 ghost use Rattle.vic_verdict.specs.Verdict.{IsHeard, IsVerdict};
 ghost use Rattle.vic_verdict.specs.declared.judging.Verdict.TheVariants.{Impossible};
+ghost use Rattle.vic_verdict.specs.inner.Impossible.{IsFirstImpossible};
 
 use std::alloc::{AllocError, Global};
 use vic_frame::Uid;
@@ -42,7 +43,7 @@ pub struct Facts<S: OpenSet> {
 pub struct Met {
     /// The UIDs that were heard, as often as they were heard, in any order.
     pub heard: Vec<Uid>,
-    /// Of each unread slot, which open UIDs answer there.
+    /// Of each unread slot, open UIDs that answer there: three, or all if there are fewer.
     pub unread: Vec<Answering>,
 }
 
@@ -81,10 +82,9 @@ pub fn facts_and_parts_of<S: OpenSet>(
 
 /// The UIDs that the slots of a possible log force: those that were heard, and those of each unread
 /// slot that requires all who answer there.
-pub fn certain_uids(alloc: Global, met: &Met) -> Result<RisingUids, AllocError>
-    ensures certain { IfOk result (λ v. (es : List EntryValue) → IsMet es met.now
+fn certain_uids(alloc: Global, met: &Met) -> Result<RisingUids, AllocError>
+    ensures { IfOk result (λ v. (es : List EntryValue) → IsMet es met.now
         → IsListOf (IsForcedBy (is_open (slots_of es)) (slots_of es)) v) }
-    ensures met { IfOk result (λ v. (u : ℕ) → has v u ≡ true → IsMetFor met.now u) }
 {
     let mut certain = Vec::from_slice(alloc, &met.heard)?;
     for slot in &met.unread {
@@ -101,7 +101,7 @@ fn open_and_met<S: OpenSet>(
     alloc: Global,
     lines: &LogLines,
 ) -> Result<Result<(S, Met, Parts), usize>, AllocError>
-    ensures found { IfOk result (λ r. MatchResult r
+    ensures facts { IfOk result (λ r. MatchResult r
         (λ p. IsPossible (entries lines.now)
         × SameUids (S.is_open p.0) (is_open (slots_of (entries lines.now)))
         × IsMet (entries lines.now) p.1)
@@ -116,16 +116,16 @@ fn open_and_met<S: OpenSet>(
         broken,
     } = walk_log(alloc, lines)?;
     if let Some(at) = broken {
-        // the replies aren't borne out at `at`, but an earlier line may have left an unread slot
-        // too few open UIDs: `first_lack` returns the position of the first that has, or `at`
+        // the replies aren't borne out at `at`; but before that line an unread slot may already
+        // lack open UIDs: `first_lack` returns the first position at which one does, or `at`
         return Ok(Err(first_lack(alloc, lines, &parts, &walk, at)?));
     }
     let closed = closed_keys(alloc, &parts, &walk)?;
     let set = S::without(alloc, closed)?;
     let unread = open_answers(alloc, lines, &parts, &mut walk)?;
     if !are_met(&unread) {
-        // after all lines a slot has too few open UIDs: `first_lack` returns the position of the
-        // first line after which one has
+        // after all lines an unread slot lacks open UIDs: `first_lack` returns the first position
+        // at which one does
         return Ok(Err(first_lack(alloc, lines, &parts, &walk, lines.len())?));
     }
     let heard = heard_uids(alloc, lines)?;

@@ -4,16 +4,18 @@ ghost use Rattle.std.specs.Prelude.{◌≡◌, ℕ, IfOk, length};
 ghost use Rattle.vic_log.specs.Order.{entries, listed};
 ghost use Rattle.vic_log.specs.SecondVersion.{AreOfSecondVersion};
 ghost use Rattle.vic_walk.specs.LogLines.{AreLogLines};
-ghost use Rattle.vic_verdict.specs.Facts.{IsTold};
-ghost use Rattle.vic_verdict.specs.Verdict.{IsVerdict, IsWhole, IsReached};
+ghost use Rattle.vic_verdict.specs.Facts.{AreOpenAndCertain};
+ghost use Rattle.vic_verdict.specs.Verdict.{IsVerdict, IsWhole, IsAllHeard};
 ghost use Rattle.vic_verdict.specs.Versions.{IsWholeSecond, IsWholeThird};
 ghost use Rattle.vic_verdict.specs.declared.judging.Verdict.TheVariants.{Complete};
 
+use crate::differences::missing_from;
 use crate::facts::{Facts, facts_of};
-use crate::findings::{absent_from, count_listed, listed_uids, missing_from};
+use crate::listed::{count_listed, listed_uids};
 use std::alloc::{AllocError, Global};
 use vic_frame::{Mask, Uid};
 use vic_log::Log;
+use vic_tree::outside::uids_outside;
 use vic_tree::{OpenSet, RangeSet, RisingUids, SortedKeys};
 
 /// What a log proves about its list of tags (profile): the first case that applies.
@@ -42,7 +44,7 @@ pub enum Verdict {
 /// could has exactly the listed UIDs (clause `whole`; clause `second` says the same in the words of
 /// version 2, whose logs have field cycles and garbled slots, clause `third` in those of version
 /// 3, whose logs have captured replies and unknown slots besides). If each listed UID of a possible
-/// log was heard, and no other is possible, the verdict is `Complete` (clause `reached`).
+/// log was heard, and no other is possible, the verdict is `Complete` (clause `all_heard`).
 pub fn judge(alloc: Global, log: &Log) -> Result<Verdict, AllocError>
     ensures verdict { IfOk result (λ v. IsVerdict log.now.lines v) }
     ensures whole { IfOk result (λ v. (count : ℕ) → v ≡ Complete count
@@ -53,7 +55,7 @@ pub fn judge(alloc: Global, log: &Log) -> Result<Verdict, AllocError>
         → IsWholeSecond (entries log.now.lines)) }
     ensures third { IfOk result (λ v. (count : ℕ) → v ≡ Complete count
         → IsWholeThird (entries log.now.lines)) }
-    ensures reached { IfOk result (λ v. IsReached (entries log.now.lines)
+    ensures all_heard { IfOk result (λ v. IsAllHeard (entries log.now.lines)
         → v ≡ Complete (length (listed (entries log.now.lines)))) }
 {
     judge_with::<RangeSet>(alloc, log)
@@ -70,7 +72,7 @@ pub fn judge_with<S: OpenSet>(alloc: Global, log: &Log) -> Result<Verdict, Alloc
         → IsWholeSecond (entries log.now.lines)) }
     ensures third { IfOk result (λ v. (count : ℕ) → v ≡ Complete count
         → IsWholeThird (entries log.now.lines)) }
-    ensures reached { IfOk result (λ v. IsReached (entries log.now.lines)
+    ensures all_heard { IfOk result (λ v. IsAllHeard (entries log.now.lines)
         → v ≡ Complete (length (listed (entries log.now.lines)))) }
 {
     judge_lines::<S>(alloc, log)
@@ -96,12 +98,13 @@ pub fn verdict_of_facts<S: OpenSet>(
     certain: &RisingUids,
     log: &Log,
 ) -> Result<Verdict, AllocError>
-    requires { IsTold (entries log.now.lines) (S.is_open set) certain.now }
+    requires { AreOpenAndCertain (entries log.now.lines) (S.is_open set) certain.now }
     ensures { IfOk result (λ v. IsVerdict log.now.lines v) }
 {
     let listed = listed_uids(alloc, log.lines())?;
     let listed_keys = SortedKeys::of(alloc, listed.as_slice())?;
-    let absent = absent_from(alloc, &listed_keys, &set, certain)?;
+    // the set has all certain UIDs
+    let absent = uids_outside(alloc, &set, &listed_keys)?;
     if let Some(uid) = absent.first() {
         return Ok(Verdict::Absent(uid));
     }

@@ -56,7 +56,7 @@ pub fn exactly_one_verdict()
 {}
 
 /// Some mask is unsettled if and only if some UID that isn't listed is possible.
-pub fn unsettled_where_unlisted_is_possible()
+pub fn unsettled_if_another_is_possible()
     ensures { (es : List Entry) → ((m : BitMask) × IsUnsettled es m)
         ↔ ((u : ℕ) × IsPossibleUid es u × (has (listed es) u ≡ false)) }
 {}

@@ -6,13 +6,15 @@
 //! possible, and how a list differs from it. `laws` states what follows from the definitions.
 #![tactic(auto)]
 
+mod differences;
 mod explanation;
 mod facts;
-mod findings;
 mod judging;
 pub mod laws;
+mod listed;
 
+pub use differences::{Differences, compare};
 pub use explanation::{Explanation, explain, explain_with};
-pub use facts::{Facts, Met, certain_uids, facts_and_parts_of, facts_of, is_possible};
-pub use findings::{Differences, compare, count_listed, listed_uids, missing_from};
+pub use facts::{Facts, Met, facts_and_parts_of, facts_of, is_possible};
 pub use judging::{Verdict, judge, judge_with, verdict_of_facts};
+pub use listed::{count_listed, listed_uids};

@@ -1,5 +1,5 @@
 -- What is answered to arrays, and the kinds of these answers.
-use Rattle.vicinity_c.proofs.Words.{◌≡◌, ℕ, List, [], Option, None, length, map, refl, sym, ap, subst, ◌∙◌, arith, inl, inr, ◌<◌, BitMask, AreNoneOf, AreTogether, IsPutInto, first_of, plain_answer, VicinityMask, HaveNoFault, faults_of, mask_in, AreFindingsBy, LogLine, PlainFindings, IsWhole, Judged, VicinityFinding, VicinityAnswer, numbers_of, AreReconciled, AreRefused, IsReconciledBy, AreCompared}
+use Rattle.vicinity_c.proofs.Words.{◌≡◌, ℕ, List, [], Option, None, length, map, refl, sym, ap, subst, ◌∙◌, arith, inl, inr, ◌<◌, BitMask, AreNoneOf, AreTogether, IsReturned, first_of, plain_answer, VicinityMask, HaveNoFault, faults_of, mask_in, AreFindingsBy, LogLine, PlainFindings, IsWhole, Judged, VicinityFinding, VicinityAnswer, numbers_of, AreReconciled, AreRefused, IsReconciledBy, AreCompared}
 
 -- ---- the kinds of the answers
 
@@ -33,16 +33,15 @@ compared es cs ms numbers list (inr a) some = a
 
 -- by arrays, or by logs
 pub found_by : (P C : ℕ → Type 0) (es cs : List ℕ) (ms : List VicinityMask) (numbers : VicinityAnswer) (list : List VicinityFinding) (count : ℕ) (room room' : List VicinityFinding) → ((a : AreCompared es cs ms numbers list) → AreFindingsBy P C es a.findings)
-    → IsReconciledBy es cs ms numbers list → count ≡ length list → IsPutInto list room room' → (numbers.kind ≡ 7 → ⊥)
+    → IsReconciledBy es cs ms numbers list → IsReturned list room room' count → (numbers.kind ≡ 7 → ⊥)
     → AreReconciled P C es numbers count room room'
-found_by P C es cs ms numbers list count room room' right by long put some =
+found_by P C es cs ms numbers list count room room' right by returned some =
     let a = compared es cs ms numbers list by some in
     record {
       findings = a.findings;
       right = right a;
       numbers_are = a.numbers_are;
-      counted = long ∙ ap length a.list_are;
-      put = subst (λ l. IsPutInto l room room') a.list_are put;
+      returned = subst (λ l. IsReturned l room room' count) a.list_are returned;
     }
 
 pub whole_where_complete : (es cs : List ℕ) (ms : List VicinityMask) (numbers : VicinityAnswer) (list : List VicinityFinding) → IsReconciledBy es cs ms numbers list → numbers.kind ≡ 1
@@ -69,5 +68,5 @@ answered es cs ms numbers list by is =
     let a = compared es cs ms numbers list by (λ seven. omega (arith, is, seven)) in
     omega (arith, is, plain_between a.findings (length es) numbers a.numbers_are)
 
-pub put_nothing : (list room room' : List VicinityFinding) → list ≡ [] → IsPutInto list room room' → room' ≡ room
-put_nothing list room room' e put = let same : IsPutInto [] room room' = subst (λ l. IsPutInto l room room') e put in same.fits (omega arith)
+pub put_nothing : (list room room' : List VicinityFinding) (count : ℕ) → list ≡ [] → IsReturned list room room' count → (count ≡ 0) × (room' ≡ room)
+put_nothing list room room' count e returned = let same : IsReturned [] room room' count = subst (λ l. IsReturned l room room' count) e returned in (same.counted, same.put.fits (omega arith))

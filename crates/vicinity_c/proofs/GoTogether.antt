@@ -45,8 +45,8 @@ items_of : {T R : Type 0} (P : List LogLine → List T → Type 0) (number_of : 
 items_of P number_of text items r =
     let n = r.numbers in
     let all = map number_of n.items in
-    let long : r.needed ≡ length all = n.counted ∙ sym (length-map n.items number_of) in
-    let there : r.room' ≡ all ++ drop (length all) r.room = n.put.fits (omega (arith, r.fit, long)) in
+    let long = n.returned.counted in
+    let there : r.room' ≡ all ++ drop (length all) r.room = n.returned.put.fits (omega (arith, r.fit, long)) in
     let taken : take r.needed r.room' ≡ all = rw (there, long) (take-append_seam all (drop (length all) r.room)) in
     of_answer P number_of text items r.answer n.items n.answer n.right n.numbers_are r.not_impossible r.not_refused (r.items_are ∙ taken)
 

@@ -2,7 +2,6 @@
 use Rattle.std.specs.Prelude.{◌≡◌, ◌⊎◌, ℕ, ◌+◌, Option, Some, None, List, length, map, min, replicate}
 use Rattle.vic_log.specs.Lines.{lines_of_text}
 use Rattle.vic_log.specs.Log.{LogValue}
-use Rattle.vic_log.specs.Text.{IsFirstFault, IsLogOf}
 use Rattle.vic_log.specs.declared.fault.LineFault.{LineFault}
 use Rattle.vic_log.specs.declared.fault.LineFault.TheVariants.{NotVicinity}
 use Rattle.vic_margin.specs.declared.answer.Margin.{Margin}
@@ -11,8 +10,8 @@ use Rattle.vic_answer.specs.declared.answered.Answered.{Answered}
 use Rattle.vic_answer.specs.declared.answered.Answered.TheVariants.{Judged, RefusedAt}
 use Rattle.vic_answer.specs.declared.numbers.VicinityAnswer.{VicinityAnswer}
 use Rattle.vic_answer.specs.declared.overlooked.Overlooked.{Overlooked}
-use Rattle.vic_answer.specs.Answered.{IsAnswered, answer_of}
-use Rattle.vic_answer.specs.ExplainedNumbers.{IsPutInto}
+use Rattle.vic_answer.specs.Answered.{HasLog, IsAnswered, IsRefusedAt, answer_of}
+use Rattle.vic_answer.specs.Buffers.{IsPutInto}
 use Rattle.vic_answer.specs.MarginText.{IsMarginOfLines}
 use Rattle.vic_answer.specs.Numbers.{numbers_of}
 use Rattle.vic_answer.specs.OverlookedText.{AreOverlooked}
@@ -56,7 +55,7 @@ line_behind text i = min (length (lines_of_text text) + i + 1) MOST
 -- the text has a log, and this is the line of the first UID that has a fault
 pub record IsUidRefused (text uids : List ℕ) (n : ℕ) (fault : LineFault) : Type 0 where
   pub log : LogValue
-  pub is_log : IsLogOf (lines_of_text text) log
+  pub is_log : HasLog text log
   pub index : ℕ
   pub number : ℕ
   pub first : IsFirst (map uid_fault uids) index number
@@ -69,7 +68,7 @@ abbrev pub AreOverlookedBy : List ℕ → List ℕ → Answered Overlooked → T
 AreOverlookedBy text uids (Judged o) =
     HaveNoFault (map uid_fault uids) × IsAnswered (AreOverlooked uids) text (Judged o)
 AreOverlookedBy text uids (RefusedAt n fault) =
-    IsFirstFault (lines_of_text text) n fault ⊎ IsUidRefused text uids n fault
+    IsRefusedAt text n fault ⊎ IsUidRefused text uids n fault
 
 -- the margins of so many UIDs, zeros if the text or a UID is refused
 abbrev pub margins_of : ℕ → Answered Overlooked → List ℕ

@@ -7,7 +7,7 @@ use Rattle.vic_reconcile.specs.Surveys.{AreFindingsBy, AreNoneOf, AreTogether, I
 use Rattle.vic_reconcile.specs.declared.surveys.PlainFindings.{PlainFindings}
 use Rattle.vic_answer.specs.declared.finding_numbers.VicinityFinding.{VicinityFinding}
 use Rattle.vic_answer.specs.declared.numbers.VicinityAnswer.{VicinityAnswer}
-use Rattle.vic_answer.specs.ExplainedNumbers.{IsPutInto}
+use Rattle.vic_answer.specs.Buffers.{IsReturned}
 use Rattle.vic_answer.specs.Numbers.{numbers_of, refusal_numbers}
 use Rattle.vic_answer.specs.SurveyNumbers.{plain_answer, plain_findings}
 use Rattle.vicinity_c.specs.declared.inventory.VicinityMask.{VicinityMask}
@@ -22,8 +22,7 @@ pub record AreReconciled (P C : ℕ → Type 0) (expected : List ℕ) (numbers :
   pub findings : PlainFindings
   pub right : AreFindingsBy P C expected findings
   pub numbers_are : numbers ≡ numbers_of (plain_answer findings (length expected))
-  pub counted : count ≡ length (plain_findings findings)
-  pub put : IsPutInto (plain_findings findings) room room'
+  pub returned : IsReturned (plain_findings findings) room room' count
 
 -- these are the numbers of the first fault
 abbrev pub AreRefused : List ℕ → VicinityAnswer → Type 0

@@ -1,7 +1,7 @@
 -- The text of a log with its slots filled in, in a caller's buffer.
-use Rattle.std.specs.Prelude.{◌≡◌, ℕ, List, length}
+use Rattle.std.specs.Prelude.{◌≡◌, ℕ, List}
 use Rattle.vic_answer.specs.declared.status.Status.{Status}
-use Rattle.vic_answer.specs.ExplainedNumbers.{IsPutInto}
+use Rattle.vic_answer.specs.Buffers.{IsReturned}
 use Rattle.vic_answer.specs.SimulateText.{IsSimulationOf}
 use Rattle.vic_answer.specs.Status.{status_code}
 
@@ -12,5 +12,4 @@ pub record IsSimulatedInto (text : List ℕ) (code count : ℕ) (room room' : Li
   pub status : Status
   pub right : IsSimulationOf text answer status
   pub code_is : code ≡ status_code status
-  pub counted : count ≡ length answer
-  pub put : IsPutInto answer room room'
+  pub returned : IsReturned answer room room' count

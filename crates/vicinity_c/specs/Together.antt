@@ -2,11 +2,10 @@
 use Rattle.std.specs.Prelude.{◌≡◌, ◌≢◌, ◌↔◌, ◌≤◌, ℕ, List, true, length, map, take}
 use Rattle.std.specs.List.{AllZip, Any, Contains}
 use Rattle.vic_frame.specs.Uids.{has}
-use Rattle.vic_log.specs.Lines.{lines_of_text}
 use Rattle.vic_log.specs.Log.{LogValue}
-use Rattle.vic_log.specs.Text.{IsLogOf}
 use Rattle.vic_log.specs.declared.entry.LogLine.{LogLine}
 use Rattle.vic_reconcile.specs.Surveys.{AreCertainIn, AreOpenIn, AreTogether}
+use Rattle.vic_answer.specs.Answered.{HasLog}
 use Rattle.vic_answer.specs.SurveyNumbers.{AreNumbersWith}
 use Rattle.vic_answer.specs.declared.numbers.VicinityAnswer.{VicinityAnswer}
 use Rattle.vicinity_c.specs.Arrays.{mask_in}
@@ -42,7 +41,7 @@ pub record ArePutTogether (surveys : List (List ℕ × List VicinityMask)) (cert
 -- the text has a log with these lines
 abbrev pub HasLines : List ℕ → List LogLine → Type 0
 HasLines text lines =
-    (log : LogValue) × IsLogOf (lines_of_text text) log × (log.lines ≡ lines)
+    (log : LogValue) × HasLog text log × (log.lines ≡ lines)
 
 -- the texts have logs, and the arrays are what these have together
 pub record AreOfLogs (texts : List (List ℕ)) (certain : List ℕ) (masks : List VicinityMask)

@@ -32,7 +32,7 @@ pub use margins::VicinityWeakest;
 pub use names::{VicinityName, each_fault_has_its_name};
 use std::alloc::Global;
 use vic_answer::{
-    NO_ANSWER, VicinityAnswer, answer_of, answer_text, judge_text, numbers_of, put_population,
+    NO_ANSWER, VicinityAnswer, answer_of, answer_text, copy_uids, judge_text, numbers_of, uids_of,
 };
 
 /// The number of this interface: it changes if a struct, a number or the meaning of a call changes,
@@ -98,7 +98,7 @@ pub extern "C" fn vicinity_explain(
         *needed = 0;
         return NO_ANSWER.status;
     };
-    *needed = put_population(&explained, population);
+    *needed = copy_uids(uids_of(&explained), population);
     let numbers = numbers_of(&answer_of(&explained));
     *answer = numbers;
     numbers.status

@@ -6,7 +6,7 @@ ghost use Rattle.vic_answer.specs.Numbers.{no_answer};
 
 use crate::report::refuse;
 use std::alloc::Global;
-use vic_answer::{VicinityAnswer, list_text, listed_in, listing_numbers, put_uids};
+use vic_answer::{VicinityAnswer, copy_uids, list_text, listed_in, listing_numbers};
 
 /// Returns the UIDs that a text lists which has no other entries, as `vicinity reconcile` reads the
 /// list of what is expected: `needed` is how many there are, 0 if the text is refused. If they fit
@@ -33,9 +33,7 @@ pub extern "C" fn vicinity_listed(
     let Ok(listing) = list_text(alloc, text) else {
         return refuse(answer, needed);
     };
-    let listed = listed_in(&listing);
-    put_uids(listed, uids);
-    *needed = listed.len();
+    *needed = copy_uids(listed_in(&listing), uids);
     let numbers = listing_numbers(&listing);
     *answer = numbers;
     numbers.status

@@ -6,7 +6,7 @@ ghost use Rattle.vic_log.specs.Writing.{listed_text};
 ghost use Rattle.vic_verdict.specs.declared.judging.Verdict.TheVariants.{Complete};
 ghost use Rattle.vic_answer.specs.Answered.{answer_of};
 ghost use Rattle.vic_answer.specs.CheckText.{IsCompleteText};
-ghost use Rattle.vic_answer.specs.ExplainedNumbers.{IsPutInto};
+ghost use Rattle.vic_answer.specs.Buffers.{IsPutInto};
 ghost use Rattle.vic_answer.specs.Numbers.{AreNumbersFor, no_answer};
 ghost use Rattle.vicinity_c.specs.Arrays.{IsFirst, uid_fault};
 ghost use Rattle.vicinity_c.specs.Margins as spec;
@@ -15,7 +15,7 @@ use crate::arrays::{MOST, uids_in};
 use crate::lines::with_listed;
 use std::alloc::{AllocError, Global};
 use vic_answer::{
-    Answered, NO_ANSWER, Overlooked, VicinityAnswer, answer_of, answer_text, numbers_of,
+    Answered, NO_ANSWER, Overlooked, VicinityAnswer, answer_of, answer_text, copy_list, numbers_of,
     overlooked_answer, overlooked_text, read_text,
 };
 use vic_log::LineFault;
@@ -228,17 +228,10 @@ fn put_margins(overlooked: &Answered<Overlooked>, count: usize, room: &mut [u32]
     ensures { IsPutInto (spec.margins_of count overlooked.now) room.old room.new }
 {
     match overlooked {
-        Answered::Judged(overlooked) => put_numbers(overlooked.margins.as_slice(), room),
+        Answered::Judged(overlooked) => {
+            copy_list(overlooked.margins.as_slice(), room);
+        }
         Answered::RefusedAt { .. } => put_zeros(count, room),
-    }
-}
-
-/// Puts numbers at the start of a buffer, if they fit.
-fn put_numbers(numbers: &[u32], room: &mut [u32])
-    ensures { IsPutInto numbers.now room.old room.new }
-{
-    if numbers.len() <= room.len() {
-        room[..numbers.len()].copy_from_slice(numbers);
     }
 }
 

@@ -16,7 +16,7 @@ use crate::names::fault_name;
 use crate::report::refuse;
 use std::alloc::{AllocError, Global};
 use vic_answer::{
-    VicinityAnswer, VicinityFinding, numbers_of, plain_answer, plain_findings, put_findings,
+    VicinityAnswer, VicinityFinding, copy_list, numbers_of, plain_answer, plain_findings,
     refusal_numbers,
 };
 use vic_reconcile::compare_surveys;
@@ -67,8 +67,7 @@ pub extern "C" fn vicinity_reconcile(
     let Ok(reconciled) = reconcile_arrays(alloc, expected, certain, masks) else {
         return refuse(answer, needed);
     };
-    put_findings(reconciled.findings.as_slice(), findings);
-    *needed = reconciled.findings.len();
+    *needed = copy_list(reconciled.findings.as_slice(), findings);
     *answer = reconciled.answer;
     reconciled.answer.status
 }

@@ -9,8 +9,8 @@ ghost use Rattle.vic_answer.specs.Numbers.{AreNumbersFor, no_answer};
 use crate::lines::with_listed;
 use std::alloc::Global;
 use vic_answer::{
-    NO_ANSWER, VicinityAnswer, VicinityFinding, answer_of, answer_text, findings_of, numbers_of,
-    put_findings,
+    NO_ANSWER, VicinityAnswer, VicinityFinding, answer_of, answer_text, copy_list, findings_of,
+    numbers_of,
 };
 
 /// Judges the log that a text spells, as `vicinity_check` does, and returns every finding: the
@@ -40,8 +40,7 @@ pub extern "C" fn vicinity_report(
     let Ok(list) = findings_of(alloc, &reported) else {
         return refuse(answer, needed);
     };
-    put_findings(list.as_slice(), findings);
-    *needed = list.len();
+    *needed = copy_list(list.as_slice(), findings);
     let numbers = numbers_of(&answer_of(&reported));
     *answer = numbers;
     numbers.status

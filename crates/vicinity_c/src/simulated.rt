@@ -1,11 +1,10 @@
 //! A log with its slots filled in, for C.
 
-ghost use Rattle.std.specs.Prelude.{◌≡◌, ◌≢◌, ◌≤◌, ◌++◌, length, drop};
-ghost use Rattle.vic_answer.specs.ExplainedNumbers.{IsPutInto};
+ghost use Rattle.std.specs.Prelude.{◌≡◌, ◌≢◌};
 ghost use Rattle.vicinity_c.specs.Simulated.{IsSimulatedInto};
 
 use std::alloc::Global;
-use vic_answer::{NO_ANSWER, simulate_text};
+use vic_answer::{NO_ANSWER, copy_list, simulate_text};
 
 /// Fills in the slots of the log that a text spells, as the tags that it lists would answer, and
 /// returns what `vicinity simulate` writes: the log's text, or the line of a refusal. `needed` is
@@ -27,17 +26,6 @@ pub extern "C" fn vicinity_simulate(
         *needed = 0;
         return NO_ANSWER.status;
     };
-    *needed = put_bytes(simulation.text.as_slice(), filled);
+    *needed = copy_list(simulation.text.as_slice(), filled);
     u32::from(simulation.status.code())
-}
-
-/// Puts bytes at the start of a buffer, if they fit, and returns how many there are.
-fn put_bytes(bytes: &[u8], room: &mut [u8]) -> usize
-    ensures count { result ≡ length bytes.now }
-    ensures put { IsPutInto bytes.now room.old room.new }
-{
-    if bytes.len() <= room.len() {
-        room[..bytes.len()].copy_from_slice(bytes);
-    }
-    bytes.len()
 }

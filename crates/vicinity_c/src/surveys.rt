@@ -1,9 +1,9 @@
 //! What is left of the log of a text without its lines: its certain UIDs, and its open masks.
 
-ghost use Rattle.std.specs.Prelude.{◌≡◌, ◌≢◌, ◌≤◌, ◌++◌, drop, length, map};
+ghost use Rattle.std.specs.Prelude.{◌≡◌, ◌≢◌, map};
 ghost use Rattle.vic_reconcile.specs.Surveys.{AreCertainIn, AreOpenIn};
+ghost use Rattle.vic_answer.specs.Buffers.{IsReturned};
 ghost use Rattle.vic_answer.specs.CheckText.{IsCompleteText};
-ghost use Rattle.vic_answer.specs.ExplainedNumbers.{IsPutInto};
 ghost use Rattle.vic_answer.specs.Numbers.{AreNumbersFor, no_answer};
 ghost use Rattle.vic_answer.specs.SurveyNumbers.{AreNumbersWith};
 ghost use Rattle.vicinity_c.specs.Inventory as inventory;
@@ -12,7 +12,8 @@ use crate::inventory::{VicinityMask, mask_fields};
 use crate::report::refuse;
 use std::alloc::Global;
 use vic_answer::{
-    VicinityAnswer, answer_of, answer_text, certain_of, numbers_of, open_masks_of, put_uids,
+    VicinityAnswer, answer_of, answer_text, certain_of, copy_each, copy_uids, numbers_of,
+    open_masks_of,
 };
 use vic_frame::Mask;
 
@@ -41,9 +42,7 @@ pub extern "C" fn vicinity_certain(
     let Ok(surveyed) = answer_text(alloc, text) else {
         return refuse(answer, needed);
     };
-    let certain = certain_of(&surveyed);
-    put_uids(certain, uids);
-    *needed = certain.len();
+    *needed = copy_uids(certain_of(&surveyed), uids);
     let numbers = numbers_of(&answer_of(&surveyed));
     *answer = numbers;
     numbers.status
@@ -77,8 +76,7 @@ pub extern "C" fn vicinity_open_masks(
     let Ok(open) = open_masks_of(alloc, &surveyed) else {
         return refuse(answer, needed);
     };
-    put_masks(open.as_slice(), masks);
-    *needed = open.len();
+    *needed = copy_masks(open.as_slice(), masks);
     let numbers = numbers_of(&answer_of(&surveyed));
     *answer = numbers;
     numbers.status
@@ -116,32 +114,16 @@ pub extern "C" fn vicinity_survey(
     let Ok(open) = open_masks_of(alloc, &surveyed) else {
         return refuse(answer, uids_needed);
     };
-    let certain = certain_of(&surveyed);
-    put_uids(certain, uids);
-    *uids_needed = certain.len();
-    put_masks(open.as_slice(), masks);
-    *masks_needed = open.len();
+    *uids_needed = copy_uids(certain_of(&surveyed), uids);
+    *masks_needed = copy_masks(open.as_slice(), masks);
     let numbers = numbers_of(&answer_of(&surveyed));
     *answer = numbers;
     numbers.status
 }
 
-/// Puts masks at the start of a buffer, if they fit.
-fn put_masks(masks: &[Mask], room: &mut [VicinityMask])
-    ensures { IsPutInto (map inventory.mask_fields masks.now) room.old room.new }
+/// Copies masks to the start of a buffer, if they fit, and returns how many there are.
+fn copy_masks(masks: &[Mask], room: &mut [VicinityMask]) -> usize
+    ensures { IsReturned (map inventory.mask_fields masks.now) room.old room.new result }
 {
-    if masks.len() <= room.len() {
-        copy_masks(masks, room);
-    }
-}
-
-/// Copies masks to the start of a buffer in which they fit.
-fn copy_masks(masks: &[Mask], room: &mut [VicinityMask])
-    requires { length masks.now ≤ length room.old }
-    ensures { room.new
-        ≡ map inventory.mask_fields masks.now ++ drop (length masks.now) room.old }
-{
-    for (index, mask) in masks.iter().enumerate() {
-        room[index] = mask_fields(mask);
-    }
+    copy_each(masks, room, |mask| mask_fields(&mask))
 }

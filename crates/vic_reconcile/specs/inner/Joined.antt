@@ -66,7 +66,7 @@ pub record AreOpenBesides (certain : List ℕ) (set : List (ℕ × ℕ)) (o : Op
       × (Contains o.masks.items m → ⊥))
 
 -- the mask that is unsettled, with the open masks of each log
-pub record IsLeftToAsk (certain : List ℕ) (sets : List (List (ℕ × ℕ)))
+pub record HasOpenMasks (certain : List ℕ) (sets : List (List (ℕ × ℕ)))
     (m : BitMask) (x : Unsettled) : Type 0 where
   pub mask : x.mask ≡ m
   pub masks : AllZip (AreOpenBesides certain) sets x.masks.items

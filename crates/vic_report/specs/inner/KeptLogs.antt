@@ -16,7 +16,8 @@ use Rattle.vic_walk.specs.LogLines.{AreLogLines}
 abbrev pub SameQuiet : List Entry → List Entry → ℕ → Type 0
 SameQuiet kept es i = (u : ℕ) → is_quiet kept (length kept) u ≡ is_quiet es i u
 
--- the lines of a log that lists nothing, numbered from 1
+-- the lines of a log that lists nothing, numbered from 1: since the numbers rise from above 0, the
+-- last is their count only if they are 1, 2, ..
 pub record IsKeptLog (lines : List LogLine) : Type 0 where
   pub log : AreLogLines lines
   pub unlisted : listed (entries lines) ≡ []

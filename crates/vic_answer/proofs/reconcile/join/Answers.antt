@@ -1,5 +1,5 @@
 use Rattle.vic_answer.proofs.Words.{◌+◌, ap, map, entries, listed, lines_of}
-use Rattle.vic_answer.proofs.Reconciles.{ends_impossible, ends_refused, kept_long, kept_more}
+use Rattle.vic_answer.proofs.Reconciles.{ends_at, ends_impossible, ends_refused, kept_long, kept_more}
 use Rattle.vic_answer.proofs.reconcile.join.Goals as goal
 
 pub returns-in-None-clause-text : goal.returns-in-None-clause-text
@@ -21,9 +21,9 @@ returns-in-RefusedAt-clause-text c text list texts reading k =
     (rw c.in-RefusedAt.is at reading)
 
 pub returns-in-Some-clause-last : goal.returns-in-Some-clause-last
-returns-in-Some-clause-last c list texts k =
-    ap (λ n. n + 1) (kept_long list texts c.args.joined c.log_count-log.result k (c.log_count-log.ensures (listed (entries k.expected.lines)) (map lines_of k.logs) k.holds))
+returns-in-Some-clause-last c list texts e k is =
+    ends_at _ e _ is (ap (λ n. n + 1) (kept_long list texts c.args.joined c.log_count-log.result k (c.log_count-log.ensures (listed (entries k.expected.lines)) (map lines_of k.logs) k.holds)))
 
 pub returns-in-RefusedAt-clause-last : goal.returns-in-RefusedAt-clause-last
-returns-in-RefusedAt-clause-last c list texts k =
-    ap (λ n. n + 1) (kept_long list texts c.args.joined c.log_count-log.result k (c.log_count-log.ensures (listed (entries k.expected.lines)) (map lines_of k.logs) k.holds))
+returns-in-RefusedAt-clause-last c list texts e k is =
+    ends_at _ e _ is (ap (λ n. n + 1) (kept_long list texts c.args.joined c.log_count-log.result k (c.log_count-log.ensures (listed (entries k.expected.lines)) (map lines_of k.logs) k.holds)))

@@ -1,5 +1,6 @@
-use Rattle.vic_answer.proofs.Words.{◌≡◌, ◌<◌, ℕ, List, [], ◌∷◌, length, length-set, set, arith, ◌∙◌, Err, IsKept, IsReconciling, logs_before, GoOn, StopsBy}
-use Rattle.vic_answer.proofs.Turns.{all_ending, all_places, all_read, if_err, none_left, none_read, now_ending, one_more, one_more_left, stops_at_log, within}
+use Rattle.vic_answer.proofs.Words.{◌≡◌, ◌<◌, ℕ, List, [], ◌∷◌, length, length-set, set, arith, ◌∙◌, Err, IsKept, IsReconciling, logs_read_by, GoOn, StopsBy}
+use Rattle.vic_answer.proofs.Turns.{all_ending, all_places, all_read, if_err, none_left, none_read, now_ending, one_more, one_more_left, stops_at_log}
+use Rattle.vic_answer.proofs.Standing.{no_early_fault}
 use Rattle.vic_answer.proofs.reconcile_run.read_logs.Goals as goal
 
 pub loop-at-init : goal.loop-at-init
@@ -13,18 +14,18 @@ loop-at-preserved g c =
     let lt : c.loop-at.at < length c.loop-at.logs = omega (arith, c.loop-at-test.true, c.loop-at.auto.logs) in
     let e = c.in_ok-read-in-Going.ensures in
     record {
-      left = one_more_left _ _ _ _ _ _ _ lt c.loop-at.invariant.left (within e.leaves_source);
+      left = one_more_left _ _ _ _ _ _ _ lt c.loop-at.invariant.left e.leaves_source.within;
       read = λ list h.
           let was = c.loop-at.invariant.read list h in
-          one_more _ _ _ _ _ _ _ _ _ (λ texts. IsReconciling list texts c.loop-at.read × (length texts ≡ logs_before c.loop-at.read c.loop-at.at)) _ lt c.loop-at.invariant.left was
+          one_more _ _ _ _ _ _ _ _ _ (λ texts. IsReconciling list texts c.loop-at.read × (length texts ≡ logs_read_by c.loop-at.read c.loop-at.at)) _ lt c.loop-at.invariant.left was
           e.text.text (e.text.given, (e.text.enough, e.leaves_source.works)) (λ texts p.
           let kept : IsKept list texts c.in-Going.joined = rw c.in-Going.is at p.0 in
-          (e.text.holds list texts kept, now_ending texts e.text.text _ c.loop-at.at (rw c.in-Going.is at p.1) (e.last list texts kept)));
+          (e.text.holds list texts kept, now_ending texts e.text.text _ c.loop-at.at (rw c.in-Going.is at p.1) (λ d is. e.last list texts d kept is)));
     }
 
 pub returns-in-Ended-clause-texts : goal.returns-in-Ended-clause-texts
 returns-in-Ended-clause-texts g c list h =
-    all_read _ _ _ _ _ _ _ (λ texts. IsReconciling list texts c.loop-at.read × (length texts ≡ logs_before c.loop-at.read c.loop-at.at)) _ c.loop-at.auto.at-end c.loop-at.invariant.left (c.loop-at.invariant.read list h)
+    all_read _ _ _ _ _ _ _ (λ texts. IsReconciling list texts c.loop-at.read × (length texts ≡ logs_read_by c.loop-at.read c.loop-at.at)) _ c.loop-at.auto.at-end c.loop-at.invariant.left (c.loop-at.invariant.read list h)
     (λ texts e p. rw c.in-Ended.is at p)
 
 pub returns-in-Ended-clause-leaves_sources : goal.returns-in-Ended-clause-leaves_sources
@@ -33,7 +34,7 @@ returns-in-Ended-clause-leaves_sources g c = all_places _ _ _ c.loop-at.auto.log
 pub returns-in_err-read-in-Going-clause-leaves_sources : goal.returns-in_err-read-in-Going-clause-leaves_sources
 returns-in_err-read-in-Going-clause-leaves_sources g c =
     let lt : c.loop-at.at < length c.loop-at.logs = omega (arith, c.loop-at-test.true, c.loop-at.auto.logs) in
-    all_places _ _ _ (length-set c.loop-at.logs c.loop-at.at c.read_next.new.source ∙ c.loop-at.auto.logs) (one_more_left _ _ _ _ _ _ _ lt c.loop-at.invariant.left (within c.read_next.ensures.leaves_source)).within
+    all_places _ _ _ (length-set c.loop-at.logs c.loop-at.at c.read_next.new.source ∙ c.loop-at.auto.logs) (one_more_left _ _ _ _ _ _ _ lt c.loop-at.invariant.left c.read_next.ensures.leaves_source.within).within
 
 pub returns-in_err-read-in-Going-clause-stops : goal.returns-in_err-read-in-Going-clause-stops
 returns-in_err-read-in-Going-clause-stops g c =
@@ -46,7 +47,7 @@ returns-in_err-read-in-Going-clause-stops g c =
     stops_at_log g.R.Source.returned g.R.Source.ended g.R.Source.has_failed c.read_next.result g.R.Source.reads list c.in-Going.joined c.args.logs.now c.loop-at.logs c.loop-at.at _ c.read_next.new.source fault
     is lt c.loop-at.auto.logs c.loop-at.invariant.left
     (record { texts = was.texts; as_many = was.as_many; each = was.each; holds = rw c.in-Going.is at was.holds.0 })
-    c.read_next.ensures.leaves_source (rw is at c.read_next.ensures.no_early_fault) in
+    c.read_next.ensures.leaves_source (no_early_fault _ _ _ _ c.read_next.result fault is c.read_next.ensures.text) in
     if_err c.from_residual.result fault _ c.from_residual.ensures.1 k
 
 pub returns-clause-leaves_sources : goal.returns-clause-leaves_sources
@@ -54,5 +55,5 @@ returns-clause-leaves_sources g c = all_places _ _ _ c.loop-at.auto.logs c.loop-
 
 pub returns-clause-texts : goal.returns-clause-texts
 returns-clause-texts g c list h =
-    all_read _ _ _ _ _ _ _ (λ texts. IsReconciling list texts c.loop-at.read × (length texts ≡ logs_before c.loop-at.read c.loop-at.at)) _ c.loop-at.auto.at-end c.loop-at.invariant.left (c.loop-at.invariant.read list h)
+    all_read _ _ _ _ _ _ _ (λ texts. IsReconciling list texts c.loop-at.read × (length texts ≡ logs_read_by c.loop-at.read c.loop-at.at)) _ c.loop-at.auto.at-end c.loop-at.invariant.left (c.loop-at.invariant.read list h)
     (λ texts e p. (p.0, all_ending c.loop-at.read (length texts) c.loop-at.at _ p.1 (omega (arith, c.loop-at-test.false, c.loop-at.auto.at-end))))

@@ -1,6 +1,7 @@
 use Rattle.vic_answer.proofs.Words.{◌≡◌, append_cancel_left, length, refl, sym, ◌∙◌, Result, Ok, Err, OnOk, IsReconciled, Memory, RunFault, logs_for}
 use Rattle.vic_answer.proofs.Reconciles.{all_where_complete, writes_answer}
-use Rattle.vic_answer.proofs.Turns.{all_places, if_err, if_err_other, read_to_ends, reconciles, stops_answered, stops_at_list, stops_behind_list, within, within_same}
+use Rattle.vic_answer.proofs.Turns.{all_places, if_err, if_err_other, read_to_ends, reconciles, stops_answered, stops_at_list, stops_behind_list, within_same}
+use Rattle.vic_answer.proofs.Standing.{no_early_fault}
 use Rattle.vic_answer.proofs.reconcile_run.run_reconcile.Goals as goal
 
 on_ok_both : {A E X Y Z : Type 0} (r : Result A E) → (X → Y → Z) → OnOk r X → OnOk r Y → OnOk r Z
@@ -11,14 +12,13 @@ pub returns-in_err-begun-clause-stops : goal.returns-in_err-begun-clause-stops
 returns-in_err-begun-clause-stops g c =
     let fault = c.in_err-begun.field-0.0 in
     let is : c.read_expected.result ≡ Err fault = c.in_err-begun.was in
-    let e = c.read_expected.ensures in
     if_err c.from_residual.result fault _ c.from_residual.ensures.1
     (stops_at_list g.R.Source.returned g.R.Source.ended g.R.Source.has_failed c.args.list.now c.read_expected.new.source c.args.logs.now c.args.logs.now
-    c.read_expected.result g.R.Source.reads fault is e.leaves_source (rw is at e.no_early_fault))
+    c.read_expected.result g.R.Source.reads fault is c.read_expected.ensures.leaves_source (no_early_fault _ _ _ _ c.read_expected.result fault is c.read_expected.ensures.text))
 
 pub returns-in_err-begun-clause-leaves_sources : goal.returns-in_err-begun-clause-leaves_sources
 returns-in_err-begun-clause-leaves_sources g c =
-    (within c.read_expected.ensures.leaves_source, all_places _ _ _ refl (λ k s. within_same _ _ _))
+    (c.read_expected.ensures.leaves_source.within, all_places _ _ _ refl (λ k s. within_same _ _ _))
 
 pub returns-in_err-read-clause-stops : goal.returns-in_err-read-clause-stops
 returns-in_err-read-clause-stops g c =

@@ -1,6 +1,6 @@
-use Rattle.vic_report.proofs.NotedLines.{IsExactBefore}
+use Rattle.vic_report.proofs.NotedLines.{SomeForcesBefore}
 use Rattle.vic_report.specs.inner.NotedLines.{HasNoted}
 use Rattle.vic_report.proofs.certain_lines.note_unread.Given as goal
 
 abbrev pub invariant-loop-slot : goal.invariant-loop-slot
-invariant-loop-slot l = HasNoted l.lines l.initial.noted l.noted (IsExactBefore l.unread l.slot-index)
+invariant-loop-slot l = HasNoted l.lines l.initial.noted l.noted (SomeForcesBefore l.unread l.slot-index)

@@ -1,4 +1,4 @@
-use Rattle.vic_report.proofs.Words.{◌≡◌, true, ◌∙◌, sym, ap, subst, MatchOption, has, entries, listed, IsLeftOpen, IsPossibleUid, IsCertainUid, IsListOf, IsAbsent, IsUnlisted, NoSuch, AreOpenMasks, IsUnsettledWith, without_keys, is_open_in, AreListed, log_facts, all_findings, doubtful_list}
+use Rattle.vic_report.proofs.Words.{◌≡◌, true, ◌∙◌, sym, ap, subst, MatchOption, has, entries, listed, IsLeftOpen, IsPossibleUid, IsCertainUid, IsListOf, IsAbsent, IsUnlisted, NoSuch, AreOpenMasks, IsLeftToAsk, without_keys, is_open_in, AreListed, log_facts, all_findings}
 use Rattle.vic_report.proofs.AllFindings.{left_to_ask, open_set, shut_all}
 use Rattle.vic_report.proofs.findings.find_findings.Goals as goal
 
@@ -14,9 +14,9 @@ pub lines_of_certain-requires : goal.lines_of_certain-requires
 lines_of_certain-requires c = record {
   possible = rw c.lines-lines.ensures.value c.requires.told.possible;
   met = rw c.lines-lines.ensures.value c.requires.is_met;
-  forced = λ u h.
+  certain = rw c.lines-lines.ensures.value (λ u h.
       let w = (c.in_ok-differences.ensures.unlisted.members u).0 (subst (λ xs. has xs u ≡ true) c.as_slice-3.ensures.value h) in
-      c.requires.met_for u w.0;
+      ((log_facts _ _ _ c.requires.told).must.members u).0 w.0);
 }
 
 pub returns : goal.returns
@@ -26,7 +26,6 @@ returns c =
     let us = c.in_ok-listed.listed in
     let certain = c.args.facts.certain in
     let keys = c.in_ok-certain_keys.certain_keys in
-    let some = c.in_ok-uncertain.uncertain in
     let d = c.in_ok-differences.differences in
     let facts = log_facts es set certain c.requires.told in
     let own : AreListed us (listed es) = record { members = rw c.lines-lines.ensures.value at c.in_ok-listed.ensures.members; are_uids = c.in_ok-listed.ensures.uids } in
@@ -43,6 +42,6 @@ returns c =
       absent_shown = c.in_ok-lines_of_absent.ensures.shown;
       unlisted = subst (IsListOf (IsUnlisted es)) (sym (c.in_ok-lines_of_certain.ensures.uids ∙ c.as_slice-3.ensures.value)) all.unlisted;
       unlisted_shown = rw c.lines-lines.ensures.value at c.in_ok-lines_of_certain.ensures.shown;
-      unsettled = subst (λ o. MatchOption o (NoSuch (IsLeftOpen es)) (IsUnsettledWith es)) (sym c.left_to_ask.ensures) (left_to_ask es d.unsettled c.open_masks_besides-masks.result all.unsettled masks);
-      doubtful = rw c.into_vec.ensures.value (doubtful_list (IsPossibleUid es) (IsCertainUid es) set certain us (listed es) some d.absent c.in_ok-doubtful.doubtful facts own c.in_ok-uncertain.ensures here.absent c.in_ok-doubtful.ensures);
+      unsettled = subst (λ o. MatchOption o (NoSuch (IsLeftOpen es)) (IsLeftToAsk es)) (sym c.left_to_ask.ensures) (left_to_ask es d.unsettled c.open_masks_besides-masks.result all.unsettled masks);
+      doubtful = rw c.into_vec.ensures.value all.doubtful;
     }

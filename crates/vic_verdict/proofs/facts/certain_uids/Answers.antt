@@ -16,16 +16,11 @@ loop-slot-preserved c =
       | else-len-slot w ↦ certain_more c.args.met.now.heard.items c.loop-slot.certain.items _ c.args.met.now.unread.items _ f below is (λ u. rw w.certain-is (not_exact c.loop-slot.certain.items f u (λ e. w.if-len-slot.false (c.len.ensures.value ∙ e)))) c.loop-slot.invariant
     ]
 
-pub returns-clause-certain : goal.returns-clause-certain
-returns-clause-certain c es m = record {
+pub returns : goal.returns
+returns c es m = record {
   rising = c.of.ensures.rising;
   members = λ u.
       let met = certain_met c.args.met.now c.loop-slot.certain.items c.loop-slot.slot-index (rw c.deref-slot-items.ensures.value at c.loop-slot-test.false) c.loop-slot.invariant u in
       let forced = forced_iff es c.args.met.now u m in
       rw (c.of.ensures.members u) ((λ h. forced.1 (met.0 h)), (λ f. met.1 (forced.0 f)));
 }
-
-pub returns-clause-met : goal.returns-clause-met
-returns-clause-met c u h =
-    (certain_met c.args.met.now c.loop-slot.certain.items c.loop-slot.slot-index (rw c.deref-slot-items.ensures.value at c.loop-slot-test.false) c.loop-slot.invariant u).0
-    (sym (c.of.ensures.members u) ∙ h)

@@ -1,5 +1,5 @@
 use Rattle.vic_verdict.proofs.Words.{subst, length, IfOk-weaker, entries, listed, Complete, IsVerdict}
-use Rattle.vic_verdict.proofs.Verdicts.{complete_whole, reached_complete, one_verdict}
+use Rattle.vic_verdict.proofs.Verdicts.{complete_whole, all_heard_complete, one_verdict}
 use Rattle.vic_verdict.proofs.Versions.{complete_second, complete_third}
 use Rattle.vic_verdict.proofs.judging.judge_with.Goals as goal
 
@@ -12,5 +12,5 @@ returns g c =
       whole = IfOk-weaker c.judge_lines.result (IsVerdict lines) _ (λ v h count e. let k = subst (IsVerdict lines) e h in (complete_whole lines count k, k.5)) judged;
       third = IfOk-weaker c.judge_lines.result (IsVerdict lines) _ (λ v h count e. complete_third lines count (subst (IsVerdict lines) e h)) judged;
       second = IfOk-weaker c.judge_lines.result (IsVerdict lines) _ (λ v h count e. complete_second lines count (subst (IsVerdict lines) e h)) judged;
-      reached = IfOk-weaker c.judge_lines.result (IsVerdict lines) _ (λ v h r. one_verdict lines c.judge_lines.ensures.log.rising v (Complete (length (listed (entries lines)))) h (reached_complete lines r)) judged;
+      all_heard = IfOk-weaker c.judge_lines.result (IsVerdict lines) _ (λ v h r. one_verdict lines c.judge_lines.ensures.log.rising v (Complete (length (listed (entries lines)))) h (all_heard_complete lines r)) judged;
     }

@@ -1,16 +1,15 @@
-use Rattle.vicinity_c.proofs.Words.{List, map, refl, sym, subst, map-id, ◌∙◌, BitMask, AreCertainIn, AreOpenIn, IsPutInto, IsAnswerWith, mask_fields}
+use Rattle.vicinity_c.proofs.Words.{List, map, sym, subst, map-id, BitMask, AreCertainIn, AreOpenIn, IsReturned, IsAnswerWith, mask_fields}
 use Rattle.vicinity_c.proofs.surveys.vicinity_survey.Goals as goal
 
 pub returns-clause-certain : goal.returns-clause-certain
 returns-clause-certain c k =
-    let us = c.certain_of-certain.result.now in
+    let us = c.certain_of.result.now in
     record {
       answer = c.answer_of.result;
       items = us;
-      right = subst (λ a. IsAnswerWith AreCertainIn c.args.text.now a us) (sym c.answer_of.ensures) (c.certain_of-certain.ensures c.args.text.now c.in-Ok.ensures.found);
+      right = subst (λ a. IsAnswerWith AreCertainIn c.args.text.now a us) (sym c.answer_of.ensures) (c.certain_of.ensures c.args.text.now c.in-Ok.ensures.found);
       numbers_are = c.numbers_of-numbers.ensures.numbers;
-      counted = refl;
-      put = subst (λ vs. IsPutInto vs c.args.uids.now c.put_uids.new.room) (sym (map-id us)) c.put_uids.ensures;
+      returned = subst (λ vs. IsReturned vs c.args.uids.now c.copy_uids.new.room c.copy_uids.result) (sym (map-id us)) c.copy_uids.ensures;
     }
 
 pub returns-clause-open_masks : goal.returns-clause-open_masks
@@ -21,6 +20,5 @@ returns-clause-open_masks c k =
       items = ms;
       right = subst (λ a. IsAnswerWith AreOpenIn c.args.text.now a ms) (sym c.answer_of.ensures) (c.in-Ok-open_masks_of.ensures c.args.text.now c.in-Ok.ensures.found);
       numbers_are = c.numbers_of-numbers.ensures.numbers;
-      counted = c.len.ensures ∙ c.in-Ok-open_masks_of.open.ok.0;
-      put = subst (λ (us : List BitMask). IsPutInto (map mask_fields us) c.args.masks.now c.put_masks.new.room) c.as_slice.ensures.value c.put_masks.ensures;
+      returned = subst (λ (us : List BitMask). IsReturned (map mask_fields us) c.args.masks.now c.copy_masks.new.room c.copy_masks.result) c.as_slice.ensures.value c.copy_masks.ensures;
     }

@@ -1,5 +1,5 @@
-use Rattle.vic_reconcile.proofs.Words.{◌≡◌, true, sym, subst, ◌∙◌, IfSome, MatchOption, is_some, All, nat_cmp, get, has, is_open_in, IsLeftToAsk, is_left, all_from_has}
-use Rattle.vic_reconcile.proofs.Reconciling.{doubtful_left, findings_of}
+use Rattle.vic_reconcile.proofs.Words.{◌≡◌, true, sym, subst, ◌∙◌, IfSome, MatchOption, is_some, All, nat_cmp, get, has, HasOpenMasks, is_left, all_from_has}
+use Rattle.vic_reconcile.proofs.Reconciling.{findings_of}
 use Rattle.vic_reconcile.proofs.reconciliation.Reconciliation.findings.Goals as goal
 
 pub places_of-requires : goal.places_of-requires
@@ -10,15 +10,16 @@ places_of-requires c =
 pub first_logs-requires : goal.first_logs-requires
 first_logs-requires c =
     let r = c.args.self.now in
-    let doubtful = c.in_ok-doubtful.doubtful in
     let same = rw c.deref.ensures.value at c.in_ok-all.ensures in
     subst (All (λ u. is_left r.left.items u ≡ true)) (sym c.as_slice-3.ensures.value)
-    (all_from_has (λ u. is_left r.left.items u ≡ true) doubtful (doubtful_left (is_open_in c.in_ok-all.all) c.in_ok-certain.certain r.expected c.in_ok-uncertain.uncertain c.in_ok-found.found.absent doubtful r.left.items same r.are_uids c.in_ok-found.ensures.absent c.in_ok-uncertain.ensures c.in_ok-doubtful.ensures))
+    (all_from_has (λ u. is_left r.left.items u ≡ true) c.in_ok-found.found.doubtful (λ u h.
+    let w = (c.in_ok-found.ensures.doubtful.members u).0 h in
+    sym (same u (r.are_uids u w.0)) ∙ w.1))
 
 pub returns : goal.returns
 returns c expected logs j =
     let r = c.args.self.now in
-    findings_of expected logs r c.in_ok-all.all c.in_ok-certain.certain c.in_ok-uncertain.uncertain c.in_ok-doubtful.doubtful c.in_ok-found.found _ j
+    findings_of expected logs r c.in_ok-all.all c.in_ok-certain.certain c.in_ok-found.found _ j
     c.as_slice-2.ensures.rising
     c.in_ok-certain.ensures
     (rw c.deref.ensures.value at c.in_ok-all.ensures)
@@ -27,8 +28,6 @@ returns c expected logs j =
     (c.in_ok-places_of.ensures.uids ∙ c.as_slice.ensures.value)
     c.in_ok-places_of.ensures.places
     c.in_ok-left_to_ask.ensures.none
-    (subst (λ us. IfSome c.in_ok-found.found.unsettled (λ m. MatchOption c.in_ok-left_to_ask.field-0 ⊥ (IsLeftToAsk us r.left.items m))) c.as_slice-2.ensures.value c.in_ok-left_to_ask.ensures.some)
-    c.in_ok-uncertain.ensures
-    c.in_ok-doubtful.ensures
+    (subst (λ us. IfSome c.in_ok-found.found.unsettled (λ m. MatchOption c.in_ok-left_to_ask.field-0 ⊥ (HasOpenMasks us r.left.items m))) c.as_slice-2.ensures.value c.in_ok-left_to_ask.ensures.some)
     (c.in_ok-first_logs.ensures.uids ∙ c.as_slice-3.ensures.value)
     c.in_ok-first_logs.ensures.logs

@@ -1,6 +1,10 @@
-use Rattle.vic_reconcile.proofs.Words.{◌≡◌, ◌++◌, ◌∷◌, [], ap, sym, subst, ◌∙◌, refl, take, take-append_seam, is_open_in, entries, AreKeysOf, log_facts, AreForgotten, AreNoted, AreSomeNoted}
+use Rattle.vic_reconcile.proofs.Words.{◌≡◌, ◌++◌, ◌∷◌, [], ap, sym, subst, ◌∙◌, refl, true, has, take, take-append_seam, is_open_in, entries, AreKeysOf, log_facts, AreForgotten, AreNoted, AreSomeNoted}
 use Rattle.vic_reconcile.proofs.Joins.{joined_more, still_joined}
 use Rattle.vic_reconcile.proofs.reconciliation.Reconciliation.join.Goals as goal
+
+pub lines_of_certain-requires-clause-certain : goal.lines_of_certain-requires-clause-certain
+lines_of_certain-requires-clause-certain c u h =
+    ((log_facts _ _ _ c.requires.told).must.members u).0 (subst (λ us. has us u ≡ true) c.as_slice-certain.ensures.value h)
 
 pub returns-clause-joined : goal.returns-clause-joined
 returns-clause-joined c expected logs j =

@@ -1,0 +1,59 @@
+//! The run of a command that judges a log.
+
+ghost use Rattle.std.specs.Prelude.{◌≡◌, ℕ, List, IfOk};
+ghost use Rattle.vic_answer.specs.Answered as spec;
+ghost use Rattle.vic_answer.specs.CheckText.{IsAnswerText, answer_status};
+ghost use Rattle.vic_answer.specs.Runs.{LeavesSink, LeavesSource, Runs, RunsOver, Writes};
+ghost use Rattle.vic_answer.specs.declared.answered.Answered.{Answered as AnsweredValue};
+
+use crate::answered::{Answered, Judgement, answer_of, answer_reading};
+use crate::input::read_source;
+use crate::lines::answer_status;
+use crate::status::{RunFault, Status};
+use std::alloc::Global;
+use vic_log::{Sink, Source};
+
+/// What a command finds in a log, and how it writes an answer.
+pub(crate) trait Written: Judgement + Drop {
+    // the text of an answer
+    ghost text_of: { AnsweredValue Self → List ℕ };
+
+    /// Writes the text of an answer, and flushes.
+    fn write<W: Sink>(answered: &Answered<Self>, sink: &mut W) -> Result<(), RunFault>
+        ensures { Writes W.written W.taken W.is_flushed W.has_failed
+            sink.old sink.new (text_of answered.now) result };
+}
+
+/// Judges the log that is read from a source, writes the answer and flushes it. The status is that
+/// of `check`. It reads to the end or an early fault.
+pub(crate) fn run_judged<J: Written, R: Source, W: Sink>(
+    alloc: Global,
+    source: &mut R,
+    sink: &mut W,
+) -> Result<Status, RunFault>
+    ensures answer { Runs (IsAnswerText J.IsOf J.verdict_of J.text_of) (R.left source.old)
+        (R.left source.new) (W.taken sink.old) (W.taken sink.new) result }
+    ensures bytes { RunsOver (IsAnswerText J.IsOf J.verdict_of J.text_of) (R.returned source.old)
+        (R.returned source.new) (R.ended source.new)
+        (W.written sink.old) (W.written sink.new) result }
+    ensures leaves_source { LeavesSource R.reads R.has_failed source.old source.new result }
+    ensures leaves_sink { LeavesSink W.is_flushed W.has_failed sink.old sink.new result }
+{
+    let reading = read_source(alloc, source)?;
+    let answered = answer_reading::<J>(alloc, reading)?;
+    write_answered(&answered, sink)
+}
+
+/// Writes the text of an answer, and flushes; returns its status.
+fn write_answered<J: Written, W: Sink>(
+    answered: &Answered<J>,
+    sink: &mut W,
+) -> Result<Status, RunFault>
+    ensures status { IfOk result (λ s.
+        s ≡ answer_status (spec.answer_of J.verdict_of answered.now)) }
+    ensures written { Writes W.written W.taken W.is_flushed W.has_failed
+        sink.old sink.new (J.text_of answered.now) result }
+{
+    J::write(answered, sink)?;
+    Ok(answer_status(&answer_of(answered)))
+}

@@ -1,5 +1,0 @@
-use Rattle.vic_margin.proofs.LawLemmas.{margin_none}
-use Rattle.vic_margin.proofs.laws.no_margin_where_unlisted_is_possible.Goals as goal
-
-pub returns : goal.returns
-returns c = margin_none
