@@ -1,6 +1,6 @@
 -- From what reading returns to what a run answers.
 use Rattle.vic_answer.proofs.Words.{◌≡◌, ℕ, List, Option, Result, Ok, Err, IfOk, IfErr, OnOk, subst, sym, Appends, HasTakenPrefix, RunFault, Status, Reads, RunsWhere, Answered, LogValue, Write, Bool, Some, IsReading, Writes, IsAnswered, IsAnswerText, LogLine, Verdict, answer_of, answer_status, refl, ap, ◌∙◌, Grows, GivesNoEarlyFault, Read}
-use Rattle.vic_answer.specs.Readings.{GivesOver}
+use Rattle.vic_answer.specs.inner.Readings.{GivesOver}
 
 module _ (IsAnswerTo : List ℕ → List ℕ → Status → Type 0) (HasRead HasHandedOut : List ℕ → Type 0) (IsOver : Type 0) (taken taken' : Option (List ℕ)) where
   -- a run that ends with the writing of its answer

@@ -74,11 +74,12 @@ pub use Rattle.vic_answer.specs.CheckText.{BeginsAsCheck, IsAnswer, IsAnswerText
 pub use Rattle.vic_answer.specs.Digits.{hex_bytes, value_text}
 pub use Rattle.vic_answer.specs.ExplainText.{IsExplanationOf, explained_text, population_line, population_of}
 pub use Rattle.vic_answer.specs.FrameText.{reply_words, request_words}
-pub use Rattle.vic_answer.specs.ReconcileRun.{HasReadText, IsAnswerable, IsLast, IsReadToEnd, ReadsListAndLogs, ReadsTexts, Reconciles, StopsAtSource, StopsBy, WritesAnswer, logs_read_by, logs_for, logs_up_to}
+pub use Rattle.vic_answer.specs.ReconcileRun.{HasReadText, IsAnswerable, IsLast, IsReadToEnd, ReadsListAndLogs, ReadsTexts, Reconciles, StopsAtSource, StopsBy, WritesAnswer, logs_for, logs_up_to}
 pub use Rattle.vic_answer.specs.ReconcileText.{all_masks_text, doubtful_text, ending_text, masks_text, open_text, reconciled_status, reconciled_text, unlisted_text}
-pub use Rattle.vic_answer.specs.Reconciled.{AreComplete, EndsAt, GoOn, HasList, HasPossibleLog, IsKept, IsReconciled, IsReconciling, lines_of}
+pub use Rattle.vic_answer.specs.Reconciled.{AreComplete, EndsAt, GoOn, HasList, HasPossibleLog, IsReconciled, lines_of}
 pub use Rattle.vic_answer.specs.ReportText.{IsReportOf, by_line, more_line, open_line, reported_text, silenced_line, unsettled_text}
 pub use Rattle.vic_answer.specs.Runs.{GivesNoEarlyFault, IsEnough, IsReadWithin, LeavesSource, Reads, Runs, RunsOver, RunsWhere, Writes}
+pub use Rattle.vic_answer.specs.inner.Reconciling.{IsKept, IsReconciling, logs_read_by}
 pub use Rattle.vic_answer.specs.SimulateText.{IsSimulationOf, simulated_status, simulated_text}
 pub use Rattle.vic_answer.specs.SpellText.{and_then, hex_decoded, hex_number_in, inventory_in, longest_mask, mask_in, number_ending, number_in, number_up_to, reply_in, says_inventory, says_reply, says_stay_quiet, sixteen_in, spelled_text, stay_quiet_in, value_in, word, words_of, words_reading}
 pub use Rattle.vic_answer.specs.declared.answered.Answered.{Answered}

@@ -1,4 +1,4 @@
--- The findings of a log, in numbers: the lines of `report`, one finding after another.
+-- The findings of a log, in numbers, in the order of the lines of `report`.
 use Rattle.std.specs.Prelude.{◌≡◌, ℕ, Bool, Option, Some, None, List, [], ◌∷◌, ◌++◌, map, if◌then◌else◌}
 use Rattle.vic_frame.specs.Masks.{BitMask}
 use Rattle.vic_report.specs.Reports.{IsReport, verdict_of}

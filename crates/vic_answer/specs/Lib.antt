@@ -7,7 +7,6 @@ pub mod Answered
 pub mod CheckText
 pub mod SimulateText
 pub mod Runs
-pub mod Readings
 pub mod CompleteRun
 pub mod ExplainText
 pub mod ReportText

@@ -8,8 +8,6 @@ use Rattle.vic_answer.specs.declared.ending.Ending.{Ending}
 use Rattle.vic_answer.specs.declared.ending.Ending.TheVariants.{ListRefusedAt, NotListedAt, RefusedAt, ImpossibleAt}
 use Rattle.vic_answer.specs.declared.reconcile.Reconciled.{Reconciled}
 use Rattle.vic_answer.specs.declared.reconcile.Reconciled.TheVariants.{Complete, Found, Ended}
-use Rattle.vic_answer.specs.declared.reconcile.Reconciling.{Reconciling}
-use Rattle.vic_answer.specs.declared.reconcile.Reconciling.TheVariants as state
 use Rattle.vic_answer.specs.declared.status.RunFault.{RunFault}
 use Rattle.vic_answer.specs.declared.status.RunFault.TheVariants.{Read, Write}
 use Rattle.vic_answer.specs.declared.status.Status.{Status}
@@ -66,11 +64,6 @@ abbrev pub logs_for : Reconciled → ℕ → ℕ
 logs_for (Complete count) logs = logs
 logs_for (Found f) logs = logs
 logs_for (Ended e) logs = logs_up_to e
-
--- how many of the logs are read in this state: all, or those up to the one that ends the run
-abbrev pub logs_read_by : Reconciling → ℕ → ℕ
-logs_read_by (state.Going r) logs = logs
-logs_read_by (state.Ended e) logs = logs_up_to e
 
 -- this is the answer to the list and the logs that were read, each up to its end or an early fault
 abbrev pub Reconciles : {R : Type 0} → (R → List ℕ) → (ended has_failed : R → Bool)

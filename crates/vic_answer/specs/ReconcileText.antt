@@ -20,7 +20,7 @@ use Rattle.vic_answer.specs.declared.reconcile.Reconciled.TheVariants.{Complete,
 use Rattle.vic_answer.specs.declared.status.Status.{Status}
 use Rattle.vic_answer.specs.declared.status.Status.TheVariants.{Whole, NotWhole, Impossible, Refused}
 
--- the name of log k
+-- the name of log k; the empty one if it has none
 abbrev pub name_of : List (List ℕ) → ℕ → List ℕ
 name_of names k = slice_index_or names k []
 
@@ -47,13 +47,14 @@ unlisted_text names s =
     verdict_line (Unlisted s.uid)
     ++ with_name (at_line_of (codes "by line ") s.place.line) names s.place.log
 
--- the open masks of log k, and that there are more
+-- an open mask of log k
 abbrev pub open_text : List (List ℕ) → ℕ → BitMask → List ℕ
 open_text names k m = with_name (open_in m) names k
 
 abbrev pub more_text : List (List ℕ) → ℕ → Bool → List ℕ
 more_text names k more = if more then with_name (codes "more open in ") names k else []
 
+-- the open masks of log k, and that there are more
 abbrev pub masks_text : List (List ℕ) → ℕ → OpenMasks → List ℕ
 masks_text names k o =
     flat_map (open_text names k) o.masks.items ++ more_text names k o.more

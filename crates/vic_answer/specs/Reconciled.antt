@@ -10,15 +10,11 @@ use Rattle.vic_verdict.specs.Possible.{IsPossible}
 use Rattle.vic_verdict.specs.Verdict.{IsVerdict}
 use Rattle.vic_verdict.specs.declared.judging.Verdict.TheVariants.{Impossible}
 use Rattle.vic_reconcile.specs.Findings.{AreFindings, AreNone, IsFirstNotListed, IsList, IsWhole}
-use Rattle.vic_reconcile.specs.Joined.{IsJoined}
-use Rattle.vic_reconcile.specs.declared.reconciliation.Reconciliation.{Reconciliation}
 use Rattle.vic_answer.specs.Answered.{HasLog}
 use Rattle.vic_answer.specs.declared.ending.Ending.{Ending}
 use Rattle.vic_answer.specs.declared.ending.Ending.TheVariants.{ListRefusedAt, NotListedAt, RefusedAt, ImpossibleAt}
 use Rattle.vic_answer.specs.declared.reconcile.Reconciled.{Reconciled}
 use Rattle.vic_answer.specs.declared.reconcile.Reconciled.TheVariants.{Complete, Found, Ended}
-use Rattle.vic_answer.specs.declared.reconcile.Reconciling.{Reconciling}
-use Rattle.vic_answer.specs.declared.reconcile.Reconciling.TheVariants as state
 
 -- the text has a log, which is possible
 abbrev pub HasPossibleLog : List ℕ → Type 0
@@ -36,7 +32,7 @@ abbrev pub GoOn : List (List ℕ) → Type 0
 GoOn [] = ⊤
 GoOn (list ∷ texts) = HasList list × All HasPossibleLog texts
 
--- where the texts end: no text before is refused or impossible
+-- where reading them ends: no text before is refused or impossible
 abbrev pub EndsAt : List ℕ → List (List ℕ) → Ending → Type 0
 EndsAt list texts (ListRefusedAt n fault) = IsFirstFault (lines_of_text list) n fault
 EndsAt list texts (NotListedAt n) =
@@ -59,15 +55,6 @@ pub record HaveLogs (list : List ℕ) (texts : List (List ℕ))
   pub logs : List LogValue
   pub are_logs : AllZip HasLog texts logs
   pub holds : P (listed (entries expected.lines)) (map lines_of logs)
-
--- the list and the texts have logs, of which this is kept
-abbrev pub IsKept : List ℕ → List (List ℕ) → Reconciliation → Type 0
-IsKept list texts r = HaveLogs list texts (λ expected logs. IsJoined expected logs r)
-
--- what was read so far
-abbrev pub IsReconciling : List ℕ → List (List ℕ) → Reconciling → Type 0
-IsReconciling list texts (state.Going r) = IsKept list texts r
-IsReconciling list texts (state.Ended e) = EndsAt list texts e
 
 -- the answer to a list and texts
 abbrev pub IsReconciled : List ℕ → List (List ℕ) → Reconciled → Type 0

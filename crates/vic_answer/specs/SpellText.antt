@@ -30,7 +30,7 @@ abbrev pub and_then : {A B : Type 0}
 and_then (Ok x) f = f x
 and_then (Err e) f = Err e
 
--- the word at an index, counted from 0; there is none after the last
+-- the word at an index, counted from 0; the empty word after the last
 abbrev pub word : List (List ℕ) → ℕ → List ℕ
 word words i = slice_index_or words i []
 

@@ -1,2 +1,4 @@
 -- Definitions that private contracts alone cite.
+pub mod Readings
+pub mod Reconciling
 pub mod Pieces

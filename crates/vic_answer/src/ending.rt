@@ -2,9 +2,9 @@
 
 use vic_log::LineFault;
 
-/// Which text is refused, or the first whose log is impossible, and at which line.
+/// The first text that is refused or whose log is impossible, and the line at which it is.
 #[derive(Clone, Copy, Debug, PartialEq, Eq)]
-pub enum Ending {
+pub(crate) enum Ending {
     /// A line of the list has a fault, and this is the first.
     ListRefusedAt {
         line: u32,

@@ -1,7 +1,7 @@
 //! How a log is read.
 
 ghost use Rattle.vic_answer.specs.Answered.{IsReading};
-ghost use Rattle.vic_answer.specs.Readings.{Gives, GivesOver};
+ghost use Rattle.vic_answer.specs.inner.Readings.{Gives, GivesOver};
 ghost use Rattle.vic_answer.specs.Runs.{LeavesSource};
 
 use crate::answered::Reading;

@@ -36,7 +36,6 @@ mod text;
 pub use answered::{Answer, Answered, Judgement, Reading, answer_of, answer_text, read_text};
 pub use buffers::{copy_each, copy_list, copy_uids};
 pub use check::{judge_text, run_check};
-pub use ending::Ending;
 pub use explain::{run_explain, uids_of};
 pub use fault_numbers::{fault_number, frame_fault_number};
 pub use finding_numbers::{VicinityFinding, findings_of};
@@ -46,9 +45,6 @@ pub use listing::{Listing, list_text, listed_in, listing_numbers};
 pub use margin::run_margin;
 pub use numbers::{NO_ANSWER, VicinityAnswer, numbers_of, refusal_numbers};
 pub use overlooked::{Overlooked, overlooked_answer, overlooked_text};
-pub use reconcile::{
-    Reconciled, Reconciling, read_expected, read_next, reconciled_answer, write_reconciled,
-};
 pub use reconcile_run::run_reconcile;
 pub use report::run_report;
 pub use simulate::{SimulatedText, run_simulate, simulate_text};

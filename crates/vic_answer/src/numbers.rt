@@ -28,7 +28,7 @@ pub(crate) enum Kind {
     Listed = 12,
 }
 
-/// The answer to a text, in numbers. Fields that the kind doesn't use are 0.
+/// An answer in numbers: to a log's text, a list or arrays. Fields that the kind doesn't use are 0.
 ///
 /// | `kind` | answer | `status` | it has |
 /// |---|---|---|---|
@@ -53,7 +53,7 @@ pub struct VicinityAnswer {
     pub mask_len: u32,
     pub mask_value: u64,
     pub uid: u64,
-    /// The line that the program writes, LF included, with zeros after it.
+    /// Its line, LF included, with zeros after it: to a log's text that of `check`.
     pub text: [u8; LINE_ROOM],
 }
 

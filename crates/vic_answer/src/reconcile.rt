@@ -3,8 +3,9 @@
 ghost use Rattle.std.specs.Prelude.{◌≡◌, ◌≢◌, ◌↔◌, ◌+◌, ◌++◌, ℕ, [], ◌∷◌, List, IfErr, IfOk, OnOk, length};
 ghost use Rattle.std.specs.Prelude.{codes, map, string_bytes};
 ghost use Rattle.vic_answer.specs.Answered.{IsReading};
-ghost use Rattle.vic_answer.specs.Reconciled.{AreComplete, IsKept, IsReconciled, IsReconciling};
-ghost use Rattle.vic_answer.specs.Readings.{GivesOver};
+ghost use Rattle.vic_answer.specs.Reconciled.{AreComplete, IsReconciled};
+ghost use Rattle.vic_answer.specs.inner.Reconciling.{IsKept, IsReconciling};
+ghost use Rattle.vic_answer.specs.inner.Readings.{GivesOver};
 ghost use Rattle.vic_answer.specs.ReconcileRun.{logs_up_to};
 ghost use Rattle.vic_answer.specs.ReconcileText as spec;
 ghost use Rattle.vic_answer.specs.Runs.{IsWritten, LeavesSink, LeavesSource};
@@ -25,7 +26,7 @@ use vic_verdict::Verdict;
 
 /// What a list of what is expected and the logs that were read so far say.
 #[derive(Drop)]
-pub enum Reconciling {
+pub(crate) enum Reconciling {
     /// All of the texts have logs, and those of the logs are possible.
     Going(Reconciliation),
     /// One of the texts is refused, or its log is impossible.
@@ -34,7 +35,7 @@ pub enum Reconciling {
 
 /// The answer to a list of what is expected and logs.
 #[derive(Drop)]
-pub enum Reconciled {
+pub(crate) enum Reconciled {
     /// Everything that is expected is somewhere, and nothing else.
     Complete { count: u32 },
     /// The findings, at least one.
@@ -44,7 +45,10 @@ pub enum Reconciled {
 }
 
 /// Reads the list of what is expected from a source, to its end or an early fault.
-pub fn read_expected<R: Source>(alloc: Global, source: &mut R) -> Result<Reconciling, RunFault>
+pub(crate) fn read_expected<R: Source>(
+    alloc: Global,
+    source: &mut R,
+) -> Result<Reconciling, RunFault>
     ensures text { GivesOver (λ text r. IsReconciling text [] r) (R.returned source.old)
         (R.returned source.new) (R.ended source.new) result }
     ensures leaves_source { LeavesSource R.reads R.has_failed source.old source.new result }
@@ -71,7 +75,7 @@ fn begin(alloc: Global, reading: Reading) -> Result<Reconciling, AllocError>
 }
 
 /// Reads the next log from a source, to its end or an early fault, and joins it to those before.
-pub fn read_next<R: Source>(
+pub(crate) fn read_next<R: Source>(
     alloc: Global,
     joined: Reconciliation,
     source: &mut R,
@@ -114,7 +118,7 @@ fn join(joined: Reconciliation, reading: Reading) -> Result<Reconciling, AllocEr
 }
 
 /// The answer to the list and the logs that were read.
-pub fn reconciled_answer(reconciling: &Reconciling) -> Result<Reconciled, AllocError>
+pub(crate) fn reconciled_answer(reconciling: &Reconciling) -> Result<Reconciled, AllocError>
     ensures answer { IfOk result (λ r. (list : List ℕ) (texts : List (List ℕ))
         → IsReconciling list texts reconciling.now → IsReconciled list texts r) }
     ensures ended { IfOk result (λ r. (e : EndingValue)
@@ -167,7 +171,7 @@ fn reconciled_status(answer: &Reconciled) -> Status
 }
 
 /// Writes the text of an answer, with the names of the list and of the logs, and flushes it.
-pub fn write_reconciled<W: Sink>(
+pub(crate) fn write_reconciled<W: Sink>(
     alloc: Global,
     answer: &Reconciled,
     list_name: &str,

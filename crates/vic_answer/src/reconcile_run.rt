@@ -3,8 +3,9 @@
 ghost use Rattle.std.specs.Prelude.{◌≡◌, ◌≢◌, ◌++◌, ℕ, [], ◌∷◌, List, IfErr, IfOk, OnOk, length, true};
 ghost use Rattle.std.specs.Prelude.{codes, map, string_bytes};
 ghost use Rattle.std.specs.List.{AllZip};
-ghost use Rattle.vic_answer.specs.Reconciled.{AreComplete, GoOn, IsReconciling};
-ghost use Rattle.vic_answer.specs.ReconcileRun.{IsAnswerable, ReadsListAndLogs, ReadsTexts, Reconciles, StopsBy, WritesAnswer, logs_read_by};
+ghost use Rattle.vic_answer.specs.Reconciled.{AreComplete, GoOn};
+ghost use Rattle.vic_answer.specs.ReconcileRun.{IsAnswerable, ReadsListAndLogs, ReadsTexts, Reconciles, StopsBy, WritesAnswer};
+ghost use Rattle.vic_answer.specs.inner.Reconciling.{IsReconciling, logs_read_by};
 ghost use Rattle.vic_answer.specs.Runs.{IsReadWithin, LeavesSink};
 ghost use Rattle.vic_answer.specs.declared.status.RunFault.TheVariants.{Write};
 

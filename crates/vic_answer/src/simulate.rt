@@ -107,7 +107,7 @@ fn simulate_log(alloc: Global, given: &Log) -> Result<Simulated, AllocError>
     }
 }
 
-/// Writes the line of a refusal.
+/// Writes the line of a refusal, and flushes.
 fn refuse<W: Sink>(line: &Text, sink: &mut W) -> Result<Status, RunFault>
     ensures status { IfOk result (λ s. s ≡ Status.Refused) }
     ensures written { Writes W.written W.taken W.is_flushed W.has_failed
