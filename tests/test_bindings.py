@@ -468,6 +468,13 @@ def test_answer_of_a_fleet_that_cannot_be_written(in_python, texts, redirected):
     assert said.returncode == 4
 
 
+@pytest.mark.parametrize("words", [[], ["1", "nowhere", "nowhere"]])
+def test_reason_of_a_fleet_that_cannot_be_written(in_python, words):
+    with open("/dev/full", "wb") as full:
+        said = in_python.run(TOP / "examples/python/fleet.py", *words, stderr=full)
+    assert said[::2] == (b"", 4)
+
+
 # A fleet in which the log of this name ends the process that reads it: always, or once.
 KILLING = """
 import os, signal, sys

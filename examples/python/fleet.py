@@ -15,6 +15,7 @@ from __future__ import annotations
 
 import sys
 from array import array
+from typing import NoReturn
 
 from dask.distributed import Client, KilledWorker, LocalCluster, as_completed
 
@@ -111,15 +112,21 @@ def main(scheduler: str, expected: str, names: list[str]) -> int:
     return report.answer.status
 
 
+def complain(why: str | None) -> NoReturn:
+    """Python itself would end with 1, which means 'not complete'."""
+    try:
+        print(why, file=sys.stderr)
+    finally:
+        sys.exit(NO_ANSWER)
+
+
 if __name__ == "__main__":
     if len(sys.argv) < 4 or sys.argv[1].strip("0") == "":
-        print(__doc__, file=sys.stderr)
-        sys.exit(NO_ANSWER)
+        complain(__doc__)
     try:
         sys.exit(main(sys.argv[1], sys.argv[2], sys.argv[3:]))
     except vicinity.ListFault as fault:
         print(fault)
         sys.exit(fault.answer.status)
-    except Exception as error:  # Python itself would end with 1, which means 'not complete'
-        print(f"{type(error).__name__}: {error}", file=sys.stderr)
-        sys.exit(NO_ANSWER)
+    except Exception as error:
+        complain(f"{type(error).__name__}: {error}")
