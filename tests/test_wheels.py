@@ -179,7 +179,7 @@ def glibc_of(file):
 
 def test_the_versions_of_glibc_that_a_page_names(release, arm_release):
     page = (TOP / "docs/RUNNING.md").read_text()
-    said = re.search(r"The program needs glibc (\d+\.\d+) .*; the library, and so the wheel, "
-                     r"(\d+\.\d+) \(on 64-bit ARM (\d+\.\d+)\)", page)
+    said = re.search(r"The program needs glibc (\d+\.\d+) .*; the library (\d+\.\d+), and the "
+                     r"wheel 2\.17 \(on 64-bit ARM both (\d+\.\d+)\)", page)
     files = (release / "vicinity", release / "libvicinity.so", arm_release / "libvicinity.so")
     assert said.groups() == tuple("{}.{}".format(*glibc_of(file)) for file in files)
