@@ -171,6 +171,14 @@ def test_a_reader_loop(example, language, by):
         assert loop.run(word)[::2] == (b"", 4)
 
 
+@pytest.mark.parametrize("language", ["c", "python"])
+def test_a_reader_loop_that_cannot_write_has_no_answer(example, language):
+    loop = example(language, LIBRARIES[0], "reader_loop")
+    with open("/dev/full", "wb") as full:
+        assert loop.run("3", stdout=full).status == 4
+    assert loop.run("3", preexec_fn=lambda: os.close(1)).status == 4
+
+
 def test_a_reader_loop_that_is_refused_memory_has_no_answer(example, tmp_path):
     loop, refuse = example("c", LIBRARIES[0], "reader_loop"), shim("refuse", tmp_path)
     for number in "2", "9":
