@@ -468,9 +468,10 @@ def test_fleet_without_workers(in_python, texts, scheduler):
 
 
 @pytest.mark.parametrize("redirected", [">/dev/full", ">&-"])
-def test_answer_of_a_fleet_that_cannot_be_written(in_python, texts, redirected):
+@pytest.mark.parametrize("expected", ["vicinity-log 1\n", "uid\n"])
+def test_answer_of_a_fleet_that_cannot_be_written(in_python, texts, expected, redirected):
     words = [*in_python.words, TOP / "examples/python/fleet.py", "1",
-             *texts(list="vicinity-log 1\n", silent=SILENT)]
+             *texts(list=expected, silent=SILENT)]
     said = subprocess.run(["sh", "-c", f'"$@" {redirected}', "sh", *words],
                           env={**os.environ, **in_python.environment})
     assert said.returncode == 4
