@@ -171,6 +171,14 @@ def test_a_reader_loop(example, language, by):
         assert loop.run(word)[::2] == (b"", 4)
 
 
+@pytest.mark.parametrize("language", ["c", "python"])
+def test_a_reader_loop_that_cannot_write_has_no_answer(example, language):
+    loop = example(language, LIBRARIES[0], "reader_loop")
+    with open("/dev/full", "wb") as full:
+        assert loop.run("3", stdout=full).status == 4
+    assert loop.run("3", preexec_fn=lambda: os.close(1)).status == 4
+
+
 def test_a_reader_loop_that_is_refused_memory_has_no_answer(example, tmp_path):
     loop, refuse = example("c", LIBRARIES[0], "reader_loop"), shim("refuse", tmp_path)
     for number in "2", "9":
@@ -460,12 +468,20 @@ def test_fleet_without_workers(in_python, texts, scheduler):
 
 
 @pytest.mark.parametrize("redirected", [">/dev/full", ">&-"])
-def test_answer_of_a_fleet_that_cannot_be_written(in_python, texts, redirected):
+@pytest.mark.parametrize("expected", ["vicinity-log 1\n", "uid\n"])
+def test_answer_of_a_fleet_that_cannot_be_written(in_python, texts, expected, redirected):
     words = [*in_python.words, TOP / "examples/python/fleet.py", "1",
-             *texts(list="vicinity-log 1\n", silent=SILENT)]
+             *texts(list=expected, silent=SILENT)]
     said = subprocess.run(["sh", "-c", f'"$@" {redirected}', "sh", *words],
                           env={**os.environ, **in_python.environment})
     assert said.returncode == 4
+
+
+@pytest.mark.parametrize("words", [[], ["1", "nowhere", "nowhere"]])
+def test_reason_of_a_fleet_that_cannot_be_written(in_python, words):
+    with open("/dev/full", "wb") as full:
+        said = in_python.run(TOP / "examples/python/fleet.py", *words, stderr=full)
+    assert said[::2] == (b"", 4)
 
 
 # A fleet in which the log of this name ends the process that reads it: always, or once.

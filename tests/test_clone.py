@@ -148,6 +148,19 @@ def test_a_damaged_package_is_not_unpacked(clone):
     assert clone.ask()[::2] == (b"", 4)
 
 
+def emptied(program):
+    """As a crash of the machine may leave it. A shell takes it for a script, which ends with 0."""
+    at = program.stat().st_mtime_ns
+    program.write_bytes(b"")
+    os.utime(program, ns=(at, at))
+
+
+def test_an_unpacked_program_that_is_empty_is_unpacked_again(clone):
+    clone.ask()
+    emptied(*clone.top.glob("out/packaged/*"))
+    is_packaged(clone.ask(), "")
+
+
 @pytest.fixture
 def odd(clone, tmp_path):
     """A processor of another kind."""
@@ -185,6 +198,11 @@ def test_what_is_said_while_it_is_proved(clone):
 def test_a_program_older_than_the_code_is_not_run(built):
     built.change("crates/vic_frame/src/uid.rt")
     is_packaged(built.ask(), "NOT of this code")
+
+
+def test_a_built_program_that_is_empty_is_not_run(built):
+    emptied(built.top / "crates/vicinity/out/vicinity")
+    is_packaged(built.ask(), "")
 
 
 def test_the_code_as_it_was_built_is_run(built):

@@ -1,5 +1,6 @@
 """What examples/nightly/check-shelves prints, and that its status is never taken for another."""
 import os
+import re
 
 import pytest
 
@@ -79,6 +80,18 @@ def test_without_the_module(check, tmp_path, log):
     (tmp_path / "bin/python3").chmod(0o755)
     path = f"{tmp_path}/bin:{os.environ['PATH']}"
     assert check(written(tmp_path, log), PATH=path) == (NO_ANSWER, [])
+
+
+def test_the_logs_of_one_day(release, tmp_path):
+    """As a page says it: also one that was copied with the time at which it was written."""
+    page, script = (TOP / "docs/RUNNING.md").read_text(), "examples/nightly/check-shelves"
+    words, after = re.findall(r"With `(-\S+ -\d+)` after `(.*?)`", page)[0]
+    (tmp_path / "check").write_text((TOP / script).read_text().replace(after, f"{after} {words}"))
+    (tmp_path / "old").mkdir()
+    os.utime(written(tmp_path / "old", OPEN) / "0.log", (0, 0))
+    environment = {"PYTHONPATH": "python", "LIBVICINITY": str(release / "libvicinity.so")}
+    said = Program("/bin/bash", tmp_path / "check", **environment).run(tmp_path / "old")
+    assert said.status == 1
 
 
 def test_without_the_library(check, tmp_path):

@@ -365,6 +365,14 @@ def test_statuses_of_answers(page):
                 and known.get(row[1]) != int(row[2])]
 
 
+def test_what_sed_makes_of_a_log_without_its_header(program):
+    """As VERDICTS tries a log in which each reply may hide others: it is refused, as it was."""
+    script = re.search(r"^\$ sed '(.*)' shelf\.log", text_of("docs/VERDICTS.md"), re.M)[1]
+    without = b"# line 9000 and what follows\nT 260100F60A\nS\n"
+    said = program.run("margin", given=Program("sed", script).run(given=without).out)
+    assert said.out.startswith(b"refused at line 1: Header\n")
+
+
 def test_frames_and_crcs(shell):
     for place, line in lines_of("docs/FRAMES.md"):
         shell.frame_row(place, line)

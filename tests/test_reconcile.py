@@ -81,11 +81,14 @@ def test_a_full_disk(reconcile):
         assert reconcile("EXPECTED", "a", stdout=full) == (b"", b"vicinity: write failed\n", 4)
 
 
-def test_a_catalogue_that_is_not_there(program, tmp_path):
-    """What COLLECTIONS makes a list of. Of an empty one this shelf would be complete."""
+@pytest.mark.parametrize("catalogue", [None, "E0040100000000A1,Of a winter\n"])
+def test_a_catalogue_without_names_of_columns(program, tmp_path, catalogue):
+    """Or none, of what COLLECTIONS makes a list. Of an empty one this shelf would be complete."""
     page = (TOP / "docs/COLLECTIONS.md").read_text()
     made = re.search(r"^\$ (sed .* > expected\.log)$", page, re.M)[1]
     (tmp_path / "a").write_bytes(log_of("I1 S"))
+    if catalogue:
+        (tmp_path / "catalogue.csv").write_text(catalogue)
     Program("/bin/sh", "-c", made).run(cwd=tmp_path)
     said = program.run("reconcile", "expected.log", "a", cwd=tmp_path)
     assert said == (b"refused at line 1 of expected.log: Header\n", b"", 3)

@@ -15,6 +15,7 @@ from __future__ import annotations
 
 import sys
 from array import array
+from typing import NoReturn
 
 from dask.distributed import Client, KilledWorker, LocalCluster, as_completed
 
@@ -97,29 +98,37 @@ def client_of(scheduler: str) -> Client:
 
 
 def main(scheduler: str, expected: str, names: list[str]) -> int:
-    # before Dask opens anything, which would get the number of a stream that is closed
+    # before Dask opens anything, which would get the number of a stream that is closed; what is
+    # written is flushed, or a full disk would be noticed at exit
     out = open(1, "w", closefd=False, errors="surrogateescape")
-    with open(expected, "rb") as file:
-        uids = vicinity.listed(file.read())
+    try:
+        with open(expected, "rb") as file:
+            uids = vicinity.listed(file.read())
+    except vicinity.ListFault as fault:
+        print(fault, file=out, flush=True)
+        return fault.answer.status
     with client_of(scheduler) as client:
         certain, masks, silent = surveyed(client, names)
     nothing = vicinity.survey(vicinity.HEADER_LINE)  # nobody was asked: anything may be there
     told = vicinity.Survey(nothing.answer, list(certain), list(masks))
     report = vicinity.reconcile(uids, [told, nothing] if silent else [told])
     why = (f"{name}: {silent[name]}" for name in sorted(silent))
-    print(report, *why, sep="\n", file=out, flush=True)  # or a full disk would be noticed at exit
+    print(report, *why, sep="\n", file=out, flush=True)
     return report.answer.status
+
+
+def complain(why: str | None) -> NoReturn:
+    """Python itself would end with 1, which means 'not complete'."""
+    try:
+        print(why, file=sys.stderr)
+    finally:
+        sys.exit(NO_ANSWER)
 
 
 if __name__ == "__main__":
     if len(sys.argv) < 4 or sys.argv[1].strip("0") == "":
-        print(__doc__, file=sys.stderr)
-        sys.exit(NO_ANSWER)
+        complain(__doc__)
     try:
         sys.exit(main(sys.argv[1], sys.argv[2], sys.argv[3:]))
-    except vicinity.ListFault as fault:
-        print(fault)
-        sys.exit(fault.answer.status)
-    except Exception as error:  # Python itself would end with 1, which means 'not complete'
-        print(f"{type(error).__name__}: {error}", file=sys.stderr)
-        sys.exit(NO_ANSWER)
+    except Exception as error:
+        complain(f"{type(error).__name__}: {error}")

@@ -179,8 +179,13 @@ def main() -> int:
     answer, weakest = search.run(given.margin)
     margin = weakest.margin if weakest else 0
     is_done = answer.is_complete and margin >= given.margin
-    print(f"{answer} after {search.rounds} rounds and {len(search.lines)} lines,"
-          f" {search.calls} calls of the checker")
+    try:
+        # with print alone, a stream that is closed wouldn't be noticed
+        with open(1, "w", closefd=False) as out:
+            print(f"{answer} after {search.rounds} rounds and {len(search.lines)} lines,"
+                  f" {search.calls} calls of the checker", file=out)
+    except OSError as error:
+        words.error(str(error))
     if not is_done and search.rounds >= MOST_ROUNDS:
         print(f"stopped at the limit of {MOST_ROUNDS} rounds, with margin {margin}",
               file=sys.stderr)

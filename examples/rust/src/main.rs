@@ -84,7 +84,7 @@ fn main() -> ExitCode {
         })
 }
 
-/// Shows an answer. One that can't be written is none.
+/// Shows an answer. One that can't be written is none; only a closed stream is no error for std.
 fn shown(answer: &dyn Display, status: u8) -> Result<ExitCode, Box<dyn Error>> {
     writeln!(std::io::stdout(), "{answer}")?;
     Ok(ExitCode::from(status))
