@@ -18,7 +18,7 @@ const MOVED = "perhaps cells are missing, or too many";
 const MOST_HEADS = 12, MOST_HEAD = 80;
 /** The columns that `reconcile --csv` has added, what stands behind such a name once more than behind the catalogue's own, and the state of
  *  rows that it has. */
-const ADDED = ["state", "certain in", "may be in"], TWIN = " (found)", UNEXPECTED = "unexpected";
+const ADDED = ["state", "certain in", "may be in"], TWIN = " (found)", UNEXPECTED = "unexpected", HERE = ["there", "misplaced", UNEXPECTED];
 const CUT = "of the columns state, certain in and may be in, which reconcile --csv has written, one is missing: leave all three, or delete " +
   "them and the rows of unexpected tags";
 
@@ -70,15 +70,17 @@ function found(heads) {
  * @param {import("./tables.mjs").Table} table
  */
 function withoutAdded(table) {
-  const added = ADDED.map((name) => lastAdded(table.heads, name)), [state] = added;
+  const added = ADDED.map((name) => lastAdded(table.heads, name)), [state, where] = added;
   if (added.includes(-1)) {
     const isCut = table.heads.some((head) => ADDED.indexOf(head.toLowerCase()) > 0) ||
       table.rows.some(({ cells }) => cells[state]?.trim() === UNEXPECTED);
     if (isCut) throw new Wrong(`${table.name}: ${CUT}`);
     return table;
   }
+  const odd = table.rows.find(({ cells }) => cells[where].trim() && !HERE.includes(cells[state].trim()));
+  if (odd) throw new Wrong(`${table.name}, row ${odd.row}: ${CUT}`);
   const kept = (/** @type {string[]} */ cells) => cells.filter((_, at) => !added.includes(at));
-  return { ...table, heads: kept(table.heads), rows: table.rows.filter(({ cells }) => cells[added[0]].trim() !== UNEXPECTED)
+  return { ...table, heads: kept(table.heads), rows: table.rows.filter(({ cells }) => cells[state].trim() !== UNEXPECTED)
     .map(({ row, cells }) => ({ row, cells: kept(cells) })) };
 }
 

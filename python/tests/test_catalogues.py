@@ -183,6 +183,17 @@ class Catalogues(Command):
         name = self.catalogue("uid,state\nE0040100000000A1,worn\n")
         self.assertEqual(here("lines", name, self.names[1]), ("complete 1\n", "", 0))
 
+    def test_a_result_that_lacks_its_state_beside_the_own_one_is_refused(self):
+        """So is one of which a state was changed, as by a spreadsheet."""
+        name = self.catalogue("uid,state\nE0040100000000A1,worn\n")
+        said = here("csv", name, self.both())[0]
+        rows = [[row[0], row[1], *row[3:]] for row in csv.reader(io.StringIO(said))]
+        cut = "".join(f"{','.join(row)}\n" for row in rows)
+        for changed in (cut, cut.replace("worn", "there"), said.replace("unexp", "Unexp")):
+            said, errors, status = here("lines", self.catalogue(changed), self.both())
+            self.assertEqual((said, status), ("", 3), changed)
+            self.assertIn(": of the columns state", errors)
+
     def test_rows_without_a_tag(self):
         name = self.catalogue("title,uid\na,\nb,E0040100000000A1\nc, \n")
         self.assertEqual(here("lines", name, self.names[1]),
