@@ -34,7 +34,7 @@ export const startOf = (file) => new TextDecoder().decode(file.text.subarray(0, 
 /** @param {Given} file */
 function headsOf(file) {
   const [first] = startOf(file).replace(SAYS_SEPARATOR, "").split(LINE_END, 1);
-  return { heads: first.replace(/[\0"]/g, "").split(/[,;\t|]/).map((head) => head.trim().toLowerCase()) };
+  return { heads: first.replace(/[\0\uFFFD"]/g, "").split(/[,;\t|]/).map((head) => head.trim().toLowerCase()) };
 }
 
 /**

@@ -37,6 +37,13 @@ export function listing(items, last = "and") {
 }
 
 /**
+ * A name by which others are the same that differ in case alone, as Python's casefold has it. The case of one letter may depend on
+ * those around it.
+ * @param {string} name
+ */
+export const caseless = (name) => name.toLowerCase().replace(/[^\0-\x7Fı]/gu, (it) => it.toUpperCase().toLowerCase());
+
+/**
  * @param {bigint | number} value
  * @param {number} [digits]
  */
