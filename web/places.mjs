@@ -107,7 +107,9 @@ function placeColumn({ name, heads, uidAt, entries }, places) {
   const rows = named.map((logs) => logs.filter((it) => it !== undefined).length);
   const best = rows.reduce((one, many, at) => many > rows[one] ? at : one, 0);
   const other = rows.findIndex((many, at) => 2 * many > entries.length && named[at].some((logs, row) => logs !== named[best][row]));
-  if (other >= 0) throw new Wrong(`${name}: most rows of two columns name the place of a log: ${printable(heads[best])} and ${
-    printable(heads[other])}. Delete the one that doesn't say where items belong`);
+  if (other >= 0) {
+    const both = `${printable(heads[best])} and ${printable(heads[other])}`;
+    throw new Wrong(`${name}: most rows of two columns name the place of a log: ${both}. Delete the one that doesn't say where items belong`);
+  }
   return { best, rows: rows[best] };
 }
