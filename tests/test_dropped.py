@@ -172,6 +172,12 @@ def test_no_column_of_two_with_one_name_is_taken(drop, table, head):
     assert said["error"] == f"{[*table][-1]}, row 1: two columns are named {head}"
 
 
+def test_a_result_of_which_columns_were_deleted_is_refused(drop):
+    """Also if the catalogue had two named state."""
+    table = f"uid,state,state (found)\n{UID_A},there,x\n{UID_B},unexpected,x\n"
+    assert drop({"both.log": BOTH, "found.csv": table})["error"].startswith("found.csv: of the")
+
+
 def test_no_item_is_lost_behind_the_names_of_the_columns(drop):
     """Where a file with these alone, without a line end, stood before another one."""
     said = drop({"books.csv": f"uid,title{UID_B},Emma\n{UID_A},Kim\n", "shelf.log": SHELF})
@@ -262,10 +268,11 @@ def test_no_log_of_another_name_is_of_a_place(drop, log):
     assert said["error"].startswith("no log is of any place of the catalogue")
 
 
+@pytest.mark.parametrize("first", ["", "sep=,\r\n"])
 @pytest.mark.parametrize("encoding", ["utf-16-le", "utf-16-be"])
-def test_places_may_be_in_utf_16(drop, encoding):
+def test_places_may_be_in_utf_16(drop, encoding, first):
     said = drop({"books.csv": f"uid,shelf\n{UID_A},South\n", "shelf.log": SHELF,
-                 "places.csv": "\ufeffplace,log\r\nSouth,shelf.log\r\n".encode(encoding)})
+                 "places.csv": f"\ufeff{first}place,log\r\nSouth,shelf.log\r\n".encode(encoding)})
     assert (said["kind"], said["items"][0].get("belongs")) == ("complete", "South")
 
 
@@ -301,3 +308,9 @@ def test_a_separator_is_named_before_any_line_end(drop, end):
     said = drop({"books": end.join(rows), "shelf.log": SHELF})
     assert (said["kind"], said["items"][0]["columns"]) == ("complete", {"title": "Emma, a, b"})
     assert drop({"books": end.join(rows[1:]), "shelf.log": SHELF})["kind"] == "complete"
+
+
+@pytest.mark.parametrize("head", ['12" ruler;"uid"', '"title, author";"uid"', 'title, "a;uid'])
+def test_a_separator_is_outside_of_quotes(drop, head):
+    said = drop({"books": f'{head}\n"x";"{UID_A}"\n', "shelf.log": SHELF})
+    assert said["kind"] == "complete"

@@ -73,7 +73,7 @@ function withoutAdded(table) {
   const added = ADDED.map((name) => lastAdded(table.heads, name)), [state, where] = added;
   if (added.includes(-1)) {
     const isCut = table.heads.some((head) => ADDED.indexOf(head.toLowerCase()) > 0) ||
-      table.rows.some(({ cells }) => cells[state]?.trim() === UNEXPECTED);
+      table.rows.some(({ cells }) => cells.some((cell, at) => cell.trim() === UNEXPECTED && isAdded(table.heads[at], ADDED[0])));
     if (isCut) throw new Wrong(`${table.name}: ${CUT}`);
     return table;
   }
@@ -85,13 +85,18 @@ function withoutAdded(table) {
 }
 
 /**
+ * @param {string} head
+ * @param {string} name
+ */
+const isAdded = (head, name) => head.toLowerCase().replaceAll(TWIN, "") === name;
+
+/**
  * Which column was added last of those with a name; -1 if there is none.
  * @param {string[]} heads
  * @param {string} name
  */
 function lastAdded(heads, name) {
-  const isNamed = (/** @type {string} */ head) => head.toLowerCase().replaceAll(TWIN, "") === name;
-  return heads.reduce((last, head, at) => isNamed(head) && head.length >= (heads[last] ?? "").length ? at : last, -1);
+  return heads.reduce((last, head, at) => isAdded(head, name) && head.length >= (heads[last] ?? "").length ? at : last, -1);
 }
 
 /**

@@ -8,8 +8,8 @@ const SEPARATORS = [",", ";", "\t", "|"];
 /** A first line for spreadsheets, which names the separator. */
 export const SAYS_SEPARATOR = /^"?sep=([^"\r\n])"?[ \t]*(?:\r\n?|\n)/i;
 export const LINE_END = /\r\n?|\n/;
-/** A cell, with what ends it: in quotes, or not. */
-const QUOTED = /"((?:[^"]|"")*)"/y;
+/** A cell in quotes; and cells in quotes wherever one may begin. */
+const QUOTED = /"((?:[^"]|"")*)"/y, IN_QUOTES = /(^|[,;\t|])"(?:[^"]|"")*"/g;
 
 /** How a file of a spreadsheet program begins, read as UTF-8: packed as ZIP (.xlsx, .ods, .numbers), or as OLE has it (.xls). */
 const SPREADSHEET = /^(?:PK\x03\x04|\uFFFD\uFFFD\x11[\u0871\uFFFD])/;
@@ -54,7 +54,7 @@ function decoded(name, bytes) {
  */
 export function readTable(name, bytes) {
   const whole = decoded(name, bytes), says = whole.match(SAYS_SEPARATOR), text = says ? whole.slice(says[0].length) : whole;
-  const [first] = text.split(LINE_END, 1), many = (/** @type {string} */ it) => first.replace(/"[^"]*"/g, "").split(it).length;
+  const [first] = text.split(LINE_END, 1), many = (/** @type {string} */ it) => first.replace(IN_QUOTES, "$1").split(it).length;
   const separator = says ? says[1] : SEPARATORS.reduce((best, it) => many(it) > many(best) ? it : best);
   const [heads = [], ...rows] = cellsIn(name, text, separator), names = heads.map((head) => head.trim());
   const twice = names.find((head, at) => head && names.indexOf(head) < at);

@@ -96,6 +96,11 @@ class Catalogues(Command):
                                          (given, options))
                         self.write("catalogue.csv", said)
 
+    def test_a_separator_is_outside_of_quotes(self):
+        for head in ('"uid";"title, author"', '"uid";12" ruler'):
+            name = self.catalogue(f'{head}\n"E0040100000000A1";"x"\n')
+            self.assertEqual(here("lines", name, self.names[1]), ("complete 1\n", "", 0), head)
+
     def test_a_file_that_is_longer_than_any_log(self):
         """A log is read no further, but of a catalogue every row counts."""
         row = b"E0040100000000B2,Of the end\n"
