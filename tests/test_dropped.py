@@ -310,7 +310,7 @@ def test_a_separator_is_named_before_any_line_end(drop, end):
     assert drop({"books": end.join(rows[1:]), "shelf.log": SHELF})["kind"] == "complete"
 
 
-@pytest.mark.parametrize("head", ['12" ruler;"uid"', '"title, author";"uid"', 'title, "a;uid'])
+@pytest.mark.parametrize("head", ['12" ruler;"uid"', '"title, author";"uid"'])
 def test_a_separator_is_outside_of_quotes(drop, head):
     said = drop({"books": f'{head}\n"x";"{UID_A}"\n', "shelf.log": SHELF})
     assert said["kind"] == "complete"
