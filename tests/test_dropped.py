@@ -254,8 +254,10 @@ def test_a_log_of_exactly_that_name_comes_first(drop):
 
 
 @pytest.mark.parametrize(("place", "log"), [
-    ("ΟΔΟΣ", "ΟΔΟΣ.log"), ("ΟΔΟΣ", "οδος"), ("Straße", "STRASSE.LOG"), ("STRAẞE", "straße.log")])
+    ("ΟΔΟΣ", "ΟΔΟΣ.log"), ("ΟΔΟΣ", "οδος"), ("Straße", "STRASSE.LOG"), ("STRAẞE", "straße.log"),
+    ("K\u00f6ln", "Ko\u0308ln.log"), ("Ko\u0308ln", "K\u00d6LN.log")])
 def test_case_makes_no_difference_to_names_of_places(drop, place, log):
+    """Nor whether accents stand apart, as in names of files on a Mac."""
     said = drop({"books.csv": f"uid,shelf\n{UID_A},{place}\n", log: SHELF})
     assert (said["kind"], said["items"][0].get("belongs")) == ("complete", place)
 

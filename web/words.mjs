@@ -37,11 +37,11 @@ export function listing(items, last = "and") {
 }
 
 /**
- * A name by which others are the same that differ in case alone, as Python's casefold has it. The case of one letter may depend on
- * those around it.
+ * What names have in common that differ in case alone, as Python's casefold has it, or in how letters with accents are encoded. The
+ * case of one letter may depend on those around it.
  * @param {string} name
  */
-export const caseless = (name) => name.toLowerCase().replace(/[^\0-\x7Fı]/gu, (it) => it.toUpperCase().toLowerCase());
+export const caseless = (name) => name.normalize().toLowerCase().replace(/[^\0-\x7Fı]/gu, (it) => it.toUpperCase().toLowerCase());
 
 /**
  * @param {bigint | number} value

@@ -329,6 +329,17 @@ class Catalogues(Command):
         self.assertEqual([it["places"] for it in told["logs"]], [["North"], ["North", "South"]])
         self.assertEqual([it["what"] for it in told["files"]], ["catalogue", "places"])
 
+    def test_accents_may_stand_apart_in_names_of_logs(self):
+        """As in the names of files on a Mac."""
+        catalogue = self.catalogue("uid,shelf\nE0040100000000A1,K\u00f6ln\n")
+        for name in "Ko\u0308ln.log", "K\u00d6LN":
+            own = self.write(name, log(ALL + HEARD_A))
+            places = self.write("places.csv", f"place,log\nKo\u0308ln,{name}\n".encode())
+            for options in ([], ["--places", places]):
+                self.assertEqual(here("lines", catalogue, own,
+                                      options=["--place", "shelf", *options]),
+                                 ("complete 1\n", "", 0))
+
     def test_an_item_whose_own_log_is_set_aside(self):
         catalogue = self.catalogue("uid,shelf\nE0040100000000A1,a\nE0040100000000B2,b\n")
         there = self.write("a.log", log(ALL + HEARD_A))
