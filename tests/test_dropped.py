@@ -153,6 +153,7 @@ DAMAGED = {
     "zeros": f"uid,title\n{UID_A},Em".encode() + bytes(30) + b"lden\n",
     "UTF-16, half a character": f"\ufeffuid,title\n{UID_A},Em".encode("utf-16-le")[:-1],
     "UTF-16, half a pair": f"\ufeffuid,title\n{UID_A},\U0001F4D5".encode("utf-16-be")[:-2],
+    "UTF-8, half a character": f"title,uid\n\u00c9t\u00e9,{UID_A}\n\u00e9".encode()[:-1],
     "line ends": f"uid,title\n{UID_A},{'a' * (1 << 17)}a\n".encode()}
 
 
@@ -161,6 +162,13 @@ def test_no_row_of_a_damaged_table_is_lost(drop, name):
     """Python refuses it too."""
     said = drop({"shelf.log": SHELF, "books.csv": DAMAGED[name]})
     assert said["error"].startswith("books.csv")
+
+
+def test_a_table_may_be_in_windows_1252(drop):
+    """Though two of its characters would be one in UTF-8."""
+    table = f"uid,title\n{UID_A},\u00e9t\u00e9 \u00abCAF\u00c9\u00bb\n".encode("windows-1252")
+    said = drop({"shelf.log": SHELF, "books.csv": table})
+    assert said["items"][0]["columns"] == {"title": "\u00e9t\u00e9 \u00abCAF\u00c9\u00bb"}
 
 
 @pytest.mark.parametrize(("table", "head"), [

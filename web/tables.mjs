@@ -18,8 +18,8 @@ export const TABLE = /\.(csv|tsv|xlsx?|ods|numbers)$/i;
 /** What to do with a spreadsheet. */
 export const SAVE_AS_CSV = "save it as CSV";
 const COPY_IT = "Copy it again, or save it as UTF-8";
-/** How many characters a cell has at most, as in Python. */
-const MOST_CELL = 131_072;
+/** How many characters a cell has at most, as in Python, and how many bytes say whether a text was UTF-8. */
+const MOST_CELL = 131_072, MOST_SEEN = 1_000_000;
 
 /**
  * Whether a text was that of a spreadsheet.
@@ -31,7 +31,7 @@ export const isSpreadsheet = (text) => SPREADSHEET.test(text);
 export class Wrong extends Error {}
 
 /**
- * The text of a file: what many spreadsheets save, if it is neither UTF-8 nor begins as UTF-16.
+ * The text of a file: what many spreadsheets save, if it is neither UTF-8, also where that is damaged, nor begins as UTF-16.
  * @param {string} name
  * @param {Uint8Array} bytes
  */
@@ -41,7 +41,8 @@ function decoded(name, bytes) {
   try {
     text = new TextDecoder(utf16 || "utf-8", { fatal: true }).decode(bytes);
   } catch {
-    if (!utf16) text = new TextDecoder("windows-1252").decode(bytes);
+    const start = new TextDecoder().decode(bytes.subarray(0, MOST_SEEN)), many = (/** @type {RegExp} */ it) => start.match(it)?.length ?? 0;
+    if (!utf16 && many(/[^\0-\x7F\uFFFD]/gu) <= many(/\uFFFD/g)) text = new TextDecoder("windows-1252").decode(bytes);
   }
   if (text.includes("\0")) throw new Wrong(`${name}: it is damaged, or in another encoding. ${COPY_IT}`);
   return text;
