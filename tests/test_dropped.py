@@ -34,7 +34,7 @@ def drop(wasm_module, tmp_path):
     """Drops files, given by their names and texts: the object of a collection, or an error."""
     def ask(files):
         for name, text in files.items():
-            (tmp_path / name).write_text(text, newline="")
+            (tmp_path / name).write_bytes(text if isinstance(text, bytes) else text.encode())
         words = [tmp_path / name for name in files]
         return json.loads(told("node", TOP / "tests/wasm/dropped.mjs", wasm_module, *words))
     return ask
@@ -140,6 +140,37 @@ def test_a_result_that_lacks_one_of_its_columns_is_refused(drop, left):
     assert said["error"].startswith("found.csv: of the columns state, certain in and may be in")
 
 
+@pytest.mark.parametrize("state", ["", "worn", "Unexpected"])
+def test_a_result_of_which_a_state_is_not_its_own_is_refused(drop, state):
+    """As where its column was deleted, and the catalogue has one of that name itself."""
+    table = f"uid,state,certain in,may be in\n{UID_A},there,a,\n{UID_B},{state},a,\n"
+    said = drop({"both.log": BOTH, "found.csv": table})
+    assert said["error"].startswith("found.csv, row 3: of the columns state, certain in and may")
+
+
+# Tables of which bytes were lost, so that rows are.
+DAMAGED = {
+    "zeros": f"uid,title\n{UID_A},Em".encode() + bytes(30) + b"lden\n",
+    "UTF-16, half a character": f"\ufeffuid,title\n{UID_A},Em".encode("utf-16-le")[:-1],
+    "UTF-16, half a pair": f"\ufeffuid,title\n{UID_A},\U0001F4D5".encode("utf-16-be")[:-2],
+    "UTF-8, half a character": f"title,uid\n\u00c9t\u00e9,{UID_A}\n\u00e9".encode()[:-1],
+    "line ends": f"uid,title\n{UID_A},{'a' * (1 << 17)}a\n".encode()}
+
+
+@pytest.mark.parametrize("name", DAMAGED)
+def test_no_row_of_a_damaged_table_is_lost(drop, name):
+    """Python refuses it too."""
+    said = drop({"shelf.log": SHELF, "books.csv": DAMAGED[name]})
+    assert said["error"].startswith("books.csv")
+
+
+def test_a_table_may_be_in_windows_1252(drop):
+    """Though two of its characters would be one in UTF-8."""
+    table = f"uid,title\n{UID_A},\u00e9t\u00e9 \u00abCAF\u00c9\u00bb\n".encode("windows-1252")
+    said = drop({"shelf.log": SHELF, "books.csv": table})
+    assert said["items"][0]["columns"] == {"title": "\u00e9t\u00e9 \u00abCAF\u00c9\u00bb"}
+
+
 @pytest.mark.parametrize(("table", "head"), [
     ({"books.csv": f"UID,uid\n{UID_A},{UID_B}\n"}, "uid"),
     ({"books.csv": f"uid,shelf\n{UID_A},A\n", "places.csv": "place,log,Place\nA,shelf.log,B\n"},
@@ -147,6 +178,12 @@ def test_a_result_that_lacks_one_of_its_columns_is_refused(drop, left):
 def test_no_column_of_two_with_one_name_is_taken(drop, table, head):
     said = drop({"shelf.log": SHELF, **table})
     assert said["error"] == f"{[*table][-1]}, row 1: two columns are named {head}"
+
+
+def test_a_result_of_which_columns_were_deleted_is_refused(drop):
+    """Also if the catalogue had two named state."""
+    table = f"uid,state,state (found)\n{UID_A},there,x\n{UID_B},unexpected,x\n"
+    assert drop({"both.log": BOTH, "found.csv": table})["error"].startswith("found.csv: of the")
 
 
 def test_no_item_is_lost_behind_the_names_of_the_columns(drop):
@@ -224,6 +261,43 @@ def test_a_log_of_exactly_that_name_comes_first(drop):
         "misplaced", "A", ["A.log.1"])
 
 
+@pytest.mark.parametrize(("place", "log"), [
+    ("ΟΔΟΣ", "ΟΔΟΣ.log"), ("ΟΔΟΣ", "οδος"), ("Straße", "STRASSE.LOG"), ("STRAẞE", "straße.log"),
+    ("K\u00f6ln", "Ko\u0308ln.log"), ("Ko\u0308ln", "K\u00d6LN.log")])
+def test_case_makes_no_difference_to_names_of_places(drop, place, log):
+    """Nor whether accents stand apart, as in names of files on a Mac."""
+    said = drop({"books.csv": f"uid,shelf\n{UID_A},{place}\n", log: SHELF})
+    assert (said["kind"], said["items"][0].get("belongs")) == ("complete", place)
+
+
+@pytest.mark.parametrize("log", [" A.log", "A .log", "ı.log"])
+def test_no_log_of_another_name_is_of_a_place(drop, log):
+    """Nor has it, for Python."""
+    said = drop({"books.csv": f"uid,shelf\n{UID_A},{'I' if log == 'ı.log' else 'A'}\n",
+                 log: SHELF, "places.csv": "place,log\nA,A.log\nI,I.log\n"})
+    assert said["error"].startswith("no log is of any place of the catalogue")
+
+
+@pytest.mark.parametrize("first", ["", "sep=,\r\n"])
+@pytest.mark.parametrize("encoding", ["utf-16-le", "utf-16-be"])
+def test_places_may_be_in_utf_16(drop, encoding, first):
+    said = drop({"books.csv": f"uid,shelf\n{UID_A},South\n", "shelf.log": SHELF,
+                 "places.csv": f"\ufeff{first}place,log\r\nSouth,shelf.log\r\n".encode(encoding)})
+    assert (said["kind"], said["items"][0].get("belongs")) == ("complete", "South")
+
+
+@pytest.mark.parametrize("cells", ["A,B", "A,", "B,A"])
+def test_no_column_of_two_that_name_places_is_taken(drop, cells):
+    """Unless they name the same."""
+    files = {"A.log": field(UID_A), "B.log": field(UID_B), "books.csv": (
+        f"uid,before,shelf\n{UID_A},{cells}\n{UID_B},B,B\n{UID_C},A,A\n")}
+    assert drop(files)["error"] == (
+        "books.csv: most rows of two columns name the place of a log: before and shelf. Delete "
+        "the one that doesn't say where items belong")
+    said = drop({**files, "books.csv": files["books.csv"].replace(f",{cells}\n", ",A,a.log\n", 1)})
+    assert said["items"][0]["belongs"] == "A"
+
+
 def test_no_two_logs_are_of_one_place_by_their_names(drop):
     said = drop({"books.csv": f"uid,shelf\n{UID_A},A\n", "A.log": field(), "A.txt": SHELF})
     assert said["error"].startswith(
@@ -244,3 +318,9 @@ def test_a_separator_is_named_before_any_line_end(drop, end):
     said = drop({"books": end.join(rows), "shelf.log": SHELF})
     assert (said["kind"], said["items"][0]["columns"]) == ("complete", {"title": "Emma, a, b"})
     assert drop({"books": end.join(rows[1:]), "shelf.log": SHELF})["kind"] == "complete"
+
+
+@pytest.mark.parametrize("head", ['12" ruler;"uid"', '"title, author";"uid"'])
+def test_a_separator_is_outside_of_quotes(drop, head):
+    said = drop({"books": f'{head}\n"x";"{UID_A}"\n', "shelf.log": SHELF})
+    assert said["kind"] == "complete"

@@ -1580,10 +1580,12 @@ setInterval(() => {
 
 @pytest.mark.parametrize(("files", "words"), [
     ({"disk": bytes(40_000_000)}, "Line 1: a line has at most 128 bytes."),
-    ({"books.csv": bytes(5_000_000), "A.log": log_of("I1 S")}, "no column is named uid."),
-    ({"books.csv": b"uid\n" + b"x" * 5_000_000, "A.log": log_of("I1 S")}, "row 2: xxx"),
+    ({"books.csv": bytes(5_000_000), "A.log": log_of("I1 S")}, "it is damaged"),
+    ({"books.csv": b"x" * 130_000, "A.log": log_of("I1 S")}, "no column is named uid."),
+    ({"books.csv": b"uid\n" + b"x" * 130_000, "A.log": log_of("I1 S")}, "row 2: xxx"),
+    ({"books.csv": b"uid\n" + b"x" * 5_000_000, "A.log": log_of("I1 S")}, "a cell is too long"),
     ({"list.log": log_of("UA"), "A.log": log_of("V1") + b"\n" * 40_000}, "again.")],
-    ids=["disk", "heads", "cell", "lines"])
+    ids=["disk", "zeros", "heads", "cell", "too long", "lines"])
 def test_a_large_file_that_is_no_log_does_not_freeze_the_page(page, tmp_path, files, words):
     """As the image of a disk, of which one line is all; a larger one ended the page."""
     page.run(FROZEN)

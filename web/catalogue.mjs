@@ -33,8 +33,8 @@ export const startOf = (file) => new TextDecoder().decode(file.text.subarray(0, 
 
 /** @param {Given} file */
 function headsOf(file) {
-  const [first] = startOf(file).replace(SAYS_SEPARATOR, "").split(LINE_END, 1);
-  return { heads: first.replace(/[\0"]/g, "").split(/[,;\t|]/).map((head) => head.trim().toLowerCase()) };
+  const [first] = startOf(file).replace(/[\0\uFFFD]/g, "").replace(SAYS_SEPARATOR, "").split(LINE_END, 1);
+  return { heads: first.replace(/"/g, "").split(/[,;\t|]/).map((head) => head.trim().toLowerCase()) };
 }
 
 /**

@@ -18,7 +18,7 @@ const MOVED = "perhaps cells are missing, or too many";
 const MOST_HEADS = 12, MOST_HEAD = 80;
 /** The columns that `reconcile --csv` has added, what stands behind such a name once more than behind the catalogue's own, and the state of
  *  rows that it has. */
-const ADDED = ["state", "certain in", "may be in"], TWIN = " (found)", UNEXPECTED = "unexpected";
+const ADDED = ["state", "certain in", "may be in"], TWIN = " (found)", UNEXPECTED = "unexpected", HERE = ["there", "misplaced", UNEXPECTED];
 const CUT = "of the columns state, certain in and may be in, which reconcile --csv has written, one is missing: leave all three, or delete " +
   "them and the rows of unexpected tags";
 
@@ -70,17 +70,25 @@ function found(heads) {
  * @param {import("./tables.mjs").Table} table
  */
 function withoutAdded(table) {
-  const added = ADDED.map((name) => lastAdded(table.heads, name)), [state] = added;
+  const added = ADDED.map((name) => lastAdded(table.heads, name)), [state, where] = added;
   if (added.includes(-1)) {
     const isCut = table.heads.some((head) => ADDED.indexOf(head.toLowerCase()) > 0) ||
-      table.rows.some(({ cells }) => cells[state]?.trim() === UNEXPECTED);
+      table.rows.some(({ cells }) => cells.some((cell, at) => cell.trim() === UNEXPECTED && isAdded(table.heads[at], ADDED[0])));
     if (isCut) throw new Wrong(`${table.name}: ${CUT}`);
     return table;
   }
+  const odd = table.rows.find(({ cells }) => cells[where].trim() && !HERE.includes(cells[state].trim()));
+  if (odd) throw new Wrong(`${table.name}, row ${odd.row}: ${CUT}`);
   const kept = (/** @type {string[]} */ cells) => cells.filter((_, at) => !added.includes(at));
-  return { ...table, heads: kept(table.heads), rows: table.rows.filter(({ cells }) => cells[added[0]].trim() !== UNEXPECTED)
+  return { ...table, heads: kept(table.heads), rows: table.rows.filter(({ cells }) => cells[state].trim() !== UNEXPECTED)
     .map(({ row, cells }) => ({ row, cells: kept(cells) })) };
 }
+
+/**
+ * @param {string} head
+ * @param {string} name
+ */
+const isAdded = (head, name) => head.toLowerCase().replaceAll(TWIN, "") === name;
 
 /**
  * Which column was added last of those with a name; -1 if there is none.
@@ -88,8 +96,7 @@ function withoutAdded(table) {
  * @param {string} name
  */
 function lastAdded(heads, name) {
-  const isNamed = (/** @type {string} */ head) => head.toLowerCase().replaceAll(TWIN, "") === name;
-  return heads.reduce((last, head, at) => isNamed(head) && head.length >= (heads[last] ?? "").length ? at : last, -1);
+  return heads.reduce((last, head, at) => isAdded(head, name) && head.length >= (heads[last] ?? "").length ? at : last, -1);
 }
 
 /**

@@ -1,16 +1,16 @@
 /** Which logs are of which place: by their names, or by a table that says so. */
 import { LOG, PLACE } from "./catalogue.mjs";
 import { columnOf, readTable, Wrong } from "./tables.mjs";
-import { printable } from "./words.mjs";
+import { caseless, printable } from "./words.mjs";
 
 /** @typedef {import("./catalogue.mjs").Given} Given */
 /** @typedef {import("./expected.mjs").Catalogue} Catalogue */
-/** @typedef {Map<string, number[]>} ByKey positions of logs, by names in lower case */
+/** @typedef {Map<string, number[]>} ByKey positions of logs, by names in any case */
 
 const ADD_PLACES = "Add the places that it lacks, written as there, also those without a log";
 
 /** @param {string} cell */
-const keyOf = (cell) => cell.trim().toLowerCase();
+const keyOf = (cell) => caseless(cell.trim());
 
 /**
  * @template T
@@ -65,10 +65,10 @@ function refuseTwo(place, [one, other], names) {
  */
 function logsByName(names) {
   const found = /** @type {ByKey} */ (new Map());
-  names.forEach((name, at) => add(found, keyOf(name), [at]));
+  names.forEach((name, at) => add(found, caseless(name), [at]));
   const given = new Set(found.keys());
   names.forEach((name, at) => {
-    const key = keyOf(name).replace(/(?!^)\.[^.]*$/, "");
+    const key = caseless(name.replace(/(?!^)\.[^.]*$/, ""));
     if (!given.has(key)) add(found, key, [at]);
   });
   return found;
@@ -97,12 +97,19 @@ function logsByTable(file, byName, spelled, names) {
 }
 
 /**
- * The column of a catalogue of which the most rows name a place, and how many: if most of all do, it says where items belong.
+ * The column of a catalogue of which the most rows name a place, and how many: if most of all do, it says where items belong, and no
+ * other one says otherwise.
  * @param {Catalogue} catalogue
  * @param {ByKey} places
  */
-function placeColumn({ heads, uidAt, entries }, places) {
-  const named = (/** @type {number} */ at) => at === uidAt ? 0 : entries.filter(({ cells }) => places.has(keyOf(cells[at]))).length;
-  const best = heads.reduce((one, _, at) => named(at) > named(one) ? at : one, 0);
-  return { best, rows: named(best) };
+function placeColumn({ name, heads, uidAt, entries }, places) {
+  const named = heads.map((_, at) => entries.map(({ cells }) => at === uidAt ? undefined : places.get(keyOf(cells[at]))?.join()));
+  const rows = named.map((logs) => logs.filter((it) => it !== undefined).length);
+  const best = rows.reduce((one, many, at) => many > rows[one] ? at : one, 0);
+  const other = rows.findIndex((many, at) => 2 * many > entries.length && named[at].some((logs, row) => logs !== named[best][row]));
+  if (other >= 0) {
+    const both = `${printable(heads[best])} and ${printable(heads[other])}`;
+    throw new Wrong(`${name}: most rows of two columns name the place of a log: ${both}. Delete the one that doesn't say where items belong`);
+  }
+  return { best, rows: rows[best] };
 }

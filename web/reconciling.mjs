@@ -7,7 +7,7 @@ import { ALL } from "./library.mjs";
 import { leastOf, marginFields, maskFields, overlookedIn, withoutList } from "./margins.mjs";
 import { maskKey } from "./frames.mjs";
 import { placesOf } from "./places.mjs";
-import { UID_BITS, hex } from "./words.mjs";
+import { UID_BITS, caseless, hex } from "./words.mjs";
 
 /** @typedef {import("./library.mjs").Library} Library */
 /** @typedef {import("./frames.mjs").Mask} Mask */
@@ -141,7 +141,7 @@ function itemsOf(catalogue, places, logs, list, files, missing) {
   const rows = catalogue.entries.map(({ uid, cells }) => {
     const belongs = places.at < 0 ? "" : cells[places.at].trim(), said = belongs ? { belongs } : {};
     if (uid === null) return { uid, state: /** @type {State} */ ("no tag"), columns: columns(cells), certain_in: [], may_be_in: [], ...said };
-    const where = certain.get(uid) ?? [], own = new Set(places.logs.get(belongs.toLowerCase()));
+    const where = certain.get(uid) ?? [], own = new Set(places.logs.get(caseless(belongs)));
     const away = belongs && !where.some((log) => own.has(log));
     const state = /** @type {State} */ (states.get(uid) ?? (away ? "misplaced" : "there"));
     const may = (open.get(uid) ?? []).filter((log) => !where.length || own.has(log) || !logs[log].aside);

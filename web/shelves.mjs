@@ -1,6 +1,6 @@
 /** Items by their shelves, and what logs are called: by the places of which they are, where these are known. */
 import { el } from "./elements.mjs";
-import { listing, printable } from "./words.mjs";
+import { caseless, listing, printable } from "./words.mjs";
 
 /** @typedef {import("./collection.mjs").Item} Item */
 /** @typedef {(item: Item) => string} Cell */
@@ -23,7 +23,7 @@ export class Shelves {
   /** @param {import("./collection.mjs").OneLog[]} logs */
   constructor(logs) {
     this.places = new Map(logs.map(({ file, places = [] }) => [file, places]));
-    this.counted = new Set(logs.flatMap(({ places = [] }) => places.map((place) => place.toLowerCase())));
+    this.counted = new Set(logs.flatMap(({ places = [] }) => places.map(caseless)));
   }
 
   /**
@@ -49,8 +49,8 @@ export class Shelves {
    * @param {Item} item
    */
   isAway({ belongs = "", may_be_in: files }) {
-    const own = belongs.toLowerCase(), places = files.flatMap((file) => this.places.get(file) ?? []);
-    return this.counted.has(own) && !places.some((place) => place.toLowerCase() === own);
+    const own = caseless(belongs), places = files.flatMap((file) => this.places.get(file) ?? []);
+    return this.counted.has(own) && !places.some((place) => caseless(place) === own);
   }
 
   /**

@@ -6,10 +6,10 @@
 /** Of these the one that makes the most columns of the first row separates the cells. */
 const SEPARATORS = [",", ";", "\t", "|"];
 /** A first line for spreadsheets, which names the separator. */
-export const SAYS_SEPARATOR = /^"?sep=(.)"?[ \t]*(?:\r\n?|\n)/i;
+export const SAYS_SEPARATOR = /^"?sep=([^"\r\n])"?[ \t]*(?:\r\n?|\n)/i;
 export const LINE_END = /\r\n?|\n/;
-/** A cell, with what ends it: in quotes, or not. */
-const QUOTED = /"((?:[^"]|"")*)"/y;
+/** A cell in quotes; and cells in quotes wherever one may begin. */
+const QUOTED = /"((?:[^"]|"")*)"/y, IN_QUOTES = /(^|[,;\t|])"(?:[^"]|"")*"/g;
 
 /** How a file of a spreadsheet program begins, read as UTF-8: packed as ZIP (.xlsx, .ods, .numbers), or as OLE has it (.xls). */
 const SPREADSHEET = /^(?:PK\x03\x04|\uFFFD\uFFFD\x11[\u0871\uFFFD])/;
@@ -17,6 +17,9 @@ const SPREADSHEET = /^(?:PK\x03\x04|\uFFFD\uFFFD\x11[\u0871\uFFFD])/;
 export const TABLE = /\.(csv|tsv|xlsx?|ods|numbers)$/i;
 /** What to do with a spreadsheet. */
 export const SAVE_AS_CSV = "save it as CSV";
+const COPY_IT = "Copy it again, or save it as UTF-8";
+/** How many characters a cell has at most, as in Python, and how many bytes say whether a text was UTF-8. */
+const MOST_CELL = 131_072, MOST_SEEN = 1_000_000;
 
 /**
  * Whether a text was that of a spreadsheet.
@@ -28,17 +31,21 @@ export const isSpreadsheet = (text) => SPREADSHEET.test(text);
 export class Wrong extends Error {}
 
 /**
- * The text of a file: what many spreadsheets save, if it is neither UTF-8 nor begins as UTF-16.
+ * The text of a file: what many spreadsheets save, if it is neither UTF-8, also where that is damaged, nor begins as UTF-16.
+ * @param {string} name
  * @param {Uint8Array} bytes
  */
-function decoded(bytes) {
+function decoded(name, bytes) {
   const [one, other] = bytes, utf16 = one === 0xFF && other === 0xFE ? "utf-16le" : one === 0xFE && other === 0xFF ? "utf-16be" : "";
-  if (utf16) return new TextDecoder(utf16).decode(bytes);
+  let text = "\0";
   try {
-    return new TextDecoder("utf-8", { fatal: true }).decode(bytes);
+    text = new TextDecoder(utf16 || "utf-8", { fatal: true }).decode(bytes);
   } catch {
-    return new TextDecoder("windows-1252").decode(bytes);
+    const start = new TextDecoder().decode(bytes.subarray(0, MOST_SEEN)), many = (/** @type {RegExp} */ it) => start.match(it)?.length ?? 0;
+    if (!utf16 && many(/[^\0-\x7F\uFFFD]/gu) <= many(/\uFFFD/g)) text = new TextDecoder("windows-1252").decode(bytes);
   }
+  if (text.includes("\0")) throw new Wrong(`${name}: it is damaged, or in another encoding. ${COPY_IT}`);
+  return text;
 }
 
 /**
@@ -47,8 +54,8 @@ function decoded(bytes) {
  * @returns {Table}
  */
 export function readTable(name, bytes) {
-  const whole = decoded(bytes), says = whole.match(SAYS_SEPARATOR), text = says ? whole.slice(says[0].length) : whole;
-  const [first] = text.split(LINE_END, 1), many = (/** @type {string} */ it) => first.replace(/"[^"]*"/g, "").split(it).length;
+  const whole = decoded(name, bytes), says = whole.match(SAYS_SEPARATOR), text = says ? whole.slice(says[0].length) : whole;
+  const [first] = text.split(LINE_END, 1), many = (/** @type {string} */ it) => first.replace(IN_QUOTES, "$1").split(it).length;
   const separator = says ? says[1] : SEPARATORS.reduce((best, it) => many(it) > many(best) ? it : best);
   const [heads = [], ...rows] = cellsIn(name, text, separator), names = heads.map((head) => head.trim());
   const twice = names.find((head, at) => head && names.indexOf(head) < at);
@@ -76,6 +83,7 @@ function cellsIn(name, text, separator) {
     while (end < text.length && text[end] !== separator && text[end] !== "\n" && text[end] !== "\r") end++;
     if (quoted && end > at) throw new Wrong(`${name}, row ${rows.length + 1}: text follows a cell in quotes: perhaps a quote is missing`);
     cells.push(quoted ? quoted[1].replace(/""/g, '"') : text.slice(at, end));
+    if (cells[cells.length - 1].length > MOST_CELL) throw new Wrong(`${name}, row ${rows.length + 1}: a cell is too long: perhaps line ends are missing`);
     at = end + 1;
     if (text[end] === separator) {
       if (at >= text.length) cells.push("");

@@ -37,6 +37,13 @@ export function listing(items, last = "and") {
 }
 
 /**
+ * What names have in common that differ in case alone, as Python's casefold has it, or in how letters with accents are encoded. The
+ * case of one letter may depend on those around it.
+ * @param {string} name
+ */
+export const caseless = (name) => name.normalize().toLowerCase().replace(/[^\0-\x7Fı]/gu, (it) => it.toUpperCase().toLowerCase());
+
+/**
  * @param {bigint | number} value
  * @param {number} [digits]
  */

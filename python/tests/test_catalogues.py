@@ -96,6 +96,11 @@ class Catalogues(Command):
                                          (given, options))
                         self.write("catalogue.csv", said)
 
+    def test_a_separator_is_outside_of_quotes(self):
+        for head in ('"uid";"title, author"', '"uid";12" ruler'):
+            name = self.catalogue(f'{head}\n"E0040100000000A1";"x"\n')
+            self.assertEqual(here("lines", name, self.names[1]), ("complete 1\n", "", 0), head)
+
     def test_a_file_that_is_longer_than_any_log(self):
         """A log is read no further, but of a catalogue every row counts."""
         row = b"E0040100000000B2,Of the end\n"
@@ -182,6 +187,17 @@ class Catalogues(Command):
             self.assertIn(f"row {3 if left == (2,) else 1}: of the columns state", errors)
         name = self.catalogue("uid,state\nE0040100000000A1,worn\n")
         self.assertEqual(here("lines", name, self.names[1]), ("complete 1\n", "", 0))
+
+    def test_a_result_that_lacks_its_state_beside_the_own_one_is_refused(self):
+        """So is one of which a state was changed, as by a spreadsheet."""
+        name = self.catalogue("uid,state\nE0040100000000A1,worn\n")
+        said = here("csv", name, self.both())[0]
+        rows = [[row[0], row[1], *row[3:]] for row in csv.reader(io.StringIO(said))]
+        cut = "".join(f"{','.join(row)}\n" for row in rows)
+        for changed in (cut, cut.replace("worn", "there"), said.replace("unexp", "Unexp")):
+            said, errors, status = here("lines", self.catalogue(changed), self.both())
+            self.assertEqual((said, status), ("", 3), changed)
+            self.assertIn(": of the columns state", errors)
 
     def test_rows_without_a_tag(self):
         name = self.catalogue("title,uid\na,\nb,E0040100000000A1\nc, \n")
@@ -312,6 +328,17 @@ class Catalogues(Command):
                                options=[*place, "--places", places])[0])
         self.assertEqual([it["places"] for it in told["logs"]], [["North"], ["North", "South"]])
         self.assertEqual([it["what"] for it in told["files"]], ["catalogue", "places"])
+
+    def test_accents_may_stand_apart_in_names_of_logs(self):
+        """As in the names of files on a Mac."""
+        catalogue = self.catalogue("uid,shelf\nE0040100000000A1,K\u00f6ln\n")
+        for name in "Ko\u0308ln.log", "K\u00d6LN":
+            own = self.write(name, log(ALL + HEARD_A))
+            places = self.write("places.csv", f"place,log\nKo\u0308ln,{name}\n".encode())
+            for options in ([], ["--places", places]):
+                self.assertEqual(here("lines", catalogue, own,
+                                      options=["--place", "shelf", *options]),
+                                 ("complete 1\n", "", 0))
 
     def test_an_item_whose_own_log_is_set_aside(self):
         catalogue = self.catalogue("uid,shelf\nE0040100000000A1,a\nE0040100000000B2,b\n")

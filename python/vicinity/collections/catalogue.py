@@ -19,6 +19,8 @@ COLUMN = "uid"
 #: name itself, once more often than that one.
 #: Where an earlier run has written them they are replaced, and its unexpected tags left out.
 ADDED, TWIN, UNEXPECTED = ("state", "certain in", "may be in"), " (found)", "unexpected"
+#: The states of what is certain in some log.
+HERE = "there", "misplaced", UNEXPECTED
 CUT = ("of the columns state, certain in and may be in, which reconcile --csv has written, one is "
        "missing: leave all three, or delete them and the rows of unexpected tags")
 SWALLOWED = "a cell in quotes has {} and a line end in it: perhaps a quote is missing"
@@ -119,7 +121,11 @@ def _without_added(table: Table) -> tuple[Table, bool]:
         return table, False
     added = [max(range(len(table.heads)), key=lambda at: (twins(table.heads[at], name), at))
              for name in ADDED]
-    rows = [row for row in table.rows if row[1][added[0]].strip() != UNEXPECTED]
+    state, where, _ = added
+    for row, cells in table.rows:
+        if cells[where].strip() and cells[state].strip() not in HERE:
+            table.wrong(row, CUT)
+    rows = [row for row in table.rows if row[1][state].strip() != UNEXPECTED]
     return _without(table._replace(rows=rows), added), True
 
 

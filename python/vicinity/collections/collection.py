@@ -9,7 +9,7 @@ from .._answers import FindingKind, Mask, Weakest
 from .._calls import margin_listed, overlooked, reconcile_parts
 from .catalogue import Catalogue
 from .masks import Under, are_all, without
-from .places import Places
+from .places import Places, key_of
 from .surveys import ALL, Surveys, without_list
 
 #: How many of the open masks of a log are named.
@@ -155,7 +155,7 @@ class Collection:
                 yield Item(*entry, State.NO_TAG)
                 continue
             state, where = states.get(entry.uid, State.THERE), certain[entry.uid]
-            its_own = set(self.places.logs.get(entry.belongs.casefold(), ()))
+            its_own = set(self.places.logs.get(key_of(entry.belongs), ()))
             if state is State.THERE and entry.belongs and its_own.isdisjoint(where):
                 state = State.MISPLACED
             may_be_in = [log for log in possible[entry.uid]

@@ -2,6 +2,7 @@
 from __future__ import annotations
 
 import os
+import unicodedata
 from typing import NamedTuple, Optional, Sequence
 
 from .._process import shown
@@ -13,10 +14,16 @@ SAYS_PLACES = "--places FILE says which logs are of which place"
 
 class Places(NamedTuple):
     """The logs of each place, by their positions, and the places of each log, as they are written.
-    A place goes by its name in lower case."""
+    A place goes by the key of its name."""
 
     logs: dict[str, list[int]] = {}
     written: dict[int, list[str]] = {}
+
+
+def key_of(name: str) -> str:
+    """What names have in common that differ in case alone, or in how letters with accents are
+    encoded: the names of files on a Mac have these apart."""
+    return unicodedata.normalize("NFC", name).casefold()
 
 
 def places_of(expected: Catalogue, names: Sequence[str], file: Optional[tuple[str, bytes]],
@@ -31,13 +38,13 @@ def places_of(expected: Catalogue, names: Sequence[str], file: Optional[tuple[st
         by_name, places = places, {}
         for row, cells in table.rows:
             place, log = (cells[at].strip() for at in (place_at, log_at))
-            these = by_name.get(log.casefold(), [])
+            these = by_name.get(key_of(log), [])
             if len(these) > 1:
                 one, other = (shown(names[it]) for it in these[:2])
                 table.wrong(row, f"two logs may be {shown(log)}: {one} and {other}")
-            places.setdefault(place.casefold(), []).extend(these)
-            spelled.setdefault(place.casefold(), place)
-    belongs = {it.belongs.casefold(): it.belongs for it in expected.entries if it.belongs}
+            places.setdefault(key_of(place), []).extend(these)
+            spelled.setdefault(key_of(place), place)
+    belongs = {key_of(it.belongs): it.belongs for it in expected.entries if it.belongs}
     for key, place in belongs.items():
         if file is None and len(places.get(key, [])) > 1:
             one, other = (shown(names[log]) for log in places[key][:2])
@@ -61,6 +68,6 @@ def _by_names(names: Sequence[str]) -> dict[str, list[int]]:
     for spelled in (names, bases, [os.path.splitext(base)[0] for base in bases]):
         these: dict[str, list[int]] = {}
         for index, name in enumerate(spelled):
-            these.setdefault(name.casefold(), []).append(index)
+            these.setdefault(key_of(name), []).append(index)
         found = {**these, **found}
     return found

@@ -14,6 +14,8 @@ from .._process import shown
 
 #: Of these the one that makes the most columns of the first row separates the cells.
 SEPARATORS = ",;\t|"
+#: Cells in quotes, wherever one may begin.
+IN_QUOTES = re.compile('(^|[,;\t|])"(?:[^"]|"")*"')
 #: With which bytes a file begins that says its encoding.
 MARKS = {codecs.BOM_UTF8: "utf-8", codecs.BOM_UTF16_LE: "utf-16-le",
          codecs.BOM_UTF16_BE: "utf-16-be"}
@@ -101,7 +103,7 @@ def read_table(name: str, text: bytes, encoding: Optional[str]) -> Table:
     content = content[len(first):]
     ended = _lines(content).readline()
     line = ended.rstrip("\r\n")
-    separator = says.group(1) if says else max(SEPARATORS, key=lambda it: len(_cells(line, it)))
+    separator = says.group(1) if says else max(SEPARATORS, key=IN_QUOTES.sub(r"\1", line).count)
     is_quoted = line == separator.join('"{}"'.format(cell.replace('"', '""'))
                                        for cell in _cells(line, separator))
     form = form._replace(first=first, separator=separator, line_end=ended[len(line):] or "\n",
