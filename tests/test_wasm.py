@@ -20,25 +20,31 @@ const it = new WebAssembly.Module(require("fs").readFileSync(process.argv[1]));
 const exported = WebAssembly.Module.exports(it).map((one) => one.name);
 console.log(JSON.stringify([WebAssembly.Module.imports(it), exported]));
 """
-# Lists beside a log of silence: what is said of each, and that the module is as it was.
+# Lists beside a log of silence, and masks beside a tag that is certain: what is said of each, and
+# that the module is as it was.
 BESIDE = """
 import { readFileSync } from "node:fs";
 import { Library } from "./web/library.mjs";
 const library = await Library.of(readFileSync(process.argv[1])), uid = 0xE0040100000000A1n;
-const silent = "vicinity-log 1\\nT 260100F60A\\nS";
+const silent = "vicinity-log 1\\nT 260100F60A\\nS", value = BigInt.asUintN(56, uid);
 const wide = Uint16Array.from(silent, (it) => it.charCodeAt(0) + 256);
-const said = (text, uids) => {
+const mask = { fault: 0, len: 56, value }, none = ["", () => 0, new Uint8Array(0), new Set()];
+const said = (call) => {
   try {
-    return library.marginListed(text, uids).answer.text.trim();
+    return call().answer.text.trim();
   } catch (error) {
     return error.constructor.name;
   }
 };
+const listed = (text, uids) => said(() => library.marginListed(text, uids));
 console.log(JSON.stringify([
-  [silent, silent + "\\n", silent + "\\n# end"].map((text) => said(text, [uid])),
-  [[], [uid + 2n ** 64n], [uid - 2n ** 64n], ["E0"], [,], "", () => 0, new Uint8Array(0), new Set()]
-    .map((uids) => said(silent, uids)),
-  [wide, [...silent], new DataView(wide.buffer), wide.buffer].map((text) => said(text, [])),
+  [silent, silent + "\\n", silent + "\\n# end"].map((text) => listed(text, [uid])),
+  [[], [uid + 2n ** 64n], [uid - 2n ** 64n], ["E0"], [,], ...none]
+    .map((uids) => listed(silent, uids)),
+  [wide, [...silent], new DataView(wide.buffer), wide.buffer].map((text) => listed(text, [])),
+  [[mask], [{ ...mask, value: value + 2n ** 64n }], [{ ...mask, value: value - 2n ** 64n }],
+    [{ ...mask, len: 56 + 2 ** 32 }], [{ ...mask, len: 56.5 }], ["56 A1"], [,], ...none]
+    .map((masks) => said(() => library.reconcile([uid], [uid], masks))),
   library.check(silent).text]));
 """
 # A module whose stack is too small, as Firefox says it, and what is said of it next.
@@ -94,11 +100,12 @@ def test_what_belongs_to_one_system_is_refused(wasm_module, tmp_path, old, new, 
 
 
 def test_a_list_is_taken_whole_or_not_at_all(wasm_module):
-    """Also behind a last line that doesn't end."""
-    ended, lists, texts, after = json.loads(
+    """Also behind a last line that doesn't end; and so are masks."""
+    ended, lists, texts, masked, after = json.loads(
         told("node", "--input-type=module", "-e", BESIDE, wasm_module, cwd=TOP))
     assert ended == [f"absent {UID_A:X}"] * 3
     assert lists == ["complete 0", *["TypeError"] * 8] and texts == ["TypeError"] * 4
+    assert masked == ["complete 1", *["TypeError"] * 10]
     assert after == "complete 0\n"
 
 

@@ -315,12 +315,14 @@ export class Library {
   reconcile(expected, certain, masks) {
     return this.#listed("reconcile", (take) => {
       const given = [...this.#putUids(take, expected), ...this.#putUids(take, certain)];
+      if (!Array.isArray(masks)) throw new TypeError("masks are an array");
       const at = take(MASK * masks.length), view = this.#view;
-      masks.forEach((mask, i) => {
-        view.setUint32(at + MASK * i, mask.fault, true);
-        view.setUint32(at + MASK * i + 4, mask.len, true);
-        view.setBigUint64(at + MASK * i + 8, mask.value, true);
-      });
+      for (const [i, { fault, len, value }] of masks.entries()) {
+        if (len >>> 0 !== len || BigInt.asUintN(64, value) !== value) throw new TypeError(`no mask: ${len} ${value}`);
+        view.setUint32(at + MASK * i, fault, true);
+        view.setUint32(at + MASK * i + 4, len, true);
+        view.setBigUint64(at + MASK * i + 8, value, true);
+      }
       return [...given, at, masks.length];
     }, FINDING, findingAt);
   }
