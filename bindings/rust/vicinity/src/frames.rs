@@ -109,6 +109,14 @@ pub fn add_crc(bytes: &[u8]) -> Result<Frame, Refusal> {
 }
 
 /// A frame as a request, or its first fault.
+///
+/// ```
+/// use vicinity::{read_request, Request};
+///
+/// // this one silences no tag: its UID is 0
+/// let read = read_request(&[0x22, 0x02, 0, 0, 0, 0, 0, 0, 0, 0, 0x79, 0x0C]);
+/// assert!(matches!(read, Ok(Request::StayQuiet { link: 2, uid }) if uid.number() == 0));
+/// ```
 pub fn read_request(bytes: &[u8]) -> Result<Request, Fault> {
     let mut told = sys::vicinity_request::default();
     // SAFETY: as above.

@@ -3,7 +3,7 @@
 use std::fmt;
 use std::str::FromStr;
 
-/// The UID of a tag. Its top byte is E0.
+/// The UID of a tag. Its top byte is E0, unless it was read from a Stay Quiet request.
 ///
 /// ```
 /// let uid: vicinity::Uid = "E0040100000000A1".parse()?;
