@@ -16,9 +16,9 @@ BARE = "#!/bin/sh\nexec /usr/bin/python3 -ISB \"$@\"\n"
 @pytest.fixture
 def check(release):
     """Runs it over folders with these variables besides: its status, and the lines printed."""
-    def ask(*folders, **environment):
+    def ask(*folders, flags=(), **environment):
         found = {"PYTHONPATH": "python", "LIBVICINITY": str(release / "libvicinity.so")}
-        script = Program("/bin/bash", TOP / "examples/nightly/check-shelves",
+        script = Program("/bin/bash", *flags, TOP / "examples/nightly/check-shelves",
                          **found | environment)
         said = script.run(*map(str, folders))
         return said.status, said.out.decode().splitlines()
@@ -45,6 +45,9 @@ def test_each_folder_counts(check, tmp_path):
     status, lines = check(tmp_path / "good", tmp_path / "bad")
     assert (status, len(lines)) == (1, 1)
     assert check(tmp_path / "bad", tmp_path / "good") == (status, lines)
+    written(tmp_path / "good", BROKEN)
+    for flags in ["-e"], ["-eu", "-o", "pipefail"]:
+        assert check(tmp_path / "bad", tmp_path / "good", flags=flags)[0] == 2
 
 
 @pytest.mark.parametrize("words", [[], ["-d"], ["!"], ["("]])
@@ -62,8 +65,10 @@ def test_a_log_is_found_by_its_ending_in_any_case_and_by_links(check, tmp_path):
     assert (status, len(lines)) == (1, 1)
 
 
-def test_a_link_to_no_log_is_not_passed_over(check, tmp_path):
-    (tmp_path / "old.log").symlink_to(tmp_path / "nowhere")
+@pytest.mark.parametrize("name", ["old.log", "shelf-b"])
+def test_a_link_to_nothing_is_not_passed_over(check, tmp_path, name):
+    """It may have led to a folder of logs."""
+    (tmp_path / name).symlink_to(tmp_path / "nowhere")
     assert check(written(tmp_path, COMPLETE))[0] == NO_ANSWER
 
 
