@@ -99,6 +99,22 @@ def test_the_logs_of_one_day(release, tmp_path):
     assert said.status == 1
 
 
+def test_cron_has_something_to_mail(tmp_path):
+    """Also if the script is killed and prints nothing; and nothing if all is well."""
+    page, script = (TOP / "docs/RUNNING.md").read_text(), tmp_path / "check-shelves"
+    job, = re.findall(r"^    30 2 \* \* \* shelves (.*)$", page, re.M)
+    job = job.replace("/usr/local/bin/check-shelves", str(script))
+    for does, mail in ("kill -9 $$", b"status 137\n"), ("", b""):
+        script.write_text(does)
+        assert Program("/bin/sh", "-c", job).run().out == mail
+
+
+def test_the_mail_of_the_unit_is_delivered():
+    """By what goes on in the background: else systemd ends it with the command."""
+    unit = (TOP / "examples/nightly/check-shelves-mail.service").read_text()
+    assert "\nKillMode=process\n" in unit
+
+
 def test_without_the_library(check, tmp_path):
     (tmp_path / "libvicinity.so").write_bytes(b"")
     assert check(written(tmp_path, OPEN))[0] == 1
