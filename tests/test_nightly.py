@@ -5,7 +5,7 @@ import re
 import pytest
 
 from helpers.lines import log_of
-from helpers.program import TOP, Program
+from helpers.program import TOP, Program, needs, told
 
 COMPLETE, OPEN, BROKEN, REFUSED = map(log_of, ("I1 S", "I1 C", "I1 S I1 RA", "UA UA"))
 NO_ANSWER = 4
@@ -102,11 +102,22 @@ def test_the_logs_of_one_day(release, tmp_path):
 def test_cron_has_something_to_mail(tmp_path):
     """Also if the script is killed and prints nothing; and nothing if all is well."""
     page, script = (TOP / "docs/RUNNING.md").read_text(), tmp_path / "check-shelves"
-    job, = re.findall(r"^    30 2 \* \* \* shelves (.*)$", page, re.M)
+    job, = re.findall(r"^    30 4 \* \* \* shelves (.*)$", page, re.M)
     job = job.replace("/usr/local/bin/check-shelves", str(script))
     for does, mail in ("kill -9 $$", b"status 137\n"), ("", b""):
         script.write_text(does)
         assert Program("/bin/sh", "-c", job).run().out == mail
+
+
+@pytest.mark.parametrize(("zone", "day"), [
+    ("Europe/Berlin", "2026-03-29"), ("America/New_York", "2026-03-08")])
+def test_the_timer_leaves_no_day_out(zone, day):
+    """An hour is left out where summer time begins, and systemd runs nothing for a time in it."""
+    needs(f"/usr/share/zoneinfo/{zone}")
+    timer = (TOP / "examples/nightly/check-shelves.timer").read_text()
+    when, = re.findall("^OnCalendar=(.*)$", timer, re.M)
+    said = told("systemd-analyze", "calendar", f"--base-time={day} 00:00 UTC", when, TZ=zone)
+    assert f" {day} " in re.findall("Next elapse: (.*)", said)[0]
 
 
 def test_the_mail_of_the_unit_is_delivered():
