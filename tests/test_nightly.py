@@ -126,6 +126,17 @@ def test_the_mail_of_the_unit_is_delivered():
     assert "\nKillMode=process\n" in unit
 
 
+def test_many_logs(release, tmp_path):
+    """As a page has them judged: also if a link to more of them leads nowhere."""
+    page = (TOP / "docs/RUNNING.md").read_text()
+    words, = re.findall(r"^    set -o pipefail\n    find .*$", page, re.M)
+    run = Program("bash", "-c", words.replace("FOLDER", str(written(tmp_path, COMPLETE))),
+                  PYTHONPATH="python", LIBVICINITY=str(release / "libvicinity.so")).run
+    assert run().status == 0
+    (tmp_path / "shelf-b").symlink_to(tmp_path / "nowhere")
+    assert run().status == NO_ANSWER
+
+
 def test_without_the_library(check, tmp_path):
     (tmp_path / "libvicinity.so").write_bytes(b"")
     assert check(written(tmp_path, OPEN))[0] == 1
