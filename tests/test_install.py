@@ -182,6 +182,17 @@ def test_a_file_of_another_stays(release, tmp_path, name):
     assert tree(tmp_path) == before
 
 
+def test_a_disk_that_is_full_at_the_end(release, tmp_path):
+    """All is there then, and can be taken away: the list is only not written anew."""
+    (tmp_path / "awk").write_text(f"#!/bin/sh\n/usr/bin/awk \"$@\" && mkdir {tmp_path}/once\n")
+    (tmp_path / "awk").chmod(0o755)
+    root = ["--destdir", tmp_path / "root", "--prefix", "/usr"]
+    full = Program(TOP / "install", PATH=f"{tmp_path}:{os.environ['PATH']}")
+    assert release and full.run(*root).status == 0
+    assert not [*(tmp_path / "root").rglob("*.vicinity-new")]
+    assert install("--remove", *root[:2]) == 0 and not [*(tmp_path / "root").iterdir()]
+
+
 def test_removed_beside_other_files(release, tmp_path):
     (tmp_path / "usr/share").mkdir(parents=True)
     (tmp_path / "usr/share/notes").write_text("mine\n")

@@ -5,7 +5,7 @@ import re
 import pytest
 
 from helpers.lines import log_of
-from helpers.program import TOP, Program
+from helpers.program import TOP, Program, needs, told
 
 COMPLETE, OPEN, BROKEN, REFUSED = map(log_of, ("I1 S", "I1 C", "I1 S I1 RA", "UA UA"))
 NO_ANSWER = 4
@@ -16,9 +16,9 @@ BARE = "#!/bin/sh\nexec /usr/bin/python3 -ISB \"$@\"\n"
 @pytest.fixture
 def check(release):
     """Runs it over folders with these variables besides: its status, and the lines printed."""
-    def ask(*folders, **environment):
+    def ask(*folders, flags=(), **environment):
         found = {"PYTHONPATH": "python", "LIBVICINITY": str(release / "libvicinity.so")}
-        script = Program("/bin/bash", TOP / "examples/nightly/check-shelves",
+        script = Program("/bin/bash", *flags, TOP / "examples/nightly/check-shelves",
                          **found | environment)
         said = script.run(*map(str, folders))
         return said.status, said.out.decode().splitlines()
@@ -45,6 +45,9 @@ def test_each_folder_counts(check, tmp_path):
     status, lines = check(tmp_path / "good", tmp_path / "bad")
     assert (status, len(lines)) == (1, 1)
     assert check(tmp_path / "bad", tmp_path / "good") == (status, lines)
+    written(tmp_path / "good", BROKEN)
+    for flags in ["-e"], ["-eu", "-o", "pipefail"]:
+        assert check(tmp_path / "bad", tmp_path / "good", flags=flags)[0] == 2
 
 
 @pytest.mark.parametrize("words", [[], ["-d"], ["!"], ["("]])
@@ -62,8 +65,10 @@ def test_a_log_is_found_by_its_ending_in_any_case_and_by_links(check, tmp_path):
     assert (status, len(lines)) == (1, 1)
 
 
-def test_a_link_to_no_log_is_not_passed_over(check, tmp_path):
-    (tmp_path / "old.log").symlink_to(tmp_path / "nowhere")
+@pytest.mark.parametrize("name", ["old.log", "shelf-b"])
+def test_a_link_to_nothing_is_not_passed_over(check, tmp_path, name):
+    """It may have led to a folder of logs."""
+    (tmp_path / name).symlink_to(tmp_path / "nowhere")
     assert check(written(tmp_path, COMPLETE))[0] == NO_ANSWER
 
 
@@ -92,6 +97,44 @@ def test_the_logs_of_one_day(release, tmp_path):
     environment = {"PYTHONPATH": "python", "LIBVICINITY": str(release / "libvicinity.so")}
     said = Program("/bin/bash", tmp_path / "check", **environment).run(tmp_path / "old")
     assert said.status == 1
+
+
+def test_cron_has_something_to_mail(tmp_path):
+    """Also if the script is killed and prints nothing; and nothing if all is well."""
+    page, script = (TOP / "docs/RUNNING.md").read_text(), tmp_path / "check-shelves"
+    job, = re.findall(r"^    30 4 \* \* \* shelves (.*)$", page, re.M)
+    job = job.replace("/usr/local/bin/check-shelves", str(script))
+    for does, mail in ("kill -9 $$", b"status 137\n"), ("", b""):
+        script.write_text(does)
+        assert Program("/bin/sh", "-c", job).run().out == mail
+
+
+@pytest.mark.parametrize(("zone", "day"), [
+    ("Europe/Berlin", "2026-03-29"), ("America/New_York", "2026-03-08")])
+def test_the_timer_leaves_no_day_out(zone, day):
+    """An hour is left out where summer time begins, and systemd runs nothing for a time in it."""
+    needs(f"/usr/share/zoneinfo/{zone}")
+    timer = (TOP / "examples/nightly/check-shelves.timer").read_text()
+    when, = re.findall("^OnCalendar=(.*)$", timer, re.M)
+    said = told("systemd-analyze", "calendar", f"--base-time={day} 00:00 UTC", when, TZ=zone)
+    assert f" {day} " in re.findall("Next elapse: (.*)", said)[0]
+
+
+def test_the_mail_of_the_unit_is_delivered():
+    """By what goes on in the background: else systemd ends it with the command."""
+    unit = (TOP / "examples/nightly/check-shelves-mail.service").read_text()
+    assert "\nKillMode=process\n" in unit
+
+
+def test_many_logs(release, tmp_path):
+    """As a page has them judged: also if a link to more of them leads nowhere."""
+    page = (TOP / "docs/RUNNING.md").read_text()
+    words, = re.findall(r"^    set -o pipefail\n    find .*$", page, re.M)
+    run = Program("bash", "-c", words.replace("FOLDER", str(written(tmp_path, COMPLETE))),
+                  PYTHONPATH="python", LIBVICINITY=str(release / "libvicinity.so")).run
+    assert run().status == 0
+    (tmp_path / "shelf-b").symlink_to(tmp_path / "nowhere")
+    assert run().status == NO_ANSWER
 
 
 def test_without_the_library(check, tmp_path):
