@@ -1137,6 +1137,33 @@ def test_an_item_of_a_catalogue_with_many_columns_is_read_in_lines(page):
     assert page.run(f"return getComputedStyle({cell}, '::before').content") == '"column 2: "'
 
 
+def test_a_long_table_of_items_stands_in_one_column_on_paper(page):
+    """Firefox doesn't break a table into several: it left a sheet empty, and cut rows in two."""
+    uids = [0xE004010000000000 + number for number in range(40)]
+    page.drop(**{"books.csv": b"uid,title,shelf\n" + b"".join(
+        b"%016X,Walden,%d\n" % (uid, uid % 2) for uid in uids),
+                 "0.log": log_of("I1 S"), "1.log": log_of("I1 S")})
+    page.until("h1", "40 items missing.")
+    page.media("print")
+    assert page.run("return getComputedStyle(document.querySelector('details:has(> .items)'))"
+                    ".columnWidth") == "auto"
+
+
+def test_a_name_written_from_right_to_left_does_not_move_a_number(page):
+    """One that follows it stood before it, away from what it counts."""
+    page.drop(**{"books.csv": "uid,shelf\nE0040100000000A1,\u05de\u05d3\u05e3 1\n".encode(),
+                 "\u05de\u05d3\u05e3 1.log": log_of("I1 RA QA I1 S")})
+    page.until("h1", "The one expected item is here, and no other.")
+    page.press("details:has(.logs) > summary")
+    assert page.texts(".logs summary") == ["\u05de\u05d3\u05e3 1: 1 tag proved"]
+    name, number = page.run("""
+      const it = document.querySelector(".logs b"), range = document.createRange();
+      range.setStart(it.nextSibling, 2);
+      range.setEnd(it.nextSibling, 3);
+      return [it, range].map((one) => one.getBoundingClientRect().left);""")
+    assert name < number
+
+
 def test_a_place_that_is_not_in_the_catalogue(page):
     """What is found there is told by it."""
     page.drop(**{"catalogue.csv": b"uid,title,shelf\nE0040100000000A1,Walden,one\n",
