@@ -1611,8 +1611,9 @@ setInterval(() => {
     ({"books.csv": b"x" * 130_000, "A.log": log_of("I1 S")}, "no column is named uid."),
     ({"books.csv": b"uid\n" + b"x" * 130_000, "A.log": log_of("I1 S")}, "row 2: xxx"),
     ({"books.csv": b"uid\n" + b"x" * 5_000_000, "A.log": log_of("I1 S")}, "a cell is too long"),
-    ({"list.log": log_of("UA"), "A.log": log_of("V1") + b"\n" * 40_000}, "again.")],
-    ids=["disk", "zeros", "heads", "cell", "too long", "lines"])
+    ({"list.log": log_of("UA"), "A.log": log_of("V1") + b"\n" * 40_000}, "again."),
+    ({"list.log": log_of("UA"), "A.log": log_of("V1") + "\u2028\u2029".encode() * 40_000},
+     "again.")], ids=["disk", "zeros", "heads", "cell", "too long", "lines", "separators"])
 def test_a_large_file_that_is_no_log_does_not_freeze_the_page(page, tmp_path, files, words):
     """As the image of a disk, of which one line is all; a larger one ended the page."""
     page.run(FROZEN)
