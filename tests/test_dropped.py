@@ -164,6 +164,12 @@ def test_no_row_of_a_damaged_table_is_lost(drop, name):
     assert said["error"].startswith("books.csv")
 
 
+def test_a_table_of_too_many_cells_is_refused(drop):
+    """Also if its rows lack most of them: a small file ended the page in the browser."""
+    said = drop({"shelf.log": SHELF, "books.csv": "uid" + "," * 20_000 + "\n" + "x\n" * 2000})
+    assert said["error"].startswith("books.csv: 2000 rows of 20001 columns are too many. Delete")
+
+
 def test_a_table_may_be_in_windows_1252(drop):
     """Though two of its characters would be one in UTF-8."""
     table = f"uid,title\n{UID_A},\u00e9t\u00e9 \u00abCAF\u00c9\u00bb\n".encode("windows-1252")

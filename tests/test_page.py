@@ -1137,6 +1137,33 @@ def test_an_item_of_a_catalogue_with_many_columns_is_read_in_lines(page):
     assert page.run(f"return getComputedStyle({cell}, '::before').content") == '"column 2: "'
 
 
+def test_a_long_table_of_items_stands_in_one_column_on_paper(page):
+    """Firefox doesn't break a table into several: it left a sheet empty, and cut rows in two."""
+    uids = [0xE004010000000000 + number for number in range(40)]
+    page.drop(**{"books.csv": b"uid,title,shelf\n" + b"".join(
+        b"%016X,Walden,%d\n" % (uid, uid % 2) for uid in uids),
+                 "0.log": log_of("I1 S"), "1.log": log_of("I1 S")})
+    page.until("h1", "40 items missing.")
+    page.media("print")
+    assert page.run("return getComputedStyle(document.querySelector('details:has(> .items)'))"
+                    ".columnWidth") == "auto"
+
+
+def test_a_name_written_from_right_to_left_does_not_move_a_number(page):
+    """One that follows it stood before it, away from what it counts."""
+    page.drop(**{"books.csv": "uid,shelf\nE0040100000000A1,\u05de\u05d3\u05e3 1\n".encode(),
+                 "\u05de\u05d3\u05e3 1.log": log_of("I1 RA QA I1 S")})
+    page.until("h1", "The one expected item is here, and no other.")
+    page.press("details:has(.logs) > summary")
+    assert page.texts(".logs summary") == ["\u05de\u05d3\u05e3 1: 1 tag proved"]
+    name, number = page.run("""
+      const it = document.querySelector(".logs b"), range = document.createRange();
+      range.setStart(it.nextSibling, 2);
+      range.setEnd(it.nextSibling, 3);
+      return [it, range].map((one) => one.getBoundingClientRect().left);""")
+    assert name < number
+
+
 def test_a_place_that_is_not_in_the_catalogue(page):
     """What is found there is told by it."""
     page.drop(**{"catalogue.csv": b"uid,title,shelf\nE0040100000000A1,Walden,one\n",
@@ -1584,8 +1611,9 @@ setInterval(() => {
     ({"books.csv": b"x" * 130_000, "A.log": log_of("I1 S")}, "no column is named uid."),
     ({"books.csv": b"uid\n" + b"x" * 130_000, "A.log": log_of("I1 S")}, "row 2: xxx"),
     ({"books.csv": b"uid\n" + b"x" * 5_000_000, "A.log": log_of("I1 S")}, "a cell is too long"),
-    ({"list.log": log_of("UA"), "A.log": log_of("V1") + b"\n" * 40_000}, "again.")],
-    ids=["disk", "zeros", "heads", "cell", "too long", "lines"])
+    ({"list.log": log_of("UA"), "A.log": log_of("V1") + b"\n" * 40_000}, "again."),
+    ({"list.log": log_of("UA"), "A.log": log_of("V1") + "\u2028\u2029".encode() * 40_000},
+     "again.")], ids=["disk", "zeros", "heads", "cell", "too long", "lines", "separators"])
 def test_a_large_file_that_is_no_log_does_not_freeze_the_page(page, tmp_path, files, words):
     """As the image of a disk, of which one line is all; a larger one ended the page."""
     page.run(FROZEN)
@@ -1601,6 +1629,17 @@ def test_many_logs_do_not_freeze_the_page(page):
     page.run("document.querySelector('#logs button').focus()")
     page.until("h1", "Complete: 400 of 400.")
     assert page.run("return document.activeElement.textContent").startswith("0.log ✓ The one")
+    assert page.run("return window.longest") < 3000
+
+
+def test_many_logs_that_say_nothing_do_not_freeze_the_page(page):
+    """Each item may be in each of their fields."""
+    page.run(FROZEN)
+    rows = "".join(f"{0xE004010000000000 + number:016X},{number % 400}\n"
+                   for number in range(12_000))
+    page.drop_files({"books.csv": f"uid,shelf\n{rows}".encode(),
+                     **{f"{number}.log": b"no log\n" for number in range(400)}})
+    page.until("h1", "12,000 items not known yet; count all logs again.")
     assert page.run("return window.longest") < 3000
 
 

@@ -9,7 +9,7 @@ export const OF_UIDS = "uid", PLACE = "place", LOG = "log";
 /** Lines of a log that isn't a list: requests and outcomes. */
 const ASKED = /^[TSRHCDNF](?:\s*$|\s+[0-9A-F])/m;
 /** Lines of a text that is meant as a list, also if the library refuses them; and those that tell it from a table. */
-const LISTED = /^[^\w#\n\r]*(?:U|E0)/im, LISTS = /^U E0/im;
+const LISTED = /^[^\w#\n\r\u2028\u2029]*(?:U|E0)/im, LISTS = /^U E0/im;
 
 /**
  * The files of a drop as logs, a catalogue, and which logs are of which place. Without a catalogue all are logs.

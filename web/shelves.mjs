@@ -23,7 +23,10 @@ export class Shelves {
   /** @param {import("./collection.mjs").OneLog[]} logs */
   constructor(logs) {
     this.places = new Map(logs.map(({ file, places = [] }) => [file, places]));
-    this.counted = new Set(logs.flatMap(({ places = [] }) => places.map(caseless)));
+    this.counted = /** @type {Map<string, Set<string>>} */ (new Map());
+    for (const [place, file] of logs.flatMap(({ file, places = [] }) => places.map((it) => [caseless(it), file]))) {
+      this.counted.set(place, (this.counted.get(place) ?? new Set()).add(file));
+    }
   }
 
   /**
@@ -49,8 +52,8 @@ export class Shelves {
    * @param {Item} item
    */
   isAway({ belongs = "", may_be_in: files }) {
-    const own = caseless(belongs), places = files.flatMap((file) => this.places.get(file) ?? []);
-    return this.counted.has(own) && !places.some((place) => caseless(place) === own);
+    const own = this.counted.get(caseless(belongs));
+    return own !== undefined && !files.some((file) => own.has(file));
   }
 
   /**

@@ -18,8 +18,8 @@ export const TABLE = /\.(csv|tsv|xlsx?|ods|numbers)$/i;
 /** What to do with a spreadsheet. */
 export const SAVE_AS_CSV = "save it as CSV";
 const COPY_IT = "Copy it again, or save it as UTF-8";
-/** How many characters a cell has at most, as in Python, and how many bytes say whether a text was UTF-8. */
-const MOST_CELL = 131_072, MOST_SEEN = 1_000_000;
+/** How many characters a cell has at most, as in Python, how many bytes say whether a text was UTF-8, and for how many cells there is room. */
+const MOST_CELL = 131_072, MOST_SEEN = 1_000_000, MOST_CELLS_READ = 40_000_000;
 
 /**
  * Whether a text was that of a spreadsheet.
@@ -60,6 +60,9 @@ export function readTable(name, bytes) {
   const [heads = [], ...rows] = cellsIn(name, text, separator), names = heads.map((head) => head.trim());
   const twice = names.find((head, at) => head && names.indexOf(head) < at);
   if (twice) throw new Wrong(`${name}, row 1: two columns are named ${twice}`);
+  if (rows.length * names.length > MOST_CELLS_READ) {
+    throw new Wrong(`${name}: ${rows.length} rows of ${names.length} columns are too many. Delete those that aren't needed`);
+  }
   const all = rows.map((cells, at) => ({ row: at + 2, cells: fitting(name, names.length, at + 2, cells) }));
   return { name, separator, heads: names, rows: all.filter(({ cells }) => cells.some((cell) => cell.trim())) };
 }
