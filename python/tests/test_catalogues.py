@@ -47,7 +47,9 @@ class Catalogues(Command):
                 ("Title, UID \r\n\"a\r\nb, c\",e0 04 01 00 00 00 00 a1\r\n", None),
                 ("\ufeffUid,x\nE0:04:01:00:00:00:00:A1,1\n\n,\n", None),
                 ("tag;uid\nE0040100000000A1;1\n", "tag"),
-                ("x\tuid\n\tE0040100000000A1", None), ("uid,,\n E0040100000000A1 ,,\n", None)):
+                ("x\tuid\n\tE0040100000000A1", None), ("uid,,\n E0040100000000A1 ,,\n", None),
+                ("uid;was\nE0040100000000A1;E0040100000000B2\n", None),
+                ("uid;was\nE0040100000000A1;x; ;\n", None)):
             options = ["--column", column] if column else []
             said = here("lines", self.catalogue(content), self.names[1], options=options)
             self.assertEqual(said, ("complete 1\n", "", 0), content)
@@ -256,6 +258,8 @@ class Catalogues(Command):
                 ("uid,barcode\n,E0040100000000A1\n", [], "row 2: E0040100000000A1 isn't in"),
                 ("uid,barcode\nE0040100000000A1,017\n", [],
                  "row 1: no cell of its column barcode is a key of"),
+                *((f"uid,barcode\n{row}", [], "row 1: no cell of its column barcode is a key of")
+                  for row in ("", "E0040100000000A1,\n", ",17\n")),
                 ("uid,barcode\n", ["--column", "shelf"], "row 1: no column is named shelf")):
             name = self.write("tags.csv", tags.encode())
             said, errors, status = here("lines", catalogue, self.names[1],
@@ -395,6 +399,8 @@ class Catalogues(Command):
                 (first + "e0:04:01:00:00:00:00:a1,b\n", None, 3,
                  "E0040100000000A1 is also in row 2"),
                 (first + "E0040100000000B2,b,c\n", None, 3, "it has 3 cells"),
+                *((f"uid,x,y\nE0040100000000A1,,{cell}E0040100000000B2,,\n", None, 2,
+                   "it has 5 cells, and row 1 has 3") for cell in ("", "North ")),
                 (first, "shelf", 1, "no column is named shelf"),
                 (first, "tag", 1, "no column is named tag; the columns are: uid, title;"),
                 ("tag,title\nE0040100000000A1,a\n", None, 1,
