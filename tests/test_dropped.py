@@ -192,6 +192,14 @@ def test_no_item_is_lost_behind_the_names_of_the_columns(drop):
     assert said["error"].startswith(f"books.csv, row 1: title{UID_B} names a column: perhaps")
 
 
+def test_no_item_is_lost_where_a_line_end_is(drop):
+    """Where both rows have a UID alone, no text stands behind the last column."""
+    said = drop({"books.csv": f"uid,title\n{UID_A},{UID_B},\n", "shelf.log": SHELF})
+    assert said["error"] == "books.csv, row 2: it has 3 cells, and row 1 has 2"
+    for row in f"{UID_A},{UID_B}", f"{UID_A},Kim, ,":
+        assert drop({"books.csv": f"uid,title\n{row}\n", "shelf.log": SHELF})["status"] == 0
+
+
 def test_no_uid_of_another_column_is_lost(drop):
     """Where a line end in a title, without quotes, has moved the cells behind it."""
     said = drop({"books.csv": f"title,shelf,uid\nKim,A,{UID_A}\nE\nmma,{UID_B}\n",

@@ -1,6 +1,6 @@
 /** What is expected in a collection: a table with a column of UIDs, or a log that only lists them. */
 import { isLog, OF_UIDS, startOf } from "./catalogue.mjs";
-import { Wrong, columnOf, isSpreadsheet, readTable, SAVE_AS_CSV } from "./tables.mjs";
+import { BETWEEN, Wrong, columnOf, withUid, isSpreadsheet, readTable, SAVE_AS_CSV } from "./tables.mjs";
 import { count, hex, listing, printable } from "./words.mjs";
 
 /** @typedef {import("./library.mjs").Library} Library */
@@ -8,8 +8,8 @@ import { count, hex, listing, printable } from "./words.mjs";
 /** @typedef {{row: number, uid: bigint | null, cells: string[]}} Entry */
 /** @typedef {{name: string, heads: string[], uidAt: number, entries: Entry[]}} Catalogue */
 
-/** What may be among the digits of a UID, and before them. */
-const BETWEEN = /[\s:\-\u2010-\u2013]/g, BEFORE = /^'?(0x)?/i, DIGITS = /^E0[0-9A-F]{14}$/;
+/** What may be before the digits of a UID. */
+const BEFORE = /^'?(0x)?/i, DIGITS = /^E0[0-9A-F]{14}$/;
 const OF_A_LIST = "A list has the header 'vicinity-log 1', and then for each UID a line: U, one space and its 16 digits. If the file was " +
   "cut off, copy it again";
 const GLUED = "perhaps a line end is missing behind the names of the columns";
@@ -131,7 +131,7 @@ function refuseSwallowed(table) {
       throw new Wrong(`${table.name}, row ${row}: a cell in quotes has a UID and a line end in it: perhaps a quote is missing`);
     }
   }
-  const glued = table.heads.find((head) => /E0[0-9A-F]{14}/i.test(digitsOf(head)));
+  const glued = table.heads.find(withUid);
   if (glued) throw new Wrong(`${table.name}, row 1: ${printable(glued)} names a column: ${GLUED}`);
   return table;
 }
