@@ -148,6 +148,13 @@ def test_a_result_of_which_a_state_is_not_its_own_is_refused(drop, state):
     assert said["error"].startswith("found.csv, row 3: of the columns state, certain in and may")
 
 
+def test_a_result_of_which_cells_were_moved_is_refused(drop):
+    """What was unexpected would be expected."""
+    table = f"uid,title,state,certain in,may be in\n{UID_A},,there,a,\n{UID_B},unexpected,a,\n"
+    said = drop({"both.log": BOTH, "found.csv": table})
+    assert said["error"].startswith("found.csv, row 3: of the columns state, certain in and may")
+
+
 # Tables of which bytes were lost, so that rows are.
 DAMAGED = {
     "zeros": f"uid,title\n{UID_A},Em".encode() + bytes(30) + b"lden\n",

@@ -18,9 +18,10 @@ const MOVED = "perhaps cells are missing, or too many";
 const MOST_HEADS = 12, MOST_HEAD = 80;
 /** The columns that `reconcile --csv` has added, what stands behind such a name once more than behind the catalogue's own, and the state of
  *  rows that it has. */
-const ADDED = ["state", "certain in", "may be in"], TWIN = " (found)", UNEXPECTED = "unexpected", HERE = ["there", "misplaced", UNEXPECTED];
-const CUT = "of the columns state, certain in and may be in, which reconcile --csv has written, one is missing: leave all three, or delete " +
-  "them and the rows of unexpected tags";
+const ADDED = ["state", "certain in", "may be in"], TWIN = " (found)", UNEXPECTED = "unexpected", HERE = ["there", "misplaced", UNEXPECTED],
+  ANY_STATE = [...HERE, "missing", "not provable", "no tag", ""];
+const CUT = "of the columns state, certain in and may be in, which reconcile --csv has written, one is missing or was changed: leave all " +
+  "three, or delete them and the rows of unexpected tags";
 
 /**
  * @param {Library} library
@@ -77,7 +78,7 @@ function withoutAdded(table) {
     if (isCut) throw new Wrong(`${table.name}: ${CUT}`);
     return table;
   }
-  const odd = table.rows.find(({ cells }) => cells[where].trim() && !HERE.includes(cells[state].trim()));
+  const odd = table.rows.find(({ cells }) => !(cells[where].trim() ? HERE : ANY_STATE).includes(cells[state].trim()));
   if (odd) throw new Wrong(`${table.name}, row ${odd.row}: ${CUT}`);
   const kept = (/** @type {string[]} */ cells) => cells.filter((_, at) => !added.includes(at));
   return { ...table, heads: kept(table.heads), rows: table.rows.filter(({ cells }) => cells[state].trim() !== UNEXPECTED)

@@ -191,12 +191,13 @@ class Catalogues(Command):
         self.assertEqual(here("lines", name, self.names[1]), ("complete 1\n", "", 0))
 
     def test_a_result_that_lacks_its_state_beside_the_own_one_is_refused(self):
-        """So is one of which a state was changed, as by a spreadsheet."""
+        """So is one of which a state was changed, as by a spreadsheet, or cells were moved."""
         name = self.catalogue("uid,state\nE0040100000000A1,worn\n")
         said = here("csv", name, self.both())[0]
         rows = [[row[0], row[1], *row[3:]] for row in csv.reader(io.StringIO(said))]
         cut = "".join(f"{','.join(row)}\n" for row in rows)
-        for changed in (cut, cut.replace("worn", "there"), said.replace("unexp", "Unexp")):
+        for changed in (cut, cut.replace("worn", "there"), said.replace("unexp", "Unexp"),
+                        said.replace(",,unexp", ",unexp")):
             said, errors, status = here("lines", self.catalogue(changed), self.both())
             self.assertEqual((said, status), ("", 3), changed)
             self.assertIn(": of the columns state", errors)

@@ -18,10 +18,11 @@ COLUMN = "uid"
 #: name itself, once more often than that one.
 #: Where an earlier run has written them they are replaced, and its unexpected tags left out.
 ADDED, TWIN, UNEXPECTED = ("state", "certain in", "may be in"), " (found)", "unexpected"
-#: The states of what is certain in some log.
+#: The states of what is certain in some log, and of any row; a row that was added has none.
 HERE = "there", "misplaced", UNEXPECTED
+STATES = *HERE, "missing", "not provable", "no tag", ""
 CUT = ("of the columns state, certain in and may be in, which reconcile --csv has written, one is "
-       "missing: leave all three, or delete them and the rows of unexpected tags")
+       "missing or was changed: leave all three, or delete them and the rows of unexpected tags")
 SWALLOWED = "a cell in quotes has {} and a line end in it: perhaps a quote is missing"
 #: What a UID in the name of a column tells: the first item would be lost.
 GLUED = "{} names a column: perhaps a line end is missing behind the names of the columns"
@@ -121,7 +122,7 @@ def _without_added(table: Table) -> tuple[Table, bool]:
              for name in ADDED]
     state, where, _ = added
     for row, cells in table.rows:
-        if cells[where].strip() and cells[state].strip() not in HERE:
+        if cells[state].strip() not in (HERE if cells[where].strip() else STATES):
             table.wrong(row, CUT)
     rows = [row for row in table.rows if row[1][state].strip() != UNEXPECTED]
     return _without(table._replace(rows=rows), added), True
