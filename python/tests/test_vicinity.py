@@ -189,6 +189,8 @@ class Calls(unittest.TestCase):
         with self.assertRaisesRegex(ValueError, "used up"):
             vicinity.reconcile(uids, [vicinity.survey(silent)])
         self.assertEqual(str(vicinity.check_listed(silent, (uid for uid in []))), "complete 0")
+        with self.assertRaises(TypeError):
+            vicinity.check_listed(silent, None)
 
     def test_report(self):
         for lines, text in (

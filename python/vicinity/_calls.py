@@ -42,7 +42,7 @@ def _numbers(uids: Iterable[int]) -> ctypes.Array[ctypes.c_uint64]:
     if isinstance(uids, (str, bytes, bytearray, memoryview)) or hasattr(uids, "read"):
         raise TypeError(f"UIDs are numbers, not {type(uids).__name__}: "
                         "listed reads those of a list, parse_uid one")
-    if getattr(uids, "gi_frame", uids) is None:
+    if getattr(uids, "gi_frame", ...) is None:
         raise ValueError("the UIDs are a generator that is used up: give a list")
     numbers = array("Q", uids)
     place = ctypes.c_uint64 * len(numbers)
