@@ -267,6 +267,15 @@ class Catalogues(Command):
                                         options=["--tags", name, *options])
             self.assertEqual((said, status), ("", 3))
             self.assertIn(why, errors)
+        tags = self.write("tags.csv", b"uid,barcode\nE0040100000000A1,X17\nE0040100000000B2,x18\n")
+        for content, head in (("barcode,titlex17,a\nx18,b\n", "titlex17"),
+                              ("title,barcode,a,x17\nb,x18\n", "x17")):
+            said = here("lines", self.catalogue(content), self.both(), options=["--tags", tags])
+            self.assertEqual(said[::2], ("", 3))
+            self.assertIn(f"row 1: {head} names a column: perhaps a line end is missing", said[1])
+        name = self.catalogue("barcode,x17,\nX17,a,\nX18,,\n")
+        self.assertEqual(here("lines", name, self.both(), options=["--tags", tags]),
+                         ("complete 2\n", "", 0))
         catalogue = self.catalogue("barcode,uid\n17,\n")
         self.assertIn("it has a column uid itself",
                       here("lines", catalogue, "x", options=["--tags", name])[1])

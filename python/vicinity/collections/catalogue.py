@@ -201,6 +201,11 @@ def _tagged(table: Table, is_ours: bool, how: How, tags: Table) -> Catalogue:
         keys[uid] = cells[theirs].strip()
         by_key.setdefault(keys[uid].casefold(), []).append(uid)
     _refuse_swallowed(table, f"a key of {shown(tags.name)}", lambda it: it.casefold() in by_key)
+    glued = next((it for it in table.heads if it.casefold().endswith(tuple(by_key))), None)
+    # a column may be named so: then rows reach as far as the names
+    last = max(at for at, head in enumerate(table.heads) if head)
+    if glued and not any(cells[last].strip() for _, cells in table.rows):
+        table.wrong(1, GLUED.format(shown(glued)))
     entries = [Entry(row, uid, [*cells, "" if uid is None else uid_text(uid)])
                for row, cells in table.rows
                for uid in by_key.get(cells[key_at].strip().casefold(), [None])]
