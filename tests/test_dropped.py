@@ -203,7 +203,7 @@ def test_no_item_is_lost_where_a_line_end_is(drop):
     """Where both rows have a UID alone, no text stands behind the last column."""
     said = drop({"books.csv": f"uid,title\n{UID_A},{UID_B},\n", "shelf.log": SHELF})
     assert said["error"] == "books.csv, row 2: it has 3 cells, and row 1 has 2"
-    for row in f"{UID_A},{UID_B}", f"{UID_A},Kim, ,":
+    for row in f"{UID_A},{UID_B}", f"{UID_A},/{UID_A.lower()}, ,":
         assert drop({"books.csv": f"uid,title\n{row}\n", "shelf.log": SHELF})["status"] == 0
 
 

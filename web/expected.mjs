@@ -1,6 +1,6 @@
 /** What is expected in a collection: a table with a column of UIDs, or a log that only lists them. */
 import { isLog, OF_UIDS, startOf } from "./catalogue.mjs";
-import { BETWEEN, Wrong, columnOf, withUid, isSpreadsheet, readTable, SAVE_AS_CSV } from "./tables.mjs";
+import { BETWEEN, Wrong, columnOf, isSpreadsheet, readTable, SAVE_AS_CSV, uidsWithin } from "./tables.mjs";
 import { count, hex, listing, printable } from "./words.mjs";
 
 /** @typedef {import("./library.mjs").Library} Library */
@@ -132,7 +132,7 @@ function refuseSwallowed(table) {
       throw new Wrong(`${table.name}, row ${row}: a cell in quotes has a UID and a line end in it: perhaps a quote is missing`);
     }
   }
-  const glued = table.heads.find(withUid);
+  const glued = table.heads.find((head) => uidsWithin(head).length);
   if (glued) throw new Wrong(`${table.name}, row 1: ${printable(glued)} names a column: ${GLUED}`);
   return table;
 }

@@ -49,7 +49,7 @@ class Catalogues(Command):
                 ("tag;uid\nE0040100000000A1;1\n", "tag"),
                 ("x\tuid\n\tE0040100000000A1", None), ("uid,,\n E0040100000000A1 ,,\n", None),
                 ("uid;was\nE0040100000000A1;E0040100000000B2\n", None),
-                ("uid;was\nE0040100000000A1;x; ;\n", None)):
+                ("uid;at\nE0040100000000A1;http://x/e0040100000000a1; ;\n", None)):
             options = ["--column", column] if column else []
             said = here("lines", self.catalogue(content), self.names[1], options=options)
             self.assertEqual(said, ("complete 1\n", "", 0), content)
@@ -410,7 +410,8 @@ class Catalogues(Command):
                  "E0040100000000A1 is also in row 2"),
                 (first + "E0040100000000B2,b,c\n", None, 3, "it has 3 cells"),
                 *((f"uid,x,y\nE0040100000000A1,,{cell}E0040100000000B2,,\n", None, 2,
-                   "it has 5 cells, and row 1 has 3") for cell in ("", "North ")),
+                   "it has 5 cells, and row 1 has 3")
+                  for cell in ("", "North ", "http://x/E0040100000000A1")),
                 (first, "shelf", 1, "no column is named shelf"),
                 (first, "tag", 1, "no column is named tag; the columns are: uid, title;"),
                 ("tag,title\nE0040100000000A1,a\n", None, 1,

@@ -10,7 +10,7 @@ from .._calls import listed
 from .._fields import refusal
 from .._process import shown
 from ..frames import parse_uid, uid_text
-from .tables import Form, Table, Wrong, has_uid, read_table
+from .tables import Form, Table, Wrong, read_table, uids_in
 
 #: The column of the UIDs, if none is named.
 COLUMN = "uid"
@@ -144,7 +144,7 @@ def _table(name: str, text: bytes, encoding: Optional[str]) -> Table:
     table = read_table(name, text, encoding)
     _refuse_swallowed(table, "a UID", _is_uid)
     for head in table.heads:
-        if has_uid(head):
+        if uids_in(head):
             table.wrong(1, GLUED.format(shown(head)))
     return table
 

@@ -17,7 +17,7 @@ from ..frames import BETWEEN_DIGITS
 SEPARATORS = ",;\t|"
 #: Cells in quotes, wherever one may begin.
 IN_QUOTES = re.compile('(^|[,;\t|])"(?:[^"]|"")*"')
-HAS_UID = re.compile("E0[0-9A-F]{14}", re.IGNORECASE)
+UID = re.compile("E0[0-9A-F]{14}")
 #: With which bytes a file begins that says its encoding.
 MARKS = {codecs.BOM_UTF8: "utf-8", codecs.BOM_UTF16_LE: "utf-16-le",
          codecs.BOM_UTF16_BE: "utf-16-be"}
@@ -119,16 +119,16 @@ def read_table(name: str, text: bytes, encoding: Optional[str]) -> Table:
     width = len(table.heads)
     for number, row in enumerate(rows, 2):
         # blank ones may follow, but not where a lost line end has joined two rows
-        if any(cell.strip() for cell in row[width:]) or row[width:] and sum(map(has_uid, row)) > 1:
+        if any(map(str.strip, row[width:])) or row[width:] and len(uids_in(*row)) > 1:
             table.wrong(number, f"it has {len(row)} cells, and row 1 has {width}")
         if any(cell.strip() for cell in row):
             table.rows.append((number, (row + [""] * width)[:width]))
     return table
 
 
-def has_uid(cell: str) -> bool:
-    """Whether a UID is anywhere in a cell."""
-    return bool(HAS_UID.search(BETWEEN_DIGITS.sub("", cell)))
+def uids_in(*cells: str) -> set[str]:
+    """The UIDs that are anywhere in cells."""
+    return {uid for cell in cells for uid in UID.findall(BETWEEN_DIGITS.sub("", cell).upper())}
 
 
 def _decoded(name: str, text: bytes, encoding: Optional[str]) -> tuple[Form, str]:
