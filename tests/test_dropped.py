@@ -148,6 +148,13 @@ def test_a_result_of_which_a_state_is_not_its_own_is_refused(drop, state):
     assert said["error"].startswith("found.csv, row 3: of the columns state, certain in and may")
 
 
+def test_a_result_of_which_cells_were_moved_is_refused(drop):
+    """What was unexpected would be expected."""
+    table = f"uid,title,state,certain in,may be in\n{UID_A},,there,a,\n{UID_B},unexpected,a,\n"
+    said = drop({"both.log": BOTH, "found.csv": table})
+    assert said["error"].startswith("found.csv, row 3: of the columns state, certain in and may")
+
+
 # Tables of which bytes were lost, so that rows are.
 DAMAGED = {
     "zeros": f"uid,title\n{UID_A},Em".encode() + bytes(30) + b"lden\n",
@@ -196,6 +203,14 @@ def test_no_item_is_lost_behind_the_names_of_the_columns(drop):
     """Where a file with these alone, without a line end, stood before another one."""
     said = drop({"books.csv": f"uid,title{UID_B},Emma\n{UID_A},Kim\n", "shelf.log": SHELF})
     assert said["error"].startswith(f"books.csv, row 1: title{UID_B} names a column: perhaps")
+
+
+def test_no_item_is_lost_where_a_line_end_is(drop):
+    """Where both rows have a UID alone, no text stands behind the last column."""
+    said = drop({"books.csv": f"uid,title\n{UID_A},{UID_B},\n", "shelf.log": SHELF})
+    assert said["error"] == "books.csv, row 2: it has 3 cells, and row 1 has 2"
+    for row in f"{UID_A},{UID_B}", f"{UID_A},/{UID_A.lower()}, ,":
+        assert drop({"books.csv": f"uid,title\n{row}\n", "shelf.log": SHELF})["status"] == 0
 
 
 def test_no_uid_of_another_column_is_lost(drop):

@@ -1,6 +1,6 @@
 /** What is expected in a collection: a table with a column of UIDs, or a log that only lists them. */
 import { isLog, OF_UIDS, startOf } from "./catalogue.mjs";
-import { Wrong, columnOf, isSpreadsheet, readTable, SAVE_AS_CSV } from "./tables.mjs";
+import { BETWEEN, Wrong, columnOf, isSpreadsheet, readTable, SAVE_AS_CSV, uidsWithin } from "./tables.mjs";
 import { count, hex, listing, printable } from "./words.mjs";
 
 /** @typedef {import("./library.mjs").Library} Library */
@@ -8,8 +8,8 @@ import { count, hex, listing, printable } from "./words.mjs";
 /** @typedef {{row: number, uid: bigint | null, cells: string[]}} Entry */
 /** @typedef {{name: string, heads: string[], uidAt: number, entries: Entry[]}} Catalogue */
 
-/** What may be among the digits of a UID, and before them. */
-const BETWEEN = /[\s:\-\u2010-\u2013]/g, BEFORE = /^'?(0x)?/i, DIGITS = /^E0[0-9A-F]{14}$/;
+/** What may be before the digits of a UID. */
+const BEFORE = /^'?(0x)?/i, DIGITS = /^E0[0-9A-F]{14}$/;
 const OF_A_LIST = "A list has the header 'vicinity-log 1', and then for each UID a line: U, one space and its 16 digits. If the file was " +
   "cut off, copy it again";
 const GLUED = "perhaps a line end is missing behind the names of the columns";
@@ -18,9 +18,10 @@ const MOVED = "perhaps cells are missing, or too many";
 const MOST_HEADS = 12, MOST_HEAD = 80;
 /** The columns that `reconcile --csv` has added, what stands behind such a name once more than behind the catalogue's own, and the state of
  *  rows that it has. */
-const ADDED = ["state", "certain in", "may be in"], TWIN = " (found)", UNEXPECTED = "unexpected", HERE = ["there", "misplaced", UNEXPECTED];
-const CUT = "of the columns state, certain in and may be in, which reconcile --csv has written, one is missing: leave all three, or delete " +
-  "them and the rows of unexpected tags";
+const ADDED = ["state", "certain in", "may be in"], TWIN = " (found)", UNEXPECTED = "unexpected", HERE = ["there", "misplaced", UNEXPECTED],
+  ANY_STATE = [...HERE, "missing", "not provable", "no tag", ""];
+const CUT = "of the columns state, certain in and may be in, which reconcile --csv has written, one is missing or was changed: leave all " +
+  "three, or delete them and the rows of unexpected tags";
 
 /**
  * @param {Library} library
@@ -77,7 +78,7 @@ function withoutAdded(table) {
     if (isCut) throw new Wrong(`${table.name}: ${CUT}`);
     return table;
   }
-  const odd = table.rows.find(({ cells }) => cells[where].trim() && !HERE.includes(cells[state].trim()));
+  const odd = table.rows.find(({ cells }) => !(cells[where].trim() ? HERE : ANY_STATE).includes(cells[state].trim()));
   if (odd) throw new Wrong(`${table.name}, row ${odd.row}: ${CUT}`);
   const kept = (/** @type {string[]} */ cells) => cells.filter((_, at) => !added.includes(at));
   return { ...table, heads: kept(table.heads), rows: table.rows.filter(({ cells }) => cells[state].trim() !== UNEXPECTED)
@@ -131,7 +132,7 @@ function refuseSwallowed(table) {
       throw new Wrong(`${table.name}, row ${row}: a cell in quotes has a UID and a line end in it: perhaps a quote is missing`);
     }
   }
-  const glued = table.heads.find((head) => /E0[0-9A-F]{14}/i.test(digitsOf(head)));
+  const glued = table.heads.find((head) => uidsWithin(head).length);
   if (glued) throw new Wrong(`${table.name}, row 1: ${printable(glued)} names a column: ${GLUED}`);
   return table;
 }

@@ -10,6 +10,9 @@ export const SAYS_SEPARATOR = /^"?sep=([^"\r\n])"?[ \t]*(?:\r\n?|\n)/i;
 export const LINE_END = /\r\n?|\n/;
 /** A cell in quotes; and cells in quotes wherever one may begin. */
 const QUOTED = /"((?:[^"]|"")*)"/y, IN_QUOTES = /(^|[,;\t|])"(?:[^"]|"")*"/g;
+/** A UID, and what may be among its digits. */
+const ANY_UID = /E0[0-9A-F]{14}/g;
+export const BETWEEN = /[\s:\-\u2010-\u2013]/g;
 
 /** How a file of a spreadsheet program begins, read as UTF-8: packed as ZIP (.xlsx, .ods, .numbers), or as OLE has it (.xls). */
 const SPREADSHEET = /^(?:PK\x03\x04|\uFFFD\uFFFD\x11[\u0871\uFFFD])/;
@@ -101,14 +104,20 @@ function cellsIn(name, text, separator) {
 }
 
 /**
- * A row with a cell for each column.
+ * The UIDs that are anywhere in a cell.
+ * @param {string} cell
+ */
+export const uidsWithin = (cell) => cell.replace(BETWEEN, "").toUpperCase().match(ANY_UID) ?? [];
+
+/**
+ * A row with a cell for each column. Blank ones may follow, but not where a lost line end has joined two rows.
  * @param {string} name
  * @param {number} columns
  * @param {number} row
  * @param {string[]} cells
  */
 function fitting(name, columns, row, cells) {
-  if (cells.slice(columns).some((cell) => cell.trim())) {
+  if (cells.slice(columns).some((cell) => cell.trim()) || cells.length > columns && new Set(cells.flatMap(uidsWithin)).size > 1) {
     throw new Wrong(`${name}, row ${row}: it has ${cells.length} cells, and row 1 has ${columns}`);
   }
   return [...cells, ...Array(Math.max(0, columns - cells.length)).fill("")].slice(0, columns);

@@ -47,7 +47,9 @@ class Catalogues(Command):
                 ("Title, UID \r\n\"a\r\nb, c\",e0 04 01 00 00 00 00 a1\r\n", None),
                 ("\ufeffUid,x\nE0:04:01:00:00:00:00:A1,1\n\n,\n", None),
                 ("tag;uid\nE0040100000000A1;1\n", "tag"),
-                ("x\tuid\n\tE0040100000000A1", None), ("uid,,\n E0040100000000A1 ,,\n", None)):
+                ("x\tuid\n\tE0040100000000A1", None), ("uid,,\n E0040100000000A1 ,,\n", None),
+                ("uid;was\nE0040100000000A1;E0040100000000B2\n", None),
+                ("uid;at\nE0040100000000A1;http://x/e0040100000000a1; ;\n", None)):
             options = ["--column", column] if column else []
             said = here("lines", self.catalogue(content), self.names[1], options=options)
             self.assertEqual(said, ("complete 1\n", "", 0), content)
@@ -189,12 +191,13 @@ class Catalogues(Command):
         self.assertEqual(here("lines", name, self.names[1]), ("complete 1\n", "", 0))
 
     def test_a_result_that_lacks_its_state_beside_the_own_one_is_refused(self):
-        """So is one of which a state was changed, as by a spreadsheet."""
+        """So is one of which a state was changed, as by a spreadsheet, or cells were moved."""
         name = self.catalogue("uid,state\nE0040100000000A1,worn\n")
         said = here("csv", name, self.both())[0]
         rows = [[row[0], row[1], *row[3:]] for row in csv.reader(io.StringIO(said))]
         cut = "".join(f"{','.join(row)}\n" for row in rows)
-        for changed in (cut, cut.replace("worn", "there"), said.replace("unexp", "Unexp")):
+        for changed in (cut, cut.replace("worn", "there"), said.replace("unexp", "Unexp"),
+                        said.replace(",,unexp", ",unexp")):
             said, errors, status = here("lines", self.catalogue(changed), self.both())
             self.assertEqual((said, status), ("", 3), changed)
             self.assertIn(": of the columns state", errors)
@@ -256,12 +259,23 @@ class Catalogues(Command):
                 ("uid,barcode\n,E0040100000000A1\n", [], "row 2: E0040100000000A1 isn't in"),
                 ("uid,barcode\nE0040100000000A1,017\n", [],
                  "row 1: no cell of its column barcode is a key of"),
+                *((f"uid,barcode\n{row}", [], "row 1: no cell of its column barcode is a key of")
+                  for row in ("", "E0040100000000A1,\n", ",17\n")),
                 ("uid,barcode\n", ["--column", "shelf"], "row 1: no column is named shelf")):
             name = self.write("tags.csv", tags.encode())
             said, errors, status = here("lines", catalogue, self.names[1],
                                         options=["--tags", name, *options])
             self.assertEqual((said, status), ("", 3))
             self.assertIn(why, errors)
+        tags = self.write("tags.csv", b"uid,barcode\nE0040100000000A1,X17\nE0040100000000B2,x18\n")
+        for content, head in (("barcode,titlex17,a\nx18,b\n", "titlex17"),
+                              ("title,barcode,a,x17\nb,x18\n", "x17")):
+            said = here("lines", self.catalogue(content), self.both(), options=["--tags", tags])
+            self.assertEqual(said[::2], ("", 3))
+            self.assertIn(f"row 1: {head} names a column: perhaps a line end is missing", said[1])
+        name = self.catalogue("barcode,x17,\nX17,a,\nX18,,\n")
+        self.assertEqual(here("lines", name, self.both(), options=["--tags", tags]),
+                         ("complete 2\n", "", 0))
         catalogue = self.catalogue("barcode,uid\n17,\n")
         self.assertIn("it has a column uid itself",
                       here("lines", catalogue, "x", options=["--tags", name])[1])
@@ -395,6 +409,9 @@ class Catalogues(Command):
                 (first + "e0:04:01:00:00:00:00:a1,b\n", None, 3,
                  "E0040100000000A1 is also in row 2"),
                 (first + "E0040100000000B2,b,c\n", None, 3, "it has 3 cells"),
+                *((f"uid,x,y\nE0040100000000A1,,{cell}E0040100000000B2,,\n", None, 2,
+                   "it has 5 cells, and row 1 has 3")
+                  for cell in ("", "North ", "http://x/E0040100000000A1")),
                 (first, "shelf", 1, "no column is named shelf"),
                 (first, "tag", 1, "no column is named tag; the columns are: uid, title;"),
                 ("tag,title\nE0040100000000A1,a\n", None, 1,

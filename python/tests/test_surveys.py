@@ -76,6 +76,17 @@ class Surveys(Command):
                 self.assertEqual(here(form, listed, options=["--surveys", name]),
                                  (said.replace(', "overlooked": 1', ""), *ended), logs)
 
+    def test_a_survey_at_which_it_ends(self):
+        """The first that is given, whatever follows."""
+        broken, lacking = (self.write(str(number), within("survey", name)[0])
+                           for number, name in enumerate((self.names[6], "/nowhere")))
+        words = ["--strict", "--expected", self.write("listed", log(LIST_A)), "--surveys"]
+        why = b"vicinity: cannot read /nowhere: No such file or directory\n"
+        for names in ([broken, "--", "/lacking"], [broken, lacking]):
+            self.assertEqual(within("reconcile", *words, *names),
+                             (f"impossible at line 5 of {self.names[6]}\n".encode(), b"", 2))
+        self.assertEqual(within("reconcile", *words, lacking, broken), (b"", why, 4))
+
     def test_answers_that_cannot_be_compared(self):
         listed = self.write("listed", log(LIST_A))
         good = self.write("good", here("json", listed, self.names[1])[0].encode())

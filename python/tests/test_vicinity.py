@@ -168,7 +168,10 @@ class Calls(unittest.TestCase):
     def test_a_text_is_no_list_of_numbers(self):
         """Nor is that of a list, which would be none if it is empty."""
         silent, there = log(ALL + b"S\n"), vicinity.survey(log(ALL + b"S\n"))
-        for text in (b"", log(LIST_A), b"\xa1\0\0\0\0\1\4\xe0", "", io.StringIO(), io.BytesIO()):
+        file = tempfile.NamedTemporaryFile()
+        self.addCleanup(file.close)
+        for text in (b"", log(LIST_A), b"\xa1\0\0\0\0\1\4\xe0", "", io.StringIO(), io.BytesIO(),
+                     file):
             for uids in (text,) if not isinstance(text, bytes) else (
                     text, bytearray(text), memoryview(text)):
                 for call in (vicinity.check_listed, vicinity.report_listed, vicinity.overlooked):
@@ -176,6 +179,18 @@ class Calls(unittest.TestCase):
                         call(silent, uids)
                 with self.assertRaisesRegex(TypeError, "listed reads those of a list"):
                     vicinity.reconcile(uids, [there])
+
+    def test_a_generator_that_is_used_up_is_no_empty_list(self):
+        silent, uids = log(ALL + b"S\n"), (uid for uid in [A])
+        self.assertEqual(str(vicinity.check_listed(silent, uids)), f"absent {A:016X}")
+        for call in (vicinity.check_listed, vicinity.margin_listed, vicinity.overlooked):
+            with self.assertRaisesRegex(ValueError, "a generator that is used up: give a list"):
+                call(silent, uids)
+        with self.assertRaisesRegex(ValueError, "used up"):
+            vicinity.reconcile(uids, [vicinity.survey(silent)])
+        self.assertEqual(str(vicinity.check_listed(silent, (uid for uid in []))), "complete 0")
+        with self.assertRaises(TypeError):
+            vicinity.check_listed(silent, None)
 
     def test_report(self):
         for lines, text in (

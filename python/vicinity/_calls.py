@@ -7,7 +7,6 @@ import re
 import struct
 from array import array
 from html import escape
-from io import IOBase
 from typing import Any, Iterable, Optional, Sequence
 
 from ._answers import (Answer, Explanation, Fault, Finding, FindingKind, Kind, ListFault, Margin,
@@ -40,9 +39,11 @@ def _text_and_list(text: BytesLike, uids: Iterable[int]) -> Sequence[Any]:
 
 def _numbers(uids: Iterable[int]) -> ctypes.Array[ctypes.c_uint64]:
     """UIDs as a C array. Raises OverflowError if a number doesn't fit into 64 bits."""
-    if isinstance(uids, (str, bytes, bytearray, memoryview, IOBase)):
+    if isinstance(uids, (str, bytes, bytearray, memoryview)) or hasattr(uids, "read"):
         raise TypeError(f"UIDs are numbers, not {type(uids).__name__}: "
                         "listed reads those of a list, parse_uid one")
+    if getattr(uids, "gi_frame", ...) is None:
+        raise ValueError("the UIDs are a generator that is used up: give a list")
     numbers = array("Q", uids)
     place = ctypes.c_uint64 * len(numbers)
     # what an empty array points to isn't aligned
@@ -129,7 +130,8 @@ def check_listed(text: BytesLike, uids: Iterable[int]) -> Answer:
     """The answer to a text that lists nothing, with a separate list of UIDs, in any order.
     The last line of the text may lack its LF.
 
-    Raises what `check` raises, and OverflowError if a UID doesn't fit into 64 bits."""
+    Raises what `check` raises, ValueError if the UIDs are a generator that is used up (of another
+    iterator nobody can tell: it is an empty list), and OverflowError if one exceeds 64 bits."""
     return _answer(_asked("check_listed", _text_and_list(text, uids)))
 
 

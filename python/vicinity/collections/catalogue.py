@@ -2,7 +2,6 @@
 or a CSV file with a column of UIDs, or of something by which another file has the UIDs."""
 from __future__ import annotations
 
-import re
 from contextlib import suppress
 from typing import Callable, NamedTuple, Optional, Sequence
 
@@ -10,8 +9,8 @@ from .._answers import ListFault
 from .._calls import listed
 from .._fields import refusal
 from .._process import shown
-from ..frames import BETWEEN_DIGITS, parse_uid, uid_text
-from .tables import Form, Table, Wrong, read_table
+from ..frames import parse_uid, uid_text
+from .tables import Form, Table, Wrong, read_table, uids_in
 
 #: The column of the UIDs, if none is named.
 COLUMN = "uid"
@@ -19,13 +18,13 @@ COLUMN = "uid"
 #: name itself, once more often than that one.
 #: Where an earlier run has written them they are replaced, and its unexpected tags left out.
 ADDED, TWIN, UNEXPECTED = ("state", "certain in", "may be in"), " (found)", "unexpected"
-#: The states of what is certain in some log.
+#: The states of what is certain in some log, and of any row; a row that was added has none.
 HERE = "there", "misplaced", UNEXPECTED
+STATES = *HERE, "missing", "not provable", "no tag", ""
 CUT = ("of the columns state, certain in and may be in, which reconcile --csv has written, one is "
-       "missing: leave all three, or delete them and the rows of unexpected tags")
+       "missing or was changed: leave all three, or delete them and the rows of unexpected tags")
 SWALLOWED = "a cell in quotes has {} and a line end in it: perhaps a quote is missing"
-#: A UID in the name of a column, and what it tells: the first item would be lost.
-HAS_UID = re.compile("E0[0-9A-F]{14}", re.IGNORECASE)
+#: What a UID in the name of a column tells: the first item would be lost.
 GLUED = "{} names a column: perhaps a line end is missing behind the names of the columns"
 MOVED = "{} isn't in the column {}, which is blank: perhaps cells are missing, or too many"
 NAMES_IT = "name the one with the UIDs uid, or say by --column NAME which it is"
@@ -123,7 +122,7 @@ def _without_added(table: Table) -> tuple[Table, bool]:
              for name in ADDED]
     state, where, _ = added
     for row, cells in table.rows:
-        if cells[where].strip() and cells[state].strip() not in HERE:
+        if cells[state].strip() not in (HERE if cells[where].strip() else STATES):
             table.wrong(row, CUT)
     rows = [row for row in table.rows if row[1][state].strip() != UNEXPECTED]
     return _without(table._replace(rows=rows), added), True
@@ -145,7 +144,7 @@ def _table(name: str, text: bytes, encoding: Optional[str]) -> Table:
     table = read_table(name, text, encoding)
     _refuse_swallowed(table, "a UID", _is_uid)
     for head in table.heads:
-        if HAS_UID.search(BETWEEN_DIGITS.sub("", head)):
+        if uids_in(head):
             table.wrong(1, GLUED.format(shown(head)))
     return table
 
@@ -202,12 +201,18 @@ def _tagged(table: Table, is_ours: bool, how: How, tags: Table) -> Catalogue:
         keys[uid] = cells[theirs].strip()
         by_key.setdefault(keys[uid].casefold(), []).append(uid)
     _refuse_swallowed(table, f"a key of {shown(tags.name)}", lambda it: it.casefold() in by_key)
+    glued = next((it for it in table.heads if it.casefold().endswith(tuple(by_key))), None)
+    # a column may be named so: then rows reach as far as the names
+    last = max(at for at, head in enumerate(table.heads) if head)
+    if glued and not any(cells[last].strip() for _, cells in table.rows):
+        table.wrong(1, GLUED.format(shown(glued)))
     entries = [Entry(row, uid, [*cells, "" if uid is None else uid_text(uid)])
                for row, cells in table.rows
                for uid in by_key.get(cells[key_at].strip().casefold(), [None])]
-    if by_key and entries and all(entry.uid is None for entry in entries):
-        table.wrong(1, f"no cell of its column {shown(column)} is a key of {shown(tags.name)}, "
-                    f"such as {shown(next(iter(keys.values())))}")
+    if entries and all(entry.uid is None for entry in entries):
+        such_as = "".join(f", such as {shown(key)}" for key in list(keys.values())[:1])
+        table.wrong(1, f"no cell of its column {shown(column)} is a key of {shown(tags.name)}"
+                    + such_as)
     return Catalogue(table.name, table.form, [*table.heads, head], entries, len(table.heads),
                      key_at, keys=keys)
 

@@ -98,8 +98,8 @@ def _captured(found: Survey, reread: Survey) -> dict[str, Any]:
 
 
 class Surveys:
-    """The surveys of logs in their order. If they are strict, a log that can't be read
-    has no answer, and the first one that is refused or impossible is the last."""
+    """The surveys of logs in their order. If they are strict, the first one that can't be read,
+    is refused or impossible is the last."""
 
     def __init__(self, names: Sequence[str], jobs: int = 1, is_strict: bool = False,
                  records: Sequence[Log] = ()):
@@ -107,10 +107,10 @@ class Surveys:
         #: By their positions, the texts of logs that can't be read again.
         self._texts: dict[int, bytes] = {}
         self._first = len(records)
+        if is_strict and any(log.status for log in records):
+            return
         with closing(counted(self._each(names, jobs), len(names))) as logs:
             for log in logs:
-                if is_strict and isinstance(log.answer, str):
-                    raise NoAnswer(log.answer)
                 self.all.append(log)
                 if is_strict and log.status:
                     break

@@ -11,11 +11,13 @@ from contextlib import suppress
 from typing import Iterable, Iterator, NamedTuple, NoReturn, Optional, Sequence
 
 from .._process import shown
+from ..frames import BETWEEN_DIGITS
 
 #: Of these the one that makes the most columns of the first row separates the cells.
 SEPARATORS = ",;\t|"
 #: Cells in quotes, wherever one may begin.
 IN_QUOTES = re.compile('(^|[,;\t|])"(?:[^"]|"")*"')
+UID = re.compile("E0[0-9A-F]{14}")
 #: With which bytes a file begins that says its encoding.
 MARKS = {codecs.BOM_UTF8: "utf-8", codecs.BOM_UTF16_LE: "utf-16-le",
          codecs.BOM_UTF16_BE: "utf-16-be"}
@@ -116,11 +118,17 @@ def read_table(name: str, text: bytes, encoding: Optional[str]) -> Table:
         table.wrong(1, f"two columns are named {shown(twice[0])}")
     width = len(table.heads)
     for number, row in enumerate(rows, 2):
-        if any(cell.strip() for cell in row[width:]):
+        # blank ones may follow, but not where a lost line end has joined two rows
+        if any(map(str.strip, row[width:])) or row[width:] and len(uids_in(*row)) > 1:
             table.wrong(number, f"it has {len(row)} cells, and row 1 has {width}")
         if any(cell.strip() for cell in row):
             table.rows.append((number, (row + [""] * width)[:width]))
     return table
+
+
+def uids_in(*cells: str) -> set[str]:
+    """The UIDs that are anywhere in cells."""
+    return {uid for cell in cells for uid in UID.findall(BETWEEN_DIGITS.sub("", cell).upper())}
 
 
 def _decoded(name: str, text: bytes, encoding: Optional[str]) -> tuple[Form, str]:
