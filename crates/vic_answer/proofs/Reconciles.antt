@@ -1,5 +1,5 @@
 -- What a list and logs say together, text by text.
-use Rattle.vic_answer.proofs.Words.{◌≡◌, ◌↔◌, ◌<◌, ◌≤◌, ℕ, zero, suc, List, [], ◌∷◌, ◌++◌, get_or, get_or-take, length-take-le, take, length, map, Some, None, Option, codes, refl, sym, ap, subst, ◌∙◌, IfOk, OnOk, Result, Ok, Err, decimal, slice_get, All, flat_map, arith, HasWrittenPrefix, length-map, map-append, lines_of_text, LogValue, entries, listed, IsFirstFault, IsVerdict, Impossible, IsReconciling, Reconciling, RunFault, Status, WritesAnswer, GoOn, logs_read_by, logs_for, logs_up_to, AreComplete, EndsAt, HasLog, HasPossibleLog, IsKept, IsReconciled, lines_of, Absent, verdict_line, doubtful_text, ending_text, reconciled_status, reconciled_text, unlisted_text, LogLine, AllZip, take-append_seam, AllZip-long, all_zipped_more, All-cons, All-head, All-nil, All-tail, LineFault, AreFindings, AreNone, IsJoined, DoubtfulUid, Findings, UnlistedUid, Reconciliation, IsPossibleLog, family_of, slice_get_seam, none_is_whole, Ending, Reconciled, Found, Ended, Write}
+use Rattle.vic_answer.proofs.Words.{◌≡◌, ◌↔◌, ◌<◌, ◌≤◌, ℕ, zero, suc, List, [], ◌∷◌, ◌++◌, get_or, get_or-take, length-take-le, take, length, map, Some, None, Option, codes, refl, sym, ap, subst, ◌∙◌, IfOk, OnOk, Result, Ok, Err, decimal, slice_get, All, flat_map, arith, HasWrittenPrefix, length-map, map-append, lines_of_text, LogValue, entries, listed, IsFirstFault, IsVerdict, Impossible, IsReconciling, Reconciling, RunFault, Status, WritesAnswer, GoOn, logs_read_by, logs_for, logs_up_to, AreComplete, EndsAt, HasLog, HasPossibleLog, IsKept, IsReconciled, lines_of, Absent, verdict_line, doubtful_text, ending_text, reconciled_status, reconciled_text, unlisted_text, LogLine, AllZip, take-append_seam, AllZip-long, all_zipped_more, All-cons, All-head, All-nil, All-tail, LineFault, AreFindings, AreNone, IsJoined, DoubtfulUid, Findings, UnlistedUid, Reconciliation, IsPossibleLog, family_of, slice_get_seam, none_is_whole, Ending, Reconciled, NotWhole, Ended, Write}
 use Rattle.vic_answer.specs.Reconciled.{HaveLogs}
 use Rattle.vic_reconcile.specs.declared.findings.Unsettled.{Unsettled}
 use Rattle.vic_answer.specs.declared.ending.Ending.TheVariants.{ListRefusedAt, NotListedAt, RefusedAt, ImpossibleAt}
@@ -66,7 +66,7 @@ reconciled_complete list texts r f count k found none counted =
     have_logs _ k (none_is_whole (listed (entries k.expected.lines)) (map lines_of k.logs) f (family_of (map lines_of k.logs) k.holds.possible) found none, counted)
 
 pub reconciled_found : (list : List ℕ) (texts : List (List ℕ)) (r : Reconciliation) (f : Findings) (k : IsKept list texts r)
-    → AreFindings (listed (entries k.expected.lines)) (map lines_of k.logs) f → (AreNone f → ⊥) → IsReconciled list texts (Found f)
+    → AreFindings (listed (entries k.expected.lines)) (map lines_of k.logs) f → (AreNone f → ⊥) → IsReconciled list texts (NotWhole f)
 reconciled_found list texts r f k found some = have_logs _ k (found, some)
 
 -- ---- what was written
@@ -93,7 +93,7 @@ complete_written file names (Complete count) list texts rest right same =
       are_logs = right.are_logs;
       holds = (right.holds.0, told ∙ ap (λ n. decimal n ++ codes "\n") right.holds.1);
     }
-complete_written file names (Found f) list texts rest right same =
+complete_written file names (NotWhole f) list texts rest right same =
     absurd (found_begins names f.absent.items f.unlisted.items f.unsettled f.doubtful.items rest (λ a u x d. right.holds.1 (record { absent = a; unlisted = u; unsettled = x; doubtful = d })) same)
 complete_written file names (Ended e) list texts rest right same = absurd (ending_begins file names e rest same)
 
@@ -102,14 +102,14 @@ complete_written file names (Ended e) list texts rest right same = absurd (endin
 pub answered_all : (r : Reconciling) (a : Reconciled) (logs texts : ℕ) → texts ≡ logs_read_by r logs → ((e : Ending) → (r ≡ state.Ended e) ↔ (a ≡ Ended e)) → texts ≡ logs_for a logs
 answered_all (state.Going j) (Ended e) logs texts all ended = absurd (cc ((ended e).1 refl))
 answered_all (state.Going j) (Complete count) logs texts all ended = all
-answered_all (state.Going j) (Found f) logs texts all ended = all
+answered_all (state.Going j) (NotWhole f) logs texts all ended = all
 answered_all (state.Ended e) a logs texts all ended = subst (λ x. texts ≡ logs_for x logs) (sym ((ended e).0 refl)) all
 
 -- where what was written begins as a complete answer does
 pub all_where_complete : (file : List ℕ) (names : List (List ℕ)) (r : Reconciled) (rest : List ℕ) (logs texts : ℕ) → reconciled_text file names r ≡ codes "complete " ++ rest → texts ≡ logs_for r logs → texts ≡ logs
 all_where_complete file names (Ended e) rest logs texts same all = absurd (ending_begins file names e rest same)
 all_where_complete file names (Complete count) rest logs texts same all = all
-all_where_complete file names (Found f) rest logs texts same all = all
+all_where_complete file names (NotWhole f) rest logs texts same all = all
 
 -- ---- what lets a run go on
 

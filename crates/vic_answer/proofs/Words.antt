@@ -83,10 +83,10 @@ pub use Rattle.vic_answer.specs.inner.Reconciling.{IsKept, IsReconciling, logs_r
 pub use Rattle.vic_answer.specs.SimulateText.{IsSimulationOf, simulated_status, simulated_text}
 pub use Rattle.vic_answer.specs.SpellText.{and_then, hex_decoded, hex_number_in, inventory_in, longest_mask, mask_in, number_ending, number_in, number_up_to, reply_in, says_inventory, says_reply, says_stay_quiet, sixteen_in, spelled_text, stay_quiet_in, value_in, word, words_of, words_reading}
 pub use Rattle.vic_answer.specs.declared.answered.Answered.{Answered}
-pub use Rattle.vic_answer.specs.declared.answered.Answered.TheVariants.{Judged, RefusedAt}
+pub use Rattle.vic_answer.specs.declared.answered.Answered.TheVariants.{Found, RefusedAt}
 pub use Rattle.vic_answer.specs.declared.ending.Ending.{Ending}
 pub use Rattle.vic_answer.specs.declared.reconcile.Reconciled.{Reconciled}
-pub use Rattle.vic_answer.specs.declared.reconcile.Reconciled.TheVariants.{Ended, Found}
+pub use Rattle.vic_answer.specs.declared.reconcile.Reconciled.TheVariants.{Ended, NotWhole}
 pub use Rattle.vic_answer.specs.declared.reconcile.Reconciling.{Reconciling}
 pub use Rattle.vic_answer.specs.declared.spell.Said.TheVariants.{Asked, Replied}
 pub use Rattle.vic_answer.specs.declared.spell.SpellFault.{SpellFault}

@@ -9,7 +9,7 @@ use Rattle.vic_report.specs.declared.reporting.LogReport.{LogReport}
 use Rattle.vic_report.specs.declared.reporting.LogReport.TheVariants as report
 use Rattle.vic_answer.specs.Answered.{IsAnswered, answer_of}
 use Rattle.vic_answer.specs.declared.answered.Answered.{Answered}
-use Rattle.vic_answer.specs.declared.answered.Answered.TheVariants.{Judged, RefusedAt}
+use Rattle.vic_answer.specs.declared.answered.Answered.TheVariants.{Found, RefusedAt}
 use Rattle.vic_answer.specs.declared.finding_numbers.VicinityFinding.{VicinityFinding}
 use Rattle.vic_answer.specs.declared.numbers.VicinityAnswer.{VicinityAnswer}
 use Rattle.vic_answer.specs.Buffers.{IsReturned}
@@ -76,7 +76,7 @@ report_findings (report.Complete count) = []
 
 -- the findings of the answer to a text, none if it is refused
 abbrev pub reported_findings : Answered LogReport → List VicinityFinding
-reported_findings (Judged r) = report_findings r
+reported_findings (Found r) = report_findings r
 reported_findings (RefusedAt n fault) = []
 
 -- these are the numbers of the answer to a text, the report on it has `count` findings, and this is

@@ -7,7 +7,7 @@ use Rattle.vic_answer.specs.Runs.{GivesNoEarlyFault, IsEnough}
 use Rattle.vic_answer.specs.declared.ending.Ending.{Ending}
 use Rattle.vic_answer.specs.declared.ending.Ending.TheVariants.{ListRefusedAt, NotListedAt, RefusedAt, ImpossibleAt}
 use Rattle.vic_answer.specs.declared.reconcile.Reconciled.{Reconciled}
-use Rattle.vic_answer.specs.declared.reconcile.Reconciled.TheVariants.{Complete, Found, Ended}
+use Rattle.vic_answer.specs.declared.reconcile.Reconciled.TheVariants.{Complete, NotWhole, Ended}
 use Rattle.vic_answer.specs.declared.status.RunFault.{RunFault}
 use Rattle.vic_answer.specs.declared.status.RunFault.TheVariants.{Read, Write}
 use Rattle.vic_answer.specs.declared.status.Status.{Status}
@@ -62,7 +62,7 @@ logs_up_to (ImpossibleAt k n) = k + 1
 -- how many of the logs are read for this answer: all, or those up to the one that ends the run
 abbrev pub logs_for : Reconciled → ℕ → ℕ
 logs_for (Complete count) logs = logs
-logs_for (Found f) logs = logs
+logs_for (NotWhole f) logs = logs
 logs_for (Ended e) logs = logs_up_to e
 
 -- this is the answer to the list and the logs that were read, each up to its end or an early fault

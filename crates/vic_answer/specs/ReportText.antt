@@ -15,7 +15,7 @@ use Rattle.vic_answer.specs.CheckText.{IsAnswerText, verdict_line}
 use Rattle.vic_answer.specs.Digits.{mask_text}
 use Rattle.vic_answer.specs.Refusals.{refusal_line}
 use Rattle.vic_answer.specs.declared.answered.Answered.{Answered}
-use Rattle.vic_answer.specs.declared.answered.Answered.TheVariants.{Judged, RefusedAt}
+use Rattle.vic_answer.specs.declared.answered.Answered.TheVariants.{Found, RefusedAt}
 use Rattle.vic_answer.specs.declared.status.Status.{Status}
 
 -- ---- the lines
@@ -68,7 +68,7 @@ report_text (report.NotWhole f) = findings_text f
 report_text (report.Complete count) = verdict_line (Complete count)
 
 abbrev pub reported_text : Answered LogReport → List ℕ
-reported_text (Judged r) = report_text r
+reported_text (Found r) = report_text r
 reported_text (RefusedAt n fault) = refusal_line n fault
 
 -- the text and the status of the answer to a text

@@ -9,7 +9,7 @@ use Rattle.vic_verdict.specs.declared.judging.Verdict.TheVariants as verdict
 use Rattle.vic_reconcile.specs.declared.surveys.PlainFindings.{PlainFindings}
 use Rattle.vic_answer.specs.Answered.{HasLog, IsRefusedAt}
 use Rattle.vic_answer.specs.declared.answered.Answered.{Answered}
-use Rattle.vic_answer.specs.declared.answered.Answered.TheVariants.{Judged, RefusedAt}
+use Rattle.vic_answer.specs.declared.answered.Answered.TheVariants.{Found, RefusedAt}
 use Rattle.vic_answer.specs.declared.finding_numbers.VicinityFinding.{VicinityFinding}
 use Rattle.vic_answer.specs.declared.numbers.VicinityAnswer.{VicinityAnswer}
 use Rattle.vic_answer.specs.Buffers.{IsReturned}
@@ -22,7 +22,7 @@ use Rattle.vic_answer.specs.Numbers.{numbers_of}
 -- there are none
 abbrev pub IsAnswerWith : {T : Type 0} → (List LogLine → List T → Type 0) → List ℕ
     → Answered Verdict → List T → Type 0
-IsAnswerWith P text (Judged v) xs =
+IsAnswerWith P text (Found v) xs =
     (log : LogValue) × HasLog text log × IsVerdict log.lines v × P log.lines xs
 IsAnswerWith P text (RefusedAt n fault) xs = IsRefusedAt text n fault × (xs ≡ [])
 
@@ -49,7 +49,7 @@ first_of [] [] None [] count = verdict.Complete count
 
 abbrev pub plain_answer : PlainFindings → ℕ → Answered Verdict
 plain_answer f count =
-    Judged (first_of f.absent.items f.unlisted.items f.unsettled f.doubtful.items count)
+    Found (first_of f.absent.items f.unlisted.items f.unsettled f.doubtful.items count)
 
 -- the unsettled mask, if there is one
 abbrev pub unsettled_finding : Option BitMask → List VicinityFinding

@@ -16,7 +16,7 @@ use vic_verdict::Verdict;
 #[derive(Clone, Copy, Debug, Drop, PartialEq, Eq)]
 pub enum Answered<T> {
     /// It has a log, and this is what was found in it.
-    Judged(T),
+    Found(T),
     /// A line of it has a fault, and this is the first.
     RefusedAt { line: u32, fault: LineFault },
 }
@@ -52,7 +52,7 @@ pub fn answer_of<T: Judgement>(answered: &Answered<T>) -> Answer
     ensures { result ≡ spec.answer_of T.verdict_of answered.now }
 {
     match answered {
-        Answered::Judged(found) => Answered::Judged(found.verdict()),
+        Answered::Found(found) => Answered::Found(found.verdict()),
         Answered::RefusedAt { line, fault } => Answered::RefusedAt {
             line: *line,
             fault: *fault,
@@ -65,7 +65,7 @@ pub fn read_text(alloc: Global, text: &[u8]) -> Result<Reading, AllocError>
     ensures { IfOk result (spec.IsReading text.now) }
 {
     match read_log(alloc, text) {
-        Ok(log) => Ok(Answered::Judged(log)),
+        Ok(log) => Ok(Answered::Found(log)),
         Err(LogFault::Line { line, fault }) => Ok(Answered::RefusedAt { line, fault }),
         Err(LogFault::Memory) => Err(AllocError),
         Err(LogFault::Read) | Err(LogFault::Spent) => unreachable!(),
@@ -81,7 +81,7 @@ pub(crate) fn answer_reading<T: Judgement>(
         → spec.IsReading text reading → spec.IsAnswered T.IsOf text a) }
 {
     match reading {
-        Answered::Judged(log) => Ok(Answered::Judged(T::of_log(alloc, &log)?)),
+        Answered::Found(log) => Ok(Answered::Found(T::of_log(alloc, &log)?)),
         Answered::RefusedAt { line, fault } => Ok(Answered::RefusedAt { line, fault }),
     }
 }
@@ -94,7 +94,7 @@ pub fn answer_text<T: Judgement>(alloc: Global, text: &[u8]) -> Result<Answered<
     ensures answer { IfOk result (λ a. IsAnswer text.now (spec.answer_of T.verdict_of a)) }
     // if it is `complete`, the list of the log is complete and has `count` UIDs
     ensures whole { IfOk result (λ a. (count : ℕ)
-        → spec.answer_of T.verdict_of a ≡ Answered.Judged (Complete count)
+        → spec.answer_of T.verdict_of a ≡ Answered.Found (Complete count)
         → IsCompleteText text.now count) }
 {
     let reading = read_text(alloc, text)?;

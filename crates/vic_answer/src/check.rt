@@ -6,7 +6,7 @@ ghost use Rattle.vic_verdict.specs.declared.judging.Verdict.TheVariants.{Complet
 ghost use Rattle.vic_answer.specs.CheckText.{IsAnswer, IsCheckOf, IsCompleteText, answer_line};
 ghost use Rattle.vic_answer.specs.CompleteRun.{IsCompleteWhereSaid, IsCompleteWhereWritten};
 ghost use Rattle.vic_answer.specs.Runs.{LeavesSink, LeavesSource, Runs, RunsOver};
-ghost use Rattle.vic_answer.specs.declared.answered.Answered.TheVariants.{Judged};
+ghost use Rattle.vic_answer.specs.declared.answered.Answered.TheVariants.{Found};
 
 use crate::answered::{Answer, Judgement, answer_text};
 use crate::lines::answer_line;
@@ -21,7 +21,7 @@ use vic_verdict::{Verdict, judge};
 pub fn judge_text(alloc: Global, text: &[u8]) -> Result<Answer, AllocError>
     ensures answer { IfOk result (IsAnswer text.now) }
     // if it is `complete`, the list of the log is complete and has `count` UIDs
-    ensures whole { IfOk result (λ a. (count : ℕ) → a ≡ Judged (Complete count)
+    ensures whole { IfOk result (λ a. (count : ℕ) → a ≡ Found (Complete count)
         → IsCompleteText text.now count) }
 {
     answer_text(alloc, text)

@@ -53,7 +53,7 @@ fn population_of(explained: &Answered<Explanation>) -> Option<&[Uid]>
     ensures { option_copied result ≡ population_of explained.now }
 {
     match explained {
-        Answered::Judged(found) => found.population.as_ref().map(|uids| uids.as_slice()),
+        Answered::Found(found) => found.population.as_ref().map(|uids| uids.as_slice()),
         Answered::RefusedAt { .. } => None,
     }
 }

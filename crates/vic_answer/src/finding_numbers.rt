@@ -65,7 +65,7 @@ pub fn findings_of(
     ensures { IfOk result (λ list. list.items ≡ spec.reported_findings reported.now) }
 {
     let mut list = Vec::new(alloc);
-    if let Answered::Judged(report) = reported {
+    if let Answered::Found(report) = reported {
         match report {
             LogReport::Impossible(conflict) => push_conflict(&mut list, conflict)?,
             LogReport::NotWhole(findings) => push_findings(&mut list, findings)?,

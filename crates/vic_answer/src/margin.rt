@@ -74,7 +74,7 @@ fn measured_lines(measured: &Answered<Margin>) -> Text
     ensures { result.items ≡ measured_text measured.now }
 {
     let mut text = answer_line(&answer_of(measured));
-    if let Answered::Judged(margin) = measured {
+    if let Answered::Found(margin) = measured {
         if let Verdict::Complete { .. } = margin.verdict {
             put_weakest(&mut text, &margin.weakest);
         }

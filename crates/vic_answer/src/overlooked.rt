@@ -31,11 +31,11 @@ pub fn overlooked_text(
     ensures answer { IfOk result (λ o. IsAnswer text.now (answer_of (λ x. x.verdict) o)) }
     // if it is `complete`, the list of the log is complete and has `count` UIDs
     ensures whole { IfOk result (λ o. (count : ℕ)
-        → answer_of (λ x. x.verdict) o ≡ Answered.Judged (Complete count)
+        → answer_of (λ x. x.verdict) o ≡ Answered.Found (Complete count)
         → IsCompleteText text.now count) }
 {
     match read_text(alloc, text)? {
-        Answered::Judged(log) => Ok(Answered::Judged(overlooked_log(alloc, &log, uids)?)),
+        Answered::Found(log) => Ok(Answered::Found(overlooked_log(alloc, &log, uids)?)),
         Answered::RefusedAt { line, fault } => Ok(Answered::RefusedAt { line, fault }),
     }
 }
@@ -54,7 +54,7 @@ pub fn overlooked_answer(overlooked: &Answered<Overlooked>) -> Answer
     ensures { result ≡ answer_of (λ x. x.verdict) overlooked.now }
 {
     match overlooked {
-        Answered::Judged(overlooked) => Answered::Judged(overlooked.verdict),
+        Answered::Found(overlooked) => Answered::Found(overlooked.verdict),
         Answered::RefusedAt { line, fault } => Answered::RefusedAt {
             line: *line,
             fault: *fault,

@@ -82,7 +82,7 @@ fn put_reported<W: Sink>(
         piece.old.items piece.new.items (reported_text reported.now) result }
 {
     match reported {
-        Answered::Judged(report) => put_report(piece, sink, report),
+        Answered::Found(report) => put_report(piece, sink, report),
         Answered::RefusedAt { line, fault } => put_text(piece, sink, &refusal_line(*line, fault)),
     }
 }

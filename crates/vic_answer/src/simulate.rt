@@ -85,7 +85,7 @@ fn simulate_reading(alloc: Global, reading: Reading) -> Result<Simulated, AllocE
         → IsReading text reading → IsSimulated text s) }
 {
     match reading {
-        Reading::Judged(log) => simulate_log(alloc, &log),
+        Reading::Found(log) => simulate_log(alloc, &log),
         Reading::RefusedAt { line, fault } => Ok(Simulated::RefusedAt { line, fault }),
     }
 }

@@ -36,7 +36,7 @@ pub fn certain_of(surveyed: &Answered<Survey>) -> &[Uid]
         → IsAnswerWith AreCertainIn text (answer_of (λ x. x.verdict) surveyed.now) result.now }
 {
     match surveyed {
-        Answered::Judged(survey) => survey.certain.as_slice(),
+        Answered::Found(survey) => survey.certain.as_slice(),
         Answered::RefusedAt { .. } => &[],
     }
 }
@@ -48,7 +48,7 @@ pub fn open_masks_of(alloc: Global, surveyed: &Answered<Survey>) -> Result<Vec<M
         → IsAnswerWith AreOpenIn text (answer_of (λ x. x.verdict) surveyed.now) masks.items) }
 {
     match surveyed {
-        Answered::Judged(survey) => survey.open_masks(alloc),
+        Answered::Found(survey) => survey.open_masks(alloc),
         Answered::RefusedAt { .. } => Ok(Vec::new(alloc)),
     }
 }

@@ -14,7 +14,7 @@ use vic_verdict::Verdict;
 pub fn plain_answer(findings: &PlainFindings, count: u32) -> Answer
     ensures { result ≡ spec.plain_answer findings.now count }
 {
-    Answer::Judged(first_of(findings, count))
+    Answer::Found(first_of(findings, count))
 }
 
 /// The first of the findings, as a verdict.
