@@ -8,7 +8,7 @@ ghost use Rattle.vic_answer.specs.CompleteRun.{IsCompleteWhereSaid, IsCompleteWh
 ghost use Rattle.vic_answer.specs.Runs.{LeavesSink, LeavesSource, Runs, RunsOver};
 ghost use Rattle.vic_answer.specs.declared.answered.Answered.TheVariants.{Found};
 
-use crate::answered::{Answer, Judgement, answer_text};
+use crate::answered::{Answer, HasVerdict, Judgement, answer_text};
 use crate::lines::answer_line;
 use crate::output::write_and_flush;
 use crate::run::{Written, run_judged};
@@ -27,18 +27,20 @@ pub fn judge_text(alloc: Global, text: &[u8]) -> Result<Answer, AllocError>
     answer_text(alloc, text)
 }
 
+impl HasVerdict for Verdict {
+    ghost verdict_of = { λ v. v };
+
+    fn verdict_in(&self) -> Verdict {
+        *self
+    }
+}
+
 /// What `check` finds.
 impl Judgement for Verdict {
     ghost IsOf = { IsVerdict };
 
-    ghost verdict_of = { λ v. v };
-
-    fn of_log(alloc: Global, log: &Log) -> Result<Verdict, AllocError> {
+    fn found_in(alloc: Global, log: &Log) -> Result<Verdict, AllocError> {
         judge(alloc, log)
-    }
-
-    fn verdict(&self) -> Verdict {
-        *self
     }
 
     ghost tells = { λ lines v h. h };

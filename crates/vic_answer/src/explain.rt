@@ -8,7 +8,7 @@ ghost use Rattle.vic_answer.specs.ExplainText.{IsExplanationOf, explained_text, 
 ghost use Rattle.vic_answer.specs.CompleteRun.{IsCompleteWhereSaid, IsCompleteWhereWritten};
 ghost use Rattle.vic_answer.specs.Runs.{LeavesSink, LeavesSource, Runs, RunsOver};
 
-use crate::answered::{Answered, Judgement, answer_of};
+use crate::answered::{Answered, HasVerdict, Judgement, answer_of};
 use crate::lines::answer_line;
 use crate::run::{Written, run_judged};
 use crate::status::{RunFault, Status};
@@ -19,18 +19,20 @@ use vic_frame::Uid;
 use vic_log::{Log, Sink, Source, write_listed};
 use vic_verdict::{Explanation, Verdict, explain};
 
+impl HasVerdict for Explanation {
+    ghost verdict_of = { λ e. e.verdict };
+
+    fn verdict_in(&self) -> Verdict {
+        self.verdict
+    }
+}
+
 /// What `explain` finds.
 impl Judgement for Explanation {
     ghost IsOf = { IsExplanation };
 
-    ghost verdict_of = { λ e. e.verdict };
-
-    fn of_log(alloc: Global, log: &Log) -> Result<Explanation, AllocError> {
+    fn found_in(alloc: Global, log: &Log) -> Result<Explanation, AllocError> {
         explain(alloc, log)
-    }
-
-    fn verdict(&self) -> Verdict {
-        self.verdict
     }
 
     ghost tells = { λ lines e h. h.verdict };

@@ -6,7 +6,7 @@ ghost use Rattle.vic_answer.specs.CompleteRun.{IsCompleteWhereSaidFirst, IsCompl
 ghost use Rattle.vic_answer.specs.MarginText.{IsMarginOf, IsMarginOfLines, measured_text, weakest_text};
 ghost use Rattle.vic_answer.specs.Runs.{LeavesSink, LeavesSource, Runs, RunsOver};
 
-use crate::answered::{Answered, Judgement, answer_of};
+use crate::answered::{Answered, HasVerdict, Judgement, answer_of};
 use crate::lines::answer_line;
 use crate::output::write_and_flush;
 use crate::run::{Written, run_judged};
@@ -17,18 +17,20 @@ use vic_log::{Log, Sink, Source};
 use vic_margin::{Margin, Weakest, margin};
 use vic_verdict::Verdict;
 
+impl HasVerdict for Margin {
+    ghost verdict_of = { λ m. m.verdict };
+
+    fn verdict_in(&self) -> Verdict {
+        self.verdict
+    }
+}
+
 /// What `margin` finds.
 impl Judgement for Margin {
     ghost IsOf = { IsMarginOfLines };
 
-    ghost verdict_of = { λ m. m.verdict };
-
-    fn of_log(alloc: Global, log: &Log) -> Result<Margin, AllocError> {
+    fn found_in(alloc: Global, log: &Log) -> Result<Margin, AllocError> {
         margin(alloc, log)
-    }
-
-    fn verdict(&self) -> Verdict {
-        self.verdict
     }
 
     ghost tells = { λ lines m h. h.verdict };

@@ -6,7 +6,7 @@ ghost use Rattle.vic_answer.specs.Answered.{IsAnswered, answer_of};
 ghost use Rattle.vic_answer.specs.CheckText.{IsAnswer, IsCompleteText};
 ghost use Rattle.vic_answer.specs.OverlookedText.{AreOverlooked};
 
-use crate::answered::{Answer, Answered, read_text};
+use crate::answered::{Answered, HasVerdict, read_text};
 use std::alloc::{AllocError, Global};
 use vic_frame::Uid;
 use vic_log::Log;
@@ -18,6 +18,14 @@ pub struct Overlooked {
     pub verdict: Verdict,
     /// In how many slots of the log each UID was overlooked, in the order of the UIDs.
     pub margins: Vec<u32>,
+}
+
+impl HasVerdict for Overlooked {
+    ghost verdict_of = { λ o. o.verdict };
+
+    fn verdict_in(&self) -> Verdict {
+        self.verdict
+    }
 }
 
 /// The answer to a complete text, with the margin of each UID that is handed in, in their order. It
@@ -47,17 +55,4 @@ fn overlooked_log(alloc: Global, log: &Log, uids: &[Uid]) -> Result<Overlooked, 
     let verdict = judge(alloc, log)?;
     let margins = vic_margin::overlooked(alloc, log, uids)?;
     Ok(Overlooked { verdict, margins })
-}
-
-/// The answer of `check` to the same text.
-pub fn overlooked_answer(overlooked: &Answered<Overlooked>) -> Answer
-    ensures { result ≡ answer_of (λ x. x.verdict) overlooked.now }
-{
-    match overlooked {
-        Answered::Found(overlooked) => Answered::Found(overlooked.verdict),
-        Answered::RefusedAt { line, fault } => Answered::RefusedAt {
-            line: *line,
-            fault: *fault,
-        },
-    }
 }

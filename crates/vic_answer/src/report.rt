@@ -7,7 +7,7 @@ ghost use Rattle.vic_answer.specs.CompleteRun.{IsCompleteWhereSaid, IsCompleteWh
 ghost use Rattle.vic_answer.specs.ReportText.{IsReportOf, reported_text};
 ghost use Rattle.vic_answer.specs.Runs.{LeavesSink, LeavesSource, Runs, RunsOver};
 
-use crate::answered::{Answered, Judgement};
+use crate::answered::{Answered, HasVerdict, Judgement};
 use crate::lines::refusal_line;
 use crate::output::write_and_flush;
 use crate::pieces::{Piece, put_text};
@@ -20,18 +20,20 @@ use vic_log::{Log, Sink, Source};
 use vic_report::{LogReport, report};
 use vic_verdict::Verdict;
 
+impl HasVerdict for LogReport {
+    ghost verdict_of = { verdict_of };
+
+    fn verdict_in(&self) -> Verdict {
+        self.verdict()
+    }
+}
+
 /// What `report` finds.
 impl Judgement for LogReport {
     ghost IsOf = { IsReport };
 
-    ghost verdict_of = { verdict_of };
-
-    fn of_log(alloc: Global, log: &Log) -> Result<LogReport, AllocError> {
+    fn found_in(alloc: Global, log: &Log) -> Result<LogReport, AllocError> {
         report(alloc, log)
-    }
-
-    fn verdict(&self) -> Verdict {
-        self.verdict()
     }
 
     ghost tells = { report_begins };

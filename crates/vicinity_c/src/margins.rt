@@ -16,7 +16,7 @@ use crate::lines::with_listed;
 use std::alloc::{AllocError, Global};
 use vic_answer::{
     Answered, NO_ANSWER, Overlooked, VicinityAnswer, answer_of, answer_text, copy_list, numbers_of,
-    overlooked_answer, overlooked_text, read_text,
+    overlooked_text, read_text,
 };
 use vic_log::LineFault;
 use vic_margin::{Margin, Weakest};
@@ -120,7 +120,7 @@ pub extern "C" fn vicinity_overlooked(
         return NO_ANSWER.status;
     };
     put_margins(&overlooked, uids.len(), places);
-    let numbers = numbers_of(&overlooked_answer(&overlooked));
+    let numbers = numbers_of(&answer_of(&overlooked));
     *answer = numbers;
     numbers.status
 }
