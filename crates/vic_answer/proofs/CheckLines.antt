@@ -1,10 +1,12 @@
 -- Answers that begin with the line of `check`, and which of them with `complete `.
-use Rattle.vic_answer.proofs.Words.{◌≡◌, ℕ, List, [], ◌∷◌, ◌++◌, ap, append_assoc, append-nil, arith, refl, subst, sym, ◌∙◌, codes, decimal, Option, Some, None, MatchOption, flat_map, option_map, LogLine, Impossible, Absent, Unlisted, Unsettled, Doubtful, Complete, BeginsAsCheck, IsAnswer, IsAnswerText, IsCheckOf, IsCompleteText, answer_line, answer_status, verdict_line, Status, Entry, IsReport, verdict_by, verdict_of, uids_of, LogReport, ShownUid, report_begins, none_where_complete, IsPopulationBehind, IsShownByNone, Shows, Verdict, complete_whole, complete_second, complete_third, Answered, Found, RefusedAt, IsAnswered, answer_of, IsVerdict, Explanation, IsExplanation, Margin, get_or}
+use Rattle.vic_answer.proofs.Words.{◌≡◌, ℕ, List, [], ◌∷◌, ◌++◌, ap, append_assoc, append-nil, arith, refl, subst, sym, ◌∙◌, codes, decimal, Option, Some, None, MatchOption, flat_map, option_map, LogLine, Impossible, Absent, Unlisted, Unsettled, Doubtful, Complete, BeginsAsCheck, IsAnswer, IsAnswerText, IsCheckOf, IsCompleteText, answer_line, answer_status, verdict_line, Status, Entry, IsReport, verdict_by, verdict_of, uids_of, LogReport, ShownUid, finding_text, map, report_begins, none_where_complete, IsPopulationBehind, IsShownByNone, Shows, Verdict, complete_whole, complete_second, complete_third, Answered, Found, RefusedAt, IsAnswered, answer_of, IsVerdict, Explanation, IsExplanation, Margin, get_or}
 use Rattle.vic_report.specs.declared.findings.Unsettled.{Unsettled as LeftToAsk}
 use Rattle.vic_report.specs.declared.reporting.LogReport.TheVariants as report
+use Rattle.vic_answer.specs.declared.findings.Finding.TheVariants as finding
 use Rattle.vic_answer.specs.CompleteRun.{BeginWith}
 use Rattle.vic_answer.specs.ExplainText as explain
 use Rattle.vic_answer.specs.MarginText as margin
+use Rattle.vic_answer.specs.Findings.{unsettled_findings}
 use Rattle.vic_answer.specs.ReportText as reporting
 
 -- ---- a complete text
@@ -142,20 +144,17 @@ longer {line} ys h = record { more = h.more ++ ys; is = ap (λ zs. zs ++ ys) h.i
 -- of findings that aren't all empty the first line is that of the first
 findings_begin : (absent unlisted : List ShownUid) (x : Option LeftToAsk) (doubtful : List ℕ) → (absent ≡ [] → unlisted ≡ [] → x ≡ None → doubtful ≡ [] → ⊥)
     → Begins (verdict_line (verdict_by (uids_of absent) (uids_of unlisted) (option_map (λ y. y.mask) x) doubtful))
-    (flat_map (λ s. reporting.shown_text (Absent s.uid) s.line) absent ++ flat_map (λ s. reporting.shown_text (Unlisted s.uid) s.line) unlisted
-    ++ reporting.unsettled_text x ++ flat_map (λ u. verdict_line (Doubtful u)) doubtful)
-findings_begin (s ∷ absent) unlisted x doubtful some = longer _ (longer _ (longer _ (longer _ (begins (verdict_line (Absent s.uid)) (reporting.by_line s.line)))))
-findings_begin [] (s ∷ unlisted) x doubtful some = longer _ (longer _ (longer _ (begins (verdict_line (Unlisted s.uid)) (reporting.by_line s.line))))
-findings_begin [] [] (Some x) doubtful some =
-    longer _ (longer (reporting.more_line x.open.more) (begins (verdict_line (Unsettled x.mask)) (flat_map reporting.open_line x.open.masks.items)))
+    (flat_map finding_text (map finding.Absent absent ++ map finding.Unlisted unlisted ++ unsettled_findings x ++ map finding.Doubtful doubtful))
+findings_begin (s ∷ absent) unlisted x doubtful some = longer _ (begins (verdict_line (Absent s.uid)) (reporting.by_line s.line))
+findings_begin [] (s ∷ unlisted) x doubtful some = longer _ (begins (verdict_line (Unlisted s.uid)) (reporting.by_line s.line))
+findings_begin [] [] (Some x) doubtful some = begins (verdict_line (Unsettled x.mask)) _
 findings_begin [] [] None (u ∷ doubtful) some = begins (verdict_line (Doubtful u)) _
 findings_begin [] [] None [] some = absurd (some refl refl refl refl)
 
 report_begins_so : (lines : List LogLine) (r : LogReport) → IsReport lines r → Begins (verdict_line (verdict_of r)) (reporting.report_text r)
-report_begins_so lines (report.Impossible c) h =
-    longer (reporting.silenced_line c.silenced_by) (begins (verdict_line (Impossible c.line)) (flat_map reporting.by_line c.lines.items))
+report_begins_so lines (report.Impossible c) h = begins (verdict_line (Impossible c.line)) _
 report_begins_so lines (report.NotWhole f) h = findings_begin f.absent.items f.unlisted.items f.unsettled f.doubtful.items (λ a u x d. h.2 (record { absent = a; unlisted = u; unsettled = x; doubtful = d }))
-report_begins_so lines (report.Complete count) h = alone_begins (verdict_line (Complete count))
+report_begins_so lines (report.Complete count) h = begins (verdict_line (Complete count)) []
 
 reported_begins : (text : List ℕ) (r : Answered LogReport) → IsAnswered IsReport text r → Begins (answer_line (answer_of verdict_of r)) (reporting.reported_text r)
 reported_begins text (Found r) h = report_begins_so h.0.lines r h.2
@@ -173,7 +172,7 @@ report_begins_as_check text answer status h =
 complete_alone : (text : List ℕ) (r : Answered LogReport) (count : ℕ) → IsAnswered IsReport text r → answer_of verdict_of r ≡ Found (Complete count) → reporting.reported_text r ≡ verdict_line (Complete count)
 complete_alone text (Found r) count h is =
     let verdict_is : verdict_of r ≡ Complete count = cc is in
-    ap reporting.report_text (none_where_complete h.0.lines r count h.2 verdict_is)
+    ap reporting.report_text (none_where_complete h.0.lines r count h.2 verdict_is) ∙ append-nil _
 complete_alone text (RefusedAt n fault) count h is = cc
 
 pub report_tells : TellComplete reporting.IsReportOf

@@ -77,7 +77,10 @@ pub use Rattle.vic_answer.specs.FrameText.{reply_words, request_words}
 pub use Rattle.vic_answer.specs.ReconcileRun.{HasReadText, IsAnswerable, IsLast, IsReadToEnd, ReadsListAndLogs, ReadsTexts, Reconciles, StopsAtSource, StopsBy, WritesAnswer, logs_for, logs_up_to}
 pub use Rattle.vic_answer.specs.ReconcileText.{all_masks_text, doubtful_text, ending_text, masks_text, open_text, reconciled_status, reconciled_text, unlisted_text}
 pub use Rattle.vic_answer.specs.Reconciled.{AreComplete, EndsAt, GoOn, HasList, HasPossibleLog, IsReconciled, lines_of}
-pub use Rattle.vic_answer.specs.ReportText.{IsReportOf, by_line, more_line, open_line, reported_text, silenced_line, unsettled_text}
+pub use Rattle.vic_answer.specs.Findings.{report_findings}
+pub use Rattle.vic_answer.specs.FindingNumbers.{finding_numbers}
+pub use Rattle.vic_answer.specs.ReportText.{IsReportOf, finding_text, reported_text}
+pub use Rattle.vic_answer.specs.inner.FindingsLeft.{findings_left}
 pub use Rattle.vic_answer.specs.Runs.{GivesNoEarlyFault, IsEnough, IsReadWithin, LeavesSource, Reads, Runs, RunsOver, RunsWhere, Writes}
 pub use Rattle.vic_answer.specs.inner.Reconciling.{IsKept, IsReconciling, logs_read_by}
 pub use Rattle.vic_answer.specs.SimulateText.{IsSimulationOf, simulated_status, simulated_text}
@@ -85,6 +88,7 @@ pub use Rattle.vic_answer.specs.SpellText.{and_then, hex_decoded, hex_number_in,
 pub use Rattle.vic_answer.specs.declared.answered.Answered.{Answered}
 pub use Rattle.vic_answer.specs.declared.answered.Answered.TheVariants.{Found, RefusedAt}
 pub use Rattle.vic_answer.specs.declared.ending.Ending.{Ending}
+pub use Rattle.vic_answer.specs.declared.findings.Finding.{Finding}
 pub use Rattle.vic_answer.specs.declared.reconcile.Reconciled.{Reconciled}
 pub use Rattle.vic_answer.specs.declared.reconcile.Reconciled.TheVariants.{Ended, NotWhole}
 pub use Rattle.vic_answer.specs.declared.reconcile.Reconciling.{Reconciling}

@@ -9,6 +9,7 @@ mod ending;
 mod explain;
 mod fault_numbers;
 mod finding_numbers;
+mod findings;
 mod frame;
 mod input;
 pub mod laws;
