@@ -81,7 +81,7 @@ pub use Rattle.vic_answer.specs.Findings.{report_findings}
 pub use Rattle.vic_answer.specs.FindingNumbers.{finding_numbers}
 pub use Rattle.vic_answer.specs.ReportText.{IsReportOf, finding_text, reported_text}
 pub use Rattle.vic_answer.specs.inner.FindingsLeft.{findings_left}
-pub use Rattle.vic_answer.specs.Runs.{GivesNoEarlyFault, IsEnough, IsReadWithin, LeavesSource, Reads, Runs, RunsOver, RunsWhere, Writes}
+pub use Rattle.vic_answer.specs.Runs.{GivesNoEarlyFault, IsEnough, IsReadWithin, LeavesSource, Reads, RunsOver, RunsOverRevealed, RunsWhere, Writes}
 pub use Rattle.vic_answer.specs.inner.Reconciling.{IsKept, IsReconciling, logs_read_by}
 pub use Rattle.vic_answer.specs.SimulateText.{IsSimulationOf, simulated_status, simulated_text}
 pub use Rattle.vic_answer.specs.SpellText.{and_then, hex_decoded, hex_number_in, inventory_in, longest_mask, mask_in, number_ending, number_in, number_up_to, reply_in, says_inventory, says_reply, says_stay_quiet, sixteen_in, spelled_text, stay_quiet_in, value_in, word, words_of, words_reading}

@@ -6,7 +6,7 @@ ghost use Rattle.vic_log.specs.Writing.{listed_text};
 ghost use Rattle.vic_verdict.specs.Explained.{IsExplanation};
 ghost use Rattle.vic_answer.specs.ExplainText.{IsExplanationOf, explained_text, population_line, population_of, uids_of};
 ghost use Rattle.vic_answer.specs.CompleteRun.{IsCompleteWhereSaid, IsCompleteWhereWritten};
-ghost use Rattle.vic_answer.specs.Runs.{LeavesSink, LeavesSource, Runs, RunsOver};
+ghost use Rattle.vic_answer.specs.Runs.{LeavesSink, LeavesSource, RunsOver, RunsOverRevealed};
 
 use crate::answered::{Answered, HasVerdict, Judgement, answer_of};
 use crate::lines::answer_line;
@@ -75,7 +75,7 @@ pub fn run_explain<R: Source, W: Sink>(
     source: &mut R,
     sink: &mut W,
 ) -> Result<Status, RunFault>
-    ensures answer { Runs IsExplanationOf (R.left source.old) (R.left source.new)
+    ensures answer { RunsOverRevealed IsExplanationOf (R.left source.old) (R.left source.new)
         (W.taken sink.old) (W.taken sink.new) result }
     // the same, even if source and sink reveal nothing
     ensures bytes { RunsOver IsExplanationOf (R.returned source.old) (R.returned source.new)

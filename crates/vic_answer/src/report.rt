@@ -5,7 +5,7 @@ ghost use Rattle.vic_report.specs.Reports.{IsReport, verdict_of};
 ghost use Rattle.vic_answer.specs.inner.Pieces.{Puts};
 ghost use Rattle.vic_answer.specs.CompleteRun.{IsCompleteWhereSaid, IsCompleteWhereWritten};
 ghost use Rattle.vic_answer.specs.ReportText.{IsReportOf, reported_text};
-ghost use Rattle.vic_answer.specs.Runs.{LeavesSink, LeavesSource, Runs, RunsOver};
+ghost use Rattle.vic_answer.specs.Runs.{LeavesSink, LeavesSource, RunsOver, RunsOverRevealed};
 
 use crate::answered::{Answered, HasVerdict, Judgement};
 use crate::lines::refusal_line;
@@ -57,7 +57,7 @@ pub fn run_report<R: Source, W: Sink>(
     source: &mut R,
     sink: &mut W,
 ) -> Result<Status, RunFault>
-    ensures answer { Runs IsReportOf (R.left source.old) (R.left source.new)
+    ensures answer { RunsOverRevealed IsReportOf (R.left source.old) (R.left source.new)
         (W.taken sink.old) (W.taken sink.new) result }
     // the same, even if source and sink reveal nothing
     ensures bytes { RunsOver IsReportOf (R.returned source.old) (R.returned source.new)
