@@ -1,9 +1,8 @@
 //! The command `reconcile`, text by text.
 
-ghost use Rattle.std.specs.Prelude.{◌≡◌, ◌≢◌, ◌↔◌, ◌+◌, ◌++◌, ℕ, [], ◌∷◌, List, IfErr, IfOk, OnOk, length};
-ghost use Rattle.std.specs.Prelude.{codes, map, string_bytes};
+ghost use Rattle.std.specs.Prelude.{◌≡◌, ◌≢◌, ◌↔◌, ◌+◌, ◌++◌, ℕ, [], ◌∷◌, List, IfErr, IfOk, length, map, string_bytes};
 ghost use Rattle.vic_answer.specs.Answered.{IsReading};
-ghost use Rattle.vic_answer.specs.Reconciled.{AreComplete, IsReconciled};
+ghost use Rattle.vic_answer.specs.Reconciled.{IsReconciled};
 ghost use Rattle.vic_answer.specs.inner.Reconciling.{IsKept, IsReconciling};
 ghost use Rattle.vic_answer.specs.inner.Readings.{GivesOver};
 ghost use Rattle.vic_answer.specs.ReconcileRun.{logs_up_to};
@@ -181,11 +180,6 @@ pub(crate) fn write_reconciled<W: Sink>(
     ensures written { IsWritten
         (spec.reconciled_text list_name.now (map string_bytes names.now) answer.now)
         (spec.reconciled_status answer.now) (W.written sink.old) (W.written sink.new) result }
-    // if it wrote `complete N`, everything that is expected is somewhere, and nothing else
-    ensures complete { OnOk result ((list : List ℕ) (texts : List (List ℕ)) (rest : List ℕ)
-        → IsReconciled list texts answer.now
-        → W.written sink.new ≡ W.written sink.old ++ (codes "complete " ++ rest)
-        → AreComplete list texts rest) }
     ensures leaves_sink { LeavesSink W.is_flushed W.has_failed sink.old sink.new result }
     ensures fault { IfErr result (λ e. e ≢ Read) }
 {
