@@ -1,9 +1,37 @@
 -- Sources are read in turn.
-use Rattle.vic_answer.proofs.Words.{◌≡◌, ◌≢◌, ◌↔◌, ℕ, zero, suc, ◌+◌, ◌<◌, ◌≤◌, List, [], ◌∷◌, ◌++◌, length, take, get_or, set, Bool, true, false, Err, IfErr, IsErrAnd, Ok, Result, refl, sym, ap, subst, ◌∙◌, arith, cases_lt, cases_order, get_or-append_seam, get_or-set_other, get_or-set_same, get_or-take, get_or_append_left, get_or_default, inl, inr, length-append, length-take-le, AllZip, Grows, LogValue, AreComplete, Ended, Ending, GivesNoEarlyFault, GoOn, HasLog, HasReadText, IsAnswerable, IsKept, IsLast, IsReadToEnd, IsReadWithin, IsReconciled, IsReconciling, LeavesSource, Memory, Read, ReadsListAndLogs, ReadsTexts, Reconciled, Reconciles, Reconciling, Reconciliation, RunFault, StopsBy, Write, logs_read_by, logs_up_to}
+use Rattle.vic_answer.proofs.Words.{◌≡◌, ◌≢◌, ◌↔◌, ℕ, zero, suc, ◌+◌, ◌<◌, ◌≤◌, List, [], ◌∷◌, ◌++◌, length, length-set, take, slice_get, slice_get-get_or, slice_get_past, slice_get_within, get_or_from_slice_get, Some, get_or, set, Bool, true, false, Err, IfErr, IsErrAnd, Ok, Result, refl, sym, ap, subst, ◌∙◌, arith, cases_lt, cases_order, get_or-append_seam, get_or-set_other, get_or-set_same, get_or_append_left, get_or_default, inl, inr, length-append, length-take-le, AllZip, Grows, LogValue, AreComplete, Ended, Ending, GivesNoEarlyFault, GoOn, HasLog, AreRead, HasReadText, HoldsAt, IsAnswerable, IsKept, IsLast, IsReadToEnd, IsReadWithin, IsReconciled, IsReconciling, LeavesSource, Memory, Read, ReadsListAndLogs, ReadsTexts, Reconciled, Reconciles, Reconciling, Reconciliation, RunFault, StopsBy, Write, logs_read_by, logs_up_to}
 use Rattle.vic_answer.specs.declared.reconcile.Reconciling.TheVariants as state
 use Rattle.vic_answer.specs.declared.ending.Ending.TheVariants.{ListRefusedAt, NotListedAt, RefusedAt, ImpossibleAt}
 use Rattle.vic_answer.proofs.CompleteRuns.{over}
 use Rattle.vic_answer.proofs.Reconciles.{answered_all, go_on_before, kept_go_on, log_at, log_of}
+
+-- ---- places of lists
+
+any_of : {R : Type 0} (xs : List R) (k : ℕ) → k < length xs → R
+any_of [] k lt = absurd (omega (arith, lt))
+any_of (x ∷ xs) k lt = x
+
+slice_get-take : {A : Type 0} (n : ℕ) (xs : List A) (k : ℕ) (x : A) → slice_get (take n xs) k ≡ Some x → slice_get xs k ≡ Some x
+slice_get-take zero xs k x is = absurd (omega (arith, slice_get_within [] k x is))
+slice_get-take (suc n) [] k x is = is
+slice_get-take (suc n) (y ∷ xs) zero x is = is
+slice_get-take (suc n) (y ∷ xs) (suc k) x is = slice_get-take n xs k x is
+
+module _ {R : Type 0} (old new : List R) (long : length new ≡ length old) where
+  holds_at : (k : ℕ) (P : R → R → Type 0) → k < length old → ((s : R) → P (get_or old k s) (get_or new k s)) → HoldsAt old new k P
+  holds_at k P lt h = let s = any_of old k lt in (get_or old k s, get_or new k s, slice_get-get_or old k s lt, slice_get-get_or new k s (omega (arith, lt, long)), h s)
+
+  are_read : (returned : R → List ℕ) (IsRead : R → List ℕ → Type 0) (texts : List (List ℕ)) → length texts ≤ length old
+      → ((k : ℕ) (s : R) → k < length texts → HasReadText returned IsRead (get_or old k s) (get_or new k s) (get_or texts k [])) → AreRead returned IsRead old new texts
+  are_read returned IsRead texts as_many each k text is =
+      let lt = slice_get_within texts k text is in
+      holds_at k _ (omega (arith, lt, as_many)) (λ s. subst (λ t. HasReadText returned IsRead (get_or old k s) (get_or new k s) t) (get_or_from_slice_get texts k text [] is) (each k s lt))
+
+  same_at : (k : ℕ) → ((s : R) → get_or new k s ≡ get_or old k s) → slice_get new k ≡ slice_get old k
+  same_at k h = elim (cases_lt k (length old)) [
+    | inl lt ↦ let s = any_of old k lt in slice_get-get_or new k s (omega (arith, lt, long)) ∙ ap Some (h s) ∙ sym (slice_get-get_or old k s lt)
+    | inr le ↦ slice_get_past new k (omega (arith, le, long)) ∙ sym (slice_get_past old k le)
+  ]
 
 -- ---- one source after another
 
@@ -87,13 +115,13 @@ module _ {R : Type 0} (reads : R → ℕ) (has_failed : R → Bool) (old new : L
   }
 
   -- none is read after this one
-  pub all_read : (returned : R → List ℕ) (IsRead : R → List ℕ → Type 0) (P Q : List (List ℕ) → Type 0) → at ≤ length old → AreLeft reads has_failed old new at → HaveRead returned IsRead old new at P
+  pub all_read : (returned : R → List ℕ) (IsRead : R → List ℕ → Type 0) (P Q : List (List ℕ) → Type 0) → at ≤ length old → length new ≡ length old → AreLeft reads has_failed old new at → HaveRead returned IsRead old new at P
       → ((texts : List (List ℕ)) → length texts ≡ at → P texts → Q texts) → ReadsTexts returned IsRead old new Q
-  all_read returned IsRead P Q le left h q = record {
+  all_read returned IsRead P Q le long left h q = record {
     texts = h.texts;
     as_many = omega (arith, le, h.as_many);
-    each = λ k s lt. h.each k s (omega (arith, lt, h.as_many));
-    others = λ k s above. left.others k s (omega (arith, above, h.as_many));
+    each = are_read old new long returned IsRead h.texts (omega (arith, le, h.as_many)) (λ k s lt. h.each k s (omega (arith, lt, h.as_many)));
+    others = λ k above. same_at old new long k (λ s. left.others k s (omega (arith, above, h.as_many)));
     holds = q h.texts h.as_many h.holds;
   }
 
@@ -135,18 +163,19 @@ module _ {R : Type 0} (returned : R → List ℕ) (ended has_failed : R → Bool
       → StopsBy returned ended has_failed (λ texts. GoOn (list ∷ texts)) old (set new at after) e
   stops_at_log r reads list joined old new at d after e is lt long left h leaves cut =
       let go_on = kept_go_on list h.texts joined h.holds in
+      let long' : length (set new at after) ≡ length old = length-set new at after ∙ long in
       record {
         texts = h.texts;
         one_more = omega (arith, h.as_many, lt, long);
-        each = λ k s below.
+        each = are_read old (set new at after) long' returned (IsReadToEnd ended has_failed) h.texts (omega (arith, h.as_many, lt, long)) (λ k s below.
             let less : k < at = omega (arith, below, h.as_many) in
             let was = h.each k s less in
-            let log = log_of (list ∷ h.texts) (suc k) go_on (omega (arith, below)) in
-            rw (get_or-set_other new at k after s (λ e. omega (arith, e, less))) (was.0, over_and_works (get_or new k s) (get_or h.texts k []) log.0 log.1 was.1);
+            let log = log_of (list ∷ h.texts) (suc k) (get_or h.texts k []) go_on (slice_get-get_or h.texts k [] below) in
+            rw (get_or-set_other new at k after s (λ e. omega (arith, e, less))) (was.0, over_and_works (get_or new k s) (get_or h.texts k []) log.0 log.1 was.1));
         go_on = go_on;
-        last = λ s. subst (λ n. IsLast returned has_failed e (get_or old n s) (get_or (set new at after) n s)) (sym h.as_many)
-            (rw (get_or-set_same new at after s lt) (subst (λ b. IsLast returned has_failed e b after) (next_is reads has_failed old new at d s lt left) (is_last e (get_or new at d) after (rw is at leaves.read) cut)));
-        others = λ k s above. get_or-set_other new at k after s (λ e. omega (arith, e, above, h.as_many)) ∙ left.others k s (omega (arith, above, h.as_many));
+        last = holds_at old (set new at after) long' (length h.texts) _ (omega (arith, h.as_many, lt, long)) (λ s. subst (λ n. IsLast returned has_failed e (get_or old n s) (get_or (set new at after) n s)) (sym h.as_many)
+            (rw (get_or-set_same new at after s lt) (subst (λ b. IsLast returned has_failed e b after) (next_is reads has_failed old new at d s lt left) (is_last e (get_or new at d) after (rw is at leaves.read) cut))));
+        others = λ k above. same_at old (set new at after) long' k (λ s. get_or-set_other new at k after s (λ e. omega (arith, e, above, h.as_many)) ∙ left.others k s (omega (arith, above, h.as_many)));
       }
 
   module _ (list list' : R) (logs logs' : List R) where
@@ -156,15 +185,15 @@ module _ {R : Type 0} (returned : R → List ℕ) (ended has_failed : R → Bool
     stops_at_list r reads e is leaves cut = record {
       texts = [];
       one_more = omega arith;
-      each = λ k s lt. absurd (omega (arith, lt));
+      each = λ k text is. absurd (omega (arith, slice_get_within [] k text is));
       go_on = tt;
-      last = λ s. is_last e list list' (rw is at leaves.read) cut;
+      last = (list, list', refl, refl, is_last e list list' (rw is at leaves.read) cut);
       others = others;
     }
       where
-        others : (k : ℕ) (s : R) → 0 < k → get_or (list' ∷ logs) k s ≡ get_or (list ∷ logs) k s
-        others zero s lt = absurd (omega (arith, lt))
-        others (suc k) s lt = refl
+        others : (k : ℕ) → 0 < k → slice_get (list' ∷ logs) k ≡ slice_get (list ∷ logs) k
+        others zero lt = absurd (omega (arith, lt))
+        others (suc k) lt = refl
 
     -- behind the list, a log's source is the last that is read
     pub stops_behind_list : (e : RunFault) (text : List ℕ) → HasReadText returned (IsAnswerable ended has_failed) list list' text
@@ -179,13 +208,16 @@ module _ {R : Type 0} (returned : R → List ℕ) (ended has_failed : R → Bool
       others = others;
     }
       where
-        each : (k : ℕ) (s : R) → k < length (text ∷ h.texts) → HasReadText returned (IsReadToEnd ended has_failed) (get_or (list ∷ logs) k s) (get_or (list' ∷ logs') k s) (get_or (text ∷ h.texts) k [])
-        each zero s lt = let log = log_of (text ∷ h.texts) 0 h.go_on lt in (read.0, over_and_works list' text log.0 log.1 read.1)
-        each (suc k) s lt = h.each k s (omega (arith, lt))
+        each : AreRead returned (IsReadToEnd ended has_failed) (list ∷ logs) (list' ∷ logs') (text ∷ h.texts)
+        each zero t is =
+            let log = log_of (text ∷ h.texts) 0 t h.go_on is in
+            let now : HasReadText returned (IsAnswerable ended has_failed) list list' t = subst (λ x. HasReadText returned (IsAnswerable ended has_failed) list list' x) (cc is) read in
+            (list, list', refl, refl, (now.0, over_and_works list' t log.0 log.1 now.1))
+        each (suc k) t is = h.each k t is
 
-        others : (k : ℕ) (s : R) → length (text ∷ h.texts) < k → get_or (list' ∷ logs') k s ≡ get_or (list ∷ logs) k s
-        others zero s lt = absurd (omega (arith, lt))
-        others (suc k) s lt = h.others k s (omega (arith, lt))
+        others : (k : ℕ) → length (text ∷ h.texts) < k → slice_get (list' ∷ logs') k ≡ slice_get (list ∷ logs) k
+        others zero lt = absurd (omega (arith, lt))
+        others (suc k) lt = h.others k (omega (arith, lt))
 
     -- all sources that an answer needs were read
     pub stops_answered : (e : RunFault) (text : List ℕ) (read : Reconciling) → e ≢ Read → HasReadText returned (IsAnswerable ended has_failed) list list' text
@@ -194,10 +226,10 @@ module _ {R : Type 0} (returned : R → List ℕ) (ended has_failed : R → Bool
     stops_answered e text read other first h = record {
       texts = before;
       one_more = omega (arith, long, h.as_many);
-      each = λ k s lt. each_at k s (omega (arith, lt, long));
+      each = each;
       go_on = go_on;
-      last = λ s. subst (λ m. IsLast returned has_failed e (get_or (list ∷ logs) m s) (get_or (list' ∷ logs') m s)) (sym long) (works_last e _ _ other (read_at n s (omega arith)).1.1);
-      others = λ k s lt. others_at k s (omega (arith, lt, long));
+      last = subst (λ m. HoldsAt (list ∷ logs) (list' ∷ logs') m (IsLast returned has_failed e)) (sym long) (last n (omega arith));
+      others = λ k lt. others k (omega (arith, lt, long));
     }
       where
         n : ℕ
@@ -215,20 +247,24 @@ module _ {R : Type 0} (returned : R → List ℕ) (ended has_failed : R → Bool
         go_on : GoOn before
         go_on = go_on_before text h.texts read (length logs) n refl h.holds.0 h.holds.1
 
-        read_at : (k : ℕ) (s : R) → k ≤ n → HasReadText returned (IsAnswerable ended has_failed) (get_or (list ∷ logs) k s) (get_or (list' ∷ logs') k s) (get_or all k [])
-        read_at zero s le = first
-        read_at (suc k) s le = h.each k s (omega (arith, le))
+        read_at : AreRead returned (IsAnswerable ended has_failed) (list ∷ logs) (list' ∷ logs') all
+        read_at zero t is = (list, list', refl, refl, subst (λ x. HasReadText returned (IsAnswerable ended has_failed) list list' x) (cc is) first)
+        read_at (suc k) t is = h.each k t is
 
-        each_at : (k : ℕ) (s : R) → k < n → HasReadText returned (IsReadToEnd ended has_failed) (get_or (list ∷ logs) k s) (get_or (list' ∷ logs') k s) (get_or before k [])
-        each_at k s lt =
-            let log = log_of before k go_on (omega (arith, lt, long)) in
-            let was = read_at k s (omega (arith, lt)) in
-            let here = get_or-take n all k [] lt in
-            rw here (was.0, over_and_works (get_or (list' ∷ logs') k s) (get_or all k []) log.0 (subst (λ t. HasLog t log.0) here log.1) was.1)
+        each : AreRead returned (IsReadToEnd ended has_failed) (list ∷ logs) (list' ∷ logs') before
+        each k t is =
+            let log = log_of before k t go_on is in
+            let was = read_at k t (slice_get-take n all k t is) in
+            (was.0, was.1, was.2, was.3, (was.4.0, over_and_works was.1 t log.0 log.1 was.4.1))
 
-        others_at : (k : ℕ) (s : R) → n < k → get_or (list' ∷ logs') k s ≡ get_or (list ∷ logs) k s
-        others_at zero s lt = absurd (omega (arith, lt))
-        others_at (suc k) s lt = h.others k s (omega (arith, lt))
+        last : (k : ℕ) → k ≤ n → HoldsAt (list ∷ logs) (list' ∷ logs') k (IsLast returned has_failed e)
+        last k le =
+            let was = read_at k (get_or all k []) (slice_get-get_or all k [] (omega (arith, le))) in
+            (was.0, was.1, was.2, was.3, works_last e _ _ other was.4.1.1)
+
+        others : (k : ℕ) → n < k → slice_get (list' ∷ logs') k ≡ slice_get (list ∷ logs) k
+        others zero lt = absurd (omega (arith, lt))
+        others (suc k) lt = h.others k (omega (arith, lt))
 
 -- what holds of a fault holds of the result that passes it on
 pub if_err : {A E : Type 0} (r : Result A E) (fault : E) (P : E → Type 0) → IsErrAnd r (λ e. e ≡ fault) → P fault → IfErr r P
@@ -274,10 +310,10 @@ module _ {R : Type 0} (returned : R → List ℕ) (ended has_failed : R → Bool
         logs_read = record {
           texts = l.texts;
           as_many = l.as_many;
-          each = λ k s lt.
-              let h = l.each k s lt in
-              let log = log_at l.texts c.0.logs k c.0.are_logs lt in
-              (h.0, over _ _ log.0 log.1 h.1.0);
+          each = λ k text is.
+              let h = l.each k text is in
+              let log = log_at l.texts c.0.logs k text c.0.are_logs is in
+              (h.0, h.1, h.2, h.3, (h.4.0, over _ text log.0 log.1 h.4.1.0));
           others = l.others;
           holds = c;
         };

@@ -10,6 +10,7 @@ pub use Rattle.std.proofs.lemmas.List.Concat.{flat_map-append}
 pub use Rattle.std.proofs.lemmas.List.FromFn.{fill_by_all}
 pub use Rattle.std.proofs.lemmas.List.Elements.{All-cons, All-head, All-nil, All-tail}
 pub use Rattle.std.proofs.lemmas.Nat.{from_be_bytes-to_be_bytes_8}
+pub use Rattle.std.proofs.lemmas.Option.{get_or_from_slice_get, slice_get-get_or, slice_get_past, slice_get_within}
 pub use Rattle.std.proofs.lemmas.Result.{IfOk-weaker}
 pub use Rattle.std.proofs.lemmas.Slice.Eq.{bytes_eq-Decides}
 pub use Rattle.std.proofs.lemmas.Slice.Zip.{AllZip-long, all_zipped_more}
@@ -74,7 +75,7 @@ pub use Rattle.vic_answer.specs.CheckText.{BeginsAsCheck, IsAnswer, IsAnswerText
 pub use Rattle.vic_answer.specs.Digits.{hex_bytes, value_text}
 pub use Rattle.vic_answer.specs.ExplainText.{IsExplanationOf, explained_text, population_line, population_of}
 pub use Rattle.vic_answer.specs.FrameText.{reply_words, request_words}
-pub use Rattle.vic_answer.specs.ReconcileRun.{HasReadText, IsAnswerable, IsLast, IsReadToEnd, ReadsListAndLogs, ReadsTexts, Reconciles, StopsAtSource, StopsBy, WritesAnswer, logs_for, logs_up_to}
+pub use Rattle.vic_answer.specs.ReconcileRun.{AreRead, HasReadText, HoldsAt, IsAnswerable, IsLast, IsReadToEnd, ReadsListAndLogs, ReadsTexts, Reconciles, StopsAtSource, StopsBy, WritesAnswer, logs_for, logs_up_to}
 pub use Rattle.vic_answer.specs.ReconcileText.{all_masks_text, doubtful_text, ending_text, masks_text, open_text, reconciled_status, reconciled_text, unlisted_text}
 pub use Rattle.vic_answer.specs.Reconciled.{AreComplete, EndsAt, GoOn, HasList, HasPossibleLog, IsReconciled, lines_of}
 pub use Rattle.vic_answer.specs.Findings.{report_findings}
