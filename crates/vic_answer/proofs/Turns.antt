@@ -1,5 +1,5 @@
 -- Sources are read in turn.
-use Rattle.vic_answer.proofs.Words.{◌≡◌, ◌≢◌, ◌↔◌, ℕ, zero, suc, ◌+◌, ◌<◌, ◌≤◌, List, [], ◌∷◌, ◌++◌, length, length-set, take, slice_get, slice_get-get_or, slice_get_past, slice_get_within, get_or_from_slice_get, Some, get_or, set, Bool, true, false, Err, IfErr, IsErrAnd, Ok, Result, refl, sym, ap, subst, ◌∙◌, arith, cases_lt, cases_order, get_or-append_seam, get_or-set_other, get_or-set_same, get_or_append_left, get_or_default, inl, inr, length-append, length-take-le, AllZip, Grows, LogValue, AreComplete, Ended, Ending, GivesNoEarlyFault, GoOn, HasLog, AreRead, HasReadText, HoldsAt, IsAnswerable, IsKept, IsLast, IsReadToEnd, IsReadWithin, IsReconciled, IsReconciling, LeavesSource, Memory, Read, ReadsListAndLogs, ReadsTexts, Reconciled, Reconciles, Reconciling, Reconciliation, RunFault, StopsBy, Write, logs_read_by, logs_up_to}
+use Rattle.vic_answer.proofs.Words.{◌≡◌, ◌≢◌, ◌↔◌, ℕ, zero, suc, ◌+◌, ◌<◌, ◌≤◌, List, [], ◌∷◌, ◌++◌, length, take, slice_get, slice_get-get_or, slice_get_within, get_or_from_slice_get, Some, get_or, set, Bool, true, false, Err, IfErr, IsErrAnd, Ok, Result, refl, sym, ap, subst, ◌∙◌, arith, cases_lt, cases_order, get_or-set_other, get_or-set_same, inl, inr, length-append, length-take-le, AllZip, Grows, LogValue, AreComplete, Ended, Ending, GivesNoEarlyFault, GoOn, HasLog, AreRead, HasReadText, HoldsAt, IsAnswerable, IsKept, IsLast, IsReadToEnd, IsReadWithin, IsReconciled, IsReconciling, LeavesSource, Memory, Read, ReadsListAndLogs, ReadsTexts, Reconciled, Reconciles, Reconciling, Reconciliation, RunFault, StopsBy, Write, logs_read_by, logs_up_to, slice_get-append, slice_get_seam}
 use Rattle.vic_answer.specs.declared.reconcile.Reconciling.TheVariants as state
 use Rattle.vic_answer.specs.declared.ending.Ending.TheVariants.{ListRefusedAt, NotListedAt, RefusedAt, ImpossibleAt}
 use Rattle.vic_answer.proofs.CompleteRuns.{over}
@@ -7,44 +7,36 @@ use Rattle.vic_answer.proofs.Reconciles.{answered_all, go_on_before, kept_go_on,
 
 -- ---- places of lists
 
-any_of : {R : Type 0} (xs : List R) (k : ℕ) → k < length xs → R
-any_of [] k lt = absurd (omega (arith, lt))
-any_of (x ∷ xs) k lt = x
-
 slice_get-take : {A : Type 0} (n : ℕ) (xs : List A) (k : ℕ) (x : A) → slice_get (take n xs) k ≡ Some x → slice_get xs k ≡ Some x
 slice_get-take zero xs k x is = absurd (omega (arith, slice_get_within [] k x is))
 slice_get-take (suc n) [] k x is = is
 slice_get-take (suc n) (y ∷ xs) zero x is = is
 slice_get-take (suc n) (y ∷ xs) (suc k) x is = slice_get-take n xs k x is
 
-module _ {R : Type 0} (old new : List R) (long : length new ≡ length old) where
-  holds_at : (k : ℕ) (P : R → R → Type 0) → k < length old → ((s : R) → P (get_or old k s) (get_or new k s)) → HoldsAt old new k P
-  holds_at k P lt h = let s = any_of old k lt in (get_or old k s, get_or new k s, slice_get-get_or old k s lt, slice_get-get_or new k s (omega (arith, lt, long)), h s)
+slice_get-set_same : {A : Type 0} (xs : List A) (i : ℕ) (x : A) → i < length xs → slice_get (set xs i x) i ≡ Some x
+slice_get-set_same [] i x lt = absurd (omega (arith, lt))
+slice_get-set_same (y ∷ xs) zero x lt = refl
+slice_get-set_same (y ∷ xs) (suc i) x lt = slice_get-set_same xs i x (omega (arith, lt))
 
-  are_read : (returned : R → List ℕ) (IsRead : R → List ℕ → Type 0) (texts : List (List ℕ)) → length texts ≤ length old
-      → ((k : ℕ) (s : R) → k < length texts → HasReadText returned IsRead (get_or old k s) (get_or new k s) (get_or texts k [])) → AreRead returned IsRead old new texts
-  are_read returned IsRead texts as_many each k text is =
-      let lt = slice_get_within texts k text is in
-      holds_at k _ (omega (arith, lt, as_many)) (λ s. subst (λ t. HasReadText returned IsRead (get_or old k s) (get_or new k s) t) (get_or_from_slice_get texts k text [] is) (each k s lt))
-
-  same_at : (k : ℕ) → ((s : R) → get_or new k s ≡ get_or old k s) → slice_get new k ≡ slice_get old k
-  same_at k h = elim (cases_lt k (length old)) [
-    | inl lt ↦ let s = any_of old k lt in slice_get-get_or new k s (omega (arith, lt, long)) ∙ ap Some (h s) ∙ sym (slice_get-get_or old k s lt)
-    | inr le ↦ slice_get_past new k (omega (arith, le, long)) ∙ sym (slice_get_past old k le)
-  ]
+slice_get-set_other : {A : Type 0} (xs : List A) (i k : ℕ) (x : A) → (k ≡ i → ⊥) → slice_get (set xs i x) k ≡ slice_get xs k
+slice_get-set_other [] i k x ne = refl
+slice_get-set_other (y ∷ xs) zero zero x ne = absurd (ne refl)
+slice_get-set_other (y ∷ xs) zero (suc k) x ne = refl
+slice_get-set_other (y ∷ xs) (suc i) zero x ne = refl
+slice_get-set_other (y ∷ xs) (suc i) (suc k) x ne = slice_get-set_other xs i k x (λ e. ne (ap suc e))
 
 -- ---- one source after another
 
 -- the sources from this one on are untouched, and each was read at most so many times
 pub record AreLeft {R : Type 0} (reads : R → ℕ) (has_failed : R → Bool) (old new : List R) (at : ℕ) : Type 0 where
-  pub others : (k : ℕ) (s : R) → at ≤ k → get_or new k s ≡ get_or old k s
+  pub others : (k : ℕ) → at ≤ k → slice_get new k ≡ slice_get old k
   pub within : (k : ℕ) (s : R) → IsReadWithin reads has_failed (get_or old k s) (get_or new k s)
 
 -- the sources before this one were read, and this holds of their texts
 pub record HaveRead {R : Type 0} (returned : R → List ℕ) (IsRead : R → List ℕ → Type 0) (old new : List R) (at : ℕ) (P : List (List ℕ) → Type 0) : Type 0 where
   pub texts : List (List ℕ)
   pub as_many : length texts ≡ at
-  pub each : (k : ℕ) (s : R) → k < at → HasReadText returned IsRead (get_or old k s) (get_or new k s) (get_or texts k [])
+  pub each : AreRead returned IsRead old new texts
   pub holds : P texts
 
 pub within_same : {R : Type 0} (reads : R → ℕ) (has_failed : R → Bool) (s : R) → IsReadWithin reads has_failed s s
@@ -60,11 +52,11 @@ none_before list (state.Ended (ImpossibleAt k line)) h = cc h.1.2
 
 -- none is read yet
 pub none_left : {R : Type 0} (reads : R → ℕ) (has_failed : R → Bool) (old : List R) → AreLeft reads has_failed old old 0
-none_left reads has_failed old = record { others = λ k s le. refl; within = λ k s. within_same reads has_failed (get_or old k s) }
+none_left reads has_failed old = record { others = λ k le. refl; within = λ k s. within_same reads has_failed (get_or old k s) }
 
 pub none_read : {R : Type 0} (returned : R → List ℕ) (IsRead : R → List ℕ → Type 0) (old : List R) (list : List ℕ) (begun : Reconciling) → IsReconciling list [] begun
     → HaveRead returned IsRead old old 0 (λ texts. IsReconciling list texts begun × (length texts ≡ logs_read_by begun 0))
-none_read returned IsRead old list begun h = record { texts = []; as_many = refl; each = λ k s lt. absurd (omega (arith, lt)); holds = (h, none_before list begun h) }
+none_read returned IsRead old list begun h = record { texts = []; as_many = refl; each = λ k text is. absurd (omega (arith, slice_get_within [] k text is)); holds = (h, none_before list begun h) }
 
 -- what is said of a log that was read, where its text ends the run or not
 pub now_ending : (texts : List (List ℕ)) (text : List ℕ) (read : Reconciling) (at : ℕ) → length texts ≡ at → ((e : Ending) → read ≡ state.Ended e → logs_up_to e ≡ length texts + 1) → length (texts ++ text ∷ []) ≡ logs_read_by read (at + 1)
@@ -77,17 +69,17 @@ all_ending read texts at logs h e = h ∙ ap (logs_read_by read) e
 
 module _ {R : Type 0} (reads : R → ℕ) (has_failed : R → Bool) (old new : List R) (at : ℕ) where
   -- the source that is read next
-  next_is : (d s : R) → at < length new → AreLeft reads has_failed old new at → get_or new at d ≡ get_or old at s
-  next_is d s lt h = get_or_default new at d s lt ∙ h.others at s (omega arith)
+  next_is : (d : R) → at < length new → AreLeft reads has_failed old new at → slice_get old at ≡ Some (get_or new at d)
+  next_is d lt h = sym (h.others at (omega arith)) ∙ slice_get-get_or new at d lt
 
   -- one more is read
   pub one_more_left : (d after : R) → at < length new → AreLeft reads has_failed old new at
       → IsReadWithin reads has_failed (get_or new at d) after → AreLeft reads has_failed old (set new at after) (at + 1)
   one_more_left d after lt h leaves = record {
-    others = λ k s above. get_or-set_other new at k after s (λ e. omega (arith, e, above)) ∙ h.others k s (omega (arith, above));
+    others = λ k above. slice_get-set_other new at k after (λ e. omega (arith, e, above)) ∙ h.others k (omega (arith, above));
     within = λ k s. elim (cases_order k at) [
       | inl same ↦ subst (λ n. IsReadWithin reads has_failed (get_or old n s) (get_or (set new at after) n s)) (sym same)
-          (rw (get_or-set_same new at after s lt) (subst (λ b. IsReadWithin reads has_failed b after) (next_is d s lt h) leaves))
+          (rw (get_or-set_same new at after s lt) (subst (λ b. IsReadWithin reads has_failed b after) (sym (get_or_from_slice_get old at (get_or new at d) s (next_is d lt h))) leaves))
       | inr (inl less) ↦ rw (get_or-set_other new at k after s (λ e. omega (arith, e, less))) (h.within k s)
       | inr (inr more) ↦ rw (get_or-set_other new at k after s (λ e. omega (arith, e, more))) (h.within k s)
     ];
@@ -101,27 +93,27 @@ module _ {R : Type 0} (reads : R → ℕ) (has_failed : R → Bool) (old new : L
   one_more returned IsRead d after P Q lt left h text read q = record {
     texts = h.texts ++ text ∷ [];
     as_many = omega (arith, h.as_many, length-append h.texts (text ∷ []));
-    each = λ k s below. elim (cases_lt k at) [
-      | inl less ↦ rw (get_or-set_other new at k after s (λ e. omega (arith, e, less)), get_or_append_left h.texts (text ∷ []) [] k (omega (arith, less, h.as_many))) (h.each k s less)
+    each = λ k t is. elim (cases_lt k at) [
+      | inl less ↦
+          let was = h.each k t (slice_get-append h.texts (text ∷ []) k (omega (arith, less, h.as_many)) ∙ is) in
+          (was.0, was.1, was.2, slice_get-set_other new at k after (λ e. omega (arith, e, less)) ∙ was.3, was.4)
       | inr le ↦
-          let same : k ≡ at = omega (arith, le, below) in
-          subst (λ n. HasReadText returned IsRead (get_or old n s) (get_or (set new at after) n s) (get_or (h.texts ++ text ∷ []) n [])) (sym same) (
-          let now : get_or (set new at after) at s ≡ after = get_or-set_same new at after s lt in
-          let last = subst (λ n. get_or (h.texts ++ text ∷ []) n [] ≡ text) h.as_many (get_or-append_seam h.texts text [] []) in
-          rw (now, last) (subst (λ b. HasReadText returned IsRead b after text) (next_is d s lt left) read)
-          )
+          let same : k ≡ length h.texts = omega (arith, le, h.as_many, slice_get_within (h.texts ++ text ∷ []) k t is, length-append h.texts (text ∷ [])) in
+          let last : text ≡ t = cc (slice_get_seam h.texts text [], is, same) in
+          subst (λ n. HoldsAt old (set new at after) n (λ s s'. HasReadText returned IsRead s s' t)) (sym (same ∙ h.as_many))
+          (get_or new at d, after, next_is d lt left, slice_get-set_same new at after lt, subst (λ x. HasReadText returned IsRead (get_or new at d) after x) last read)
     ];
     holds = q h.texts h.holds;
   }
 
   -- none is read after this one
-  pub all_read : (returned : R → List ℕ) (IsRead : R → List ℕ → Type 0) (P Q : List (List ℕ) → Type 0) → at ≤ length old → length new ≡ length old → AreLeft reads has_failed old new at → HaveRead returned IsRead old new at P
+  pub all_read : (returned : R → List ℕ) (IsRead : R → List ℕ → Type 0) (P Q : List (List ℕ) → Type 0) → at ≤ length old → AreLeft reads has_failed old new at → HaveRead returned IsRead old new at P
       → ((texts : List (List ℕ)) → length texts ≡ at → P texts → Q texts) → ReadsTexts returned IsRead old new Q
-  all_read returned IsRead P Q le long left h q = record {
+  all_read returned IsRead P Q le left h q = record {
     texts = h.texts;
     as_many = omega (arith, le, h.as_many);
-    each = are_read old new long returned IsRead h.texts (omega (arith, le, h.as_many)) (λ k s lt. h.each k s (omega (arith, lt, h.as_many)));
-    others = λ k above. same_at old new long k (λ s. left.others k s (omega (arith, above, h.as_many)));
+    each = h.each;
+    others = λ k above. left.others k (omega (arith, above, h.as_many));
     holds = q h.texts h.as_many h.holds;
   }
 
@@ -163,19 +155,18 @@ module _ {R : Type 0} (returned : R → List ℕ) (ended has_failed : R → Bool
       → StopsBy returned ended has_failed (λ texts. GoOn (list ∷ texts)) old (set new at after) e
   stops_at_log r reads list joined old new at d after e is lt long left h leaves cut =
       let go_on = kept_go_on list h.texts joined h.holds in
-      let long' : length (set new at after) ≡ length old = length-set new at after ∙ long in
       record {
         texts = h.texts;
         one_more = omega (arith, h.as_many, lt, long);
-        each = are_read old (set new at after) long' returned (IsReadToEnd ended has_failed) h.texts (omega (arith, h.as_many, lt, long)) (λ k s below.
-            let less : k < at = omega (arith, below, h.as_many) in
-            let was = h.each k s less in
-            let log = log_of (list ∷ h.texts) (suc k) (get_or h.texts k []) go_on (slice_get-get_or h.texts k [] below) in
-            rw (get_or-set_other new at k after s (λ e. omega (arith, e, less))) (was.0, over_and_works (get_or new k s) (get_or h.texts k []) log.0 log.1 was.1));
+        each = λ k text is.
+            let below = slice_get_within h.texts k text is in
+            let was = h.each k text is in
+            let log = log_of (list ∷ h.texts) (suc k) text go_on is in
+            (was.0, was.1, was.2, slice_get-set_other new at k after (λ e. omega (arith, e, below, h.as_many)) ∙ was.3, (was.4.0, over_and_works was.1 text log.0 log.1 was.4.1));
         go_on = go_on;
-        last = holds_at old (set new at after) long' (length h.texts) _ (omega (arith, h.as_many, lt, long)) (λ s. subst (λ n. IsLast returned has_failed e (get_or old n s) (get_or (set new at after) n s)) (sym h.as_many)
-            (rw (get_or-set_same new at after s lt) (subst (λ b. IsLast returned has_failed e b after) (next_is reads has_failed old new at d s lt left) (is_last e (get_or new at d) after (rw is at leaves.read) cut))));
-        others = λ k above. same_at old (set new at after) long' k (λ s. get_or-set_other new at k after s (λ e. omega (arith, e, above, h.as_many)) ∙ left.others k s (omega (arith, above, h.as_many)));
+        last = subst (λ n. HoldsAt old (set new at after) n (IsLast returned has_failed e)) (sym h.as_many)
+            (get_or new at d, after, next_is reads has_failed old new at d lt left, slice_get-set_same new at after lt, is_last e (get_or new at d) after (rw is at leaves.read) cut);
+        others = λ k above. slice_get-set_other new at k after (λ e. omega (arith, e, above, h.as_many)) ∙ left.others k (omega (arith, above, h.as_many));
       }
 
   module _ (list list' : R) (logs logs' : List R) where

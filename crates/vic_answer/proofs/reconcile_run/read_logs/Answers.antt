@@ -25,7 +25,7 @@ loop-at-preserved g c =
 
 pub returns-in-Ended-clause-texts : goal.returns-in-Ended-clause-texts
 returns-in-Ended-clause-texts g c list h =
-    all_read _ _ _ _ _ _ _ (λ texts. IsReconciling list texts c.loop-at.read × (length texts ≡ logs_read_by c.loop-at.read c.loop-at.at)) _ c.loop-at.auto.at-end c.loop-at.auto.logs c.loop-at.invariant.left (c.loop-at.invariant.read list h)
+    all_read _ _ _ _ _ _ _ (λ texts. IsReconciling list texts c.loop-at.read × (length texts ≡ logs_read_by c.loop-at.read c.loop-at.at)) _ c.loop-at.auto.at-end c.loop-at.invariant.left (c.loop-at.invariant.read list h)
     (λ texts e p. rw c.in-Ended.is at p)
 
 pub returns-in-Ended-clause-leaves_sources : goal.returns-in-Ended-clause-leaves_sources
@@ -55,5 +55,5 @@ returns-clause-leaves_sources g c = all_places _ _ _ c.loop-at.auto.logs c.loop-
 
 pub returns-clause-texts : goal.returns-clause-texts
 returns-clause-texts g c list h =
-    all_read _ _ _ _ _ _ _ (λ texts. IsReconciling list texts c.loop-at.read × (length texts ≡ logs_read_by c.loop-at.read c.loop-at.at)) _ c.loop-at.auto.at-end c.loop-at.auto.logs c.loop-at.invariant.left (c.loop-at.invariant.read list h)
+    all_read _ _ _ _ _ _ _ (λ texts. IsReconciling list texts c.loop-at.read × (length texts ≡ logs_read_by c.loop-at.read c.loop-at.at)) _ c.loop-at.auto.at-end c.loop-at.invariant.left (c.loop-at.invariant.read list h)
     (λ texts e p. (p.0, all_ending c.loop-at.read (length texts) c.loop-at.at _ p.1 (omega (arith, c.loop-at-test.false, c.loop-at.auto.at-end))))
