@@ -6,23 +6,10 @@ ghost use Rattle.vic_answer.specs.FindingNumbers as spec;
 
 use crate::answered::Answered;
 use crate::findings::{Finding, findings_in};
+use crate::numbers::Kind;
 use std::alloc::{AllocError, Global};
 use vic_frame::Mask;
 use vic_report::LogReport;
-
-/// The kind of a finding in numbers. The first four have the numbers of the answers that say the
-/// same.
-#[derive(Clone, Copy, Debug, PartialEq, Eq)]
-pub(crate) enum FindingKind {
-    Absent = 2,
-    Unlisted = 3,
-    Unsettled = 4,
-    Doubtful = 5,
-    OpenMask = 8,
-    MoreOpenMasks = 9,
-    ConflictLine = 10,
-    SilencedBy = 11,
-}
 
 /// A finding in numbers. Fields that the kind doesn't use are 0.
 ///
@@ -90,27 +77,27 @@ pub(crate) fn finding_numbers(finding: &Finding) -> VicinityFinding
 {
     match *finding {
         Finding::Absent(shown) => VicinityFinding {
-            kind: FindingKind::Absent as u32,
+            kind: Kind::Absent as u32,
             line: shown.line,
             uid: shown.uid.number(),
             ..NO_FINDING
         },
         Finding::Unlisted(shown) => VicinityFinding {
-            kind: FindingKind::Unlisted as u32,
+            kind: Kind::Unlisted as u32,
             line: shown.line,
             uid: shown.uid.number(),
             ..NO_FINDING
         },
-        Finding::Unsettled(mask) => mask_finding(FindingKind::Unsettled as u32, &mask),
+        Finding::Unsettled(mask) => mask_finding(Kind::Unsettled as u32, &mask),
         Finding::Doubtful(uid) => VicinityFinding {
-            kind: FindingKind::Doubtful as u32,
+            kind: Kind::Doubtful as u32,
             uid: uid.number(),
             ..NO_FINDING
         },
-        Finding::OpenMask(mask) => mask_finding(FindingKind::OpenMask as u32, &mask),
-        Finding::MoreOpenMasks => line_finding(FindingKind::MoreOpenMasks as u32, 0),
-        Finding::ConflictLine(line) => line_finding(FindingKind::ConflictLine as u32, line),
-        Finding::SilencedBy(line) => line_finding(FindingKind::SilencedBy as u32, line),
+        Finding::OpenMask(mask) => mask_finding(Kind::OpenMask as u32, &mask),
+        Finding::MoreOpenMasks => line_finding(Kind::MoreOpenMasks as u32, 0),
+        Finding::ConflictLine(line) => line_finding(Kind::ConflictLine as u32, line),
+        Finding::SilencedBy(line) => line_finding(Kind::SilencedBy as u32, line),
     }
 }
 

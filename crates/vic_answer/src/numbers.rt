@@ -12,7 +12,7 @@ use crate::status::Status;
 use crate::text::LINE_ROOM;
 use vic_verdict::Verdict;
 
-/// The kind of an answer in numbers.
+/// The kind of an answer or of a finding in numbers; from 2 to 5 it is that of both.
 #[derive(Clone, Copy, Debug, PartialEq, Eq)]
 pub(crate) enum Kind {
     /// No answer: memory was refused.
@@ -24,6 +24,10 @@ pub(crate) enum Kind {
     Doubtful = 5,
     Impossible = 6,
     Refused = 7,
+    OpenMask = 8,
+    MoreOpenMasks = 9,
+    ConflictLine = 10,
+    SilencedBy = 11,
     /// The UIDs of a list: no answer to a log.
     Listed = 12,
 }

@@ -5,8 +5,9 @@ ghost use Rattle.vic_answer.specs.FindingNumbers.{finding};
 ghost use Rattle.vic_answer.specs.SurveyNumbers as spec;
 
 use crate::answered::Answer;
-use crate::finding_numbers::{FindingKind, NO_FINDING, VicinityFinding, finding_numbers};
+use crate::finding_numbers::{NO_FINDING, VicinityFinding, finding_numbers};
 use crate::findings::Finding;
+use crate::numbers::Kind;
 use std::alloc::{AllocError, Global};
 use vic_frame::Uid;
 use vic_reconcile::PlainFindings;
@@ -48,12 +49,12 @@ pub fn plain_findings(
     ensures { IfOk result (λ list. list.items ≡ spec.plain_findings findings.now) }
 {
     let mut list = Vec::new(alloc);
-    push_uids(&mut list, FindingKind::Absent as u32, &findings.absent)?;
-    push_uids(&mut list, FindingKind::Unlisted as u32, &findings.unlisted)?;
+    push_uids(&mut list, Kind::Absent as u32, &findings.absent)?;
+    push_uids(&mut list, Kind::Unlisted as u32, &findings.unlisted)?;
     if let Some(mask) = findings.unsettled {
         list.push(finding_numbers(&Finding::Unsettled(mask)))?;
     }
-    push_uids(&mut list, FindingKind::Doubtful as u32, &findings.doubtful)?;
+    push_uids(&mut list, Kind::Doubtful as u32, &findings.doubtful)?;
     Ok(list)
 }
 
