@@ -1,15 +1,17 @@
 -- Answers that begin with the line of `check`, and which of them with `complete `.
-use Rattle.vic_answer.proofs.Words.{◌≡◌, ℕ, List, [], ◌∷◌, ◌++◌, ap, append_assoc, append-nil, arith, refl, subst, sym, ◌∙◌, codes, decimal, Option, Some, None, MatchOption, flat_map, option_map, LogLine, Impossible, Absent, Unlisted, Unsettled, Doubtful, Complete, BeginsAsCheck, IsAnswer, IsAnswerText, IsCheckOf, IsCompleteText, answer_line, answer_status, verdict_line, Status, Entry, IsReport, verdict_by, verdict_of, uids_of, LogReport, ShownUid, report_begins, none_where_complete, IsPopulationBehind, IsShownByNone, Shows, Verdict, complete_whole, complete_second, complete_third, Answered, Judged, RefusedAt, IsAnswered, answer_of, IsVerdict, Explanation, IsExplanation, Margin, get_or}
+use Rattle.vic_answer.proofs.Words.{◌≡◌, ℕ, List, [], ◌∷◌, ◌++◌, ap, append_assoc, append-nil, arith, refl, subst, sym, ◌∙◌, codes, decimal, Option, Some, None, MatchOption, flat_map, option_map, LogLine, Impossible, Absent, Unlisted, Unsettled, Doubtful, Complete, BeginsAsCheck, IsAnswer, IsAnswerText, IsCheckOf, IsCompleteText, answer_line, answer_status, verdict_line, Status, Entry, IsReport, verdict_by, verdict_of, uids_of, LogReport, ShownUid, finding_text, map, report_begins, none_where_complete, IsPopulationBehind, IsShownByNone, Shows, Verdict, complete_whole, complete_second, complete_third, Answered, Found, RefusedAt, IsAnswered, answer_of, IsVerdict, Explanation, IsExplanation, Margin, get_or}
 use Rattle.vic_report.specs.declared.findings.Unsettled.{Unsettled as LeftToAsk}
 use Rattle.vic_report.specs.declared.reporting.LogReport.TheVariants as report
+use Rattle.vic_answer.specs.declared.findings.Finding.TheVariants as finding
 use Rattle.vic_answer.specs.CompleteRun.{BeginWith}
 use Rattle.vic_answer.specs.ExplainText as explain
 use Rattle.vic_answer.specs.MarginText as margin
+use Rattle.vic_answer.specs.Findings.{unsettled_findings}
 use Rattle.vic_answer.specs.ReportText as reporting
 
 -- ---- a complete text
 
-pub complete_text : (text : List ℕ) (answer : Answered Verdict) (count : ℕ) → answer ≡ Judged (Complete count) → IsAnswer text answer → IsCompleteText text count
+pub complete_text : (text : List ℕ) (answer : Answered Verdict) (count : ℕ) → answer ≡ Found (Complete count) → IsAnswer text answer → IsCompleteText text count
 complete_text text answer count is right =
     let h = subst (IsAnswer text) is right in
     record {
@@ -24,7 +26,7 @@ complete_text text answer count is right =
 -- the verdict in what was found is right, so the answer by it is
 pub is_answer : {A : Type 0} (P : List LogLine → A → Type 0) (verdict_of : A → Verdict) → ((lines : List LogLine) (found : A) → P lines found → IsVerdict lines (verdict_of found))
     → (text : List ℕ) (a : Answered A) → IsAnswered P text a → IsAnswer text (answer_of verdict_of a)
-is_answer P verdict_of tells text (Judged found) h = (h.0, h.1, tells h.0.lines found h.2)
+is_answer P verdict_of tells text (Found found) h = (h.0, h.1, tells h.0.lines found h.2)
 is_answer P verdict_of tells text (RefusedAt n fault) h = h
 
 -- ---- lines that begin with `complete `
@@ -32,7 +34,7 @@ is_answer P verdict_of tells text (RefusedAt n fault) h = h
 -- the answer is `complete`, and what is behind that tells the count
 record IsCompleteLine (answer : Answered Verdict) (rest more : List ℕ) : Type 0 where
   pub count : ℕ
-  pub answer_is : answer ≡ Judged (Complete count)
+  pub answer_is : answer ≡ Found (Complete count)
   pub told : rest ≡ (decimal count ++ codes "\n") ++ more
 
 -- lists that are the same begin with the same number
@@ -40,7 +42,7 @@ pub first : {xs ys : List ℕ} → xs ≡ ys → get_or xs 0 0 ≡ get_or ys 0 0
 first h = ap (λ zs. get_or zs 0 0) h
 
 complete_line : (answer : Answered Verdict) (rest more : List ℕ) → codes "complete " ++ rest ≡ answer_line answer ++ more → IsCompleteLine answer rest more
-complete_line (Judged (Complete count)) rest more h = record { count = count; answer_is = refl; told = cc h }
+complete_line (Found (Complete count)) rest more h = record { count = count; answer_is = refl; told = cc h }
 complete_line _ rest more h = absurd (omega (arith, first h))
 
 -- the text is complete, and the rest of its answer tells the count
@@ -59,7 +61,7 @@ TellCompleteFirst IsAnswerTo = (text rest : List ℕ) (status : Status) → IsAn
 
 -- where nothing is behind the line
 alone : (text rest more : List ℕ) (answer : Answered Verdict) → IsAnswer text answer → codes "complete " ++ rest ≡ answer_line answer ++ more
-    → ((count : ℕ) → answer ≡ Judged (Complete count) → more ≡ []) → IsCompleteAnswer text rest
+    → ((count : ℕ) → answer ≡ Found (Complete count) → more ≡ []) → IsCompleteAnswer text rest
 alone text rest more answer right is nothing =
     let l = complete_line answer rest more is in
     record {
@@ -73,7 +75,7 @@ check_tells text rest status h = alone text rest [] h.answered h.right (h.answer
 
 -- the answer of `check` is its own
 answer_of-same : (a : Answered Verdict) → answer_of (λ v. v) a ≡ a
-answer_of-same (Judged v) = refl
+answer_of-same (Found v) = refl
 answer_of-same (RefusedAt n fault) = refl
 
 -- the text of an answer begins as that of `check` if it has the line first
@@ -100,8 +102,8 @@ none_shown : {A : Type 0} (es : List Entry) (items : A → List ℕ) (p : Option
 none_shown es items None v count is h = refl
 none_shown es items (Some us) v count is h = absurd (subst (λ w. Shows w (items us)) is h.1)
 
-none_behind : (text : List ℕ) (e : Answered Explanation) (count : ℕ) → IsAnswered IsExplanation text e → answer_of (λ x. x.verdict) e ≡ Judged (Complete count) → explain.population_text (explain.population_of e) ≡ []
-none_behind text (Judged x) count h is =
+none_behind : (text : List ℕ) (e : Answered Explanation) (count : ℕ) → IsAnswered IsExplanation text e → answer_of (λ x. x.verdict) e ≡ Found (Complete count) → explain.population_text (explain.population_of e) ≡ []
+none_behind text (Found x) count h is =
     let verdict_is : x.verdict ≡ Complete count = cc is in
     none_shown _ (λ v. v.items) x.population x.verdict count verdict_is h.2.population
 none_behind text (RefusedAt n fault) count h is = cc
@@ -142,23 +144,20 @@ longer {line} ys h = record { more = h.more ++ ys; is = ap (λ zs. zs ++ ys) h.i
 -- of findings that aren't all empty the first line is that of the first
 findings_begin : (absent unlisted : List ShownUid) (x : Option LeftToAsk) (doubtful : List ℕ) → (absent ≡ [] → unlisted ≡ [] → x ≡ None → doubtful ≡ [] → ⊥)
     → Begins (verdict_line (verdict_by (uids_of absent) (uids_of unlisted) (option_map (λ y. y.mask) x) doubtful))
-    (flat_map (λ s. reporting.shown_text (Absent s.uid) s.line) absent ++ flat_map (λ s. reporting.shown_text (Unlisted s.uid) s.line) unlisted
-    ++ reporting.unsettled_text x ++ flat_map (λ u. verdict_line (Doubtful u)) doubtful)
-findings_begin (s ∷ absent) unlisted x doubtful some = longer _ (longer _ (longer _ (longer _ (begins (verdict_line (Absent s.uid)) (reporting.by_line s.line)))))
-findings_begin [] (s ∷ unlisted) x doubtful some = longer _ (longer _ (longer _ (begins (verdict_line (Unlisted s.uid)) (reporting.by_line s.line))))
-findings_begin [] [] (Some x) doubtful some =
-    longer _ (longer (reporting.more_line x.open.more) (begins (verdict_line (Unsettled x.mask)) (flat_map reporting.open_line x.open.masks.items)))
+    (flat_map finding_text (map finding.Absent absent ++ map finding.Unlisted unlisted ++ unsettled_findings x ++ map finding.Doubtful doubtful))
+findings_begin (s ∷ absent) unlisted x doubtful some = longer _ (begins (verdict_line (Absent s.uid)) (reporting.by_line s.line))
+findings_begin [] (s ∷ unlisted) x doubtful some = longer _ (begins (verdict_line (Unlisted s.uid)) (reporting.by_line s.line))
+findings_begin [] [] (Some x) doubtful some = begins (verdict_line (Unsettled x.mask)) _
 findings_begin [] [] None (u ∷ doubtful) some = begins (verdict_line (Doubtful u)) _
 findings_begin [] [] None [] some = absurd (some refl refl refl refl)
 
 report_begins_so : (lines : List LogLine) (r : LogReport) → IsReport lines r → Begins (verdict_line (verdict_of r)) (reporting.report_text r)
-report_begins_so lines (report.Impossible c) h =
-    longer (reporting.silenced_line c.silenced_by) (begins (verdict_line (Impossible c.line)) (flat_map reporting.by_line c.lines.items))
+report_begins_so lines (report.Impossible c) h = begins (verdict_line (Impossible c.line)) _
 report_begins_so lines (report.NotWhole f) h = findings_begin f.absent.items f.unlisted.items f.unsettled f.doubtful.items (λ a u x d. h.2 (record { absent = a; unlisted = u; unsettled = x; doubtful = d }))
-report_begins_so lines (report.Complete count) h = alone_begins (verdict_line (Complete count))
+report_begins_so lines (report.Complete count) h = begins (verdict_line (Complete count)) []
 
 reported_begins : (text : List ℕ) (r : Answered LogReport) → IsAnswered IsReport text r → Begins (answer_line (answer_of verdict_of r)) (reporting.reported_text r)
-reported_begins text (Judged r) h = report_begins_so h.0.lines r h.2
+reported_begins text (Found r) h = report_begins_so h.0.lines r h.2
 reported_begins text (RefusedAt n fault) h = alone_begins _
 
 reported_answer : (text : List ℕ) (r : Answered LogReport) → IsAnswered IsReport text r → IsAnswer text (answer_of verdict_of r)
@@ -170,10 +169,10 @@ report_begins_as_check text answer status h =
     begins_as_check h (reported_answer text h.answered h.right) b.more b.is
 
 -- the report on a complete text is the line alone
-complete_alone : (text : List ℕ) (r : Answered LogReport) (count : ℕ) → IsAnswered IsReport text r → answer_of verdict_of r ≡ Judged (Complete count) → reporting.reported_text r ≡ verdict_line (Complete count)
-complete_alone text (Judged r) count h is =
+complete_alone : (text : List ℕ) (r : Answered LogReport) (count : ℕ) → IsAnswered IsReport text r → answer_of verdict_of r ≡ Found (Complete count) → reporting.reported_text r ≡ verdict_line (Complete count)
+complete_alone text (Found r) count h is =
     let verdict_is : verdict_of r ≡ Complete count = cc is in
-    ap reporting.report_text (none_where_complete h.0.lines r count h.2 verdict_is)
+    ap reporting.report_text (none_where_complete h.0.lines r count h.2 verdict_is) ∙ append-nil _
 complete_alone text (RefusedAt n fault) count h is = cc
 
 pub report_tells : TellComplete reporting.IsReportOf

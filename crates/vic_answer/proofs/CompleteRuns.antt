@@ -1,5 +1,5 @@
 -- A run that wrote `complete ` has read a complete text.
-use Rattle.vic_answer.proofs.Words.{◌≡◌, ℕ, Bool, List, ◌++◌, Option, Some, None, Result, Ok, Err, inl, inr, refl, ap, subst, sym, append_cancel_left, Appends, lines_of_text, LogValue, IsLogOf, IsEnough, Reads, Runs, RunsOver, RunFault, Status, not_both}
+use Rattle.vic_answer.proofs.Words.{◌≡◌, ℕ, Bool, List, ◌++◌, Option, Some, None, Result, Ok, Err, inl, inr, refl, ap, subst, sym, append_cancel_left, Appends, lines_of_text, LogValue, IsLogOf, IsEnough, Reads, RunsOver, RunsOverRevealed, RunFault, Status, not_both}
 use Rattle.vic_answer.specs.Runs.{Answers}
 use Rattle.vic_answer.specs.CompleteRun.{BeginWith, IsCompleteWhereSaid, IsCompleteWhereSaidFirst, IsCompleteWhereWritten, IsCompleteWhereWrittenFirst, ReadsCompleteText}
 use Rattle.vic_answer.proofs.CheckLines.{IsCompleteAnswer, TellComplete, TellCompleteFirst}
@@ -39,7 +39,7 @@ front_becomes f b = record { front = b.front; more = b.more; right = f b.front b
 
 module _ (IsAnswerTo : List ℕ → List ℕ → Status → Type 0) (tell : TellComplete IsAnswerTo) where
   pub complete_where_said : (left left' taken taken' : Option (List ℕ)) (r : Result Status RunFault)
-      → Runs IsAnswerTo left left' taken taken' r → IsCompleteWhereSaid left left' taken taken' r
+      → RunsOverRevealed IsAnswerTo left left' taken taken' r → IsCompleteWhereSaid left left' taken taken' r
   complete_where_said left left' taken taken' (Err e) h = tt
   complete_where_said left left' taken taken' (Ok status) h = λ before rest was now.
       read_complete h rest (tell h.text rest status (said IsAnswerTo status h before _ was now))
@@ -52,7 +52,7 @@ module _ (IsAnswerTo : List ℕ → List ℕ → Status → Type 0) (tell : Tell
 
 module _ (IsAnswerTo : List ℕ → List ℕ → Status → Type 0) (tell : TellCompleteFirst IsAnswerTo) where
   pub complete_where_said_first : (left left' taken taken' : Option (List ℕ)) (r : Result Status RunFault)
-      → Runs IsAnswerTo left left' taken taken' r → IsCompleteWhereSaidFirst left left' taken taken' r
+      → RunsOverRevealed IsAnswerTo left left' taken taken' r → IsCompleteWhereSaidFirst left left' taken taken' r
   complete_where_said_first left left' taken taken' (Err e) h = tt
   complete_where_said_first left left' taken taken' (Ok status) h = λ before rest was now.
       front_becomes (read_complete h) (tell h.text rest status (said IsAnswerTo status h before _ was now))

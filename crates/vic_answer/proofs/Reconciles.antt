@@ -1,5 +1,5 @@
 -- What a list and logs say together, text by text.
-use Rattle.vic_answer.proofs.Words.{◌≡◌, ◌↔◌, ◌<◌, ◌≤◌, ℕ, zero, suc, List, [], ◌∷◌, ◌++◌, get_or, get_or-take, length-take-le, take, length, map, Some, None, Option, codes, refl, sym, ap, subst, ◌∙◌, IfOk, OnOk, Result, Ok, Err, decimal, slice_get, All, flat_map, arith, HasWrittenPrefix, length-map, map-append, lines_of_text, LogValue, entries, listed, IsFirstFault, IsVerdict, Impossible, IsReconciling, Reconciling, RunFault, Status, WritesAnswer, GoOn, logs_read_by, logs_for, logs_up_to, AreComplete, EndsAt, HasLog, HasPossibleLog, IsKept, IsReconciled, lines_of, Absent, verdict_line, doubtful_text, ending_text, reconciled_status, reconciled_text, unlisted_text, LogLine, AllZip, take-append_seam, AllZip-long, all_zipped_more, All-cons, All-head, All-nil, All-tail, LineFault, AreFindings, AreNone, IsJoined, DoubtfulUid, Findings, UnlistedUid, Reconciliation, IsPossibleLog, family_of, slice_get_seam, none_is_whole, Ending, Reconciled, Found, Ended, Write}
+use Rattle.vic_answer.proofs.Words.{◌≡◌, ◌↔◌, ◌<◌, ◌≤◌, ℕ, zero, suc, List, [], ◌∷◌, ◌++◌, get_or, get_or-take, length-take-le, take, length, map, Some, None, Option, codes, refl, sym, ap, subst, ◌∙◌, IfOk, OnOk, Result, Ok, Err, decimal, slice_get, All, flat_map, arith, HasWrittenPrefix, length-map, map-append, lines_of_text, LogValue, entries, listed, IsFirstFault, IsVerdict, Impossible, IsReconciling, Reconciling, RunFault, Status, WritesAnswer, GoOn, logs_read_by, logs_for, logs_up_to, AreComplete, EndsAt, HasLog, HasPossibleLog, IsKept, IsReconciled, lines_of, Absent, verdict_line, doubtful_text, ending_text, reconciled_status, reconciled_text, unlisted_text, LogLine, AllZip, take-append_seam, AllZip-long, all_zipped_more, All-cons, All-head, All-nil, All-tail, LineFault, AreFindings, AreNone, IsJoined, DoubtfulUid, Findings, UnlistedUid, Reconciliation, IsPossibleLog, family_of, slice_get_seam, slice_get_within, get_or_from_slice_get, none_is_whole, Ending, Reconciled, NotWhole, Ended, Write}
 use Rattle.vic_answer.specs.Reconciled.{HaveLogs}
 use Rattle.vic_reconcile.specs.declared.findings.Unsettled.{Unsettled}
 use Rattle.vic_answer.specs.declared.ending.Ending.TheVariants.{ListRefusedAt, NotListedAt, RefusedAt, ImpossibleAt}
@@ -66,7 +66,7 @@ reconciled_complete list texts r f count k found none counted =
     have_logs _ k (none_is_whole (listed (entries k.expected.lines)) (map lines_of k.logs) f (family_of (map lines_of k.logs) k.holds.possible) found none, counted)
 
 pub reconciled_found : (list : List ℕ) (texts : List (List ℕ)) (r : Reconciliation) (f : Findings) (k : IsKept list texts r)
-    → AreFindings (listed (entries k.expected.lines)) (map lines_of k.logs) f → (AreNone f → ⊥) → IsReconciled list texts (Found f)
+    → AreFindings (listed (entries k.expected.lines)) (map lines_of k.logs) f → (AreNone f → ⊥) → IsReconciled list texts (NotWhole f)
 reconciled_found list texts r f k found some = have_logs _ k (found, some)
 
 -- ---- what was written
@@ -93,7 +93,7 @@ complete_written file names (Complete count) list texts rest right same =
       are_logs = right.are_logs;
       holds = (right.holds.0, told ∙ ap (λ n. decimal n ++ codes "\n") right.holds.1);
     }
-complete_written file names (Found f) list texts rest right same =
+complete_written file names (NotWhole f) list texts rest right same =
     absurd (found_begins names f.absent.items f.unlisted.items f.unsettled f.doubtful.items rest (λ a u x d. right.holds.1 (record { absent = a; unlisted = u; unsettled = x; doubtful = d })) same)
 complete_written file names (Ended e) list texts rest right same = absurd (ending_begins file names e rest same)
 
@@ -102,14 +102,14 @@ complete_written file names (Ended e) list texts rest right same = absurd (endin
 pub answered_all : (r : Reconciling) (a : Reconciled) (logs texts : ℕ) → texts ≡ logs_read_by r logs → ((e : Ending) → (r ≡ state.Ended e) ↔ (a ≡ Ended e)) → texts ≡ logs_for a logs
 answered_all (state.Going j) (Ended e) logs texts all ended = absurd (cc ((ended e).1 refl))
 answered_all (state.Going j) (Complete count) logs texts all ended = all
-answered_all (state.Going j) (Found f) logs texts all ended = all
+answered_all (state.Going j) (NotWhole f) logs texts all ended = all
 answered_all (state.Ended e) a logs texts all ended = subst (λ x. texts ≡ logs_for x logs) (sym ((ended e).0 refl)) all
 
 -- where what was written begins as a complete answer does
 pub all_where_complete : (file : List ℕ) (names : List (List ℕ)) (r : Reconciled) (rest : List ℕ) (logs texts : ℕ) → reconciled_text file names r ≡ codes "complete " ++ rest → texts ≡ logs_for r logs → texts ≡ logs
 all_where_complete file names (Ended e) rest logs texts same all = absurd (ending_begins file names e rest same)
 all_where_complete file names (Complete count) rest logs texts same all = all
-all_where_complete file names (Found f) rest logs texts same all = all
+all_where_complete file names (NotWhole f) rest logs texts same all = all
 
 -- ---- what lets a run go on
 
@@ -130,17 +130,19 @@ go_on_before list texts (state.Ended (RefusedAt k line fault)) logs (suc n) is h
 go_on_before list texts (state.Ended (ImpossibleAt k line)) logs (suc n) is h all = let e : k ≡ n = omega (arith, is, all) in subst (λ m. GoOn (list ∷ take m texts)) e h.0
 
 -- each of some texts with logs has its log
-pub log_at : (texts : List (List ℕ)) (logs : List LogValue) (k : ℕ) → AllZip HasLog texts logs → k < length texts → (log : LogValue) × HasLog (get_or texts k []) log
-log_at [] logs k z lt = absurd (omega (arith, lt))
-log_at (t ∷ texts) [] k z lt = absurd z
-log_at (t ∷ texts) (l ∷ logs) zero z lt = (l, z.0)
-log_at (t ∷ texts) (l ∷ logs) (suc k) z lt = log_at texts logs k z.1 (omega (arith, lt))
+pub log_at : (texts : List (List ℕ)) (logs : List LogValue) (k : ℕ) (text : List ℕ) → AllZip HasLog texts logs → slice_get texts k ≡ Some text → (log : LogValue) × HasLog text log
+log_at [] logs k text z is = absurd (omega (arith, slice_get_within [] k text is))
+log_at (t ∷ texts) [] k text z is = absurd z
+log_at (t ∷ texts) (l ∷ logs) zero text z is = let same : t ≡ text = cc is in (l, subst (λ x. HasLog x l) same z.0)
+log_at (t ∷ texts) (l ∷ logs) (suc k) text z is = log_at texts logs k text z.1 is
 
 -- a text that lets the run go on has a log
-pub log_of : (texts : List (List ℕ)) (k : ℕ) → GoOn texts → k < length texts → (log : LogValue) × HasLog (get_or texts k []) log
-log_of [] k g lt = absurd (omega (arith, lt))
-log_of (list ∷ texts) zero g lt = (g.0.0, g.0.1)
-log_of (list ∷ texts) (suc k) g lt = let h = g.1 k [] (omega (arith, lt)) in (h.0, h.1)
+pub log_of : (texts : List (List ℕ)) (k : ℕ) (text : List ℕ) → GoOn texts → slice_get texts k ≡ Some text → (log : LogValue) × HasLog text log
+log_of [] k text g is = absurd (omega (arith, slice_get_within [] k text is))
+log_of (list ∷ texts) zero text g is = let same : list ≡ text = cc is in (g.0.0, subst (λ x. HasLog x g.0.0) same g.0.1)
+log_of (list ∷ texts) (suc k) text g is =
+    let h = g.1 k [] (slice_get_within texts k text is) in
+    (h.0, subst (λ x. HasLog x h.0) (get_or_from_slice_get texts k text [] is) h.1)
 
 pub writes_answer : (IsRight : Reconciled → Type 0) (file : List ℕ) (names : List (List ℕ)) (a : Reconciled) (old new : List ℕ) (result : Result Status RunFault) → IsRight a
     → IfOk result (λ s. s ≡ reconciled_status a) → OnOk result (new ≡ old ++ reconciled_text file names a) → HasWrittenPrefix old new (reconciled_text file names a) → WritesAnswer IsRight file names old new result

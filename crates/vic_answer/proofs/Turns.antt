@@ -1,22 +1,42 @@
 -- Sources are read in turn.
-use Rattle.vic_answer.proofs.Words.{◌≡◌, ◌≢◌, ◌↔◌, ℕ, zero, suc, ◌+◌, ◌<◌, ◌≤◌, List, [], ◌∷◌, ◌++◌, length, take, get_or, set, Bool, true, false, Err, IfErr, IsErrAnd, Ok, Result, refl, sym, ap, subst, ◌∙◌, arith, cases_lt, cases_order, get_or-append_seam, get_or-set_other, get_or-set_same, get_or-take, get_or_append_left, get_or_default, inl, inr, length-append, length-take-le, AllZip, Grows, LogValue, AreComplete, Ended, Ending, GivesNoEarlyFault, GoOn, HasLog, HasReadText, IsAnswerable, IsKept, IsLast, IsReadToEnd, IsReadWithin, IsReconciled, IsReconciling, LeavesSource, Memory, Read, ReadsListAndLogs, ReadsTexts, Reconciled, Reconciles, Reconciling, Reconciliation, RunFault, StopsBy, Write, logs_read_by, logs_up_to}
+use Rattle.vic_answer.proofs.Words.{◌≡◌, ◌≢◌, ◌↔◌, ℕ, zero, suc, ◌+◌, ◌<◌, ◌≤◌, List, [], ◌∷◌, ◌++◌, length, take, slice_get, slice_get-get_or, slice_get_within, get_or_from_slice_get, Some, get_or, set, Bool, true, false, Err, IfErr, IsErrAnd, Ok, Result, refl, sym, ap, subst, ◌∙◌, arith, cases_lt, cases_order, get_or-set_other, get_or-set_same, inl, inr, length-append, length-take-le, AllZip, Grows, LogValue, AreComplete, Ended, Ending, GivesNoEarlyFault, GoOn, HasLog, AreRead, HasReadText, HoldsAt, IsAnswerable, IsKept, IsLast, IsReadToEnd, IsReadWithin, IsReconciled, IsReconciling, LeavesSource, Memory, Read, ReadsListAndLogs, ReadsTexts, Reconciled, Reconciles, Reconciling, Reconciliation, RunFault, StopsBy, Write, logs_read_by, logs_up_to, slice_get-append, slice_get_seam}
 use Rattle.vic_answer.specs.declared.reconcile.Reconciling.TheVariants as state
 use Rattle.vic_answer.specs.declared.ending.Ending.TheVariants.{ListRefusedAt, NotListedAt, RefusedAt, ImpossibleAt}
 use Rattle.vic_answer.proofs.CompleteRuns.{over}
 use Rattle.vic_answer.proofs.Reconciles.{answered_all, go_on_before, kept_go_on, log_at, log_of}
 
+-- ---- places of lists
+
+slice_get-take : {A : Type 0} (n : ℕ) (xs : List A) (k : ℕ) (x : A) → slice_get (take n xs) k ≡ Some x → slice_get xs k ≡ Some x
+slice_get-take zero xs k x is = absurd (omega (arith, slice_get_within [] k x is))
+slice_get-take (suc n) [] k x is = is
+slice_get-take (suc n) (y ∷ xs) zero x is = is
+slice_get-take (suc n) (y ∷ xs) (suc k) x is = slice_get-take n xs k x is
+
+slice_get-set_same : {A : Type 0} (xs : List A) (i : ℕ) (x : A) → i < length xs → slice_get (set xs i x) i ≡ Some x
+slice_get-set_same [] i x lt = absurd (omega (arith, lt))
+slice_get-set_same (y ∷ xs) zero x lt = refl
+slice_get-set_same (y ∷ xs) (suc i) x lt = slice_get-set_same xs i x (omega (arith, lt))
+
+slice_get-set_other : {A : Type 0} (xs : List A) (i k : ℕ) (x : A) → (k ≡ i → ⊥) → slice_get (set xs i x) k ≡ slice_get xs k
+slice_get-set_other [] i k x ne = refl
+slice_get-set_other (y ∷ xs) zero zero x ne = absurd (ne refl)
+slice_get-set_other (y ∷ xs) zero (suc k) x ne = refl
+slice_get-set_other (y ∷ xs) (suc i) zero x ne = refl
+slice_get-set_other (y ∷ xs) (suc i) (suc k) x ne = slice_get-set_other xs i k x (λ e. ne (ap suc e))
+
 -- ---- one source after another
 
 -- the sources from this one on are untouched, and each was read at most so many times
 pub record AreLeft {R : Type 0} (reads : R → ℕ) (has_failed : R → Bool) (old new : List R) (at : ℕ) : Type 0 where
-  pub others : (k : ℕ) (s : R) → at ≤ k → get_or new k s ≡ get_or old k s
+  pub others : (k : ℕ) → at ≤ k → slice_get new k ≡ slice_get old k
   pub within : (k : ℕ) (s : R) → IsReadWithin reads has_failed (get_or old k s) (get_or new k s)
 
 -- the sources before this one were read, and this holds of their texts
 pub record HaveRead {R : Type 0} (returned : R → List ℕ) (IsRead : R → List ℕ → Type 0) (old new : List R) (at : ℕ) (P : List (List ℕ) → Type 0) : Type 0 where
   pub texts : List (List ℕ)
   pub as_many : length texts ≡ at
-  pub each : (k : ℕ) (s : R) → k < at → HasReadText returned IsRead (get_or old k s) (get_or new k s) (get_or texts k [])
+  pub each : AreRead returned IsRead old new texts
   pub holds : P texts
 
 pub within_same : {R : Type 0} (reads : R → ℕ) (has_failed : R → Bool) (s : R) → IsReadWithin reads has_failed s s
@@ -32,11 +52,11 @@ none_before list (state.Ended (ImpossibleAt k line)) h = cc h.1.2
 
 -- none is read yet
 pub none_left : {R : Type 0} (reads : R → ℕ) (has_failed : R → Bool) (old : List R) → AreLeft reads has_failed old old 0
-none_left reads has_failed old = record { others = λ k s le. refl; within = λ k s. within_same reads has_failed (get_or old k s) }
+none_left reads has_failed old = record { others = λ k le. refl; within = λ k s. within_same reads has_failed (get_or old k s) }
 
 pub none_read : {R : Type 0} (returned : R → List ℕ) (IsRead : R → List ℕ → Type 0) (old : List R) (list : List ℕ) (begun : Reconciling) → IsReconciling list [] begun
     → HaveRead returned IsRead old old 0 (λ texts. IsReconciling list texts begun × (length texts ≡ logs_read_by begun 0))
-none_read returned IsRead old list begun h = record { texts = []; as_many = refl; each = λ k s lt. absurd (omega (arith, lt)); holds = (h, none_before list begun h) }
+none_read returned IsRead old list begun h = record { texts = []; as_many = refl; each = λ k text is. absurd (omega (arith, slice_get_within [] k text is)); holds = (h, none_before list begun h) }
 
 -- what is said of a log that was read, where its text ends the run or not
 pub now_ending : (texts : List (List ℕ)) (text : List ℕ) (read : Reconciling) (at : ℕ) → length texts ≡ at → ((e : Ending) → read ≡ state.Ended e → logs_up_to e ≡ length texts + 1) → length (texts ++ text ∷ []) ≡ logs_read_by read (at + 1)
@@ -49,17 +69,17 @@ all_ending read texts at logs h e = h ∙ ap (logs_read_by read) e
 
 module _ {R : Type 0} (reads : R → ℕ) (has_failed : R → Bool) (old new : List R) (at : ℕ) where
   -- the source that is read next
-  next_is : (d s : R) → at < length new → AreLeft reads has_failed old new at → get_or new at d ≡ get_or old at s
-  next_is d s lt h = get_or_default new at d s lt ∙ h.others at s (omega arith)
+  next_is : (d : R) → at < length new → AreLeft reads has_failed old new at → slice_get old at ≡ Some (get_or new at d)
+  next_is d lt h = sym (h.others at (omega arith)) ∙ slice_get-get_or new at d lt
 
   -- one more is read
   pub one_more_left : (d after : R) → at < length new → AreLeft reads has_failed old new at
       → IsReadWithin reads has_failed (get_or new at d) after → AreLeft reads has_failed old (set new at after) (at + 1)
   one_more_left d after lt h leaves = record {
-    others = λ k s above. get_or-set_other new at k after s (λ e. omega (arith, e, above)) ∙ h.others k s (omega (arith, above));
+    others = λ k above. slice_get-set_other new at k after (λ e. omega (arith, e, above)) ∙ h.others k (omega (arith, above));
     within = λ k s. elim (cases_order k at) [
       | inl same ↦ subst (λ n. IsReadWithin reads has_failed (get_or old n s) (get_or (set new at after) n s)) (sym same)
-          (rw (get_or-set_same new at after s lt) (subst (λ b. IsReadWithin reads has_failed b after) (next_is d s lt h) leaves))
+          (rw (get_or-set_same new at after s lt) (subst (λ b. IsReadWithin reads has_failed b after) (sym (get_or_from_slice_get old at (get_or new at d) s (next_is d lt h))) leaves))
       | inr (inl less) ↦ rw (get_or-set_other new at k after s (λ e. omega (arith, e, less))) (h.within k s)
       | inr (inr more) ↦ rw (get_or-set_other new at k after s (λ e. omega (arith, e, more))) (h.within k s)
     ];
@@ -73,15 +93,15 @@ module _ {R : Type 0} (reads : R → ℕ) (has_failed : R → Bool) (old new : L
   one_more returned IsRead d after P Q lt left h text read q = record {
     texts = h.texts ++ text ∷ [];
     as_many = omega (arith, h.as_many, length-append h.texts (text ∷ []));
-    each = λ k s below. elim (cases_lt k at) [
-      | inl less ↦ rw (get_or-set_other new at k after s (λ e. omega (arith, e, less)), get_or_append_left h.texts (text ∷ []) [] k (omega (arith, less, h.as_many))) (h.each k s less)
+    each = λ k t is. elim (cases_lt k at) [
+      | inl less ↦
+          let was = h.each k t (slice_get-append h.texts (text ∷ []) k (omega (arith, less, h.as_many)) ∙ is) in
+          (was.0, was.1, was.2, slice_get-set_other new at k after (λ e. omega (arith, e, less)) ∙ was.3, was.4)
       | inr le ↦
-          let same : k ≡ at = omega (arith, le, below) in
-          subst (λ n. HasReadText returned IsRead (get_or old n s) (get_or (set new at after) n s) (get_or (h.texts ++ text ∷ []) n [])) (sym same) (
-          let now : get_or (set new at after) at s ≡ after = get_or-set_same new at after s lt in
-          let last = subst (λ n. get_or (h.texts ++ text ∷ []) n [] ≡ text) h.as_many (get_or-append_seam h.texts text [] []) in
-          rw (now, last) (subst (λ b. HasReadText returned IsRead b after text) (next_is d s lt left) read)
-          )
+          let same : k ≡ length h.texts = omega (arith, le, h.as_many, slice_get_within (h.texts ++ text ∷ []) k t is, length-append h.texts (text ∷ [])) in
+          let last : text ≡ t = cc (slice_get_seam h.texts text [], is, same) in
+          subst (λ n. HoldsAt old (set new at after) n (λ s s'. HasReadText returned IsRead s s' t)) (sym (same ∙ h.as_many))
+          (get_or new at d, after, next_is d lt left, slice_get-set_same new at after lt, subst (λ x. HasReadText returned IsRead (get_or new at d) after x) last read)
     ];
     holds = q h.texts h.holds;
   }
@@ -92,8 +112,8 @@ module _ {R : Type 0} (reads : R → ℕ) (has_failed : R → Bool) (old new : L
   all_read returned IsRead P Q le left h q = record {
     texts = h.texts;
     as_many = omega (arith, le, h.as_many);
-    each = λ k s lt. h.each k s (omega (arith, lt, h.as_many));
-    others = λ k s above. left.others k s (omega (arith, above, h.as_many));
+    each = h.each;
+    others = λ k above. left.others k (omega (arith, above, h.as_many));
     holds = q h.texts h.as_many h.holds;
   }
 
@@ -138,15 +158,15 @@ module _ {R : Type 0} (returned : R → List ℕ) (ended has_failed : R → Bool
       record {
         texts = h.texts;
         one_more = omega (arith, h.as_many, lt, long);
-        each = λ k s below.
-            let less : k < at = omega (arith, below, h.as_many) in
-            let was = h.each k s less in
-            let log = log_of (list ∷ h.texts) (suc k) go_on (omega (arith, below)) in
-            rw (get_or-set_other new at k after s (λ e. omega (arith, e, less))) (was.0, over_and_works (get_or new k s) (get_or h.texts k []) log.0 log.1 was.1);
+        each = λ k text is.
+            let below = slice_get_within h.texts k text is in
+            let was = h.each k text is in
+            let log = log_of (list ∷ h.texts) (suc k) text go_on is in
+            (was.0, was.1, was.2, slice_get-set_other new at k after (λ e. omega (arith, e, below, h.as_many)) ∙ was.3, (was.4.0, over_and_works was.1 text log.0 log.1 was.4.1));
         go_on = go_on;
-        last = λ s. subst (λ n. IsLast returned has_failed e (get_or old n s) (get_or (set new at after) n s)) (sym h.as_many)
-            (rw (get_or-set_same new at after s lt) (subst (λ b. IsLast returned has_failed e b after) (next_is reads has_failed old new at d s lt left) (is_last e (get_or new at d) after (rw is at leaves.read) cut)));
-        others = λ k s above. get_or-set_other new at k after s (λ e. omega (arith, e, above, h.as_many)) ∙ left.others k s (omega (arith, above, h.as_many));
+        last = subst (λ n. HoldsAt old (set new at after) n (IsLast returned has_failed e)) (sym h.as_many)
+            (get_or new at d, after, next_is reads has_failed old new at d lt left, slice_get-set_same new at after lt, is_last e (get_or new at d) after (rw is at leaves.read) cut);
+        others = λ k above. slice_get-set_other new at k after (λ e. omega (arith, e, above, h.as_many)) ∙ left.others k (omega (arith, above, h.as_many));
       }
 
   module _ (list list' : R) (logs logs' : List R) where
@@ -156,15 +176,15 @@ module _ {R : Type 0} (returned : R → List ℕ) (ended has_failed : R → Bool
     stops_at_list r reads e is leaves cut = record {
       texts = [];
       one_more = omega arith;
-      each = λ k s lt. absurd (omega (arith, lt));
+      each = λ k text is. absurd (omega (arith, slice_get_within [] k text is));
       go_on = tt;
-      last = λ s. is_last e list list' (rw is at leaves.read) cut;
+      last = (list, list', refl, refl, is_last e list list' (rw is at leaves.read) cut);
       others = others;
     }
       where
-        others : (k : ℕ) (s : R) → 0 < k → get_or (list' ∷ logs) k s ≡ get_or (list ∷ logs) k s
-        others zero s lt = absurd (omega (arith, lt))
-        others (suc k) s lt = refl
+        others : (k : ℕ) → 0 < k → slice_get (list' ∷ logs) k ≡ slice_get (list ∷ logs) k
+        others zero lt = absurd (omega (arith, lt))
+        others (suc k) lt = refl
 
     -- behind the list, a log's source is the last that is read
     pub stops_behind_list : (e : RunFault) (text : List ℕ) → HasReadText returned (IsAnswerable ended has_failed) list list' text
@@ -179,13 +199,16 @@ module _ {R : Type 0} (returned : R → List ℕ) (ended has_failed : R → Bool
       others = others;
     }
       where
-        each : (k : ℕ) (s : R) → k < length (text ∷ h.texts) → HasReadText returned (IsReadToEnd ended has_failed) (get_or (list ∷ logs) k s) (get_or (list' ∷ logs') k s) (get_or (text ∷ h.texts) k [])
-        each zero s lt = let log = log_of (text ∷ h.texts) 0 h.go_on lt in (read.0, over_and_works list' text log.0 log.1 read.1)
-        each (suc k) s lt = h.each k s (omega (arith, lt))
+        each : AreRead returned (IsReadToEnd ended has_failed) (list ∷ logs) (list' ∷ logs') (text ∷ h.texts)
+        each zero t is =
+            let log = log_of (text ∷ h.texts) 0 t h.go_on is in
+            let now : HasReadText returned (IsAnswerable ended has_failed) list list' t = subst (λ x. HasReadText returned (IsAnswerable ended has_failed) list list' x) (cc is) read in
+            (list, list', refl, refl, (now.0, over_and_works list' t log.0 log.1 now.1))
+        each (suc k) t is = h.each k t is
 
-        others : (k : ℕ) (s : R) → length (text ∷ h.texts) < k → get_or (list' ∷ logs') k s ≡ get_or (list ∷ logs) k s
-        others zero s lt = absurd (omega (arith, lt))
-        others (suc k) s lt = h.others k s (omega (arith, lt))
+        others : (k : ℕ) → length (text ∷ h.texts) < k → slice_get (list' ∷ logs') k ≡ slice_get (list ∷ logs) k
+        others zero lt = absurd (omega (arith, lt))
+        others (suc k) lt = h.others k (omega (arith, lt))
 
     -- all sources that an answer needs were read
     pub stops_answered : (e : RunFault) (text : List ℕ) (read : Reconciling) → e ≢ Read → HasReadText returned (IsAnswerable ended has_failed) list list' text
@@ -194,10 +217,10 @@ module _ {R : Type 0} (returned : R → List ℕ) (ended has_failed : R → Bool
     stops_answered e text read other first h = record {
       texts = before;
       one_more = omega (arith, long, h.as_many);
-      each = λ k s lt. each_at k s (omega (arith, lt, long));
+      each = each;
       go_on = go_on;
-      last = λ s. subst (λ m. IsLast returned has_failed e (get_or (list ∷ logs) m s) (get_or (list' ∷ logs') m s)) (sym long) (works_last e _ _ other (read_at n s (omega arith)).1.1);
-      others = λ k s lt. others_at k s (omega (arith, lt, long));
+      last = subst (λ m. HoldsAt (list ∷ logs) (list' ∷ logs') m (IsLast returned has_failed e)) (sym long) (last n (omega arith));
+      others = λ k lt. others k (omega (arith, lt, long));
     }
       where
         n : ℕ
@@ -215,20 +238,24 @@ module _ {R : Type 0} (returned : R → List ℕ) (ended has_failed : R → Bool
         go_on : GoOn before
         go_on = go_on_before text h.texts read (length logs) n refl h.holds.0 h.holds.1
 
-        read_at : (k : ℕ) (s : R) → k ≤ n → HasReadText returned (IsAnswerable ended has_failed) (get_or (list ∷ logs) k s) (get_or (list' ∷ logs') k s) (get_or all k [])
-        read_at zero s le = first
-        read_at (suc k) s le = h.each k s (omega (arith, le))
+        read_at : AreRead returned (IsAnswerable ended has_failed) (list ∷ logs) (list' ∷ logs') all
+        read_at zero t is = (list, list', refl, refl, subst (λ x. HasReadText returned (IsAnswerable ended has_failed) list list' x) (cc is) first)
+        read_at (suc k) t is = h.each k t is
 
-        each_at : (k : ℕ) (s : R) → k < n → HasReadText returned (IsReadToEnd ended has_failed) (get_or (list ∷ logs) k s) (get_or (list' ∷ logs') k s) (get_or before k [])
-        each_at k s lt =
-            let log = log_of before k go_on (omega (arith, lt, long)) in
-            let was = read_at k s (omega (arith, lt)) in
-            let here = get_or-take n all k [] lt in
-            rw here (was.0, over_and_works (get_or (list' ∷ logs') k s) (get_or all k []) log.0 (subst (λ t. HasLog t log.0) here log.1) was.1)
+        each : AreRead returned (IsReadToEnd ended has_failed) (list ∷ logs) (list' ∷ logs') before
+        each k t is =
+            let log = log_of before k t go_on is in
+            let was = read_at k t (slice_get-take n all k t is) in
+            (was.0, was.1, was.2, was.3, (was.4.0, over_and_works was.1 t log.0 log.1 was.4.1))
 
-        others_at : (k : ℕ) (s : R) → n < k → get_or (list' ∷ logs') k s ≡ get_or (list ∷ logs) k s
-        others_at zero s lt = absurd (omega (arith, lt))
-        others_at (suc k) s lt = h.others k s (omega (arith, lt))
+        last : (k : ℕ) → k ≤ n → HoldsAt (list ∷ logs) (list' ∷ logs') k (IsLast returned has_failed e)
+        last k le =
+            let was = read_at k (get_or all k []) (slice_get-get_or all k [] (omega (arith, le))) in
+            (was.0, was.1, was.2, was.3, works_last e _ _ other was.4.1.1)
+
+        others : (k : ℕ) → n < k → slice_get (list' ∷ logs') k ≡ slice_get (list ∷ logs) k
+        others zero lt = absurd (omega (arith, lt))
+        others (suc k) lt = h.others k (omega (arith, lt))
 
 -- what holds of a fault holds of the result that passes it on
 pub if_err : {A E : Type 0} (r : Result A E) (fault : E) (P : E → Type 0) → IsErrAnd r (λ e. e ≡ fault) → P fault → IfErr r P
@@ -274,10 +301,10 @@ module _ {R : Type 0} (returned : R → List ℕ) (ended has_failed : R → Bool
         logs_read = record {
           texts = l.texts;
           as_many = l.as_many;
-          each = λ k s lt.
-              let h = l.each k s lt in
-              let log = log_at l.texts c.0.logs k c.0.are_logs lt in
-              (h.0, over _ _ log.0 log.1 h.1.0);
+          each = λ k text is.
+              let h = l.each k text is in
+              let log = log_at l.texts c.0.logs k text c.0.are_logs is in
+              (h.0, h.1, h.2, h.3, (h.4.0, over _ text log.0 log.1 h.4.1.0));
           others = l.others;
           holds = c;
         };

@@ -2,14 +2,14 @@
 pub use Rattle.std.proofs.Common.{All, Bool, Err, IfErr, IfOk, IsErr, IsErrAnd, List, MatchOption, MatchResult, None, Ok, OnOk, Option, Result, Some, [], add-one, ap, append-nil, append_assoc, arith, bytes_eq, codes, decimal, drop, eq-eqb, eqb-true, false, flat_map, get_or, if◌then◌else◌, inl, inr, le-leb, length, lt-ltb, map, nat_lt, ne_eqb, option_map, refl, replicate, rules, set, slice_get, slice_index, string_bytes, subst, suc, sym, take, take-append-drop, true, w64, zero, ℕ, ⊎_elim, ◌%◌, ◌&&◌, ◌*◌, ◌++◌, ◌+◌, ◌-◌, ◌/◌, ◌<◌, ◌==◌, ◌^◌, ◌∙◌, ◌∷◌, ◌≡◌, ◌≤◌}
 pub use Rattle.std.proofs.KnownBytes.{Appends-nil, Appends-trans}
 pub use Rattle.std.proofs.Math.Nat.{pow-le-pow_right}
-pub use Rattle.std.proofs.Math.Seq.{get_or-append_seam, take-append-add, take-append_seam}
+pub use Rattle.std.proofs.Math.Seq.{take-append-add, take-append_seam}
 pub use Rattle.std.proofs.lemmas.Bool.{and_parts, cases_lt, cases_order, false≢true}
 pub use Rattle.std.proofs.lemmas.Fmt.{decimal_is_IsNumeral, parse-decimal}
-pub use Rattle.std.proofs.lemmas.List.{append_cancel_left, at_drop_all, at_drop_more, drop-replicate, flat_map_more, get_or-drop, get_or-set_other, get_or-set_same, get_or-take, get_or_append_left, get_or_default, length-append, length-drop, length-map, length-set, length-take-le, map-append, map-id, map_more, take-append-le, take_all, take_more}
-pub use Rattle.std.proofs.lemmas.List.Concat.{flat_map-append}
+pub use Rattle.std.proofs.lemmas.List.{append_cancel_left, at_drop_all, at_drop_more, drop-replicate, get_or-drop, get_or-set_other, get_or-set_same, get_or-take, length-append, length-drop, length-map, length-set, length-take-le, map-append, map-id, take-append-le}
 pub use Rattle.std.proofs.lemmas.List.FromFn.{fill_by_all}
 pub use Rattle.std.proofs.lemmas.List.Elements.{All-cons, All-head, All-nil, All-tail}
 pub use Rattle.std.proofs.lemmas.Nat.{from_be_bytes-to_be_bytes_8}
+pub use Rattle.std.proofs.lemmas.Option.{get_or_from_slice_get, slice_get-get_or, slice_get_within}
 pub use Rattle.std.proofs.lemmas.Result.{IfOk-weaker}
 pub use Rattle.std.proofs.lemmas.Slice.Eq.{bytes_eq-Decides}
 pub use Rattle.std.proofs.lemmas.Slice.Zip.{AllZip-long, all_zipped_more}
@@ -32,7 +32,7 @@ pub use Rattle.vic_frame.specs.declared.request.Request.{Request}
 pub use Rattle.vic_frame.specs.declared.request.Request.TheVariants.{Inventory, StayQuiet}
 pub use Rattle.vic_frame.specs.declared.uid.TheConstants.{UID_BITS}
 pub use Rattle.vic_log.proofs.One.{not_both}
-pub use Rattle.vic_log.proofs.Places.{slice_get_seam}
+pub use Rattle.vic_log.proofs.Places.{slice_get-append, slice_get_seam}
 pub use Rattle.vic_log.specs.Device.{Grows, HandsOut, HasTakenBut, HasTakenPrefix, HasWrittenPrefix, TellsOn}
 pub use Rattle.vic_log.specs.Early.{ReadsWhere}
 pub use Rattle.vic_log.specs.Lines.{lines_of_text}
@@ -74,19 +74,23 @@ pub use Rattle.vic_answer.specs.CheckText.{BeginsAsCheck, IsAnswer, IsAnswerText
 pub use Rattle.vic_answer.specs.Digits.{hex_bytes, value_text}
 pub use Rattle.vic_answer.specs.ExplainText.{IsExplanationOf, explained_text, population_line, population_of}
 pub use Rattle.vic_answer.specs.FrameText.{reply_words, request_words}
-pub use Rattle.vic_answer.specs.ReconcileRun.{HasReadText, IsAnswerable, IsLast, IsReadToEnd, ReadsListAndLogs, ReadsTexts, Reconciles, StopsAtSource, StopsBy, WritesAnswer, logs_for, logs_up_to}
+pub use Rattle.vic_answer.specs.ReconcileRun.{AreRead, HasReadText, HoldsAt, IsAnswerable, IsLast, IsReadToEnd, ReadsListAndLogs, ReadsTexts, Reconciles, StopsAtSource, StopsBy, WritesAnswer, logs_for, logs_up_to}
 pub use Rattle.vic_answer.specs.ReconcileText.{all_masks_text, doubtful_text, ending_text, masks_text, open_text, reconciled_status, reconciled_text, unlisted_text}
 pub use Rattle.vic_answer.specs.Reconciled.{AreComplete, EndsAt, GoOn, HasList, HasPossibleLog, IsReconciled, lines_of}
-pub use Rattle.vic_answer.specs.ReportText.{IsReportOf, by_line, more_line, open_line, reported_text, silenced_line, unsettled_text}
-pub use Rattle.vic_answer.specs.Runs.{GivesNoEarlyFault, IsEnough, IsReadWithin, LeavesSource, Reads, Runs, RunsOver, RunsWhere, Writes}
+pub use Rattle.vic_answer.specs.Findings.{report_findings}
+pub use Rattle.vic_answer.specs.FindingNumbers.{finding_numbers}
+pub use Rattle.vic_answer.specs.ReportText.{IsReportOf, finding_text, reported_text}
+pub use Rattle.vic_answer.specs.inner.FindingsLeft.{findings_left}
+pub use Rattle.vic_answer.specs.Runs.{GivesNoEarlyFault, IsEnough, IsReadWithin, LeavesSource, Reads, RunsOver, RunsOverRevealed, RunsWhere, Writes}
 pub use Rattle.vic_answer.specs.inner.Reconciling.{IsKept, IsReconciling, logs_read_by}
 pub use Rattle.vic_answer.specs.SimulateText.{IsSimulationOf, simulated_status, simulated_text}
 pub use Rattle.vic_answer.specs.SpellText.{and_then, hex_decoded, hex_number_in, inventory_in, longest_mask, mask_in, number_ending, number_in, number_up_to, reply_in, says_inventory, says_reply, says_stay_quiet, sixteen_in, spelled_text, stay_quiet_in, value_in, word, words_of, words_reading}
 pub use Rattle.vic_answer.specs.declared.answered.Answered.{Answered}
-pub use Rattle.vic_answer.specs.declared.answered.Answered.TheVariants.{Judged, RefusedAt}
+pub use Rattle.vic_answer.specs.declared.answered.Answered.TheVariants.{Found, RefusedAt}
 pub use Rattle.vic_answer.specs.declared.ending.Ending.{Ending}
+pub use Rattle.vic_answer.specs.declared.findings.Finding.{Finding}
 pub use Rattle.vic_answer.specs.declared.reconcile.Reconciled.{Reconciled}
-pub use Rattle.vic_answer.specs.declared.reconcile.Reconciled.TheVariants.{Ended, Found}
+pub use Rattle.vic_answer.specs.declared.reconcile.Reconciled.TheVariants.{Ended, NotWhole}
 pub use Rattle.vic_answer.specs.declared.reconcile.Reconciling.{Reconciling}
 pub use Rattle.vic_answer.specs.declared.spell.Said.TheVariants.{Asked, Replied}
 pub use Rattle.vic_answer.specs.declared.spell.SpellFault.{SpellFault}

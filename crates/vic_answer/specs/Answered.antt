@@ -7,7 +7,7 @@ use Rattle.vic_log.specs.declared.entry.LogLine.{LogLine}
 use Rattle.vic_log.specs.declared.fault.LineFault.{LineFault}
 use Rattle.vic_verdict.specs.declared.judging.Verdict.{Verdict}
 use Rattle.vic_answer.specs.declared.answered.Answered.{Answered}
-use Rattle.vic_answer.specs.declared.answered.Answered.TheVariants.{Judged, RefusedAt}
+use Rattle.vic_answer.specs.declared.answered.Answered.TheVariants.{Found, RefusedAt}
 
 -- the text has this log
 abbrev pub HasLog : List ℕ → LogValue → Type 0
@@ -20,15 +20,15 @@ IsRefusedAt text n fault = IsFirstFault (lines_of_text text) n fault
 -- the answer to a text: what was found in its log, which P relates to the log's lines, or its first
 -- fault
 abbrev pub IsAnswered : {A : Type 0} → (List LogLine → A → Type 0) → List ℕ → Answered A → Type 0
-IsAnswered P text (Judged found) = (log : LogValue) × HasLog text log × P log.lines found
+IsAnswered P text (Found found) = (log : LogValue) × HasLog text log × P log.lines found
 IsAnswered P text (RefusedAt n fault) = IsRefusedAt text n fault
 
 -- the answer of `check` to the same text, by the verdict in what was found
 abbrev pub answer_of : {A : Type 0} → (A → Verdict) → Answered A → Answered Verdict
-answer_of verdict_of (Judged found) = Judged (verdict_of found)
+answer_of verdict_of (Found found) = Found (verdict_of found)
 answer_of verdict_of (RefusedAt n fault) = RefusedAt n fault
 
 -- the log of a text, or its first fault
 abbrev pub IsReading : List ℕ → Answered LogValue → Type 0
-IsReading text (Judged log) = HasLog text log
+IsReading text (Found log) = HasLog text log
 IsReading text (RefusedAt n fault) = IsRefusedAt text n fault

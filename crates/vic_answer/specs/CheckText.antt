@@ -16,7 +16,7 @@ use Rattle.vic_answer.specs.declared.status.Status.{Status}
 use Rattle.vic_answer.specs.declared.status.Status.TheVariants.{Whole, NotWhole, Refused}
 use Rattle.vic_answer.specs.Answered.{IsAnswered, answer_of}
 use Rattle.vic_answer.specs.declared.answered.Answered.{Answered}
-use Rattle.vic_answer.specs.declared.answered.Answered.TheVariants.{Judged, RefusedAt}
+use Rattle.vic_answer.specs.declared.answered.Answered.TheVariants.{Found, RefusedAt}
 
 -- the line of a verdict
 abbrev pub verdict_line : Verdict → List ℕ
@@ -41,11 +41,11 @@ abbrev pub IsAnswer : List ℕ → Answered Verdict → Type 0
 IsAnswer = IsAnswered IsVerdict
 
 abbrev pub answer_line : Answered Verdict → List ℕ
-answer_line (Judged v) = verdict_line v
+answer_line (Found v) = verdict_line v
 answer_line (RefusedAt n fault) = refusal_line n fault
 
 abbrev pub answer_status : Answered Verdict → Status
-answer_status (Judged v) = verdict_status v
+answer_status (Found v) = verdict_status v
 answer_status (RefusedAt n fault) = Refused
 
 -- the text and the status of the answer to a text, where P relates what was found to the lines of

@@ -8,12 +8,12 @@ use Rattle.vic_verdict.specs.declared.explanation.Explanation.{Explanation}
 use Rattle.vic_answer.specs.Answered.{answer_of}
 use Rattle.vic_answer.specs.CheckText.{IsAnswerText, answer_line}
 use Rattle.vic_answer.specs.declared.answered.Answered.{Answered}
-use Rattle.vic_answer.specs.declared.answered.Answered.TheVariants.{Judged, RefusedAt}
+use Rattle.vic_answer.specs.declared.answered.Answered.TheVariants.{Found, RefusedAt}
 use Rattle.vic_answer.specs.declared.status.Status.{Status}
 
 -- its population, if it has one
 abbrev pub population_of : Answered Explanation → Option (List ℕ)
-population_of (Judged x) = option_map (λ v. v.items) x.population
+population_of (Found x) = option_map (λ v. v.items) x.population
 population_of (RefusedAt n fault) = None
 
 -- the UIDs of its population, none if it has no population

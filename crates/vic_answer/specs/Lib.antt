@@ -9,6 +9,7 @@ pub mod SimulateText
 pub mod Runs
 pub mod CompleteRun
 pub mod ExplainText
+pub mod Findings
 pub mod ReportText
 pub mod MarginText
 pub mod FaultNumbers

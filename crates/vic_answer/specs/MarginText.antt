@@ -14,7 +14,7 @@ use Rattle.vic_answer.specs.Answered.{answer_of}
 use Rattle.vic_answer.specs.CheckText.{IsAnswerText, answer_line}
 use Rattle.vic_answer.specs.Digits.{mask_text}
 use Rattle.vic_answer.specs.declared.answered.Answered.{Answered}
-use Rattle.vic_answer.specs.declared.answered.Answered.TheVariants.{Judged, RefusedAt}
+use Rattle.vic_answer.specs.declared.answered.Answered.TheVariants.{Found, RefusedAt}
 use Rattle.vic_answer.specs.declared.status.Status.{Status}
 
 -- the verdict on the lines of a log, and, if it is possible, its margin and its weakest mask
@@ -36,7 +36,7 @@ following_text (Complete count) weakest = weakest_text weakest
 following_text verdict weakest = []
 
 abbrev pub margin_lines : Answered Margin → List ℕ
-margin_lines (Judged m) = following_text m.verdict m.weakest
+margin_lines (Found m) = following_text m.verdict m.weakest
 margin_lines (RefusedAt n fault) = []
 
 abbrev pub measured_text : Answered Margin → List ℕ

@@ -3,7 +3,7 @@ use Rattle.std.specs.Prelude.{◌≡◌, ℕ, ◌-◌, List, ◌++◌, length, r
 use Rattle.vic_verdict.specs.declared.judging.Verdict.{Verdict}
 use Rattle.vic_verdict.specs.declared.judging.Verdict.TheVariants.{Impossible, Absent, Unlisted, Unsettled, Doubtful, Complete}
 use Rattle.vic_answer.specs.declared.answered.Answered.{Answered}
-use Rattle.vic_answer.specs.declared.answered.Answered.TheVariants.{Judged, RefusedAt}
+use Rattle.vic_answer.specs.declared.answered.Answered.TheVariants.{Found, RefusedAt}
 use Rattle.vic_answer.specs.declared.text.TheConstants.{LINE_ROOM}
 use Rattle.vic_answer.specs.declared.numbers.VicinityAnswer.{VicinityAnswer}
 use Rattle.vic_answer.specs.CheckText.{IsAnswer, answer_line, answer_status}
@@ -42,13 +42,13 @@ refusal_numbers line fault name = record no_answer {
 
 -- the fields of an answer, except status and text
 abbrev pub fields_of : Answered Verdict → VicinityAnswer
-fields_of (Judged (Complete n)) = record no_answer { kind = 1; count = n }
-fields_of (Judged (Absent u)) = record no_answer { kind = 2; uid = u }
-fields_of (Judged (Unlisted u)) = record no_answer { kind = 3; uid = u }
-fields_of (Judged (Unsettled m)) =
+fields_of (Found (Complete n)) = record no_answer { kind = 1; count = n }
+fields_of (Found (Absent u)) = record no_answer { kind = 2; uid = u }
+fields_of (Found (Unlisted u)) = record no_answer { kind = 3; uid = u }
+fields_of (Found (Unsettled m)) =
     record no_answer { kind = 4; mask_len = m.len; mask_value = m.value }
-fields_of (Judged (Doubtful u)) = record no_answer { kind = 5; uid = u }
-fields_of (Judged (Impossible n)) = record no_answer { kind = 6; line = n }
+fields_of (Found (Doubtful u)) = record no_answer { kind = 5; uid = u }
+fields_of (Found (Impossible n)) = record no_answer { kind = 6; line = n }
 fields_of (RefusedAt n f) = record no_answer { kind = 7; line = n; fault = fault_number f }
 
 -- the fields of an answer, with the exit status and the line of the program

@@ -1,5 +1,5 @@
 -- What a run of `reconcile` reads from its sources, and what it writes.
-use Rattle.std.specs.Prelude.{◌≡◌, ℕ, ◌+◌, ◌<◌, ◌≤◌, Bool, true, false, ⊤, [], List, ◌++◌, Result, Ok, Err, length, slice_index_or}
+use Rattle.std.specs.Prelude.{◌≡◌, ℕ, ◌+◌, ◌<◌, ◌≤◌, Bool, true, false, ⊤, List, ◌++◌, Some, Result, Ok, Err, length, slice_get}
 use Rattle.vic_log.specs.Device.{Grows, HasWrittenPrefix}
 use Rattle.vic_answer.specs.ReconcileText.{reconciled_status, reconciled_text}
 use Rattle.vic_answer.specs.Reconciled.{IsReconciled}
@@ -7,7 +7,7 @@ use Rattle.vic_answer.specs.Runs.{GivesNoEarlyFault, IsEnough}
 use Rattle.vic_answer.specs.declared.ending.Ending.{Ending}
 use Rattle.vic_answer.specs.declared.ending.Ending.TheVariants.{ListRefusedAt, NotListedAt, RefusedAt, ImpossibleAt}
 use Rattle.vic_answer.specs.declared.reconcile.Reconciled.{Reconciled}
-use Rattle.vic_answer.specs.declared.reconcile.Reconciled.TheVariants.{Complete, Found, Ended}
+use Rattle.vic_answer.specs.declared.reconcile.Reconciled.TheVariants.{Complete, NotWhole, Ended}
 use Rattle.vic_answer.specs.declared.status.RunFault.{RunFault}
 use Rattle.vic_answer.specs.declared.status.RunFault.TheVariants.{Read, Write}
 use Rattle.vic_answer.specs.declared.status.Status.{Status}
@@ -20,13 +20,17 @@ abbrev pub HasReadText : {R : Type 0} → (R → List ℕ) → (R → List ℕ �
 HasReadText returned IsRead old new text =
     Grows (returned old) (returned new) text × IsRead new text
 
+-- of some sources, before and after, there is one at this place, and P holds of it
+abbrev pub HoldsAt : {R : Type 0} → List R → List R → ℕ → (R → R → Type 0) → Type 0
+HoldsAt {R} old new k P =
+    (s : R) × (s' : R) × (slice_get old k ≡ Some s) × (slice_get new k ≡ Some s') × P s s'
+
 -- of some sources, in their order, one for each of these texts was read, and returned it
 abbrev pub AreRead : {R : Type 0} → (R → List ℕ) → (R → List ℕ → Type 0)
     → List R → List R → List (List ℕ) → Type 0
 AreRead {R} returned IsRead old new texts =
-    (k : ℕ) (s : R) → k < length texts
-    → HasReadText returned IsRead (slice_index_or old k s) (slice_index_or new k s)
-    (slice_index_or texts k [])
+    (k : ℕ) (text : List ℕ) → slice_get texts k ≡ Some text
+    → HoldsAt old new k (λ s s'. HasReadText returned IsRead s s' text)
 
 -- of some sources, in their order, as many were read as there are texts, those after them are
 -- untouched, and P holds of the texts
@@ -35,8 +39,7 @@ pub record ReadsTexts {R : Type 0} (returned : R → List ℕ) (IsRead : R → L
   pub texts : List (List ℕ)
   pub as_many : length texts ≤ length old
   pub each : AreRead returned IsRead old new texts
-  pub others : (k : ℕ) (s : R) → length texts ≤ k
-      → slice_index_or new k s ≡ slice_index_or old k s
+  pub others : (k : ℕ) → length texts ≤ k → slice_get new k ≡ slice_get old k
   pub holds : P texts
 
 -- the list was read, and so were logs from the first on, and P holds of their texts
@@ -62,7 +65,7 @@ logs_up_to (ImpossibleAt k n) = k + 1
 -- how many of the logs are read for this answer: all, or those up to the one that ends the run
 abbrev pub logs_for : Reconciled → ℕ → ℕ
 logs_for (Complete count) logs = logs
-logs_for (Found f) logs = logs
+logs_for (NotWhole f) logs = logs
 logs_for (Ended e) logs = logs_up_to e
 
 -- this is the answer to the list and the logs that were read, each up to its end or an early fault
@@ -88,10 +91,8 @@ pub record StopsAtSource {R : Type 0} (returned : R → List ℕ) (IsRead : R �
   pub one_more : length texts < length old
   pub each : AreRead returned IsRead old new texts
   pub go_on : LetGoOn texts
-  pub last : (s : R)
-      → P (slice_index_or old (length texts) s) (slice_index_or new (length texts) s)
-  pub others : (k : ℕ) (s : R) → length texts < k
-      → slice_index_or new k s ≡ slice_index_or old k s
+  pub last : HoldsAt old new (length texts) P
+  pub others : (k : ℕ) → length texts < k → slice_get new k ≡ slice_get old k
 
 -- the last source that was read, by the fault of the run: it has failed, before an early fault of
 -- its text, if and only if the fault is `Read`

@@ -16,9 +16,9 @@ use Rattle.vic_answer.specs.Digits.{mask_text, uid_text}
 use Rattle.vic_answer.specs.declared.ending.Ending.{Ending}
 use Rattle.vic_answer.specs.declared.ending.Ending.TheVariants.{ListRefusedAt, NotListedAt, RefusedAt, ImpossibleAt}
 use Rattle.vic_answer.specs.declared.reconcile.Reconciled.{Reconciled}
-use Rattle.vic_answer.specs.declared.reconcile.Reconciled.TheVariants.{Complete, Found, Ended}
+use Rattle.vic_answer.specs.declared.reconcile.Reconciled.TheVariants.{Complete, NotWhole, Ended}
 use Rattle.vic_answer.specs.declared.status.Status.{Status}
-use Rattle.vic_answer.specs.declared.status.Status.TheVariants.{Whole, NotWhole, Impossible, Refused}
+use Rattle.vic_answer.specs.declared.status.Status.TheVariants.{Whole, Impossible, Refused}
 
 -- the name of log k; the empty one if it has none
 abbrev pub name_of : List (List ℕ) → ℕ → List ℕ
@@ -101,7 +101,7 @@ ending_text list_name names (ImpossibleAt k n) =
 
 abbrev pub reconciled_text : List ℕ → List (List ℕ) → Reconciled → List ℕ
 reconciled_text list_name names (Complete count) = verdict_line (verdict.Complete count)
-reconciled_text list_name names (Found f) = findings_text names f
+reconciled_text list_name names (NotWhole f) = findings_text names f
 reconciled_text list_name names (Ended e) = ending_text list_name names e
 
 abbrev pub ending_status : Ending → Status
@@ -110,5 +110,5 @@ ending_status ending = Refused
 
 abbrev pub reconciled_status : Reconciled → Status
 reconciled_status (Complete count) = Whole
-reconciled_status (Found f) = NotWhole
+reconciled_status (NotWhole f) = Status.NotWhole
 reconciled_status (Ended e) = ending_status e

@@ -14,7 +14,7 @@ use Rattle.vic_answer.specs.Answered.{HasLog}
 use Rattle.vic_answer.specs.declared.ending.Ending.{Ending}
 use Rattle.vic_answer.specs.declared.ending.Ending.TheVariants.{ListRefusedAt, NotListedAt, RefusedAt, ImpossibleAt}
 use Rattle.vic_answer.specs.declared.reconcile.Reconciled.{Reconciled}
-use Rattle.vic_answer.specs.declared.reconcile.Reconciled.TheVariants.{Complete, Found, Ended}
+use Rattle.vic_answer.specs.declared.reconcile.Reconciled.TheVariants.{Complete, NotWhole, Ended}
 
 -- the text has a log, which is possible
 abbrev pub HasPossibleLog : List ℕ → Type 0
@@ -60,7 +60,7 @@ pub record HaveLogs (list : List ℕ) (texts : List (List ℕ))
 abbrev pub IsReconciled : List ℕ → List (List ℕ) → Reconciled → Type 0
 IsReconciled list texts (Complete count) =
     HaveLogs list texts (λ expected logs. IsWhole expected logs × (count ≡ length expected))
-IsReconciled list texts (Found f) =
+IsReconciled list texts (NotWhole f) =
     HaveLogs list texts (λ expected logs. AreFindings expected logs f × (AreNone f → ⊥))
 IsReconciled list texts (Ended e) = EndsAt list texts e
 

@@ -58,10 +58,10 @@ RunsWhere IsAnswerTo HasRead HasHandedOut IsOver taken taken' (Err Memory) = ⊤
 
 -- over the bytes that the source and the sink revealed before and after; this says nothing if they
 -- reveal none
-abbrev pub Runs : (List ℕ → List ℕ → Status → Type 0)
+abbrev pub RunsOverRevealed : (List ℕ → List ℕ → Status → Type 0)
     → Option (List ℕ) → Option (List ℕ) → Option (List ℕ) → Option (List ℕ)
     → Result Status RunFault → Type 0
-Runs IsAnswerTo left left' taken taken' result =
+RunsOverRevealed IsAnswerTo left left' taken taken' result =
     RunsWhere IsAnswerTo (Consumes left left') (HandsOut left left') (IsAtEnd left')
     taken taken' result
 

@@ -6,14 +6,16 @@ use Rattle.vic_log.specs.Log.{LogValue}
 use Rattle.vic_verdict.specs.Verdict.{IsVerdict}
 use Rattle.vic_verdict.specs.declared.judging.Verdict.{Verdict}
 use Rattle.vic_verdict.specs.declared.judging.Verdict.TheVariants as verdict
+use Rattle.vic_report.specs.declared.shown.ShownUid.{ShownUid}
 use Rattle.vic_reconcile.specs.declared.surveys.PlainFindings.{PlainFindings}
 use Rattle.vic_answer.specs.Answered.{HasLog, IsRefusedAt}
 use Rattle.vic_answer.specs.declared.answered.Answered.{Answered}
-use Rattle.vic_answer.specs.declared.answered.Answered.TheVariants.{Judged, RefusedAt}
+use Rattle.vic_answer.specs.declared.answered.Answered.TheVariants.{Found, RefusedAt}
 use Rattle.vic_answer.specs.declared.finding_numbers.VicinityFinding.{VicinityFinding}
+use Rattle.vic_answer.specs.declared.findings.Finding.TheVariants as finding
 use Rattle.vic_answer.specs.declared.numbers.VicinityAnswer.{VicinityAnswer}
 use Rattle.vic_answer.specs.Buffers.{IsReturned}
-use Rattle.vic_answer.specs.FindingNumbers.{mask_finding, uid_findings}
+use Rattle.vic_answer.specs.FindingNumbers.{finding_numbers}
 use Rattle.vic_answer.specs.Numbers.{numbers_of}
 
 -- ---- of one log
@@ -22,7 +24,7 @@ use Rattle.vic_answer.specs.Numbers.{numbers_of}
 -- there are none
 abbrev pub IsAnswerWith : {T : Type 0} → (List LogLine → List T → Type 0) → List ℕ
     → Answered Verdict → List T → Type 0
-IsAnswerWith P text (Judged v) xs =
+IsAnswerWith P text (Found v) xs =
     (log : LogValue) × HasLog text log × IsVerdict log.lines v × P log.lines xs
 IsAnswerWith P text (RefusedAt n fault) xs = IsRefusedAt text n fault × (xs ≡ [])
 
@@ -49,15 +51,21 @@ first_of [] [] None [] count = verdict.Complete count
 
 abbrev pub plain_answer : PlainFindings → ℕ → Answered Verdict
 plain_answer f count =
-    Judged (first_of f.absent.items f.unlisted.items f.unsettled f.doubtful.items count)
+    Found (first_of f.absent.items f.unlisted.items f.unsettled f.doubtful.items count)
+
+-- a UID that no line shows
+abbrev pub unshown : ℕ → ShownUid
+unshown u = record { uid = u; line = 0 }
 
 -- the unsettled mask, if there is one
 abbrev pub unsettled_finding : Option BitMask → List VicinityFinding
 unsettled_finding None = []
-unsettled_finding (Some m) = mask_finding 4 m ∷ []
+unsettled_finding (Some m) = finding_numbers (finding.Unsettled m) ∷ []
 
 -- the findings, in their order
 abbrev pub plain_findings : PlainFindings → List VicinityFinding
 plain_findings f =
-    uid_findings 2 f.absent.items ++ uid_findings 3 f.unlisted.items
-    ++ unsettled_finding f.unsettled ++ uid_findings 5 f.doubtful.items
+    map (λ u. finding_numbers (finding.Absent (unshown u))) f.absent.items
+    ++ map (λ u. finding_numbers (finding.Unlisted (unshown u))) f.unlisted.items
+    ++ unsettled_finding f.unsettled
+    ++ map (λ u. finding_numbers (finding.Doubtful u)) f.doubtful.items

@@ -2,3 +2,4 @@
 pub mod Readings
 pub mod Reconciling
 pub mod Pieces
+pub mod FindingsLeft

@@ -16,7 +16,7 @@ use vic_verdict::Verdict;
 #[derive(Clone, Copy, Debug, Drop, PartialEq, Eq)]
 pub enum Answered<T> {
     /// It has a log, and this is what was found in it.
-    Judged(T),
+    Found(T),
     /// A line of it has a fault, and this is the first.
     RefusedAt { line: u32, fault: LineFault },
 }
@@ -27,32 +27,35 @@ pub type Answer = Answered<Verdict>;
 /// The log of a text, or its first fault.
 pub type Reading = Answered<Log>;
 
+/// What has the verdict on a log.
+pub trait HasVerdict {
+    ghost verdict_of: { Self → VerdictValue };
+
+    /// The verdict on the log.
+    fn verdict_in(&self) -> Verdict
+        ensures { result ≡ verdict_of self.now };
+}
+
 /// What is found in a log, with the verdict on it.
-pub trait Judgement {
+pub trait Judgement: HasVerdict {
     // what it has to be, for the lines of the log
     ghost IsOf: { List LogLineValue → Self → Type 0 };
 
-    ghost verdict_of: { Self → VerdictValue };
-
     /// What is found in a log. It fails only if memory is refused.
-    fn of_log(alloc: Global, log: &Log) -> Result<Self, AllocError>
+    fn found_in(alloc: Global, log: &Log) -> Result<Self, AllocError>
         ensures { IfOk result (IsOf log.now.lines) };
-
-    /// The verdict on the log.
-    fn verdict(&self) -> Verdict
-        ensures { result ≡ verdict_of self.now };
 
     // the verdict in it is right
     ghost tells: { (lines : List LogLineValue) (found : Self)
-        → IsOf lines found → IsVerdict lines (verdict_of found) };
+        → IsOf lines found → IsVerdict lines (Self.verdict_of found) };
 }
 
 /// The answer of `check` to the same text.
-pub fn answer_of<T: Judgement>(answered: &Answered<T>) -> Answer
+pub fn answer_of<T: HasVerdict>(answered: &Answered<T>) -> Answer
     ensures { result ≡ spec.answer_of T.verdict_of answered.now }
 {
     match answered {
-        Answered::Judged(found) => Answered::Judged(found.verdict()),
+        Answered::Found(found) => Answered::Found(found.verdict_in()),
         Answered::RefusedAt { line, fault } => Answered::RefusedAt {
             line: *line,
             fault: *fault,
@@ -65,7 +68,7 @@ pub fn read_text(alloc: Global, text: &[u8]) -> Result<Reading, AllocError>
     ensures { IfOk result (spec.IsReading text.now) }
 {
     match read_log(alloc, text) {
-        Ok(log) => Ok(Answered::Judged(log)),
+        Ok(log) => Ok(Answered::Found(log)),
         Err(LogFault::Line { line, fault }) => Ok(Answered::RefusedAt { line, fault }),
         Err(LogFault::Memory) => Err(AllocError),
         Err(LogFault::Read) | Err(LogFault::Spent) => unreachable!(),
@@ -81,7 +84,7 @@ pub(crate) fn answer_reading<T: Judgement>(
         → spec.IsReading text reading → spec.IsAnswered T.IsOf text a) }
 {
     match reading {
-        Answered::Judged(log) => Ok(Answered::Judged(T::of_log(alloc, &log)?)),
+        Answered::Found(log) => Ok(Answered::Found(T::found_in(alloc, &log)?)),
         Answered::RefusedAt { line, fault } => Ok(Answered::RefusedAt { line, fault }),
     }
 }
@@ -94,7 +97,7 @@ pub fn answer_text<T: Judgement>(alloc: Global, text: &[u8]) -> Result<Answered<
     ensures answer { IfOk result (λ a. IsAnswer text.now (spec.answer_of T.verdict_of a)) }
     // if it is `complete`, the list of the log is complete and has `count` UIDs
     ensures whole { IfOk result (λ a. (count : ℕ)
-        → spec.answer_of T.verdict_of a ≡ Answered.Judged (Complete count)
+        → spec.answer_of T.verdict_of a ≡ Answered.Found (Complete count)
         → IsCompleteText text.now count) }
 {
     let reading = read_text(alloc, text)?;

@@ -5,10 +5,10 @@ ghost use Rattle.vic_verdict.specs.Verdict.{IsVerdict};
 ghost use Rattle.vic_verdict.specs.declared.judging.Verdict.TheVariants.{Complete};
 ghost use Rattle.vic_answer.specs.CheckText.{IsAnswer, IsCheckOf, IsCompleteText, answer_line};
 ghost use Rattle.vic_answer.specs.CompleteRun.{IsCompleteWhereSaid, IsCompleteWhereWritten};
-ghost use Rattle.vic_answer.specs.Runs.{LeavesSink, LeavesSource, Runs, RunsOver};
-ghost use Rattle.vic_answer.specs.declared.answered.Answered.TheVariants.{Judged};
+ghost use Rattle.vic_answer.specs.Runs.{LeavesSink, LeavesSource, RunsOver, RunsOverRevealed};
+ghost use Rattle.vic_answer.specs.declared.answered.Answered.TheVariants.{Found};
 
-use crate::answered::{Answer, Judgement, answer_text};
+use crate::answered::{Answer, HasVerdict, Judgement, answer_text};
 use crate::lines::answer_line;
 use crate::output::write_and_flush;
 use crate::run::{Written, run_judged};
@@ -21,24 +21,26 @@ use vic_verdict::{Verdict, judge};
 pub fn judge_text(alloc: Global, text: &[u8]) -> Result<Answer, AllocError>
     ensures answer { IfOk result (IsAnswer text.now) }
     // if it is `complete`, the list of the log is complete and has `count` UIDs
-    ensures whole { IfOk result (λ a. (count : ℕ) → a ≡ Judged (Complete count)
+    ensures whole { IfOk result (λ a. (count : ℕ) → a ≡ Found (Complete count)
         → IsCompleteText text.now count) }
 {
     answer_text(alloc, text)
+}
+
+impl HasVerdict for Verdict {
+    ghost verdict_of = { λ v. v };
+
+    fn verdict_in(&self) -> Verdict {
+        *self
+    }
 }
 
 /// What `check` finds.
 impl Judgement for Verdict {
     ghost IsOf = { IsVerdict };
 
-    ghost verdict_of = { λ v. v };
-
-    fn of_log(alloc: Global, log: &Log) -> Result<Verdict, AllocError> {
+    fn found_in(alloc: Global, log: &Log) -> Result<Verdict, AllocError> {
         judge(alloc, log)
-    }
-
-    fn verdict(&self) -> Verdict {
-        *self
     }
 
     ghost tells = { λ lines v h. h };
@@ -60,7 +62,7 @@ pub fn run_check<R: Source, W: Sink>(
     source: &mut R,
     sink: &mut W,
 ) -> Result<Status, RunFault>
-    ensures answer { Runs IsCheckOf (R.left source.old) (R.left source.new)
+    ensures answer { RunsOverRevealed IsCheckOf (R.left source.old) (R.left source.new)
         (W.taken sink.old) (W.taken sink.new) result }
     // the same, even if source and sink reveal nothing
     ensures bytes { RunsOver IsCheckOf (R.returned source.old) (R.returned source.new)

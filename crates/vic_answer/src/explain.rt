@@ -6,9 +6,9 @@ ghost use Rattle.vic_log.specs.Writing.{listed_text};
 ghost use Rattle.vic_verdict.specs.Explained.{IsExplanation};
 ghost use Rattle.vic_answer.specs.ExplainText.{IsExplanationOf, explained_text, population_line, population_of, uids_of};
 ghost use Rattle.vic_answer.specs.CompleteRun.{IsCompleteWhereSaid, IsCompleteWhereWritten};
-ghost use Rattle.vic_answer.specs.Runs.{LeavesSink, LeavesSource, Runs, RunsOver};
+ghost use Rattle.vic_answer.specs.Runs.{LeavesSink, LeavesSource, RunsOver, RunsOverRevealed};
 
-use crate::answered::{Answered, Judgement, answer_of};
+use crate::answered::{Answered, HasVerdict, Judgement, answer_of};
 use crate::lines::answer_line;
 use crate::run::{Written, run_judged};
 use crate::status::{RunFault, Status};
@@ -19,18 +19,20 @@ use vic_frame::Uid;
 use vic_log::{Log, Sink, Source, write_listed};
 use vic_verdict::{Explanation, Verdict, explain};
 
+impl HasVerdict for Explanation {
+    ghost verdict_of = { λ e. e.verdict };
+
+    fn verdict_in(&self) -> Verdict {
+        self.verdict
+    }
+}
+
 /// What `explain` finds.
 impl Judgement for Explanation {
     ghost IsOf = { IsExplanation };
 
-    ghost verdict_of = { λ e. e.verdict };
-
-    fn of_log(alloc: Global, log: &Log) -> Result<Explanation, AllocError> {
+    fn found_in(alloc: Global, log: &Log) -> Result<Explanation, AllocError> {
         explain(alloc, log)
-    }
-
-    fn verdict(&self) -> Verdict {
-        self.verdict
     }
 
     ghost tells = { λ lines e h. h.verdict };
@@ -53,7 +55,7 @@ fn population_of(explained: &Answered<Explanation>) -> Option<&[Uid]>
     ensures { option_copied result ≡ population_of explained.now }
 {
     match explained {
-        Answered::Judged(found) => found.population.as_ref().map(|uids| uids.as_slice()),
+        Answered::Found(found) => found.population.as_ref().map(|uids| uids.as_slice()),
         Answered::RefusedAt { .. } => None,
     }
 }
@@ -73,7 +75,7 @@ pub fn run_explain<R: Source, W: Sink>(
     source: &mut R,
     sink: &mut W,
 ) -> Result<Status, RunFault>
-    ensures answer { Runs IsExplanationOf (R.left source.old) (R.left source.new)
+    ensures answer { RunsOverRevealed IsExplanationOf (R.left source.old) (R.left source.new)
         (W.taken sink.old) (W.taken sink.new) result }
     // the same, even if source and sink reveal nothing
     ensures bytes { RunsOver IsExplanationOf (R.returned source.old) (R.returned source.new)

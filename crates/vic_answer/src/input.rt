@@ -17,7 +17,7 @@ pub(crate) fn read_source<R: Source>(alloc: Global, source: &mut R) -> Result<Re
     ensures leaves_source { LeavesSource R.reads R.has_failed source.old source.new result }
 {
     match LogReader::new(alloc).read_all(source) {
-        Ok(log) => Ok(Reading::Judged(log)),
+        Ok(log) => Ok(Reading::Found(log)),
         Err(LogFault::Line { line, fault }) => Ok(Reading::RefusedAt { line, fault }),
         Err(LogFault::Read) => Err(RunFault::Read),
         Err(LogFault::Memory) => Err(RunFault::Memory),

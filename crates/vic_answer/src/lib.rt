@@ -9,6 +9,7 @@ mod ending;
 mod explain;
 mod fault_numbers;
 mod finding_numbers;
+mod findings;
 mod frame;
 mod input;
 pub mod laws;
@@ -33,7 +34,9 @@ mod survey_numbers;
 mod task;
 mod text;
 
-pub use answered::{Answer, Answered, Judgement, Reading, answer_of, answer_text, read_text};
+pub use answered::{
+    Answer, Answered, HasVerdict, Judgement, Reading, answer_of, answer_text, read_text,
+};
 pub use buffers::{copy_each, copy_list, copy_uids};
 pub use check::{judge_text, run_check};
 pub use explain::{run_explain, uids_of};
@@ -44,7 +47,7 @@ pub use lines::{answer_line, answer_status};
 pub use listing::{Listing, list_text, listed_in, listing_numbers};
 pub use margin::run_margin;
 pub use numbers::{NO_ANSWER, VicinityAnswer, numbers_of, refusal_numbers};
-pub use overlooked::{Overlooked, overlooked_answer, overlooked_text};
+pub use overlooked::{Overlooked, overlooked_text};
 pub use reconcile_run::run_reconcile;
 pub use report::run_report;
 pub use simulate::{SimulatedText, run_simulate, simulate_text};

@@ -21,7 +21,7 @@ pub fn answer_line(answer: &Answer) -> Text
     ensures len { array_vec_len result < LINE_ROOM }
 {
     match answer {
-        Answer::Judged(verdict) => verdict_line(verdict),
+        Answer::Found(verdict) => verdict_line(verdict),
         Answer::RefusedAt { line, fault } => refusal_line(*line, fault),
     }
 }
@@ -31,7 +31,7 @@ pub fn answer_status(answer: &Answer) -> Status
     ensures { result ≡ spec.answer_status answer.now }
 {
     match answer {
-        Answer::Judged(verdict) => verdict_status(verdict),
+        Answer::Found(verdict) => verdict_status(verdict),
         Answer::RefusedAt { .. } => Status::Refused,
     }
 }

@@ -32,7 +32,7 @@ pub fn list_text(alloc: Global, text: &[u8]) -> Result<Listing, AllocError>
     ensures { IfOk result (spec.IsListing text.now) }
 {
     match read_text(alloc, text)? {
-        Answered::Judged(log) => list_log(alloc, &log),
+        Answered::Found(log) => list_log(alloc, &log),
         Answered::RefusedAt { line, fault } => Ok(Listing::RefusedAt { line, fault }),
     }
 }

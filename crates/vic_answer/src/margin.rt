@@ -4,9 +4,9 @@ ghost use Rattle.std.specs.Prelude.{◌≡◌, ◌<◌, ◌++◌};
 ghost use Rattle.arrayvec.specs.ArrayVec.{array_vec_len};
 ghost use Rattle.vic_answer.specs.CompleteRun.{IsCompleteWhereSaidFirst, IsCompleteWhereWrittenFirst};
 ghost use Rattle.vic_answer.specs.MarginText.{IsMarginOf, IsMarginOfLines, measured_text, weakest_text};
-ghost use Rattle.vic_answer.specs.Runs.{LeavesSink, LeavesSource, Runs, RunsOver};
+ghost use Rattle.vic_answer.specs.Runs.{LeavesSink, LeavesSource, RunsOver, RunsOverRevealed};
 
-use crate::answered::{Answered, Judgement, answer_of};
+use crate::answered::{Answered, HasVerdict, Judgement, answer_of};
 use crate::lines::answer_line;
 use crate::output::write_and_flush;
 use crate::run::{Written, run_judged};
@@ -17,18 +17,20 @@ use vic_log::{Log, Sink, Source};
 use vic_margin::{Margin, Weakest, margin};
 use vic_verdict::Verdict;
 
+impl HasVerdict for Margin {
+    ghost verdict_of = { λ m. m.verdict };
+
+    fn verdict_in(&self) -> Verdict {
+        self.verdict
+    }
+}
+
 /// What `margin` finds.
 impl Judgement for Margin {
     ghost IsOf = { IsMarginOfLines };
 
-    ghost verdict_of = { λ m. m.verdict };
-
-    fn of_log(alloc: Global, log: &Log) -> Result<Margin, AllocError> {
+    fn found_in(alloc: Global, log: &Log) -> Result<Margin, AllocError> {
         margin(alloc, log)
-    }
-
-    fn verdict(&self) -> Verdict {
-        self.verdict
     }
 
     ghost tells = { λ lines m h. h.verdict };
@@ -39,7 +41,7 @@ impl Written for Margin {
     ghost text_of = { measured_text };
 
     fn write<W: Sink>(answered: &Answered<Margin>, sink: &mut W) -> Result<(), RunFault> {
-        write_and_flush(sink, measured_lines(answered).as_slice())
+        write_and_flush(sink, measured_text(answered).as_slice())
     }
 }
 
@@ -51,7 +53,7 @@ pub fn run_margin<R: Source, W: Sink>(
     source: &mut R,
     sink: &mut W,
 ) -> Result<Status, RunFault>
-    ensures answer { Runs IsMarginOf (R.left source.old) (R.left source.new)
+    ensures answer { RunsOverRevealed IsMarginOf (R.left source.old) (R.left source.new)
         (W.taken sink.old) (W.taken sink.new) result }
     // the same, even if source and sink reveal nothing
     ensures bytes { RunsOver IsMarginOf (R.returned source.old) (R.returned source.new)
@@ -70,11 +72,11 @@ pub fn run_margin<R: Source, W: Sink>(
 
 /// The lines of an answer: after that of `check` the margin and the weakest mask, if it is
 /// `complete`.
-fn measured_lines(measured: &Answered<Margin>) -> Text
+fn measured_text(measured: &Answered<Margin>) -> Text
     ensures { result.items ≡ measured_text measured.now }
 {
     let mut text = answer_line(&answer_of(measured));
-    if let Answered::Judged(margin) = measured {
+    if let Answered::Found(margin) = measured {
         if let Verdict::Complete { .. } = margin.verdict {
             put_weakest(&mut text, &margin.weakest);
         }

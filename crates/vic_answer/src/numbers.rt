@@ -3,7 +3,7 @@
 ghost use Rattle.std.specs.Prelude.{◌≡◌, ◌≢◌, ◌<◌, ◌≤◌, length};
 ghost use Rattle.vic_verdict.specs.declared.judging.Verdict.TheVariants.{Complete};
 ghost use Rattle.vic_answer.specs.Numbers as spec;
-ghost use Rattle.vic_answer.specs.declared.answered.Answered.TheVariants.{Judged};
+ghost use Rattle.vic_answer.specs.declared.answered.Answered.TheVariants.{Found};
 
 use crate::answered::Answer;
 use crate::fault_numbers::fault_number;
@@ -12,7 +12,7 @@ use crate::status::Status;
 use crate::text::LINE_ROOM;
 use vic_verdict::Verdict;
 
-/// The kind of an answer in numbers.
+/// The kind of an answer or of a finding in numbers; from 2 to 5 it is that of both.
 #[derive(Clone, Copy, Debug, PartialEq, Eq)]
 pub(crate) enum Kind {
     /// No answer: memory was refused.
@@ -24,6 +24,10 @@ pub(crate) enum Kind {
     Doubtful = 5,
     Impossible = 6,
     Refused = 7,
+    OpenMask = 8,
+    MoreOpenMasks = 9,
+    ConflictLine = 10,
+    SilencedBy = 11,
     /// The UIDs of a list: no answer to a log.
     Listed = 12,
 }
@@ -74,7 +78,7 @@ pub const NO_ANSWER: VicinityAnswer = VicinityAnswer {
 #[tactic(auto, using(crate::proofs::Numbered::kind_complete, crate::proofs::Numbered::kind_some))]
 pub fn numbers_of(answer: &Answer) -> VicinityAnswer
     ensures numbers { result ≡ spec.numbers_of answer.now }
-    ensures complete { result.kind ≡ 1 → answer.now ≡ Judged (Complete result.count) }
+    ensures complete { result.kind ≡ 1 → answer.now ≡ Found (Complete result.count) }
     ensures nonzero { result.kind ≢ 0 }
 {
     VicinityAnswer {
@@ -89,7 +93,7 @@ fn fields_of(answer: &Answer) -> VicinityAnswer
     ensures { result ≡ spec.fields_of answer.now }
 {
     match *answer {
-        Answer::Judged(verdict) => verdict_fields(&verdict),
+        Answer::Found(verdict) => verdict_fields(&verdict),
         Answer::RefusedAt { line, fault } => VicinityAnswer {
             kind: Kind::Refused as u32,
             line,
@@ -101,7 +105,7 @@ fn fields_of(answer: &Answer) -> VicinityAnswer
 
 /// The fields of a verdict.
 fn verdict_fields(verdict: &Verdict) -> VicinityAnswer
-    ensures { result ≡ spec.fields_of (Judged verdict.now) }
+    ensures { result ≡ spec.fields_of (Found verdict.now) }
 {
     match *verdict {
         Verdict::Complete { count } => VicinityAnswer {

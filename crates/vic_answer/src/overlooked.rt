@@ -6,7 +6,7 @@ ghost use Rattle.vic_answer.specs.Answered.{IsAnswered, answer_of};
 ghost use Rattle.vic_answer.specs.CheckText.{IsAnswer, IsCompleteText};
 ghost use Rattle.vic_answer.specs.OverlookedText.{AreOverlooked};
 
-use crate::answered::{Answer, Answered, read_text};
+use crate::answered::{Answered, HasVerdict, read_text};
 use std::alloc::{AllocError, Global};
 use vic_frame::Uid;
 use vic_log::Log;
@@ -20,6 +20,14 @@ pub struct Overlooked {
     pub margins: Vec<u32>,
 }
 
+impl HasVerdict for Overlooked {
+    ghost verdict_of = { λ o. o.verdict };
+
+    fn verdict_in(&self) -> Verdict {
+        self.verdict
+    }
+}
+
 /// The answer to a complete text, with the margin of each UID that is handed in, in their order. It
 /// fails only if memory is refused.
 pub fn overlooked_text(
@@ -31,11 +39,11 @@ pub fn overlooked_text(
     ensures answer { IfOk result (λ o. IsAnswer text.now (answer_of (λ x. x.verdict) o)) }
     // if it is `complete`, the list of the log is complete and has `count` UIDs
     ensures whole { IfOk result (λ o. (count : ℕ)
-        → answer_of (λ x. x.verdict) o ≡ Answered.Judged (Complete count)
+        → answer_of (λ x. x.verdict) o ≡ Answered.Found (Complete count)
         → IsCompleteText text.now count) }
 {
     match read_text(alloc, text)? {
-        Answered::Judged(log) => Ok(Answered::Judged(overlooked_log(alloc, &log, uids)?)),
+        Answered::Found(log) => Ok(Answered::Found(overlooked_log(alloc, &log, uids)?)),
         Answered::RefusedAt { line, fault } => Ok(Answered::RefusedAt { line, fault }),
     }
 }
@@ -47,17 +55,4 @@ fn overlooked_log(alloc: Global, log: &Log, uids: &[Uid]) -> Result<Overlooked, 
     let verdict = judge(alloc, log)?;
     let margins = vic_margin::overlooked(alloc, log, uids)?;
     Ok(Overlooked { verdict, margins })
-}
-
-/// The answer of `check` to the same text.
-pub fn overlooked_answer(overlooked: &Answered<Overlooked>) -> Answer
-    ensures { result ≡ answer_of (λ x. x.verdict) overlooked.now }
-{
-    match overlooked {
-        Answered::Judged(overlooked) => Answered::Judged(overlooked.verdict),
-        Answered::RefusedAt { line, fault } => Answered::RefusedAt {
-            line: *line,
-            fault: *fault,
-        },
-    }
 }

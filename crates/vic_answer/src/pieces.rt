@@ -1,7 +1,5 @@
 //! How a long text is written: in pieces, which wait until there is enough for a write.
 
-ghost use Rattle.std.specs.Prelude.{◌≡◌, List, ℕ};
-ghost use Rattle.std.specs.List.{flat_map};
 ghost use Rattle.vic_answer.specs.inner.Pieces.{Puts};
 
 use crate::status::RunFault;
@@ -30,23 +28,5 @@ pub(crate) fn put_text<W: Sink>(
     let Ok(()) = piece.try_extend_from_slice(text.as_slice()) else {
         unreachable!()
     };
-    Ok(())
-}
-
-/// Adds the text of each item.
-pub(crate) fn put_each<W: Sink, T: Copy, F: Fn(T) -> Text>(
-    piece: &mut Piece,
-    sink: &mut W,
-    items: &[T],
-    text_of: F,
-) -> Result<(), RunFault>
-    requires { F.IsAlwaysCallable text_of }
-    ensures { (told : T → List ℕ) → ((x : T) (t : _) → F.post text_of x t → t.items ≡ told x)
-        → Puts W.written W.taken W.has_failed sink.old sink.new
-        piece.old.items piece.new.items (flat_map told items.now) result }
-{
-    for item in items {
-        put_text(piece, sink, &text_of(*item))?;
-    }
     Ok(())
 }

@@ -1,9 +1,8 @@
 //! The command `reconcile`, text by text.
 
-ghost use Rattle.std.specs.Prelude.{◌≡◌, ◌≢◌, ◌↔◌, ◌+◌, ◌++◌, ℕ, [], ◌∷◌, List, IfErr, IfOk, OnOk, length};
-ghost use Rattle.std.specs.Prelude.{codes, map, string_bytes};
+ghost use Rattle.std.specs.Prelude.{◌≡◌, ◌≢◌, ◌↔◌, ◌+◌, ◌++◌, ℕ, [], ◌∷◌, List, IfErr, IfOk, length, map, string_bytes};
 ghost use Rattle.vic_answer.specs.Answered.{IsReading};
-ghost use Rattle.vic_answer.specs.Reconciled.{AreComplete, IsReconciled};
+ghost use Rattle.vic_answer.specs.Reconciled.{IsReconciled};
 ghost use Rattle.vic_answer.specs.inner.Reconciling.{IsKept, IsReconciling};
 ghost use Rattle.vic_answer.specs.inner.Readings.{GivesOver};
 ghost use Rattle.vic_answer.specs.ReconcileRun.{logs_up_to};
@@ -39,7 +38,7 @@ pub(crate) enum Reconciled {
     /// Everything that is expected is somewhere, and nothing else.
     Complete { count: u32 },
     /// The findings, at least one.
-    Found(Findings),
+    NotWhole(Findings),
     /// A text is refused, or its log is impossible.
     Ended(Ending),
 }
@@ -63,7 +62,7 @@ fn begin(alloc: Global, reading: Reading) -> Result<Reconciling, AllocError>
         → IsReading text reading → IsReconciling text [] r) }
 {
     match reading {
-        Reading::Judged(list) => match Reconciliation::expecting(alloc, &list)? {
+        Reading::Found(list) => match Reconciliation::expecting(alloc, &list)? {
             Ok(joined) => Ok(Reconciling::Going(joined)),
             Err(line) => Ok(Reconciling::Ended(Ending::NotListedAt { line })),
         },
@@ -105,7 +104,7 @@ fn join(joined: Reconciliation, reading: Reading) -> Result<Reconciling, AllocEr
     let mut joined = joined;
     let log = joined.log_count();
     match reading {
-        Reading::Judged(next) => match joined.add(&next)? {
+        Reading::Found(next) => match joined.add(&next)? {
             None => Ok(Reconciling::Going(joined)),
             Some(line) => Ok(Reconciling::Ended(Ending::ImpossibleAt { log, line })),
         },
@@ -131,7 +130,7 @@ pub(crate) fn reconciled_answer(reconciling: &Reconciling) -> Result<Reconciled,
                 let count = joined.count();
                 Ok(Reconciled::Complete { count })
             } else {
-                Ok(Reconciled::Found(found))
+                Ok(Reconciled::NotWhole(found))
             }
         }
         Reconciling::Ended(ending) => Ok(Reconciled::Ended(*ending)),
@@ -153,7 +152,7 @@ fn reconciled_text(
             let line = verdict_line(&Verdict::Complete { count: *count });
             Vec::from_slice(alloc, line.as_slice())
         }
-        Reconciled::Found(found) => findings_text(alloc, names, found),
+        Reconciled::NotWhole(found) => findings_text(alloc, names, found),
         Reconciled::Ended(ending) => ending_text(alloc, ending, list_name, names),
     }
 }
@@ -164,7 +163,7 @@ fn reconciled_status(answer: &Reconciled) -> Status
 {
     match answer {
         Reconciled::Complete { .. } => Status::Whole,
-        Reconciled::Found(_) => Status::NotWhole,
+        Reconciled::NotWhole(_) => Status::NotWhole,
         Reconciled::Ended(Ending::ImpossibleAt { .. }) => Status::Impossible,
         Reconciled::Ended(_) => Status::Refused,
     }
@@ -181,11 +180,6 @@ pub(crate) fn write_reconciled<W: Sink>(
     ensures written { IsWritten
         (spec.reconciled_text list_name.now (map string_bytes names.now) answer.now)
         (spec.reconciled_status answer.now) (W.written sink.old) (W.written sink.new) result }
-    // if it wrote `complete N`, everything that is expected is somewhere, and nothing else
-    ensures complete { OnOk result ((list : List ℕ) (texts : List (List ℕ)) (rest : List ℕ)
-        → IsReconciled list texts answer.now
-        → W.written sink.new ≡ W.written sink.old ++ (codes "complete " ++ rest)
-        → AreComplete list texts rest) }
     ensures leaves_sink { LeavesSink W.is_flushed W.has_failed sink.old sink.new result }
     ensures fault { IfErr result (λ e. e ≢ Read) }
 {

@@ -5,9 +5,9 @@ ghost use Rattle.vic_report.specs.Reports.{IsReport, verdict_of};
 ghost use Rattle.vic_answer.specs.inner.Pieces.{Puts};
 ghost use Rattle.vic_answer.specs.CompleteRun.{IsCompleteWhereSaid, IsCompleteWhereWritten};
 ghost use Rattle.vic_answer.specs.ReportText.{IsReportOf, reported_text};
-ghost use Rattle.vic_answer.specs.Runs.{LeavesSink, LeavesSource, Runs, RunsOver};
+ghost use Rattle.vic_answer.specs.Runs.{LeavesSink, LeavesSource, RunsOver, RunsOverRevealed};
 
-use crate::answered::{Answered, Judgement};
+use crate::answered::{Answered, HasVerdict, Judgement};
 use crate::lines::refusal_line;
 use crate::output::write_and_flush;
 use crate::pieces::{Piece, put_text};
@@ -20,18 +20,20 @@ use vic_log::{Log, Sink, Source};
 use vic_report::{LogReport, report};
 use vic_verdict::Verdict;
 
+impl HasVerdict for LogReport {
+    ghost verdict_of = { verdict_of };
+
+    fn verdict_in(&self) -> Verdict {
+        self.verdict()
+    }
+}
+
 /// What `report` finds.
 impl Judgement for LogReport {
     ghost IsOf = { IsReport };
 
-    ghost verdict_of = { verdict_of };
-
-    fn of_log(alloc: Global, log: &Log) -> Result<LogReport, AllocError> {
+    fn found_in(alloc: Global, log: &Log) -> Result<LogReport, AllocError> {
         report(alloc, log)
-    }
-
-    fn verdict(&self) -> Verdict {
-        self.verdict()
     }
 
     ghost tells = { report_begins };
@@ -55,7 +57,7 @@ pub fn run_report<R: Source, W: Sink>(
     source: &mut R,
     sink: &mut W,
 ) -> Result<Status, RunFault>
-    ensures answer { Runs IsReportOf (R.left source.old) (R.left source.new)
+    ensures answer { RunsOverRevealed IsReportOf (R.left source.old) (R.left source.new)
         (W.taken sink.old) (W.taken sink.new) result }
     // the same, even if source and sink reveal nothing
     ensures bytes { RunsOver IsReportOf (R.returned source.old) (R.returned source.new)
@@ -82,7 +84,7 @@ fn put_reported<W: Sink>(
         piece.old.items piece.new.items (reported_text reported.now) result }
 {
     match reported {
-        Answered::Judged(report) => put_report(piece, sink, report),
+        Answered::Found(report) => put_report(piece, sink, report),
         Answered::RefusedAt { line, fault } => put_text(piece, sink, &refusal_line(*line, fault)),
     }
 }

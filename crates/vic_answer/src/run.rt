@@ -3,7 +3,7 @@
 ghost use Rattle.std.specs.Prelude.{◌≡◌, ℕ, List, IfOk};
 ghost use Rattle.vic_answer.specs.Answered as spec;
 ghost use Rattle.vic_answer.specs.CheckText.{IsAnswerText, answer_status};
-ghost use Rattle.vic_answer.specs.Runs.{LeavesSink, LeavesSource, Runs, RunsOver, Writes};
+ghost use Rattle.vic_answer.specs.Runs.{LeavesSink, LeavesSource, RunsOver, RunsOverRevealed, Writes};
 ghost use Rattle.vic_answer.specs.declared.answered.Answered.{Answered as AnsweredValue};
 
 use crate::answered::{Answered, Judgement, answer_of, answer_reading};
@@ -31,8 +31,8 @@ pub(crate) fn run_judged<J: Written, R: Source, W: Sink>(
     source: &mut R,
     sink: &mut W,
 ) -> Result<Status, RunFault>
-    ensures answer { Runs (IsAnswerText J.IsOf J.verdict_of J.text_of) (R.left source.old)
-        (R.left source.new) (W.taken sink.old) (W.taken sink.new) result }
+    ensures answer { RunsOverRevealed (IsAnswerText J.IsOf J.verdict_of J.text_of)
+        (R.left source.old) (R.left source.new) (W.taken sink.old) (W.taken sink.new) result }
     ensures bytes { RunsOver (IsAnswerText J.IsOf J.verdict_of J.text_of) (R.returned source.old)
         (R.returned source.new) (R.ended source.new)
         (W.written sink.old) (W.written sink.new) result }

@@ -3,7 +3,7 @@
 ghost use Rattle.std.specs.Prelude.{◌≡◌, ℕ, List, IfOk};
 ghost use Rattle.vic_answer.specs.SimulateText.{IsSimulated, IsSimulationOf, simulated_text, simulated_status};
 ghost use Rattle.vic_answer.specs.Answered.{HasLog, IsReading};
-ghost use Rattle.vic_answer.specs.Runs.{Runs, RunsOver, LeavesSource, LeavesSink, Writes};
+ghost use Rattle.vic_answer.specs.Runs.{RunsOver, RunsOverRevealed, LeavesSource, LeavesSink, Writes};
 
 use crate::answered::{Reading, read_text};
 use crate::input::read_source;
@@ -66,7 +66,7 @@ pub fn run_simulate<R: Source, W: Sink>(
     source: &mut R,
     sink: &mut W,
 ) -> Result<Status, RunFault>
-    ensures answer { Runs IsSimulationOf (R.left source.old) (R.left source.new)
+    ensures answer { RunsOverRevealed IsSimulationOf (R.left source.old) (R.left source.new)
         (W.taken sink.old) (W.taken sink.new) result }
     // the same, even if source and sink reveal nothing
     ensures bytes { RunsOver IsSimulationOf (R.returned source.old) (R.returned source.new)
@@ -85,7 +85,7 @@ fn simulate_reading(alloc: Global, reading: Reading) -> Result<Simulated, AllocE
         → IsReading text reading → IsSimulated text s) }
 {
     match reading {
-        Reading::Judged(log) => simulate_log(alloc, &log),
+        Reading::Found(log) => simulate_log(alloc, &log),
         Reading::RefusedAt { line, fault } => Ok(Simulated::RefusedAt { line, fault }),
     }
 }

@@ -5,25 +5,27 @@ ghost use Rattle.vic_reconcile.specs.Surveys.{AreCertainIn, AreOpenIn, IsSurvey}
 ghost use Rattle.vic_answer.specs.Answered.{IsAnswered, answer_of};
 ghost use Rattle.vic_answer.specs.SurveyNumbers.{IsAnswerWith};
 
-use crate::answered::{Answered, Judgement};
+use crate::answered::{Answered, HasVerdict, Judgement};
 use std::alloc::{AllocError, Global};
 use vic_frame::{Mask, Uid};
 use vic_log::Log;
 use vic_reconcile::Survey;
 use vic_verdict::Verdict;
 
+impl HasVerdict for Survey {
+    ghost verdict_of = { λ s. s.verdict };
+
+    fn verdict_in(&self) -> Verdict {
+        self.verdict
+    }
+}
+
 /// The survey of a log.
 impl Judgement for Survey {
     ghost IsOf = { IsSurvey };
 
-    ghost verdict_of = { λ s. s.verdict };
-
-    fn of_log(alloc: Global, log: &Log) -> Result<Survey, AllocError> {
+    fn found_in(alloc: Global, log: &Log) -> Result<Survey, AllocError> {
         Survey::of_log(alloc, log)
-    }
-
-    fn verdict(&self) -> Verdict {
-        self.verdict
     }
 
     ghost tells = { λ lines s h. h.verdict };
@@ -36,7 +38,7 @@ pub fn certain_of(surveyed: &Answered<Survey>) -> &[Uid]
         → IsAnswerWith AreCertainIn text (answer_of (λ x. x.verdict) surveyed.now) result.now }
 {
     match surveyed {
-        Answered::Judged(survey) => survey.certain.as_slice(),
+        Answered::Found(survey) => survey.certain.as_slice(),
         Answered::RefusedAt { .. } => &[],
     }
 }
@@ -48,7 +50,7 @@ pub fn open_masks_of(alloc: Global, surveyed: &Answered<Survey>) -> Result<Vec<M
         → IsAnswerWith AreOpenIn text (answer_of (λ x. x.verdict) surveyed.now) masks.items) }
 {
     match surveyed {
-        Answered::Judged(survey) => survey.open_masks(alloc),
+        Answered::Found(survey) => survey.open_masks(alloc),
         Answered::RefusedAt { .. } => Ok(Vec::new(alloc)),
     }
 }

@@ -1,11 +1,15 @@
 //! Findings from surveys, in numbers: no line shows them.
 
-ghost use Rattle.std.specs.Prelude.{◌≡◌, IfOk};
+ghost use Rattle.std.specs.Prelude.{◌≡◌, ◌++◌, IfOk, OnOk, map};
+ghost use Rattle.vic_answer.specs.FindingNumbers.{finding};
 ghost use Rattle.vic_answer.specs.SurveyNumbers as spec;
 
 use crate::answered::Answer;
-use crate::finding_numbers::{FindingKind, VicinityFinding, mask_finding, push_uids};
+use crate::finding_numbers::{NO_FINDING, VicinityFinding, finding_numbers};
+use crate::findings::Finding;
+use crate::numbers::Kind;
 use std::alloc::{AllocError, Global};
+use vic_frame::Uid;
 use vic_reconcile::PlainFindings;
 use vic_verdict::Verdict;
 
@@ -14,7 +18,7 @@ use vic_verdict::Verdict;
 pub fn plain_answer(findings: &PlainFindings, count: u32) -> Answer
     ensures { result ≡ spec.plain_answer findings.now count }
 {
-    Answer::Judged(first_of(findings, count))
+    Answer::Found(first_of(findings, count))
 }
 
 /// The first of the findings, as a verdict.
@@ -45,11 +49,26 @@ pub fn plain_findings(
     ensures { IfOk result (λ list. list.items ≡ spec.plain_findings findings.now) }
 {
     let mut list = Vec::new(alloc);
-    push_uids(&mut list, FindingKind::Absent as u32, &findings.absent)?;
-    push_uids(&mut list, FindingKind::Unlisted as u32, &findings.unlisted)?;
+    push_uids(&mut list, Kind::Absent as u32, &findings.absent)?;
+    push_uids(&mut list, Kind::Unlisted as u32, &findings.unlisted)?;
     if let Some(mask) = findings.unsettled {
-        list.push(mask_finding(FindingKind::Unsettled as u32, mask))?;
+        list.push(finding_numbers(&Finding::Unsettled(mask)))?;
     }
-    push_uids(&mut list, FindingKind::Doubtful as u32, &findings.doubtful)?;
+    push_uids(&mut list, Kind::Doubtful as u32, &findings.doubtful)?;
     Ok(list)
+}
+
+/// Adds a finding of a kind for each UID, without a line.
+fn push_uids(list: &mut Vec<VicinityFinding>, kind: u32, uids: &[Uid]) -> Result<(), AllocError>
+    ensures { OnOk result (list.new.items
+        ≡ list.old.items ++ map (λ u. record (finding kind) { uid = u }) uids.now) }
+{
+    for uid in uids {
+        list.push(VicinityFinding {
+            kind,
+            uid: uid.number(),
+            ..NO_FINDING
+        })?;
+    }
+    Ok(())
 }

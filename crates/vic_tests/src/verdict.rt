@@ -19,7 +19,7 @@ fn is_judged(rt: &impl Abort, alloc: Global, names: &str, line: &str) -> Result<
     let verdict = judge_with::<CellList>(alloc, &log)?;
     let explained = explain_with::<MaskTree>(alloc, &log)?;
     assert!(rt; explained.verdict == verdict, "{names}");
-    let written = answer_line(&Answer::Judged(verdict));
+    let written = answer_line(&Answer::Found(verdict));
     assert!(rt;
         written.strip_suffix(b"\n") == Some(line.as_bytes()),
         "{names}"

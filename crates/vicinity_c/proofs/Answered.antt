@@ -1,18 +1,18 @@
 -- What is answered to arrays, and the kinds of these answers.
-use Rattle.vicinity_c.proofs.Words.{◌≡◌, ℕ, List, [], Option, None, length, map, refl, sym, ap, subst, ◌∙◌, arith, inl, inr, ◌<◌, BitMask, AreNoneOf, AreTogether, IsReturned, first_of, plain_answer, VicinityMask, HaveNoFault, faults_of, mask_in, AreFindingsBy, LogLine, PlainFindings, IsWhole, Judged, VicinityFinding, VicinityAnswer, numbers_of, AreReconciled, AreRefused, IsReconciledBy, AreCompared}
+use Rattle.vicinity_c.proofs.Words.{◌≡◌, ℕ, List, [], Option, None, length, map, refl, sym, ap, subst, ◌∙◌, arith, inl, inr, ◌<◌, BitMask, AreNoneOf, AreTogether, IsReturned, first_of, plain_answer, VicinityMask, HaveNoFault, faults_of, mask_in, AreFindingsBy, LogLine, PlainFindings, IsWhole, Found, VicinityFinding, VicinityAnswer, numbers_of, AreReconciled, AreRefused, IsReconciledBy, AreCompared}
 
 -- ---- the kinds of the answers
 
 -- there is one, and it isn't that of a refusal
-kind_between : (absent unlisted : List ℕ) (m : Option BitMask) (doubtful : List ℕ) (n : ℕ) → (0 < (numbers_of (Judged (first_of absent unlisted m doubtful n))).kind) × ((numbers_of (Judged (first_of absent unlisted m doubtful n))).kind < 7)
+kind_between : (absent unlisted : List ℕ) (m : Option BitMask) (doubtful : List ℕ) (n : ℕ) → (0 < (numbers_of (Found (first_of absent unlisted m doubtful n))).kind) × ((numbers_of (Found (first_of absent unlisted m doubtful n))).kind < 7)
 kind_between [] [] None [] n = (omega arith, omega arith)
 kind_between _ _ _ _ n = (omega arith, omega arith)
 
 plain_between : (f : PlainFindings) (n : ℕ) (numbers : VicinityAnswer) → numbers ≡ numbers_of (plain_answer f n) → (0 < numbers.kind) × (numbers.kind < 7)
 plain_between f n numbers e = rw e (kind_between f.absent.items f.unlisted.items f.unsettled f.doubtful.items n)
 
-none_where : (absent unlisted : List ℕ) (m : Option BitMask) (doubtful : List ℕ) (n : ℕ) → (numbers_of (Judged (first_of absent unlisted m doubtful n))).kind ≡ 1
-    → (absent ≡ []) × (unlisted ≡ []) × (m ≡ None) × (doubtful ≡ []) × ((numbers_of (Judged (first_of absent unlisted m doubtful n))).count ≡ n)
+none_where : (absent unlisted : List ℕ) (m : Option BitMask) (doubtful : List ℕ) (n : ℕ) → (numbers_of (Found (first_of absent unlisted m doubtful n))).kind ≡ 1
+    → (absent ≡ []) × (unlisted ≡ []) × (m ≡ None) × (doubtful ≡ []) × ((numbers_of (Found (first_of absent unlisted m doubtful n))).count ≡ n)
 none_where [] [] None [] n h = (refl, refl, refl, refl, refl)
 none_where _ _ _ _ n h = absurd (omega (arith, h))
 

@@ -1,5 +1,5 @@
 -- What the calls for one log return is what the call for many logs may be given.
-use Rattle.vicinity_c.proofs.Words.{◌≡◌, ℕ, suc, zero, ◌++◌, ◌<◌, ◌∷◌, ◌∙◌, List, [], true, drop, get_or, length, map, take, refl, sym, ap, subst, arith, get_or-map, length-map, map-id, map-map, take-append_seam, ◌↔◌, AllZip, Any, Contains, has, lines_of_text, log_upto, LogLine, entries, IsPossible, AreCertainIn, AreOpenIn, IsToldBy, IsAnswerWith, Judged, RefusedAt, Answered, Verdict, VicinityAnswer, numbers_of, mask_fields, mask_in, BitMask, VicinityMask, Absent, Complete, Doubtful, Impossible, Unlisted, Unsettled}
+use Rattle.vicinity_c.proofs.Words.{◌≡◌, ℕ, suc, zero, ◌++◌, ◌<◌, ◌∷◌, ◌∙◌, List, [], true, drop, get_or, length, map, take, refl, sym, ap, subst, arith, get_or-map, length-map, map-id, map-map, take-append_seam, ◌↔◌, AllZip, Any, Contains, has, lines_of_text, log_upto, LogLine, entries, IsPossible, AreCertainIn, AreOpenIn, IsToldBy, IsAnswerWith, Found, RefusedAt, Answered, Verdict, VicinityAnswer, numbers_of, mask_fields, mask_in, BitMask, VicinityMask, Absent, Complete, Doubtful, Impossible, Unlisted, Unsettled}
 use Rattle.vicinity_c.specs.Together.{AreOfLogs, ArePutTogether, AreReturned, AreSurveyed, HasLines}
 
 -- ---- of lists
@@ -34,12 +34,12 @@ record Items {T R : Type 0} (P : List LogLine → List T → Type 0) (number_of 
 
 of_answer : {T R : Type 0} (P : List LogLine → List T → Type 0) (number_of : T → R) (text : List ℕ) (items : List R) (numbers : VicinityAnswer) (xs : List T) (a : Answered Verdict) → IsAnswerWith P text a xs → numbers ≡ numbers_of a → (numbers.kind ≡ 6 → ⊥) → (numbers.kind ≡ 7 → ⊥) → items ≡ map number_of xs → Items P number_of text items
 of_answer P number_of text items numbers xs (RefusedAt n fault) h e six seven i = absurd (seven (ap (λ x. x.kind) e))
-of_answer P number_of text items numbers xs (Judged (Impossible n)) h e six seven i = absurd (six (ap (λ x. x.kind) e))
-of_answer P number_of text items numbers xs (Judged (Absent u)) h e six seven i = record { xs = xs; lines = (h.0, h.1, h.1.all); possible = subst (λ l. IsPossible (entries l)) h.1.all h.2.0; are = subst (λ l. P l xs) h.1.all h.3; numbered = i }
-of_answer P number_of text items numbers xs (Judged (Unlisted u)) h e six seven i = record { xs = xs; lines = (h.0, h.1, h.1.all); possible = subst (λ l. IsPossible (entries l)) h.1.all h.2.0; are = subst (λ l. P l xs) h.1.all h.3; numbered = i }
-of_answer P number_of text items numbers xs (Judged (Unsettled m)) h e six seven i = record { xs = xs; lines = (h.0, h.1, h.1.all); possible = subst (λ l. IsPossible (entries l)) h.1.all h.2.0; are = subst (λ l. P l xs) h.1.all h.3; numbered = i }
-of_answer P number_of text items numbers xs (Judged (Doubtful u)) h e six seven i = record { xs = xs; lines = (h.0, h.1, h.1.all); possible = subst (λ l. IsPossible (entries l)) h.1.all h.2.0; are = subst (λ l. P l xs) h.1.all h.3; numbered = i }
-of_answer P number_of text items numbers xs (Judged (Complete n)) h e six seven i = record { xs = xs; lines = (h.0, h.1, h.1.all); possible = subst (λ l. IsPossible (entries l)) h.1.all h.2.0; are = subst (λ l. P l xs) h.1.all h.3; numbered = i }
+of_answer P number_of text items numbers xs (Found (Impossible n)) h e six seven i = absurd (six (ap (λ x. x.kind) e))
+of_answer P number_of text items numbers xs (Found (Absent u)) h e six seven i = record { xs = xs; lines = (h.0, h.1, h.1.all); possible = subst (λ l. IsPossible (entries l)) h.1.all h.2.0; are = subst (λ l. P l xs) h.1.all h.3; numbered = i }
+of_answer P number_of text items numbers xs (Found (Unlisted u)) h e six seven i = record { xs = xs; lines = (h.0, h.1, h.1.all); possible = subst (λ l. IsPossible (entries l)) h.1.all h.2.0; are = subst (λ l. P l xs) h.1.all h.3; numbered = i }
+of_answer P number_of text items numbers xs (Found (Unsettled m)) h e six seven i = record { xs = xs; lines = (h.0, h.1, h.1.all); possible = subst (λ l. IsPossible (entries l)) h.1.all h.2.0; are = subst (λ l. P l xs) h.1.all h.3; numbered = i }
+of_answer P number_of text items numbers xs (Found (Doubtful u)) h e six seven i = record { xs = xs; lines = (h.0, h.1, h.1.all); possible = subst (λ l. IsPossible (entries l)) h.1.all h.2.0; are = subst (λ l. P l xs) h.1.all h.3; numbered = i }
+of_answer P number_of text items numbers xs (Found (Complete n)) h e six seven i = record { xs = xs; lines = (h.0, h.1, h.1.all); possible = subst (λ l. IsPossible (entries l)) h.1.all h.2.0; are = subst (λ l. P l xs) h.1.all h.3; numbered = i }
 
 items_of : {T R : Type 0} (P : List LogLine → List T → Type 0) (number_of : T → R) (text : List ℕ) (items : List R) → AreReturned P number_of text items → Items P number_of text items
 items_of P number_of text items r =

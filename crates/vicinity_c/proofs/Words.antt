@@ -36,7 +36,7 @@ pub use Rattle.vic_answer.specs.Buffers.{IsReturned}
 pub use Rattle.vic_answer.specs.Numbers.{numbers_of, refusal_numbers}
 pub use Rattle.vic_answer.specs.SurveyNumbers.{IsAnswerWith, first_of, plain_answer}
 pub use Rattle.vic_answer.specs.declared.answered.Answered.{Answered}
-pub use Rattle.vic_answer.specs.declared.answered.Answered.TheVariants.{Judged, RefusedAt}
+pub use Rattle.vic_answer.specs.declared.answered.Answered.TheVariants.{Found, RefusedAt}
 pub use Rattle.vic_verdict.specs.Possible.{IsPossible}
 pub use Rattle.vic_verdict.specs.declared.judging.Verdict.{Verdict}
 pub use Rattle.vic_verdict.specs.declared.judging.Verdict.TheVariants.{Absent, Complete, Doubtful, Impossible, Unlisted, Unsettled}

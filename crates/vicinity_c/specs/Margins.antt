@@ -7,7 +7,7 @@ use Rattle.vic_log.specs.declared.fault.LineFault.TheVariants.{NotVicinity}
 use Rattle.vic_margin.specs.declared.answer.Margin.{Margin}
 use Rattle.vic_margin.specs.declared.answer.Weakest.{Weakest}
 use Rattle.vic_answer.specs.declared.answered.Answered.{Answered}
-use Rattle.vic_answer.specs.declared.answered.Answered.TheVariants.{Judged, RefusedAt}
+use Rattle.vic_answer.specs.declared.answered.Answered.TheVariants.{Found, RefusedAt}
 use Rattle.vic_answer.specs.declared.numbers.VicinityAnswer.{VicinityAnswer}
 use Rattle.vic_answer.specs.declared.overlooked.Overlooked.{Overlooked}
 use Rattle.vic_answer.specs.Answered.{HasLog, IsAnswered, IsRefusedAt, answer_of}
@@ -34,7 +34,7 @@ weakest_fields (Some w) = record {
 
 -- zeros if the log is impossible or the text refused
 abbrev pub weakest_of : Answered Margin → VicinityWeakest
-weakest_of (Judged m) = weakest_fields m.weakest
+weakest_of (Found m) = weakest_fields m.weakest
 weakest_of (RefusedAt n fault) = no_weakest
 
 -- these are the numbers of the answer to a text, with the margin of its log
@@ -65,14 +65,14 @@ pub record IsUidRefused (text uids : List ℕ) (n : ℕ) (fault : LineFault) : T
 -- the answer to a text and UIDs: the verdict on its log, and the margin of each UID; or the first
 -- fault of the text, or else of the UIDs
 abbrev pub AreOverlookedBy : List ℕ → List ℕ → Answered Overlooked → Type 0
-AreOverlookedBy text uids (Judged o) =
-    HaveNoFault (map uid_fault uids) × IsAnswered (AreOverlooked uids) text (Judged o)
+AreOverlookedBy text uids (Found o) =
+    HaveNoFault (map uid_fault uids) × IsAnswered (AreOverlooked uids) text (Found o)
 AreOverlookedBy text uids (RefusedAt n fault) =
     IsRefusedAt text n fault ⊎ IsUidRefused text uids n fault
 
 -- the margins of so many UIDs, zeros if the text or a UID is refused
 abbrev pub margins_of : ℕ → Answered Overlooked → List ℕ
-margins_of count (Judged o) = o.margins.items
+margins_of count (Found o) = o.margins.items
 margins_of count (RefusedAt n fault) = replicate count 0
 
 -- these are the numbers of the answer to a text and UIDs, and this is what becomes of the buffer

@@ -16,7 +16,7 @@ use crate::lines::with_listed;
 use std::alloc::{AllocError, Global};
 use vic_answer::{
     Answered, NO_ANSWER, Overlooked, VicinityAnswer, answer_of, answer_text, copy_list, numbers_of,
-    overlooked_answer, overlooked_text, read_text,
+    overlooked_text, read_text,
 };
 use vic_log::LineFault;
 use vic_margin::{Margin, Weakest};
@@ -120,7 +120,7 @@ pub extern "C" fn vicinity_overlooked(
         return NO_ANSWER.status;
     };
     put_margins(&overlooked, uids.len(), places);
-    let numbers = numbers_of(&overlooked_answer(&overlooked));
+    let numbers = numbers_of(&answer_of(&overlooked));
     *answer = numbers;
     numbers.status
 }
@@ -141,7 +141,7 @@ fn weakest_of(measured: &Answered<Margin>) -> VicinityWeakest
     ensures { result ≡ spec.weakest_of measured.now }
 {
     match measured {
-        Answered::Judged(margin) => weakest_fields(&margin.weakest),
+        Answered::Found(margin) => weakest_fields(&margin.weakest),
         Answered::RefusedAt { .. } => NO_WEAKEST,
     }
 }
@@ -168,7 +168,7 @@ fn overlooked_by(
 ) -> Result<Answered<Overlooked>, AllocError>
     ensures overlooked { IfOk result (spec.AreOverlookedBy text.now uids.now) }
     ensures whole { IfOk result (λ o. (count : ℕ)
-        → answer_of (λ x. x.verdict) o ≡ Answered.Judged (Complete count)
+        → answer_of (λ x. x.verdict) o ≡ Answered.Found (Complete count)
         → IsCompleteText text.now count) }
 {
     match uids_in(alloc, uids)? {
@@ -187,10 +187,10 @@ fn refusal_behind(
         → IsFirst (map uid_fault uids) index number
         → IfOk result (spec.AreOverlookedBy text.now uids) }
     ensures refused { IfOk result (λ o. (count : ℕ)
-        → answer_of (λ x. x.verdict) o ≡ Answered.Judged (Complete count) → ⊥) }
+        → answer_of (λ x. x.verdict) o ≡ Answered.Found (Complete count) → ⊥) }
 {
     match read_text(alloc, text)? {
-        Answered::Judged(_) => Ok(Answered::RefusedAt {
+        Answered::Found(_) => Ok(Answered::RefusedAt {
             line: line_behind(text, index),
             fault: LineFault::NotVicinity,
         }),
@@ -228,7 +228,7 @@ fn put_margins(overlooked: &Answered<Overlooked>, count: usize, room: &mut [u32]
     ensures { IsPutInto (spec.margins_of count overlooked.now) room.old room.new }
 {
     match overlooked {
-        Answered::Judged(overlooked) => {
+        Answered::Found(overlooked) => {
             copy_list(overlooked.margins.as_slice(), room);
         }
         Answered::RefusedAt { .. } => put_zeros(count, room),

@@ -4,15 +4,15 @@ use Rattle.vic_answer.proofs.reconcile.join.Goals as goal
 
 pub returns-in-None-clause-text : goal.returns-in-None-clause-text
 returns-in-None-clause-text c text list texts reading k =
-    let joins = rw c.in-None.is at c.in_ok-add-in-Judged.ensures.joined in
-    kept_more list text texts c.in-Judged.next c.args.joined c.add.new.self k (rw c.in-Judged.is at reading) (joins (listed (entries k.expected.lines)) (map lines_of k.logs) k.holds)
+    let joins = rw c.in-None.is at c.in_ok-add-in-Found.ensures.joined in
+    kept_more list text texts c.in-Found.next c.args.joined c.add.new.self k (rw c.in-Found.is at reading) (joins (listed (entries k.expected.lines)) (map lines_of k.logs) k.holds)
 
 pub returns-in-Some-clause-text : goal.returns-in-Some-clause-text
 returns-in-Some-clause-text c text list texts reading k =
-    ends_impossible list text texts c.args.joined c.log_count-log.result c.in-Some.line c.in-Judged.next k
+    ends_impossible list text texts c.args.joined c.log_count-log.result c.in-Some.line c.in-Found.next k
     (kept_long list texts c.args.joined c.log_count-log.result k (c.log_count-log.ensures (listed (entries k.expected.lines)) (map lines_of k.logs) k.holds))
-    (rw c.in-Judged.is at reading)
-    (rw c.in-Some.is at c.in_ok-add-in-Judged.ensures.impossible)
+    (rw c.in-Found.is at reading)
+    (rw c.in-Some.is at c.in_ok-add-in-Found.ensures.impossible)
 
 pub returns-in-RefusedAt-clause-text : goal.returns-in-RefusedAt-clause-text
 returns-in-RefusedAt-clause-text c text list texts reading k =

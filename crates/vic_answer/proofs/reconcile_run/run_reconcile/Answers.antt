@@ -1,12 +1,12 @@
 use Rattle.vic_answer.proofs.Words.{◌≡◌, append_cancel_left, length, refl, sym, ◌∙◌, Result, Ok, Err, OnOk, IsReconciled, Memory, RunFault, logs_for}
-use Rattle.vic_answer.proofs.Reconciles.{all_where_complete, writes_answer}
+use Rattle.vic_answer.proofs.Reconciles.{all_where_complete, complete_written, writes_answer}
 use Rattle.vic_answer.proofs.Turns.{all_places, if_err, if_err_other, read_to_ends, reconciles, stops_answered, stops_at_list, stops_behind_list, within_same}
 use Rattle.vic_answer.proofs.Standing.{no_early_fault}
 use Rattle.vic_answer.proofs.reconcile_run.run_reconcile.Goals as goal
 
-on_ok_both : {A E X Y Z : Type 0} (r : Result A E) → (X → Y → Z) → OnOk r X → OnOk r Y → OnOk r Z
-on_ok_both (Ok x) f a b = f a b
-on_ok_both (Err e) f a b = tt
+on_ok : {A E X Y : Type 0} (r : Result A E) → (X → Y) → OnOk r X → OnOk r Y
+on_ok (Ok x) f h = f h
+on_ok (Err e) f h = tt
 
 pub returns-in_err-begun-clause-stops : goal.returns-in_err-begun-clause-stops
 returns-in_err-begun-clause-stops g c =
@@ -60,11 +60,11 @@ returns-clause-complete g c =
     let w = c.write_reconciled.ensures in
     let logs = c.args.logs.now in
     let answer = c.in_ok-answer.answer in
-    on_ok_both c.write_reconciled.result
-    (λ complete wrote rest now. read_to_ends g.R.Source.returned g.R.Source.ended g.R.Source.has_failed c.args.list.now c.read_expected.new.source logs c.read_logs.new.logs
+    on_ok c.write_reconciled.result
+    (λ wrote rest now. read_to_ends g.R.Source.returned g.R.Source.ended g.R.Source.has_failed c.args.list.now c.read_expected.new.source logs c.read_logs.new.logs
     (λ text texts. IsReconciled text texts answer × (length texts ≡ logs_for answer (length logs))) rest
     (reconciles g.R.Source.returned g.R.Source.ended g.R.Source.has_failed c.args.list.now c.read_expected.new.source logs c.read_logs.new.logs
     c.in_ok-begun.begun c.in_ok-read.read answer b.text.text (b.text.given, (b.text.enough, b.leaves_source.works)) (c.in_ok-read.ensures.texts b.text.text b.text.holds)
     c.in_ok-answer.ensures.answer c.in_ok-answer.ensures.ended)
-    (λ text texts h. (complete text texts rest h.0 now, all_where_complete _ _ answer rest (length logs) (length texts) (append_cancel_left _ _ _ (sym wrote ∙ now)) h.1)))
-    w.complete w.written.1
+    (λ text texts h. (complete_written _ _ answer text texts rest h.0 (append_cancel_left _ _ _ (sym wrote ∙ now)), all_where_complete _ _ answer rest (length logs) (length texts) (append_cancel_left _ _ _ (sym wrote ∙ now)) h.1)))
+    w.written.1

@@ -1,42 +1,26 @@
-use Rattle.vic_answer.proofs.Words.{ℕ, List, ap, rules, flat_map, ShownUid, Absent, Doubtful, Unlisted, verdict_line}
-use Rattle.vic_answer.specs.ReportText.{shown_text}
-use Rattle.vic_answer.proofs.Waiting.{Puts-then, Puts-longer, Puts-handed, Puts-same}
+use Rattle.vic_answer.proofs.Words.{◌≡◌, ◌++◌, ◌∷◌, ℕ, List, [], ap, sym, ◌∙◌, append-nil, append_assoc, flat_map, Finding, finding_text, findings_left}
+use Rattle.vic_answer.proofs.Waiting.{Puts-nil, Puts-then, Puts-longer, Puts-handed, Puts-same}
 use Rattle.vic_answer.proofs.report_lines.put_findings.Goals as goal
 
--- what is put for each
-abbrev absent_text : ShownUid → List ℕ
-absent_text s = shown_text (Absent s.uid) s.line
+-- one finding more was put
+one_more : (text all : List ℕ) (left rest : List Finding) (f : Finding) → left ≡ f ∷ rest → text ++ flat_map finding_text left ≡ all → (text ++ finding_text f) ++ flat_map finding_text rest ≡ all
+one_more text all left rest f is h = append_assoc text (finding_text f) (flat_map finding_text rest) ∙ ap (λ fs. text ++ flat_map finding_text fs) (sym is) ∙ h
 
-abbrev unlisted_text : ShownUid → List ℕ
-unlisted_text s = shown_text (Unlisted s.uid) s.line
+pub loop-finding-init : goal.loop-finding-init
+loop-finding-init g c = ([], Puts-nil _ _, ap (λ s. flat_map finding_text (findings_left s)) c.into_iter-finding-iterator.ensures.into_iter_gives ∙ ap (flat_map finding_text) c.findings_in-finding-items.ensures)
 
-abbrev doubtful_text : ℕ → List ℕ
-doubtful_text u = verdict_line (Doubtful u)
+pub loop-finding-preserved : goal.loop-finding-preserved
+loop-finding-preserved g c =
+    let h = c.loop-finding.invariant in
+    (h.0 ++ finding_text c.in-Some.finding, Puts-then h.1 (Puts-same c.in_ok-put_text.ensures c.finding_text.ensures), one_more _ _ _ _ _ c.in-Some.ensures.steps h.2)
 
-pub returns-in_err-put_each : goal.returns-in_err-put_each
-returns-in_err-put_each g c =
+pub returns-in_err-put_text : goal.returns-in_err-put_text
+returns-in_err-put_text g c =
+    let h = c.loop-finding.invariant in
     let r = c.from_residual.ensures in
-    Puts-longer _ _ r.0 (Puts-longer _ _ r.0 (Puts-longer _ _ r.0
-    (Puts-same (Puts-handed _ r (c.in_err-put_each.ensures absent_text (λ x t p. search rules))) (ap (flat_map absent_text) c.as_slice.ensures.value))))
-
-pub returns-in_err-put_each-2 : goal.returns-in_err-put_each-2
-returns-in_err-put_each-2 g c =
-    let r = c.from_residual-in_err-put_each-2.ensures in
-    Puts-longer _ _ r.0 (Puts-longer _ _ r.0
-    (Puts-then (Puts-same (c.in_ok-put_each.ensures absent_text (λ x t p. search rules)) (ap (flat_map absent_text) c.as_slice.ensures.value))
-    (Puts-same (Puts-handed _ r (c.in_err-put_each-2.ensures unlisted_text (λ x t p. search rules))) (ap (flat_map unlisted_text) c.as_slice-2.ensures.value))))
-
-pub returns-in_err-put_unsettled : goal.returns-in_err-put_unsettled
-returns-in_err-put_unsettled g c =
-    let r = c.from_residual-in_err-put_unsettled.ensures in
-    Puts-longer _ _ r.0
-    (Puts-then (Puts-then (Puts-same (c.in_ok-put_each.ensures absent_text (λ x t p. search rules)) (ap (flat_map absent_text) c.as_slice.ensures.value))
-    (Puts-same (c.in_ok-put_each-2.ensures unlisted_text (λ x t p. search rules)) (ap (flat_map unlisted_text) c.as_slice-2.ensures.value)))
-    (Puts-handed _ r c.in_err-put_unsettled.ensures))
+    Puts-same (Puts-longer _ _ r.0 (Puts-then h.1 (Puts-same (Puts-handed _ r c.in_err-put_text.ensures) c.finding_text.ensures))) (one_more _ _ _ _ _ c.in-Some.ensures.steps h.2)
 
 pub returns : goal.returns
 returns g c =
-    Puts-then (Puts-then (Puts-then (Puts-same (c.in_ok-put_each.ensures absent_text (λ x t p. search rules)) (ap (flat_map absent_text) c.as_slice.ensures.value))
-    (Puts-same (c.in_ok-put_each-2.ensures unlisted_text (λ x t p. search rules)) (ap (flat_map unlisted_text) c.as_slice-2.ensures.value)))
-    c.in_ok-put_unsettled.ensures)
-    (Puts-same (c.put_each-3.ensures doubtful_text (λ x t p. search rules)) (ap (flat_map doubtful_text) c.as_slice-3.ensures.value))
+    let h = c.loop-finding.invariant in
+    Puts-same h.1 (sym (append-nil h.0) ∙ ap (λ fs. h.0 ++ flat_map finding_text fs) (sym c.in-None.ensures.steps.0) ∙ h.2)

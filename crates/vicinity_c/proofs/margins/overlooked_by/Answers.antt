@@ -1,4 +1,4 @@
-use Rattle.vicinity_c.proofs.Words.{◌≡◌, ℕ, List, inl, subst, ◌∙◌, IfOk-weaker, HaveNoFault, uid_fault, map, Answered, Judged, RefusedAt}
+use Rattle.vicinity_c.proofs.Words.{◌≡◌, ℕ, List, inl, subst, ◌∙◌, IfOk-weaker, HaveNoFault, uid_fault, map, Answered, Found, RefusedAt}
 use Rattle.vic_answer.specs.declared.overlooked.Overlooked.{Overlooked}
 use Rattle.vic_answer.specs.Answered.{IsAnswered}
 use Rattle.vic_answer.specs.OverlookedText.{AreOverlooked}
@@ -6,7 +6,7 @@ use Rattle.vicinity_c.specs.Margins.{AreOverlookedBy}
 use Rattle.vicinity_c.proofs.margins.overlooked_by.Goals as goal
 
 of_uids : (text us vs : List ℕ) (o : Answered Overlooked) → vs ≡ us → HaveNoFault (map uid_fault us) → IsAnswered (AreOverlooked vs) text o → AreOverlookedBy text us o
-of_uids text us vs (Judged o) e none h = (none, subst (λ xs. IsAnswered (AreOverlooked xs) text (Judged o)) e h)
+of_uids text us vs (Found o) e none h = (none, subst (λ xs. IsAnswered (AreOverlooked xs) text (Found o)) e h)
 of_uids text us vs (RefusedAt n fault) e none h = inl h
 
 pub returns-in-Ok-clause-overlooked : goal.returns-in-Ok-clause-overlooked
