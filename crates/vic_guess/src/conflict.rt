@@ -12,20 +12,20 @@ use vic_walk::{Answering, LogLines, LogWalk, Parts, Span, open_answers, walk_log
 /// that one, and as few of those before it as needed. Their numbers, in no order.
 pub fn guess_conflict(alloc: Global, log: &LogLines) -> Result<Vec<u32>, AllocError> {
     let LogWalk {
-        parts,
+        cut,
         mut walk,
         broken,
     } = walk_log(alloc, log)?;
     let lines = log.as_slice();
-    let steps = steps_of(alloc, lines, &parts)?;
+    let steps = steps_of(alloc, lines, &cut)?;
     let mut numbers = match broken {
         Some(_) => match other_line(lines, &steps, &walk.ends) {
             Some(other) => vec![in alloc; other]?,
             None => Vec::new(alloc),
         },
         None => {
-            let found = open_answers(alloc, log, &parts, &mut walk)?;
-            lines_of_lack(alloc, lines, &steps, &parts, &found)?
+            let found = open_answers(alloc, log, &cut, &mut walk)?;
+            lines_of_lack(alloc, lines, &steps, &cut.parts, &found)?
         }
     };
     if let Some(last) = lines.last() {

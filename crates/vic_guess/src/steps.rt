@@ -1,10 +1,9 @@
 //! What the lines of a log do to the UIDs, part by part.
 
 use std::alloc::{AllocError, Global};
-use vic_frame::low_bits_first::key;
 use vic_frame::{Request, Uid};
-use vic_log::{Entry, PackedLine, RoundCursor};
-use vic_walk::{Hints, Near, Parts, Span, span_of};
+use vic_log::{Entry, PackedLine};
+use vic_walk::{LogParts, Span};
 
 /// What a line does.
 #[derive(Clone, Copy)]
@@ -23,33 +22,17 @@ pub(crate) enum Step {
     Unread(usize, Span),
 }
 
-/// What the entry of a line does, whose position and number are given.
-fn step_of(
-    at: usize,
-    number: u32,
-    entry: &Entry,
-    rounds: &RoundCursor,
-    near: Near,
-    parts: &Parts,
-) -> Option<Step> {
+/// What the entry of a line does, whose position and number are given, by the parts that it
+/// concerns.
+fn step_of(at: usize, number: u32, entry: &Entry, of: vic_walk::Step) -> Option<Step> {
+    let (span, own) = (of.span(), of.own());
     match *entry {
-        Entry::Silent => {
-            let span = span_of(parts, rounds, near);
-            Some(Step::Ruling(number, span, span.to))
-        }
-        Entry::Heard(response) => {
-            let own = parts.at_or_after(near.own, key(response.uid()));
-            Some(Step::Ruling(number, span_of(parts, rounds, near), own))
-        }
-        Entry::Captured(response) => {
-            let own = parts.at_or_after(near.own, key(response.uid()));
-            Some(Step::Captured(number, span_of(parts, rounds, near), own))
-        }
-        Entry::Collision | Entry::Garbled => Some(Step::Unread(at, span_of(parts, rounds, near))),
+        Entry::Silent => Some(Step::Ruling(number, span, span.to)),
+        Entry::Heard(_) => Some(Step::Ruling(number, span, own)),
+        Entry::Captured(_) => Some(Step::Captured(number, span, own)),
+        Entry::Collision | Entry::Garbled => Some(Step::Unread(at, span)),
         Entry::FieldCycle => Some(Step::Wake),
-        Entry::Sent(Request::StayQuiet { uid, .. }) => {
-            Some(Step::Quiet(parts.at_or_after(near.own, key(Uid::new(uid)?))))
-        }
+        Entry::Sent(Request::StayQuiet { uid, .. }) => Uid::new(uid).map(|_| Step::Quiet(own)),
         Entry::Sent(Request::Inventory { .. }) | Entry::Unknown | Entry::Listed(_) => None,
     }
 }
@@ -70,17 +53,13 @@ fn was_ready(silenced: &mut [u32], part: usize, stretch: u32) -> bool {
 pub(crate) fn steps_of(
     alloc: Global,
     lines: &[PackedLine],
-    parts: &Parts,
+    cut: &LogParts,
 ) -> Result<Vec<Step>, AllocError> {
-    let mut silenced = vec![in alloc; 0; parts.count()]?;
+    let mut silenced = vec![in alloc; 0; cut.parts.count()]?;
     let mut stretch: u32 = 1;
     let mut steps = Vec::new(alloc);
-    let mut rounds = RoundCursor::first();
-    let mut hints = Hints::first();
-    for (at, line) in lines.iter().enumerate() {
-        let entry = line.item();
-        let near = hints.next(parts.hints(), &entry);
-        match step_of(at, line.number(), &entry, &rounds, near, parts) {
+    for (at, (line, of)) in lines.iter().zip(&cut.steps).enumerate() {
+        match step_of(at, line.number(), &line.item(), *of) {
             None => {}
             Some(Step::Quiet(part)) if !was_ready(&mut silenced, part, stretch) => {}
             Some(step) => {
@@ -90,7 +69,6 @@ pub(crate) fn steps_of(
                 }
             }
         }
-        rounds.advance(&entry);
     }
     Ok(steps)
 }

@@ -1,13 +1,16 @@
 -- What each kind of entry makes of what a tally knows.
 use Rattle.vic_margin.proofs.Words.{◌≡◌, ◌≢◌, ◌==◌, ◌||◌, ◌&&◌, not, ℕ, suc, ◌+◌, ◌<◌, ◌≤◌, Bool, true, false, Some, List, length, slice_get, slice_index, add-one, ap, sym, refl, subst, ◌∙◌, inl, inr, arith, nat_tests, cases_Bool, cases_eq, false_from_ne_true, eqb-true, nat_lt, IsUid, mirror, Entry, Reply, Captured, Collision, FieldCycle, Garbled, Heard, Listed, Sent, Silent, Unknown, StayQuiet, answers_at, is_quiet, silences, wakes, lies_in_some, mask_at, AreBorders, IsPartOf, part_count, AreCut, names, is_marked, Span, is_overlooked, denies_reply_of, some_denies_reply_of, margin_before, margin_of, one_if, Tally, AreMargins, IsCounted, IsSpanAt, IsTallyAt, IsTallyOf, IsTurned, within}
+use Rattle.std.proofs.Common.{get_or, zero}
+use Rattle.std.proofs.lemmas.Option.{slice_get-get_or}
 use Rattle.vic_walk.proofs.PartLaws.{one_part}
+use Rattle.vic_walk.specs.Listing.{IsListFrom}
 
 eqb-same : (n : ℕ) → (n == n) ≡ true
 eqb-same n = grind (arith, nat_tests)
 
 -- there is a number for each part
 there : (bs : List ℕ) (es : List Entry) (i k p : ℕ) (t : Tally) → IsTallyAt bs es i t → IsPartOf bs k p → p < length t.rest.items
-there bs es i k p t h at = omega (arith, t.room ∙ ap part_count h.parts, at.within)
+there bs es i k p t h at = omega (arith, h.room, at.within)
 
 -- ---- what an entry says of a UID
 
@@ -51,7 +54,7 @@ quiet_none es i u q = rw q (grind (arith, nat_tests))
 
 pub tally_silent : (bs : List ℕ) (es : List Entry) (i : ℕ) (s : Span) (old new : Tally) → slice_get es i ≡ Some Silent → IsSpanAt bs es i s → IsCounted s (λ p. false) old new → IsTallyAt bs es i old → IsTallyAt bs es (i + 1) new
 tally_silent bs es i s old new k span h t = rw add-one (record {
-  parts = h.parts ∙ t.parts;
+  room = h.size ∙ t.room;
   few = let r = h.raised in let f = t.few in omega arith;
   known = λ u p is at. counted_of es i u p Silent s (λ p. false) old new k refl refl (omega (arith, old.leaves, there bs es i _ p old t at)) h
       (silent_ready es i u p s k (span u p is at)) (λ q. let no = quiet_none es i u q in omega arith) (t.known u p is at);
@@ -99,7 +102,7 @@ heard_quiet es i u p own s old marked q = elim (cases_eq p own) [
 
 pub tally_heard : (bs : List ℕ) (es : List Entry) (i own : ℕ) (r : Reply) (s : Span) (old new : Tally) → slice_get es i ≡ Some (Heard r) → AreBorders bs → AreCut bs es → IsUid r.uid → IsPartOf bs (mirror r.uid) own → IsSpanAt bs es i s → IsCounted s (heard_back s own old) old new → IsTallyAt bs es i old → IsTallyAt bs es (i + 1) new
 tally_heard bs es i own r s old new k borders cut is own_at span h t = rw add-one (record {
-  parts = h.parts ∙ t.parts;
+  room = h.size ∙ t.room;
   few = let r = h.raised in let f = t.few in omega arith;
   known = λ u p is_u at. counted_of es i u p (Heard r) s (heard_back s own old) old new k refl refl (omega (arith, old.leaves, there bs es i _ p old t at)) h
       (heard_ready bs es i u p own r s old k borders cut is own_at is_u at (span u p is_u at) (t.known u p is_u at).quiet)
@@ -115,7 +118,7 @@ pub record DoesNothing (e : Entry) : Type 0 where
 
 pub tally_idle : (bs : List ℕ) (es : List Entry) (i : ℕ) (e : Entry) (t : Tally) → slice_get es i ≡ Some e → DoesNothing e → IsTallyAt bs es i t → IsTallyAt bs es (i + 1) t
 tally_idle bs es i e t k none h = rw add-one (record {
-  parts = h.parts;
+  room = h.room;
   few = let f = h.few in omega arith;
   known = λ u p is at.
       let before = h.known u p is at in
@@ -170,7 +173,7 @@ silenced_which part old p = p == part && not (is_marked old.quiet part)
 pub tally_silenced : (bs : List ℕ) (es : List Entry) (i link uid part : ℕ) (old new : Tally) → slice_get es i ≡ Some (Sent (StayQuiet link uid)) → AreBorders bs → AreCut bs es → IsUid uid → IsPartOf bs (mirror uid) part
     → IsTurned (silenced_which part old) old new → ((p : ℕ) → is_marked new.quiet p ≡ (p == part || is_marked old.quiet p)) → IsTallyAt bs es i old → IsTallyAt bs es (i + 1) new
 tally_silenced bs es i link uid part old new k borders cut is at h quiet t = rw add-one (record {
-  parts = h.parts ∙ t.parts;
+  room = h.size ∙ t.room;
   few = rw h.counts (let f = t.few in omega arith);
   known = λ u p is_u at_u. elim (cases_eq p part) [
     | inl here ↦
@@ -204,10 +207,21 @@ woken_of es i u p old new k h unmarked lt t =
 
 pub tally_woken : (bs : List ℕ) (es : List Entry) (i : ℕ) (old new : Tally) → slice_get es i ≡ Some FieldCycle → IsTurned (is_marked old.quiet) old new → ((p : ℕ) → is_marked new.quiet p ≡ false) → IsTallyAt bs es i old → IsTallyAt bs es (i + 1) new
 tally_woken bs es i old new k h quiet t = rw add-one (record {
-  parts = h.parts ∙ t.parts;
+  room = h.size ∙ t.room;
   few = rw h.counts (let f = t.few in omega arith);
   known = λ u p is at. woken_of es i u p old new k h (quiet p) (there bs es i _ p old t at) (t.known u p is at);
 })
+
+-- ---- the list
+
+-- what the list begins at is as at its end
+pub tally_past : (bs : List ℕ) (es : List Entry) (n d : ℕ) (t : Tally) → IsListFrom es n → n + d ≤ length es → IsTallyAt bs es n t → IsTallyAt bs es (n + d) t
+tally_past bs es n zero t list within h = let same : n + 0 ≡ n = omega arith in rw same h
+tally_past bs es n (suc d) t list within h =
+    let here = slice_get-get_or es (n + d) Silent (omega (arith, within)) in
+    let l = list (n + d) (get_or es (n + d) Silent) (omega arith) here in
+    let next : n + suc d ≡ n + d + 1 = omega arith in
+    rw next (tally_idle bs es (n + d) _ t here (rw l.1 (idle_does_nothing (Listed l.0) refl)) (tally_past bs es n d t list (omega (arith, within)) h))
 
 -- ---- after the last entry
 
@@ -226,6 +240,6 @@ margin_at_end es u p n old new h all lt t = elim (cases_Bool (is_quiet es (lengt
 
 pub margins_at_end : (bs : List ℕ) (es : List Entry) (n : ℕ) (old new : Tally) → IsTurned (λ q. nat_lt q n && not (is_marked old.quiet q)) old new → length old.rest.items ≤ n → IsTallyAt bs es (length es) old → AreMargins bs es new.rest.items
 margins_at_end bs es n old new h all t = record {
-  room = new.room ∙ ap part_count (h.parts ∙ t.parts);
+  room = h.size ∙ t.room;
   margin = λ u p is at. margin_at_end es u p n old new h all (there bs es _ _ p old t at) (t.known u p is at);
 }

@@ -1,5 +1,6 @@
 -- Parts of a tally that are turned: from what isn't counted to what is, and back.
-use Rattle.vic_margin.proofs.Words.{◌≡◌, ◌≢◌, ℕ, ◌+◌, ◌-◌, ◌<◌, Bool, true, false, not, ◌&&◌, length, nat_lt, slice_index, slice_set, inl, inr, refl, sym, ap, ◌∙◌, arith, nat_tests, cases_eq, get_or-set_same, get_or-set_other, part_count}
+use Rattle.vic_margin.proofs.Words.{◌≡◌, ◌≢◌, ℕ, ◌+◌, ◌-◌, ◌<◌, Bool, true, false, not, ◌&&◌, length, nat_lt, slice_index, slice_set, inl, inr, refl, sym, ap, ◌∙◌, arith, nat_tests, cases_eq, get_or-set_same, get_or-set_other}
+use Rattle.std.proofs.Math.ListN.{length-set}
 use Rattle.vic_walk.specs.Marked.{is_marked}
 use Rattle.vic_margin.specs.declared.tally.Tally.{Tally}
 use Rattle.vic_margin.specs.inner.Counts.{count_at}
@@ -13,20 +14,20 @@ none_turned which t none = record {
   turned = λ p lt it. let isnt = none p in absurd (cc);
   same = λ p it. refl;
   counts = refl;
-  parts = refl;
+  size = refl;
 }
 
 -- one part more is turned
 pub turned_next : (which more : ℕ → Bool) (part : ℕ) (old now new : Tally) → part < length old.rest.items
     → which part ≡ false → more part ≡ true → ((p : ℕ) → p ≢ part → more p ≡ which p)
-    → new.rest.items ≡ slice_set now.rest.items part (count_at now.counts part - slice_index now.rest.items part) → new.counts ≡ now.counts → new.parts.now ≡ now.parts.now
+    → new.rest.items ≡ slice_set now.rest.items part (count_at now.counts part - slice_index now.rest.items part) → new.counts ≡ now.counts
     → IsTurned which old now → IsTurned more old new
-turned_next which more part old now new lt isnt is others rest counts parts h = record {
+turned_next which more part old now new lt isnt is others rest counts h = record {
   turned = λ p within it. elim (cases_eq p part) [
     | inl here ↦
         let e = h.same part isnt in
         let l = old.least part lt in
-        let s = get_or-set_same now.rest.items part (count_at now.counts part - slice_index now.rest.items part) 0 (omega (arith, lt, old.room, now.room ∙ ap part_count h.parts)) in
+        let s = get_or-set_same now.rest.items part (count_at now.counts part - slice_index now.rest.items part) 0 (omega (arith, lt, h.size)) in
         rw (here, rest, s, h.counts, e) (omega arith)
     | inr other ↦ rw (rest, get_or-set_other now.rest.items part p (count_at now.counts part - slice_index now.rest.items part) 0 other) (h.turned p within (sym (others p other) ∙ it))
   ];
@@ -35,7 +36,7 @@ turned_next which more part old now new lt isnt is others rest counts parts h = 
     | inr other ↦ rw (rest, get_or-set_other now.rest.items part p (count_at now.counts part - slice_index now.rest.items part) 0 other) (h.same p (sym (others p other) ∙ it))
   ];
   counts = counts ∙ h.counts;
-  parts = parts ∙ h.parts;
+  size = rw rest (length-set now.rest.items part _ ∙ h.size);
 }
 
 -- ---- all Quiet parts
@@ -55,10 +56,10 @@ ready_other n p t other = grind (arith, nat_tests)
 
 pub turned_more : (part : ℕ) (old now new : Tally) → part < length old.rest.items
     → is_marked old.quiet part ≡ false
-    → new.rest.items ≡ slice_set now.rest.items part (count_at now.counts part - slice_index now.rest.items part) → new.counts ≡ now.counts → new.parts.now ≡ now.parts.now
+    → new.rest.items ≡ slice_set now.rest.items part (count_at now.counts part - slice_index now.rest.items part) → new.counts ≡ now.counts
     → IsTurned (is_ready_before part old) old now → IsTurned (is_ready_before (part + 1) old) old new
-turned_more part old now new lt ready rest counts parts h =
-    turned_next (is_ready_before part old) (is_ready_before (part + 1) old) part old now new lt (grind (arith, nat_tests)) (rw ready (grind (arith, nat_tests))) (λ p other. ready_other part p old other) rest counts parts h
+turned_more part old now new lt ready rest counts h =
+    turned_next (is_ready_before part old) (is_ready_before (part + 1) old) part old now new lt (grind (arith, nat_tests)) (rw ready (grind (arith, nat_tests))) (λ p other. ready_other part p old other) rest counts h
 
 ready_past : (n p : ℕ) (t : Tally) → is_marked t.quiet n ≡ true → is_ready_before (n + 1) t p ≡ is_ready_before n t p
 ready_past n p t quiet = elim (cases_eq p n) [
@@ -71,5 +72,5 @@ turned_past part old now quiet h = record {
   turned = λ p lt it. h.turned p lt (sym (ready_past part p old quiet) ∙ it);
   same = λ p it. h.same p (sym (ready_past part p old quiet) ∙ it);
   counts = h.counts;
-  parts = h.parts;
+  size = h.size;
 }

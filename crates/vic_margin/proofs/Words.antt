@@ -16,11 +16,11 @@ pub use Rattle.vic_log.specs.declared.entry.Entry.TheVariants.{Captured, Collisi
 pub use Rattle.vic_walk.specs.Borders.{AreBorders, IsPartOf, part_count}
 pub use Rattle.vic_walk.specs.Cuts.{AreCut, names}
 pub use Rattle.vic_walk.specs.Marked.{is_marked}
-pub use Rattle.vic_walk.specs.declared.parts.Span.{Span}
+pub use Rattle.vic_walk.specs.declared.steps.Span.{Span}
 pub use Rattle.vic_log.specs.Overlooked.{is_overlooked, denies_reply_of, some_denies_reply_of}
 pub use Rattle.vic_margin.specs.UidMargins.{margin_before, margin_of, one_if}
 pub use Rattle.vic_margin.specs.declared.tally.Tally.{Tally}
 pub use Rattle.vic_margin.specs.inner.Tallies.{AreMargins, IsCounted, IsTallyAt, IsTallyOf, IsTurned}
-pub use Rattle.vic_walk.specs.Spans.{IsPlace, IsSpanAt}
+pub use Rattle.vic_walk.specs.Steps.{IsPlace, IsSpanAt}
 pub use Rattle.vic_margin.specs.inner.Trees.{within}
 pub use Rattle.vic_frame.proofs.KeyLaws.{is_uid}

@@ -4,7 +4,7 @@ ghost use Rattle.std.specs.Prelude.{◌≡◌, IfOk, map};
 ghost use Rattle.std.proofs.Props.{props};
 ghost use Rattle.vic_log.specs.Order.{entries};
 ghost use Rattle.vic_walk.specs.Borders.{AreBorders};
-ghost use Rattle.vic_walk.specs.Cuts.{AreCut};
+ghost use Rattle.vic_walk.specs.Steps.{AreLogParts};
 ghost use Rattle.vic_margin.specs.UidMargins.{margin_of};
 ghost use Rattle.vic_margin.specs.inner.Tallies.{AreMargins};
 
@@ -12,8 +12,8 @@ use crate::tally::Tally;
 use std::alloc::{AllocError, Global};
 use vic_frame::Uid;
 use vic_frame::low_bits_first::key;
-use vic_log::{Log, RoundCursor};
-use vic_walk::{Hints, LogLines, Parts};
+use vic_log::Log;
+use vic_walk::{LogLines, LogParts, Parts};
 
 /// The parts of the keys of a log, and the margin of the UIDs of each.
 #[derive(Drop)]
@@ -30,8 +30,8 @@ pub(crate) struct PartMargins<'a> {
 pub fn overlooked(alloc: Global, log: &Log, uids: &[Uid]) -> Result<Vec<u32>, AllocError>
     ensures { IfOk result (λ v. v.items ≡ map (margin_of (entries log.now.lines)) uids.now) }
 {
-    let parts = Parts::of(alloc, &LogLines::of(log))?.indexed(alloc)?;
-    let margins = part_margins(alloc, log, parts)?;
+    let cut = LogParts::of(alloc, &LogLines::of(log))?;
+    let margins = part_margins(alloc, log, cut)?;
     let mut found = Vec::with_capacity(alloc, uids.len())?;
     for uid in uids {
         found.push(margins.each[margins.parts.at(key(*uid))])?;
@@ -43,22 +43,19 @@ pub fn overlooked(alloc: Global, log: &Log, uids: &[Uid]) -> Result<Vec<u32>, Al
 pub(crate) fn part_margins<'a>(
     alloc: Global,
     log: &'a Log,
-    parts: Parts,
+    cut: LogParts,
 ) -> Result<PartMargins<'a>, AllocError>
-    requires { AreCut parts (entries log.now.lines) }
+    requires { AreLogParts (entries log.now.lines) cut }
     ensures { IfOk result (λ m. m.log.now ≡ log.now) }
 {
     let lines = LogLines::of(log);
-    let part_hints = parts.hints();
+    let LogParts { parts, steps } = cut;
     let mut tally = Tally::start(alloc, &parts)?;
-    let mut rounds = RoundCursor::first();
-    let mut hints = Hints::first();
-    for index in 0..lines.len() {
+    for index in 0..steps.len() {
         let entry = lines.entry(index);
-        let near = hints.next(part_hints, &entry);
-        tally.pass(&rounds, near, &entry);
-        rounds.advance(&entry);
+        tally.pass(steps[index], &entry);
     }
     let each = tally.margins();
+    let parts = parts.indexed(alloc)?;
     Ok(PartMargins { log, parts, each })
 }

@@ -3,25 +3,20 @@
 ghost use Rattle.std.specs.Prelude.{◌≡◌, ◌==◌, ◌+◌, ◌-◌, ◌^◌, ◌<◌, ◌≤◌, ◌&&◌, ◌||◌, not, false, ℕ, List, IfOk, Some, length, slice_get, slice_index, slice_set};
 ghost use Rattle.vic_log.specs.declared.entry.Entry.{Entry as EntryValue};
 ghost use Rattle.vic_log.specs.declared.entry.Entry.TheVariants.{Sent};
-ghost use Rattle.vic_walk.specs.Borders.{AreBorders, part_count};
-ghost use Rattle.vic_walk.specs.Cuts.{AreCut};
 ghost use Rattle.vic_walk.specs.Marked.{is_marked};
 ghost use Rattle.vic_margin.specs.inner.Counts.{count_at};
 ghost use Rattle.vic_margin.specs.inner.Trees.{within};
-ghost use Rattle.vic_walk.specs.Spans.{IsPlace};
+ghost use Rattle.vic_walk.specs.Steps.{IsOf, IsPlace};
 
 use crate::counts::Counts;
 use std::alloc::{AllocError, Global};
-use vic_frame::low_bits_first::key;
 use vic_frame::{Request, Uid};
-use vic_log::{Entry, RoundCursor};
-use vic_walk::{Marks, Near, Parts, Span, span_of};
+use vic_log::Entry;
+use vic_walk::{Marks, Parts, Span, Step};
 
 /// What is known of each part before a position of a log.
 #[derive(Drop)]
-pub(crate) struct Tally<'a> {
-    /// Cut for the log.
-    parts: &'a Parts,
+pub(crate) struct Tally {
     /// In how many slots that were silent, or in which a tag was heard alone, its UIDs lie in the
     /// mask.
     pub counts: Counts,
@@ -30,22 +25,20 @@ pub(crate) struct Tally<'a> {
     pub rest: Vec<u32>,
     /// Whether they are Quiet.
     pub quiet: Marks,
-    ghost room: { length rest.items ≡ part_count parts.now },
     ghost leaves: { length rest.items ≤ counts.leaves },
     ghost marks: { length quiet ≡ length rest.items },
     ghost least: { (p : ℕ) → p < length rest.items
         → slice_index rest.items p ≤ count_at counts p },
 }
 
-impl<'a> Tally<'a> {
+impl Tally {
     ghost use Rattle.vic_margin.specs.inner.Tallies.{AreMargins, IsCounted, IsTallyAt, IsTurned};
 
     /// The tally before the first entry.
-    pub(crate) fn start(alloc: Global, parts: &'a Parts) -> Result<Tally<'a>, AllocError>
+    pub(crate) fn start(alloc: Global, parts: &Parts) -> Result<Tally, AllocError>
         ensures { IfOk result (λ t. (es : List EntryValue) → IsTallyAt parts.now es 0 t) }
     {
         Ok(Tally {
-            parts,
             counts: Counts::none(alloc, parts)?,
             rest: vec![in alloc; 0; parts.count()]?,
             quiet: Marks::none(alloc, parts.count())?,
@@ -59,7 +52,6 @@ impl<'a> Tally<'a> {
             (count_at self.old.counts part - slice_index self.old.rest.items part) }
         ensures counts { self.new.counts ≡ self.old.counts }
         ensures quiet { self.new.quiet ≡ self.old.quiet }
-        ensures parts { self.new.parts.now ≡ self.old.parts.now }
     {
         let left = self.counts.at(part) - self.rest[part];
         self.rest[part] = left;
@@ -94,7 +86,7 @@ impl<'a> Tally<'a> {
 
     /// Counts a slot in which the UID of part `own` was heard alone, but not for that UID.
     fn hear(&mut self, span: Span, own: usize)
-        requires within { span.to ≤ part_count self.old.parts.now }
+        requires within { span.to ≤ length self.old.rest.items }
         requires own { own < length self.old.rest.items }
         requires few { self.old.counts.raised + 1 < 2 ^ 32 }
         ensures { IsCounted span (λ p. p == own && (within span.from span.to own
@@ -107,16 +99,17 @@ impl<'a> Tally<'a> {
     }
 
     /// Makes the part of the UID Quiet that a request silences, if it silences one.
-    fn pass_request(&mut self, near: Near, request: &Request)
+    fn pass_request(&mut self, step: Step, request: &Request)
+        requires { IsOf (length self.old.rest.items) step }
         ensures { (bs : List ℕ) (es : List EntryValue) (i : ℕ)
-            → slice_get es i ≡ Some (Sent request.now) → AreBorders bs → AreCut bs es
+            → IsPlace bs es i (Sent request.now) step
             → IsTallyAt bs es i self.old → IsTallyAt bs es (i + 1) self.new }
     {
         match *request {
             Request::StayQuiet { uid, .. } => {
                 // no tag has another number
-                if let Some(uid) = Uid::new(uid) {
-                    self.silence(self.parts.at_or_after(near.own, key(uid)));
+                if let Some(_) = Uid::new(uid) {
+                    self.silence(step.own());
                 }
             }
             Request::Inventory { .. } => {}
@@ -124,21 +117,18 @@ impl<'a> Tally<'a> {
     }
 
     /// Takes the tally past an entry.
-    pub(crate) fn pass(&mut self, rounds: &RoundCursor, near: Near, entry: &Entry)
-        requires { self.old.counts.raised + 1 < 2 ^ 32 }
+    pub(crate) fn pass(&mut self, step: Step, entry: &Entry)
+        requires few { self.old.counts.raised + 1 < 2 ^ 32 }
+        requires step { IsOf (length self.old.rest.items) step }
         ensures { (bs : List ℕ) (es : List EntryValue) (i : ℕ)
-            → IsPlace bs es i entry.now rounds.now → IsTallyAt bs es i self.old
+            → IsPlace bs es i entry.now step → IsTallyAt bs es i self.old
             → IsTallyAt bs es (i + 1) self.new }
     {
         match *entry {
-            Entry::Sent(request) => self.pass_request(near, &request),
+            Entry::Sent(request) => self.pass_request(step, &request),
             Entry::FieldCycle => self.wake(),
-            Entry::Silent => self.counts.raise(span_of(self.parts, rounds, near)),
-            Entry::Heard(response) => {
-                let span = span_of(self.parts, rounds, near);
-                let own = self.parts.at_or_after(near.own, key(response.uid()));
-                self.hear(span, own);
-            }
+            Entry::Silent => self.counts.raise(step.span()),
+            Entry::Heard(_) => self.hear(step.span(), step.own()),
             // in these no UID is overlooked
             Entry::Garbled
             | Entry::Collision
@@ -150,7 +140,7 @@ impl<'a> Tally<'a> {
 
     /// The margin of each part, after the last entry.
     pub(crate) fn margins(self) -> Vec<u32>
-        ensures { (bs : List ℕ) (es : List EntryValue) → IsTallyAt bs es (length es) self.entry
+        ensures { (bs : List ℕ) (es : List EntryValue) → IsTallyAt bs es (length es) self
             → AreMargins bs es result.items }
     {
         let mut tally = self;

@@ -23,7 +23,7 @@ pub fn margin(alloc: Global, log: &Log) -> Result<Margin, AllocError>
         (λ w. IsPossible (entries log.now.lines) × IsWeakest (entries log.now.lines) w)) }
 {
     match facts_and_parts_of::<RangeSet>(alloc, log)? {
-        Ok((facts, parts)) => {
+        Ok((facts, cut)) => {
             let Facts {
                 open,
                 met: _,
@@ -38,8 +38,7 @@ pub fn margin(alloc: Global, log: &Log) -> Result<Margin, AllocError>
                 | Verdict::Unlisted(_)
                 | Verdict::Doubtful(_)
                 | Verdict::Complete { .. } => {
-                    let parts = parts.indexed(alloc)?;
-                    weakest_of(alloc, &part_margins(alloc, log, parts)?)?
+                    weakest_of(alloc, &part_margins(alloc, log, cut)?)?
                 }
             };
             Ok(Margin {

@@ -32,12 +32,12 @@ comes_to_end bs es (Some i) w possible end =
     absurd (broken_log bs es (Some i) w end refl possible)
 
 -- and knows the end of each UID by that of its part
-known_end : (es : List Entry) (w : LogWalk) (u p key end : ℕ) → IsPossible es → IsWalkOver es w → IsUid u → key ≡ mirror u → IsPartOf w.parts key p → end ≡ get_or w.walk.ends.items p end → IsEnd es (length es) u end
+known_end : (es : List Entry) (w : LogWalk) (u p key end : ℕ) → IsPossible es → IsWalkOver es w → IsUid u → key ≡ mirror u → IsPartOf w.cut.parts key p → end ≡ get_or w.walk.ends.items p end → IsEnd es (length es) u end
 known_end es w u p key end possible over is k part read =
-    let at = comes_to_end w.parts es w.broken w.walk possible over.walk in
+    let at = comes_to_end w.cut.parts es w.broken w.walk possible over.walk in
     let inside = part.within in
     let same : slice_index w.walk.ends.items p ≡ end = get_or_default w.walk.ends.items p 0 end (omega (arith, inside, at.room.ends)) ∙ sym read in
-    subst (IsEnd es (length es) u) same (at.known u p is (subst (λ x. IsPartOf w.parts x p) k part)).end
+    subst (IsEnd es (length es) u) same (at.known u p is (subst (λ x. IsPartOf w.cut.parts x p) k part)).end
 
 -- a UID that isn't open has an end
 has_end : (es : List Entry) (n u end : ℕ) → IsEnd es n u end → is_open (slots_before es n) u ≡ false → (0 < end) × (end ≤ n)
@@ -45,7 +45,7 @@ has_end es n u zero h shut = absurd (false≢true (sym shut ∙ h))
 has_end es n u (suc j) h shut = let below = h.0 in (omega arith, omega (arith, below))
 
 -- so a walk knows the end of each UID in a list of such
-pub listed_end : (es : List Entry) (w : LogWalk) (us : List ℕ) (i u p key end : ℕ) → IsPossible es → IsWalkOver es w → All (λ v. is_open (slots_before es (length es)) v ≡ false) us → i < length us → u ≡ get_or us i u → IsUid u → key ≡ mirror u → IsPartOf w.parts key p → end ≡ get_or w.walk.ends.items p end
+pub listed_end : (es : List Entry) (w : LogWalk) (us : List ℕ) (i u p key end : ℕ) → IsPossible es → IsWalkOver es w → All (λ v. is_open (slots_before es (length es)) v ≡ false) us → i < length us → u ≡ get_or us i u → IsUid u → key ≡ mirror u → IsPartOf w.cut.parts key p → end ≡ get_or w.walk.ends.items p end
     → IsEnd es (length es) u end × (0 < end) × (end ≤ length es)
 listed_end es w us i u p key end possible over shut lt at is k part read =
     let known = known_end es w u p key end possible over is k part read in

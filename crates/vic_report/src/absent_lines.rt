@@ -31,8 +31,8 @@ pub(crate) fn lines_of_absent(
         return Ok(shown);
     }
     let lines = log.lines();
-    let LogWalk { parts, walk, .. } = walk_log(alloc, &LogLines::of(log))?;
-    let indexed = parts.indexed(alloc)?;
+    let LogWalk { cut, walk, .. } = walk_log(alloc, &LogLines::of(log))?;
+    let indexed = cut.parts.indexed(alloc)?;
     for uid in absent {
         // not 0, since the UID isn't open
         let end = walk.ends[indexed.at(key(*uid))] as usize;

@@ -7,9 +7,8 @@ ghost use Rattle.vic_log.specs.Order.{entries};
 ghost use Rattle.vic_log.specs.declared.entry.Entry.{Entry as EntryValue};
 ghost use Rattle.vic_log.specs.Slots.{slots_of, is_open, IsForcedBy};
 ghost use Rattle.vic_tree.specs.OpenSet.{SameUids};
-ghost use Rattle.vic_walk.specs.Borders.{AreBorders};
-ghost use Rattle.vic_walk.specs.Cuts.{AreCut};
 ghost use Rattle.vic_walk.specs.LogLines.{AreLogLines};
+ghost use Rattle.vic_walk.specs.Steps.{AreLogParts};
 ghost use Rattle.vic_verdict.specs.Facts.{AreFactsOf};
 ghost use Rattle.vic_verdict.specs.Possible.{IsPossible};
 ghost use Rattle.vic_verdict.specs.Needs.{HasEnough, IsMet};
@@ -23,7 +22,7 @@ use vic_frame::Uid;
 use vic_log::Log;
 use vic_tree::{OpenSet, RisingUids};
 use vic_walk::{
-    Answering, LogLines, LogWalk, Parts, closed_keys, first_lack, list_start, open_answers,
+    Answering, LogLines, LogParts, LogWalk, closed_keys, first_lack, list_start, open_answers,
     walk_log,
 };
 
@@ -62,19 +61,18 @@ pub fn facts_of<S: OpenSet>(alloc: Global, log: &Log) -> Result<Result<Facts<S>,
 pub fn facts_and_parts_of<S: OpenSet>(
     alloc: Global,
     log: &Log,
-) -> Result<Result<(Facts<S>, Parts), u32>, AllocError>
+) -> Result<Result<(Facts<S>, LogParts), u32>, AllocError>
     ensures facts { IfOk result (λ r. MatchResult r
         (λ p. AreFactsOf (entries log.now.lines) (S.is_open p.0.«open») p.0.met p.0.certain)
         (λ n. IsVerdict log.now.lines (Impossible n))) }
-    ensures borders { IfOk result (λ r. MatchResult r (λ p. AreBorders p.1) (λ _. ⊤)) }
     ensures cut { IfOk result (λ r. MatchResult r
-        (λ p. AreCut p.1 (entries log.now.lines)) (λ _. ⊤)) }
+        (λ p. AreLogParts (entries log.now.lines) p.1) (λ _. ⊤)) }
     ensures log { AreLogLines log.now.lines }
 {
     match open_and_met::<S>(alloc, &LogLines::of(log))? {
-        Ok((open, met, parts)) => {
+        Ok((open, met, cut)) => {
             let certain = certain_uids(alloc, &met)?;
-            Ok(Ok((Facts { open, met, certain }, parts)))
+            Ok(Ok((Facts { open, met, certain }, cut)))
         }
         Err(at) => Ok(Err(log.lines()[at].number())),
     }
@@ -100,36 +98,35 @@ fn certain_uids(alloc: Global, met: &Met) -> Result<RisingUids, AllocError>
 fn open_and_met<S: OpenSet>(
     alloc: Global,
     lines: &LogLines,
-) -> Result<Result<(S, Met, Parts), usize>, AllocError>
+) -> Result<Result<(S, Met, LogParts), usize>, AllocError>
     ensures facts { IfOk result (λ r. MatchResult r
         (λ p. IsPossible (entries lines.now)
         × SameUids (S.is_open p.0) (is_open (slots_of (entries lines.now)))
         × IsMet (entries lines.now) p.1)
         (IsFirstImpossible (entries lines.now))) }
-    ensures borders { IfOk result (λ r. MatchResult r (λ p. AreBorders p.2) (λ _. ⊤)) }
     ensures cut { IfOk result (λ r. MatchResult r
-        (λ p. AreCut p.2 (entries lines.now)) (λ _. ⊤)) }
+        (λ p. AreLogParts (entries lines.now) p.2) (λ _. ⊤)) }
 {
     let LogWalk {
-        parts,
+        cut,
         mut walk,
         broken,
     } = walk_log(alloc, lines)?;
     if let Some(at) = broken {
         // the replies aren't borne out at `at`; but before that line an unread slot may already
         // lack open UIDs: `first_lack` returns the first position at which one does, or `at`
-        return Ok(Err(first_lack(alloc, lines, &parts, &walk, at)?));
+        return Ok(Err(first_lack(alloc, lines, &cut, &walk, at)?));
     }
-    let closed = closed_keys(alloc, &parts, &walk)?;
+    let closed = closed_keys(alloc, &cut.parts, &walk)?;
     let set = S::without(alloc, closed)?;
-    let unread = open_answers(alloc, lines, &parts, &mut walk)?;
+    let unread = open_answers(alloc, lines, &cut, &mut walk)?;
     if !are_met(&unread) {
         // after all lines an unread slot lacks open UIDs: `first_lack` returns the first position
         // at which one does
-        return Ok(Err(first_lack(alloc, lines, &parts, &walk, lines.len())?));
+        return Ok(Err(first_lack(alloc, lines, &cut, &walk, lines.len())?));
     }
     let heard = heard_uids(alloc, lines)?;
-    Ok(Ok((set, Met { heard, unread }, parts)))
+    Ok(Ok((set, Met { heard, unread }, cut)))
 }
 
 /// Whether a log is possible: whether some population could have produced it.
@@ -137,14 +134,14 @@ pub fn is_possible(alloc: Global, lines: &LogLines) -> Result<bool, AllocError>
     ensures { IfOk result (λ b. (b ≡ true) ↔ IsPossible (entries lines.now)) }
 {
     let LogWalk {
-        parts,
+        cut,
         mut walk,
         broken,
     } = walk_log(alloc, lines)?;
     if broken.is_some() {
         return Ok(false);
     }
-    let unread = open_answers(alloc, lines, &parts, &mut walk)?;
+    let unread = open_answers(alloc, lines, &cut, &mut walk)?;
     Ok(are_met(&unread))
 }
 

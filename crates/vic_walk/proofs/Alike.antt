@@ -1,5 +1,5 @@
 -- A log treats the UIDs of a part alike.
-use Rattle.vic_walk.proofs.Words.{◌≡◌, ℕ, zero, suc, Bool, true, Option, Some, None, List, ap, sym, refl, ◌∙◌, arith, nat_tests, slice_get, or_left, or_right, both_ways, eq_swapped, is_in_block, is_uid, is_uid_from, mirror, mirror_of_uid, uid_of, IsByParts, IsUid, subst, Entry, Heard, answers_at, is_quiet, silences, is_slot, mask_at, lies_in_some, is_open, reading_of, slots_before, AreAlikeAt, AreCut, AreTogether, hears, names}
+use Rattle.vic_walk.proofs.Words.{◌≡◌, ℕ, zero, suc, Bool, true, Option, Some, None, List, refl, arith, nat_tests, slice_get, or_left, or_right, both_ways, eq_swapped, is_uid_from, subst, Entry, Heard, answers_at, is_quiet, silences, is_slot, is_open, reading_of, slots_before, AreAlikeAt, AreCut, AreTogether, hears, names}
 use Rattle.vic_walk.proofs.Entries.{entry_allows, open_step, open_past}
 
 together_back : (bs : List ℕ) (u v : ℕ) → AreTogether bs u v → AreTogether bs v u
@@ -43,12 +43,3 @@ open_alike bs es (suc i) u v cut t = open_alike_step bs es i u v (slice_get es i
 
 pub parts_alike : (bs : List ℕ) (es : List Entry) (i u v : ℕ) → AreCut bs es → AreTogether bs u v → AreAlikeAt es i u v
 parts_alike bs es i u v cut t = record { openness = open_alike bs es i u v cut t; quietness = quiet_alike bs es i u v cut t }
-
--- a block of keys has the UIDs of a slot's mask: then it has all of a part, or none
-pub block_by_parts : (bs : List ℕ) (es : List Entry) (i first len : ℕ) (e : Entry) → slice_get es i ≡ Some e → is_slot e ≡ true → AreCut bs es → ((v : ℕ) → IsUid v → is_in_block first len (mirror v) ≡ lies_in_some (mask_at es i) v) → IsByParts bs (is_in_block first len)
-block_by_parts bs es i first len e here slot cut inside k l p key_k key_l at_k at_l =
-    let test = is_in_block first len in
-    let k_is = mirror_of_uid k key_k in
-    let l_is = mirror_of_uid l key_l in
-    let together : AreTogether bs (uid_of k) (uid_of l) = record { first = is_uid k; second = is_uid l; part = (p, rw k_is at_k, rw l_is at_l) } in
-    ap test (sym k_is) ∙ (inside (uid_of k) (is_uid k) ∙ (cut.masks i (uid_of k) (uid_of l) e here slot together ∙ (sym (inside (uid_of l) (is_uid l)) ∙ ap test l_is)))

@@ -9,16 +9,16 @@ use Rattle.vic_tree.specs.OpenSet.{UpToThree}
 use Rattle.vic_walk.specs.Met.{AreMetBefore, IsMetAt, answers_open}
 use Rattle.vic_walk.specs.Needs.{needs, needs_at, needs_of}
 use Rattle.vic_walk.specs.declared.lacking.Reach.{Reach}
-use Rattle.vic_walk.specs.declared.parts.Span.{Span}
+use Rattle.vic_walk.specs.declared.steps.Span.{Span}
 use Rattle.vic_walk.specs.declared.open_parts.OpenParts.{OpenParts}
 use Rattle.vic_walk.specs.inner.PartUids.{AreUidsOf}
 use Rattle.vic_walk.specs.inner.Ends.{AreRuled, IsBackTo, lasts_to}
 use Rattle.vic_walk.specs.inner.Reach.{IsReachAt}
-use Rattle.vic_walk.specs.Spans.{IsSpanAt}
+use Rattle.vic_walk.specs.Steps.{IsSpanAt}
 use Rattle.vic_walk.proofs.Ending.{open_earlier}
 use Rattle.vic_walk.proofs.OpenAnswers.{open_by_parts}
 use Rattle.vic_walk.proofs.Ruling.{marked_at, marked_else}
-use Rattle.vic_walk.proofs.Steps.{DoesNothing, ready_still}
+use Rattle.vic_walk.proofs.Effects.{DoesNothing, ready_still}
 use Rattle.vic_walk.proofs.Words.{if◌then◌else◌, silences, wakes, ◌-◌, get_or, length-set, list_any_more, inl, inr, cases_eq, cases_lt, ◌++◌, slice_set, ◌≡◌, ◌==◌, ℕ, ◌+◌, ◌<◌, ◌≤◌, ◌∷◌, ◌∙◌, ◌&&◌, ◌||◌, not, Bool, true, false, Option, Some, None, List, [], length, refl, sym, ap, and_parts, and_from, or_cases, arith, eqb-true, nat_tests, nat_lt, nat_eq, slice_index, slice_get, Entry, Collision, Garbled, IsPartOf, IsReadyAt, IsUid, IsUid-from, has, is_marked, is_open, is_quiet, mirror, part_count, slots_before}
 
 -- ---- which slots are met

@@ -2,12 +2,12 @@ mod Words
 pub mod BitLaws
 pub mod MarkLaws
 pub mod PartLaws
-pub mod CutLaws
 mod Entries
 pub mod Alike
 mod Ruling
-mod Steps
+mod Effects
 pub mod ListLaws
+pub mod CutLaws
 pub mod LineLaws
 mod PartUids
 mod OpenAnswers

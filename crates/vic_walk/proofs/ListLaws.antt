@@ -1,13 +1,14 @@
 -- What comes after the first listed UID of a log, and what it leaves as it is.
-use Rattle.vic_walk.proofs.Words.{◌≡◌, ℕ, zero, suc, ◌+◌, ◌<◌, ◌≤◌, true, false, Option, Some, None, List, arith, nat_tests, cases_lt, inl, inr, length, slice_get, get_or, ◌-◌, refl, sym, ◌∙◌, false≢true, Entry, Captured, Collision, FieldCycle, Garbled, Heard, Listed, Sent, Silent, Unknown, hears, is_slot, names, AreBorneOut, IsWalkAt}
+use Rattle.vic_walk.proofs.Words.{◌≡◌, ℕ, zero, suc, ◌+◌, ◌<◌, ◌≤◌, true, false, Option, Some, None, List, [], arith, nat_tests, cases_lt, inl, inr, length, slice_get, get_or, ◌-◌, refl, false≢true, Entry, Captured, Collision, FieldCycle, Garbled, Heard, Listed, Sent, Silent, Unknown, hears, is_slot, names, AreBorneOut, IsWalkAt}
 use Rattle.std.proofs.lemmas.Option.{slice_get-get_or}
 use Rattle.vic_log.specs.Order.{IsInOrder}
 use Rattle.vic_log.specs.Rounds.{ends_round, opener}
 use Rattle.vic_walk.specs.declared.walk.Walk.{Walk}
 use Rattle.vic_walk.specs.Answers.{is_unread}
+use Rattle.vic_walk.specs.Met.{IsMetAt}
+use Rattle.vic_walk.specs.Needs.{needs_at, needs_of}
 use Rattle.vic_walk.specs.Listing.{IsListFrom, IsListing}
-use Rattle.vic_walk.specs.inner.Gathered.{HasCuts}
-use Rattle.vic_walk.proofs.Steps.{DoesNothing, borne_idle, nothing_listed, walk_idle}
+use Rattle.vic_walk.proofs.Effects.{DoesNothing, borne_idle, nothing_listed, walk_idle}
 
 -- ---- the order of a log
 
@@ -57,14 +58,14 @@ unread_past es n i list from = list_only (λ o. is_unread o ≡ false) es n i re
 pub heard_past : (es : List Entry) (n i u : ℕ) → IsListFrom es n → n ≤ i → hears (slice_get es i) u ≡ false
 heard_past es n i u list from = list_only (λ o. hears o u ≡ false) es n i refl (λ v. refl) list from
 
-named_past : (es : List Entry) (n i u : ℕ) → IsListFrom es n → n ≤ i → names (slice_get es i) u ≡ false
+pub named_past : (es : List Entry) (n i u : ℕ) → IsListFrom es n → n ≤ i → names (slice_get es i) u ≡ false
 named_past es n i u list from = list_only (λ o. names o u ≡ false) es n i refl (λ v. refl) list from
 
-pub cuts_past : (es : List Entry) (bs : List ℕ) (n i : ℕ) → IsListFrom es n → n ≤ i → HasCuts es bs i
-cuts_past es bs n i list from = record {
-  mask = λ e here slot. let l = list i e from here in absurd (false≢true (rw l.1 at slot));
-  named = λ u is name. absurd (false≢true (sym (named_past es n i u list from) ∙ name));
-}
+needs_past : (es : List Entry) (n i : ℕ) → IsListFrom es n → n ≤ i → needs_at es i ≡ 0
+needs_past es n i list from = list_only (λ o. needs_of o ≡ 0) es n i refl (λ v. refl) list from
+
+pub met_past : (es : List Entry) (m n i : ℕ) → IsListFrom es n → n ≤ i → IsMetAt es m i
+met_past es m n i list from = record { uids = []; different = tt; answer = λ u it. absurd (false≢true it); enough = rw (needs_past es n i list from) (omega arith) }
 
 walk_list : (bs : List ℕ) (es : List Entry) (n d : ℕ) (w : Walk) → IsListFrom es n → n + d ≤ length es → IsWalkAt bs es n w → AreBorneOut es n → IsWalkAt bs es (n + d) w × AreBorneOut es (n + d)
 walk_list bs es n zero w list within h b = let same : n + 0 ≡ n = omega arith in rw same (h, b)

@@ -9,10 +9,10 @@ use Rattle.vic_log.specs.Slots.{slots_of}
 use Rattle.vic_walk.specs.Answers.{AreAnswering, IsAnsweringAt, is_open_there, is_unread}
 use Rattle.vic_walk.specs.Needs.{needs_at}
 use Rattle.vic_walk.specs.declared.answers.Answering.{Answering}
-use Rattle.vic_walk.specs.declared.parts.Span.{Span}
+use Rattle.vic_walk.specs.declared.steps.Span.{Span}
 use Rattle.vic_walk.specs.declared.open_parts.OpenParts.{OpenParts}
 use Rattle.vic_walk.specs.inner.PartUids.{AreUidsOf}
-use Rattle.vic_walk.specs.Spans.{IsSpanAt, is_within}
+use Rattle.vic_walk.specs.Steps.{IsSpanAt, is_within}
 use Rattle.vic_walk.proofs.Words.{◌≡◌, ℕ, ◌+◌, ◌<◌, ◌≤◌, ◌++◌, ◌∷◌, ◌∙◌, ◌&&◌, not, Bool, true, false, List, [], inl, inr, refl, sym, and_parts, arith, cases_lt, false≢true, slice_get, Entry, IsPartOf, IsReadyAt, IsUid, IsUid-from, answers_at, is_marked, is_open, is_quiet, mirror}
 
 pub answering_none : (es : List Entry) → AreAnswering es 0 []

@@ -1,21 +1,22 @@
 -- Keys, and the parts that have them.
-use Rattle.std.proofs.Common.{◌≡◌, ℕ, zero, suc, ◌+◌, ◌-◌, ◌^◌, ◌<◌, ◌≤◌, ◌++◌, ◌∷◌, [], Bool, true, false, ◌&&◌, List, length, refl, sym, subst, ◌∙◌, arith, ⊎_elim, leb-true, ltb-true, nat_le, nat_lt, slice_index}
-use Rattle.std.proofs.lemmas.Bool.{and_parts, cases_lt}
+use Rattle.std.proofs.Common.{◌≡◌, ℕ, zero, suc, ◌+◌, ◌-◌, ◌^◌, ◌<◌, ◌≤◌, ◌++◌, ◌∷◌, [], List, length, refl, subst, ◌∙◌, arith, ⊎_elim, nat_le, slice_index}
+use Rattle.std.proofs.lemmas.Bool.{cases_lt}
 use Rattle.std.proofs.lemmas.Bool.Decides.{nat_tests}
 use Rattle.std.proofs.lemmas.List.{get_or_default}
-use Rattle.std.proofs.lemmas.List.Elements.{All-nil, All-push, Contains-append_left, Contains-push}
+use Rattle.std.proofs.lemmas.List.{get_or_append_left, get_or_push, length-append}
+use Rattle.std.proofs.lemmas.List.Elements.{All-nil, All-push, Contains-append_left, Contains-get_or, Contains-push}
 use Rattle.std.proofs.lemmas.Map.Keys.{below_from_sorted, sorted_from_strictly_increasing}
 use Rattle.std.proofs.lemmas.Nat.{pow_pos}
 use Rattle.std.specs.List.{All, Contains}
 use Rattle.std.specs.List.Sorted.{IsStrictlyIncreasing}
-use Rattle.vic_frame.specs.LowBitsFirst.{IsBlock, IsKey, is_in_block}
-use Rattle.vic_walk.specs.Borders.{AreBorders, IsByParts, IsPartOf, part_count}
-use Rattle.vic_walk.specs.inner.Gathered.{AreGathered, HasAll, IsBorder}
+use Rattle.vic_frame.specs.LowBitsFirst.{IsKey, is_in_block}
+use Rattle.vic_walk.specs.Borders.{AreBorders, IsPartOf, part_count}
+use Rattle.vic_walk.specs.inner.Gathered.{AreGathered, HasAll, IsBorder, StandsAt}
 use Rattle.vic_walk.specs.inner.Searching.{IsBetween}
 
 -- ---- borders rise
 
-below : (bs : List ℕ) (i j : ℕ) → IsStrictlyIncreasing bs → i < j → j < length bs → slice_index bs i < slice_index bs j
+pub below : (bs : List ℕ) (i j : ℕ) → IsStrictlyIncreasing bs → i < j → j < length bs → slice_index bs i < slice_index bs j
 below bs i j rising lt within = below_from_sorted bs i j 0 (sorted_from_strictly_increasing bs rising) lt within
 
 pub up_to : (bs : List ℕ) (i j : ℕ) → IsStrictlyIncreasing bs → i ≤ j → j < length bs → slice_index bs i ≤ slice_index bs j
@@ -105,69 +106,16 @@ own_part bs k l p borders start end a b =
     (λ (upto : l ≤ k). omega (arith, up, upto))
     (cases_lt k l)
 
--- ---- the parts of a block
+-- ---- from a border on
 
-in_block : (first len k : ℕ) → first ≤ k → k ≤ first + (2 ^ (56 - len) - 1) → is_in_block first len k ≡ true
-in_block first len k low high = grind (arith, nat_tests, low, high)
-
-between : (first len k : ℕ) → is_in_block first len k ≡ true → (first ≤ k) × (k ≤ first + (2 ^ (56 - len) - 1))
-between first len k is = let parts = and_parts (nat_le first k) (nat_le k (first + (2 ^ (56 - len) - 1))) is in (leb-true _ _ parts.0, leb-true _ _ parts.1)
-
--- from the part of the first key to that of the last, each lies in the block
-all_between : (bs : List ℕ) (first len k p from last : ℕ) → AreBorders bs → IsBlock first len → IsPartOf bs first from → IsPartOf bs (first + (2 ^ (56 - len) - 1)) last → IsByParts bs (is_in_block first len) → IsKey k → IsPartOf bs k p → from ≤ p → p ≤ last → is_in_block first len k ≡ true
-all_between bs first len k p from last borders block a b alike key own low high =
-    let end = block.keys in
-    ⊎_elim
-    (λ (after : from < p). ⊎_elim
-    (λ (before : p < last).
-    let h = up_to bs (from + 1) p borders.rising (omega (arith, after)) (let w = own.within in omega (arith, w)) in
-    let i = up_to bs (p + 1) last borders.rising (omega (arith, before)) (let w = b.within in omega (arith, w)) in
-    let af = a.before in
-    let of = own.from in
-    let ob = own.before in
-    let bf = b.from in
-    in_block first len k (omega (arith, h, af, of)) (omega (arith, i, ob, bf)))
-    (λ (here : last ≤ p).
-    let same : last ≡ p = omega (arith, here, high) in
-    alike k (first + (2 ^ (56 - len) - 1)) p key end own (subst (IsPartOf bs (first + (2 ^ (56 - len) - 1))) same b) ∙ in_block first len (first + (2 ^ (56 - len) - 1)) (omega arith) (omega arith))
-    (cases_lt p last))
-    (λ (here : p ≤ from).
-    let same : from ≡ p = omega (arith, here, low) in
-    alike k first p key (omega (arith, end)) own (subst (IsPartOf bs first) same a) ∙ in_block first len first (omega arith) (omega arith))
-    (cases_lt from p)
-
-both_true : (a b : Bool) → (a ≡ true → b ≡ true) → (b ≡ true → a ≡ true) → a ≡ b
-both_true true b f g = sym (f refl)
-both_true false true f g = g refl
-both_true false false f g = refl
-
-pub in_span : (bs : List ℕ) (first len k p from last : ℕ) → AreBorders bs → IsBlock first len → IsPartOf bs first from → IsPartOf bs (first + (2 ^ (56 - len) - 1)) last → IsByParts bs (is_in_block first len) → IsKey k → IsPartOf bs k p
-    → is_in_block first len k ≡ (nat_le from p && nat_lt p (last + 1))
-in_span bs first len k p from last borders block a b alike key own =
-    let yes = all_between bs first len k p from last borders block a b alike key own in
-    let no : is_in_block first len k ≡ true → (from ≤ p) × (p ≤ last) = λ is. let h = between first len k is in (parts_rise bs first k from p borders h.0 a own, parts_rise bs k (first + (2 ^ (56 - len) - 1)) p last borders h.1 own b) in
-    both_true _ _ (λ is. let h = no is in let low = h.0 in let high = h.1 in grind (arith, nat_tests, low, high)) (λ is. let h = and_parts (nat_le from p) (nat_lt p (last + 1)) is in yes (leb-true _ _ h.0) (let lt = ltb-true _ _ h.1 in omega (arith, lt)))
-
--- the part of the key before a border
-part_before : (bs : List ℕ) (k to : ℕ) → AreBorders bs → 0 < to → to < length bs → slice_index bs to ≡ k + 1 → IsPartOf bs k (to - 1)
-part_before bs k to borders some within at =
-    let h = below bs (to - 1) to borders.rising (omega (arith, some)) within in
-    let back : to ≡ to - 1 + 1 = omega (arith, some) in
-    record { within = omega (arith, some, within); from = omega (arith, h, at); before = subst (λ m. k < slice_index bs m) back (omega (arith, at)) }
-
--- between the borders of a block
-pub in_borders : (bs : List ℕ) (first len k p from to : ℕ) → AreBorders bs → IsBlock first len → from < to → to < length bs → slice_index bs from ≡ first → slice_index bs to ≡ first + (2 ^ (56 - len) - 1) + 1 → IsByParts bs (is_in_block first len) → IsKey k → IsPartOf bs k p
-    → is_in_block first len k ≡ (nat_le from p && nat_lt p to)
-in_borders bs first len k p from to borders block lt within start end alike key own =
-    let a = subst (λ f. IsPartOf bs f from) start (key_of_part bs from borders (omega (arith, lt, within))).0 in
-    let b = part_before bs (first + (2 ^ (56 - len) - 1)) to borders (omega (arith, lt)) within end in
-    let back : to - 1 + 1 ≡ to = omega (arith, lt) in
-    subst (λ m. is_in_block first len k ≡ (nat_le from p && nat_lt p m)) back (in_span bs first len k p from (to - 1) borders block a b alike key own)
+-- a key comes from a border on where its part does
+pub from_border : (bs : List ℕ) (k p from : ℕ) → AreBorders bs → from < length bs → IsPartOf bs k p → nat_le (slice_index bs from) k ≡ nat_le from p
+from_border bs k p from borders within own = ⊎_elim
+    (λ (after : p < from). let h = up_to bs (p + 1) from borders.rising (omega (arith, after)) within in let before = own.before in grind (arith, nat_tests))
+    (λ (upto : from ≤ p). let h = up_to bs from p borders.rising upto (let w = own.within in omega (arith, w)) in let low = own.from in grind (arith, nat_tests))
+    (cases_lt p from)
 
 -- ---- a key between two borders
-
-pub part_between : (bs : List ℕ) (k p q : ℕ) → IsBetween bs k p q → q ≡ p + 1 → IsPartOf bs k p
-part_between bs k p q h next = let within = h.within in record { within = omega (arith, within, next); from = h.low; before = rw (← next) h.high }
 
 pub between_all : (bs : List ℕ) (k : ℕ) → AreBorders bs → IsKey k → IsBetween bs k 0 (length bs - 1)
 between_all bs k borders key =
@@ -181,31 +129,57 @@ between_all bs k borders key =
 pub gathered_first : AreGathered (0 ∷ 2 ^ 56 ∷ [])
 gathered_first = record {
   borders = All-push IsBorder (0 ∷ []) (2 ^ 56) (All-push IsBorder [] 0 (All-nil IsBorder) (omega arith)) (omega arith);
-  first = Contains-append_left (0 ∷ []) (2 ^ 56 ∷ []) 0 (Contains-push [] 0);
+  first = record { within = omega arith; here = refl };
   end = Contains-push (0 ∷ []) (2 ^ 56);
 }
+
+-- one more comes after them
+pub stands_still : (bs : List ℕ) (b : ℕ) → HasAll bs (bs ++ b ∷ [])
+stands_still bs b c place at = record { within = let w = at.within in omega (arith, length-append bs (b ∷ []), w); here = get_or_append_left bs (b ∷ []) 0 place at.within ∙ at.here }
+
+pub stands_last : (bs : List ℕ) (b : ℕ) → StandsAt (bs ++ b ∷ []) b (length bs)
+stands_last bs b = record { within = omega (arith, length-append bs (b ∷ [])); here = get_or_push bs b 0 (length bs) refl }
 
 pub gathered_more : (bs : List ℕ) (b : ℕ) → IsBorder b → AreGathered bs → AreGathered (bs ++ b ∷ [])
 gathered_more bs b is h = record {
   borders = All-push IsBorder bs b h.borders is;
-  first = Contains-append_left bs (b ∷ []) 0 h.first;
+  first = stands_still bs b 0 0 h.first;
   end = Contains-append_left bs (b ∷ []) (2 ^ 56) h.end;
 }
 
-pub are_borders : (old new : List ℕ) → IsStrictlyIncreasing new → HasAll old new → AreGathered old → AreBorders new
-are_borders old new rising more gathered =
-    let start = more.kept 0 gathered.first in
-    let stop = more.kept (2 ^ 56) gathered.end in
+pub stands_in : (bs : List ℕ) (b place : ℕ) → StandsAt bs b place → Contains bs b
+stands_in bs b place at = rw at.here at (Contains-get_or bs place 0 at.within)
+
+pub are_borders : (old new : List ℕ) → IsStrictlyIncreasing new → ((b : ℕ) → Contains old b → Contains new b) → (All IsBorder old → All IsBorder new) → AreGathered old → AreBorders new
+are_borders old new rising kept all gathered =
+    let start = kept 0 (stands_in old 0 0 gathered.first) in
+    let stop = kept (2 ^ 56) gathered.end in
     let start_at : slice_index new start.0 ≡ 0 = start.2 in
     let stop_at : slice_index new stop.0 ≡ 2 ^ 56 = get_or_default new stop.0 0 (2 ^ 56) stop.1 ∙ stop.2 in
     let low = up_to new 0 start.0 rising (omega arith) start.1 in
     let high = up_to new stop.0 (length new - 1) rising (let h = stop.1 in omega (arith, h)) (let h = stop.1 in omega (arith, h)) in
-    let most = more.borders gathered.borders (length new - 1) 0 (let h = stop.1 in omega (arith, h)) in
+    let most = all gathered.borders (length new - 1) 0 (let h = stop.1 in omega (arith, h)) in
     record { rising = rising; first = omega (arith, low, start_at); last = omega (arith, high, stop_at, most) }
 
-pub all_borders : (bs : List ℕ) → AreBorders bs → All IsBorder bs
-all_borders bs borders i d within =
-    let at = get_or_default bs i 0 d within in
-    let h = up_to bs i (length bs - 1) borders.rising (omega (arith, within)) (omega (arith, within)) in
+-- a border stands where the part of its key is
+pub border_at : (bs : List ℕ) (b p : ℕ) → AreBorders bs → Contains bs b → IsPartOf bs b p → StandsAt bs b p
+border_at bs b p borders there own =
+    let j = there.0 in
+    let at : slice_index bs j ≡ b = get_or_default bs j 0 b there.1 ∙ there.2 in
+    let within = own.within in
+    let low = own.from in
+    let before = own.before in
+    ⊎_elim
+    (λ (after : p < j). let h = up_to bs (p + 1) j borders.rising (omega (arith, after)) there.1 in absurd (omega (arith, h, before, at)))
+    (λ (upto : j ≤ p). let h = up_to bs j p borders.rising upto (omega (arith, within)) in record { within = omega (arith, within); here = omega (arith, h, at, low) })
+    (cases_lt p j)
+
+-- the last one, whose number is that of the parts
+pub last_border : (bs : List ℕ) (b n : ℕ) → AreBorders bs → Contains bs b → 2 ^ 56 ≤ b → n ≡ part_count bs → StandsAt bs b n
+last_border bs b n borders there le is =
+    let j = there.0 in
+    let at : slice_index bs j ≡ b = get_or_default bs j 0 b there.1 ∙ there.2 in
+    let some = some_part bs borders in
+    let h = up_to bs j (length bs - 1) borders.rising (let w = there.1 in omega (arith, w)) (omega (arith, some)) in
     let last = borders.last in
-    omega (arith, at, h, last)
+    rw is (record { within = omega (arith, some); here = omega (arith, h, at, le, last) })

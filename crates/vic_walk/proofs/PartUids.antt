@@ -5,8 +5,8 @@ use Rattle.vic_tree.proofs.GatheringLaws.{gathers_both, gathers_full}
 use Rattle.vic_tree.specs.Gathering.{Gathers}
 use Rattle.vic_tree.specs.OpenSet.{UpToThree}
 use Rattle.vic_walk.proofs.PartLaws.{one_part, part_of_key}
-use Rattle.vic_walk.specs.declared.parts.Span.{Span}
-use Rattle.vic_walk.specs.Spans.{is_within}
+use Rattle.vic_walk.specs.declared.steps.Span.{Span}
+use Rattle.vic_walk.specs.Steps.{is_within}
 use Rattle.vic_walk.specs.inner.PartUids.{AreUidsOf, HasKey}
 
 -- a UID that the test passes, in a part before `from`

@@ -1,8 +1,8 @@
 -- The parts of a span are ruled out one after another.
 use Rattle.vic_walk.proofs.Words.{◌≡◌, ◌↔◌, refl, false≢true, ℕ, ◌+◌, ◌<◌, ◌≤◌, Bool, true, false, not, ◌&&◌, ◌||◌, List, arith, nat_tests, length, nat_lt, if◌then◌else◌, cases_lt, cases_eq, or_cases, or_left, or_right, and_parts, and_from, inl, inr, slice_index, slice_set, sym, ◌∙◌, ◌≢◌, and-false, get_or-set_same, get_or-set_other, length-set, IsFirst, NoneBetween, is_marked}
-use Rattle.vic_walk.specs.declared.parts.Span.{Span}
+use Rattle.vic_walk.specs.declared.steps.Span.{Span}
 use Rattle.vic_walk.specs.declared.walk.Walk.{Walk}
-use Rattle.vic_walk.specs.Spans.{is_within}
+use Rattle.vic_walk.specs.Steps.{is_within}
 use Rattle.vic_walk.specs.inner.Ruled.{HasLost, IsRuledOut}
 
 -- the part is one of the span's before part `from`

@@ -25,7 +25,7 @@ pub use Rattle.vic_log.specs.Rounds.{is_slot, lies_in_some, mask_at}
 pub use Rattle.vic_log.specs.Slots.{Reading, Slot, hears, is_open, may_be, reading_of, slots_before, with_entry}
 pub use Rattle.vic_log.specs.declared.entry.Entry.{Entry}
 pub use Rattle.vic_log.specs.declared.entry.Entry.TheVariants.{Captured, Collision, FieldCycle, Garbled, Heard, Listed, Sent, Silent, Unknown}
-pub use Rattle.vic_walk.specs.Borders.{AreBorders, IsByParts, IsPartOf, part_count}
+pub use Rattle.vic_walk.specs.Borders.{AreBorders, IsPartOf, part_count}
 pub use Rattle.vic_walk.specs.Cuts.{AreAlikeAt, AreCut, AreTogether, names}
 pub use Rattle.vic_walk.specs.Marked.{IsFirst, NoneBetween, is_marked}
 pub use Rattle.vic_walk.specs.Walk.{AreBorneOut, IsEnd, IsWalkAt, was_heard}

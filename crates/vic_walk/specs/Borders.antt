@@ -1,7 +1,6 @@
 -- Parts of the keys (profile): what lies between two borders that follow each other.
-use Rattle.std.specs.Prelude.{◌≡◌, ℕ, ◌+◌, ◌-◌, ◌^◌, ◌<◌, ◌≤◌, Bool, List, length, slice_index}
+use Rattle.std.specs.Prelude.{◌≡◌, ℕ, ◌+◌, ◌-◌, ◌^◌, ◌<◌, ◌≤◌, List, length, slice_index}
 use Rattle.std.specs.List.Sorted.{IsStrictlyIncreasing}
-use Rattle.vic_frame.specs.LowBitsFirst.{IsKey}
 use Rattle.vic_frame.specs.declared.uid.TheConstants.{UID_BITS}
 
 -- borders rise, from the first key to the end of the keys
@@ -19,8 +18,3 @@ pub record IsPartOf (bs : List ℕ) (k p : ℕ) : Type 0 where
   pub within : p < part_count bs
   pub from : slice_index bs p ≤ k
   pub before : k < slice_index bs (p + 1)
-
--- the test is the same for all keys of a part
-abbrev pub IsByParts : List ℕ → (ℕ → Bool) → Type 0
-IsByParts bs test =
-    (k l p : ℕ) → IsKey k → IsKey l → IsPartOf bs k p → IsPartOf bs l p → test k ≡ test l

@@ -7,5 +7,5 @@ pub mod Needs
 pub mod Answers
 pub mod Met
 pub mod Listing
-pub mod Spans
+pub mod Steps
 pub mod inner

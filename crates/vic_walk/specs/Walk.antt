@@ -8,9 +8,9 @@ use Rattle.vic_log.specs.Quiet.{is_quiet}
 use Rattle.vic_log.specs.Slots.{hears, slots_before, slots_of, is_open}
 use Rattle.vic_walk.specs.declared.walk.LogWalk.{LogWalk}
 use Rattle.vic_walk.specs.declared.walk.Walk.{Walk}
-use Rattle.vic_walk.specs.Borders.{AreBorders, IsPartOf, part_count}
-use Rattle.vic_walk.specs.Cuts.{AreCut}
+use Rattle.vic_walk.specs.Borders.{IsPartOf, part_count}
 use Rattle.vic_walk.specs.Marked.{is_marked}
+use Rattle.vic_walk.specs.Steps.{AreLogParts}
 
 -- the UID was heard before position i
 abbrev pub was_heard : List Entry → ℕ → ℕ → Bool
@@ -64,6 +64,5 @@ IsEndOfWalk bs es (Some i) w =
 
 -- the parts are cut for the entries, and the walk over them is one from the first entry on
 pub record IsWalkOver (es : List Entry) (w : LogWalk) : Type 0 where
-  pub borders : AreBorders w.parts
-  pub cut : AreCut w.parts es
-  pub walk : IsEndOfWalk w.parts es w.broken w.walk
+  pub cut : AreLogParts es w.cut
+  pub walk : IsEndOfWalk w.cut.parts es w.broken w.walk

@@ -8,23 +8,23 @@ ghost use Rattle.vic_log.specs.Order.{entries};
 ghost use Rattle.vic_log.specs.Slots.{slots_of, is_open};
 ghost use Rattle.vic_walk.specs.Answers.{AreAnswering, is_unread};
 ghost use Rattle.vic_walk.specs.Borders.{part_count};
-ghost use Rattle.vic_walk.specs.Cuts.{AreCut};
+ghost use Rattle.vic_walk.specs.Listing.{IsListFrom};
 ghost use Rattle.vic_walk.specs.Needs.{needs};
+ghost use Rattle.vic_walk.specs.Steps.{AreLogParts, IsOf, IsPlace};
 ghost use Rattle.vic_walk.specs.Walk.{AreOpenParts, HasRoom, IsWalkAt};
 ghost use Rattle.vic_walk.specs.inner.Ready.{IsReadyAt};
-ghost use Rattle.vic_walk.specs.Spans.{IsPlace};
 
-use crate::hints::{Hints, Near};
 use crate::lines::LogLines;
-use crate::listing::list_start;
+use crate::log_parts::LogParts;
 use crate::open_parts::OpenParts;
 use crate::parts::Parts;
+use crate::steps::Step;
 use crate::three::up_to_three;
-use crate::walk::{Walk, span_of};
+use crate::walk::Walk;
 use arrayvec::ArrayVec;
 use std::alloc::{AllocError, Global};
 use vic_frame::Uid;
-use vic_log::{Entry, RoundCursor};
+use vic_log::Entry;
 
 /// Open UIDs that answer in an unread slot: all of them if there are fewer than three, otherwise
 /// three.
@@ -60,25 +60,25 @@ fn pass_again(
     open: &mut OpenParts,
     found: &mut Vec<Answering>,
     parts: &Parts,
-    rounds: &RoundCursor,
-    near: Near,
+    step: Step,
     at: usize,
     entry: &Entry,
 ) -> Result<(), AllocError>
-    requires { part_count parts.now ≡ length open.old.lasting }
+    requires open { part_count parts.now ≡ length open.old.lasting }
+    requires step { IsOf (part_count parts.now) step }
     ensures room { length open.new.lasting ≡ length open.old.lasting }
     ensures ready { OnOk result ((es : List EntryValue) (set : ℕ → Bool)
-        → IsPlace parts.now es at entry.now rounds.now
+        → IsPlace parts.now es at entry.now step
         → IsReadyAt parts.now es set at open.old
         → IsReadyAt parts.now es set (at + 1) open.new) }
     ensures found { OnOk result ((es : List EntryValue)
-        → IsPlace parts.now es at entry.now rounds.now
+        → IsPlace parts.now es at entry.now step
         → IsReadyAt parts.now es (is_open (slots_of es)) at open.old
         → AreAnswering es at found.old.items → AreAnswering es (at + 1) found.new.items) }
 {
     match *entry {
         Entry::Sent(request) => {
-            open.pass_request(parts, near, &request)?;
+            open.pass_request(step, &request)?;
             Ok(())
         }
         Entry::FieldCycle => {
@@ -86,7 +86,7 @@ fn pass_again(
             Ok(())
         }
         Entry::Collision | Entry::Garbled => {
-            let uids = up_to_three(parts, &open.lasting, span_of(parts, rounds, near));
+            let uids = up_to_three(parts, &open.lasting, step.span());
             found.push(Answering {
                 at,
                 need: needs(entry),
@@ -116,11 +116,14 @@ fn is_unread(entry: &Entry) -> bool
 }
 
 /// The position after the last unread slot, 0 if there is none: from there on no slot is unread.
-fn after_unread(lines: &LogLines) -> usize
-    ensures within { result ≤ length lines.now }
+/// The list begins at `list`.
+fn after_unread(lines: &LogLines, list: usize) -> usize
+    requires within { list ≤ length lines.now }
+    requires list { IsListFrom (entries lines.now) list }
+    ensures within { result ≤ list }
     ensures read { (i : ℕ) → result ≤ i → is_unread (slice_get (entries lines.now) i) ≡ false }
 {
-    let mut after = list_start(lines);
+    let mut after = list;
     while after > 0 {
         let entry = lines.entry(after - 1);
         if is_unread(&entry) {
@@ -137,16 +140,18 @@ fn after_unread(lines: &LogLines) -> usize
 pub fn open_answers(
     alloc: Global,
     lines: &LogLines,
-    parts: &Parts,
+    cut: &LogParts,
     walk: &mut Walk,
 ) -> Result<Vec<Answering>, AllocError>
-    requires cut { AreCut parts.now (entries lines.now) }
-    requires walk { IsWalkAt parts.now (entries lines.now) (length (entries lines.now)) walk.old }
+    requires cut { AreLogParts (entries lines.now) cut.now }
+    requires walk { IsWalkAt cut.now.parts (entries lines.now) (length (entries lines.now))
+        walk.old }
     ensures found { IfOk result (λ found.
         AreAnswering (entries lines.now) (length (entries lines.now)) found.items) }
-    ensures parts { OnOk result (AreOpenParts parts.now (entries lines.now) walk.new.open.lasting) }
+    ensures parts { OnOk result (AreOpenParts cut.now.parts (entries lines.now)
+        walk.new.open.lasting) }
     ensures quiet { OnOk result ((p : ℕ) → has walk.new.open.quiet.items p ≡ false) }
-    ensures room { OnOk result (HasRoom (part_count parts.now) walk.new) }
+    ensures room { OnOk result (HasRoom (part_count cut.now.parts) walk.new) }
     ensures heard { OnOk result (walk.new.heard ≡ walk.old.heard) }
     ensures ends { OnOk result (walk.new.ends.items ≡ walk.old.ends.items) }
 {
@@ -154,16 +159,20 @@ pub fn open_answers(
     // before the first entry no part is Quiet
     open.wake();
     let mut found = Vec::new(alloc);
-    let mut rounds = RoundCursor::first();
-    let mut hints = Hints::first();
-    let after = after_unread(lines);
-    for index in 0..after {
+    for index in 0..after_unread(lines, cut.steps.len()) {
         let entry = lines.entry(index);
-        let near = hints.next(parts.hints(), &entry);
-        pass_again(open, &mut found, parts, &rounds, near, index, &entry)?;
-        rounds.advance(&entry);
+        pass_again(
+            open,
+            &mut found,
+            &cut.parts,
+            cut.steps[index],
+            index,
+            &entry,
+        )?;
     }
     // parts that are Quiet at the end are open too
     open.wake();
+    // lets go of the memory
+    open.quiet = Vec::new(alloc);
     Ok(found)
 }

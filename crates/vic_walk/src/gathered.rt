@@ -1,12 +1,13 @@
 //! Borders that are gathered in any order. A log names most of its borders several times, and near
 //! to each other; so what was added lately isn't added again, which makes sorting shorter.
 
-ghost use Rattle.std.specs.Prelude.{◌≡◌, ℕ, ◌+◌, true, IfOk, IfSome, OnOk};
-ghost use Rattle.std.specs.List.{Contains};
+ghost use Rattle.std.specs.Prelude.{◌≡◌, ℕ, ◌+◌, ◌≤◌, true, Some, IfOk, IfSome, OnOk, length, slice_index};
+ghost use Rattle.std.specs.List.{All, Contains};
 ghost use Rattle.std.specs.List.Sorted.{IsStrictlyIncreasing};
 ghost use Rattle.vic_walk.specs.Borders.{AreBorders};
-ghost use Rattle.vic_walk.specs.inner.Gathered.{HasAll, IsBorder};
+ghost use Rattle.vic_walk.specs.inner.Gathered.{AreMoved, HasAll, IsBorder, StandsAt};
 
+use crate::parts::Parts;
 use crate::ranked::{Ranked, rank};
 use std::alloc::{AllocError, Global};
 use std::marker::Model;
@@ -19,10 +20,6 @@ const LATELY_BITS: u32 = 11;
 /// What a border is multiplied by, so that borders in any order are remembered in different places:
 /// 2^64 divided by the golden ratio.
 const SPREAD: u64 = 0x9E37_79B9_7F4A_7C15;
-
-/// How many borders are ranked at most. More of them don't fit into the processor's memory beside
-/// their ranks, and are sorted faster where they are.
-const MOST_RANKED: usize = 1 << 21;
 
 /// A key, or the end of the keys.
 #[derive(Clone, Copy)]
@@ -67,8 +64,6 @@ pub(crate) struct Gathered {
     borders: Vec<u64>,
     /// In the place that a border selects: where the last one stands that selected it.
     lately: Vec<u32>,
-    /// Where those stand that a walk will look up, in the order in which it will.
-    asked: Vec<u32>,
 }
 
 impl Model for Gathered {
@@ -83,24 +78,27 @@ impl Model for Gathered {
 }
 
 impl Gathered {
-    /// The border before all keys, and the one after them; with room for so many that a walk looks
-    /// up.
-    pub(crate) fn new(alloc: Global, asked: usize) -> Result<Gathered, AllocError> {
+    /// The border before all keys, and the one after them.
+    pub(crate) fn new(alloc: Global) -> Result<Gathered, AllocError> {
         let lately = vec![in alloc; 0; 1usize << LATELY_BITS]?;
-        let asked = Vec::with_capacity(alloc, asked)?;
         let mut borders = Vec::new(alloc);
         borders.push(0)?;
         borders.push(1 << UID_BITS)?;
-        Ok(Gathered {
-            borders,
-            lately,
-            asked,
-        })
+        Ok(Gathered { borders, lately })
+    }
+
+    /// Where the border before all keys stands.
+    pub(crate) fn least(&self) -> u32
+        ensures { StandsAt self.now 0 result }
+    {
+        // shows a proof what is so of the borders
+        let _ = &self.borders;
+        0
     }
 
     /// Where a border stands, if it was added and is remembered.
     fn place_lately(&self, border: u64) -> Option<u32>
-        ensures { IfSome result (λ _. Contains self.now border) }
+        ensures { IfSome result (StandsAt self.now border) }
     {
         let at = self.lately.get(place_of(border)).copied()?;
         let place = at as usize;
@@ -111,16 +109,19 @@ impl Gathered {
         }
     }
 
-    /// Adds a border. Returns where it stands.
+    /// Adds a border. Returns where it stands. It also fails if 32 bits aren't enough for that.
     pub(crate) fn push(&mut self, border: Border) -> Result<u32, AllocError>
         ensures more { OnOk result (HasAll self.old self.new) }
-        ensures there { OnOk result (Contains self.new border.number) }
+        ensures there { IfOk result (StandsAt self.new border.number) }
     {
         let border = border.number;
         if let Some(at) = self.place_lately(border) {
             return Ok(at);
         }
-        let at = self.borders.len().min(u32::MAX as usize) as u32;
+        if self.borders.len() > u32::MAX as usize {
+            return Err(AllocError);
+        }
+        let at = self.borders.len() as u32;
         if let Some(place) = self.lately.get_mut(place_of(border)) {
             *place = at;
         }
@@ -128,38 +129,26 @@ impl Gathered {
         Ok(at)
     }
 
-    /// Adds a border, and notes where it stands if a walk may look it up.
-    pub(crate) fn push_asked(&mut self, border: Border, asked: bool) -> Result<(), AllocError>
-        ensures more { OnOk result (HasAll self.old self.new) }
-        ensures there { OnOk result (Contains self.new border.number) }
+    /// The parts between the borders; and for each border, by where it stands, the number of the
+    /// part that begins there.
+    pub(crate) fn in_order(self, alloc: Global) -> Result<(Parts, Vec<u32>), AllocError>
+        ensures borders { IfOk result (λ r. AreBorders r.0) }
+        ensures moved { IfOk result (λ r. AreMoved self r.0 (λ p. slice_index r.1.items p)) }
     {
-        let at = self.push(border)?;
-        if asked {
-            self.asked.push(at)?;
-        }
-        Ok(())
-    }
-
-    /// The borders in rising order, each once; and of those that were asked for, in turn, hints of
-    /// where they are among these.
-    pub(crate) fn in_order(self, alloc: Global) -> Result<(Vec<u64>, Vec<u32>), AllocError>
-        ensures borders { IfOk result (λ r. AreBorders r.0.items) }
-        ensures same { IfOk result (λ r. HasAll self r.0.items) }
-    {
-        let Gathered { borders, asked, .. } = self;
-        if MOST_RANKED < borders.len() {
-            return Ok((sorted(borders), Vec::new(alloc)));
-        }
+        let Gathered { borders, .. } = self;
         let Ranked {
             borders: ranked,
             ranks,
         } = rank(alloc, &borders)?;
         if are_borders(&ranked) && have_ranks(&borders, &ranked, &ranks) {
-            let mut hints = asked;
-            replace_by_ranks(&mut hints, &ranks);
-            return Ok((ranked, hints));
+            return Ok((Parts::between(ranked), ranks));
         }
-        Ok((sorted(borders), Vec::new(alloc)))
+        // never so, but nothing is promised of `rank`
+        let mut copied = Vec::new(alloc);
+        copied.extend_from_slice(&borders)?;
+        let parts = Parts::between(sorted(copied));
+        let ranks = ranks_in(alloc, &parts, &borders)?;
+        Ok((parts, ranks))
     }
 }
 
@@ -185,43 +174,69 @@ fn are_borders(numbers: &[u64]) -> bool
 
 /// Whether each of some borders is among others, where its rank says.
 fn have_ranks(borders: &[u64], ranked: &[u64], ranks: &[u32]) -> bool
-    ensures { result ≡ true → (b : ℕ) → Contains borders.now b → Contains ranked.now b }
+    ensures { result ≡ true
+        → AreMoved borders.now ranked.now (λ p. slice_index ranks.now p) }
 {
     for index in 0..borders.len() {
-        if !has_at(ranked, ranks.get(index).copied(), borders[index]) {
+        if !has_at(ranked, rank_of(ranks, index), borders[index]) {
             return false;
         }
     }
     true
 }
 
-/// Whether a border is among some, where its rank says.
-fn has_at(ranked: &[u64], rank: Option<u32>, border: u64) -> bool
-    ensures { result ≡ true → Contains ranked.now border }
+/// The rank of the border at a place.
+pub(crate) fn rank_of(ranks: &[u32], place: usize) -> u32
+    ensures { result ≡ slice_index ranks.now place }
 {
-    match rank {
-        Some(rank) => {
-            let at = rank as usize;
-            at < ranked.len() && ranked[at] == border
-        }
-        None => false,
+    match ranks.get(place) {
+        Some(rank) => *rank,
+        None => 0,
     }
 }
 
-/// Replaces places of borders by their ranks.
-fn replace_by_ranks(places: &mut [u32], ranks: &[u32]) {
-    for place in places.iter_mut() {
-        *place = match ranks.get(*place as usize) {
-            Some(rank) => *rank,
-            None => 0,
-        };
+/// Whether a border is among some, where its rank says.
+fn has_at(ranked: &[u64], rank: u32, border: u64) -> bool
+    ensures { result ≡ true → StandsAt ranked.now border rank }
+{
+    let at = rank as usize;
+    at < ranked.len() && ranked[at] == border
+}
+
+/// The numbers of the parts that begin at some borders.
+fn ranks_in(alloc: Global, parts: &Parts, borders: &[u64]) -> Result<Vec<u32>, AllocError>
+    requires { (b : ℕ) → Contains borders.now b → Contains parts.now b }
+    ensures { IfOk result (λ v. AreMoved borders.now parts.now (λ p. slice_index v.items p)) }
+{
+    let mut ranks = Vec::with_capacity(alloc, borders.len())?;
+    for border in borders {
+        let rank = rank_in(parts, *border);
+        if rank > u32::MAX as usize {
+            return Err(AllocError);
+        }
+        ranks.push(rank as u32)?;
+    }
+    Ok(ranks)
+}
+
+/// The number of the part that begins at a border, or at the end of the keys how many there are.
+fn rank_in(parts: &Parts, border: u64) -> usize
+    requires { Contains parts.now border }
+    ensures { StandsAt parts.now border result }
+{
+    let count = parts.count();
+    if border < 1 << UID_BITS {
+        parts.at(UidKey::new(border))
+    } else {
+        count
     }
 }
 
 /// Borders in rising order, each once.
 fn sorted(borders: Vec<u64>) -> Vec<u64>
     ensures rising { IsStrictlyIncreasing result.items }
-    ensures same { HasAll borders.items result.items }
+    ensures same { (b : ℕ) → Contains borders.items b → Contains result.items b }
+    ensures borders { All IsBorder borders.items → All IsBorder result.items }
 {
     let mut borders = borders;
     borders.sort_unstable();

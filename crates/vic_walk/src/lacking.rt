@@ -6,22 +6,22 @@ ghost use Rattle.vic_frame.specs.Uids.{has};
 ghost use Rattle.vic_log.specs.declared.entry.Entry.{Entry as EntryValue};
 ghost use Rattle.vic_log.specs.Order.{entries};
 ghost use Rattle.vic_walk.specs.Borders.{AreBorders, part_count};
-ghost use Rattle.vic_walk.specs.Cuts.{AreCut};
 ghost use Rattle.vic_walk.specs.Marked.{is_marked};
 ghost use Rattle.vic_walk.specs.Met.{AreMetBefore, HasEndsPast};
 ghost use Rattle.vic_walk.specs.Needs.{needs_at};
 ghost use Rattle.vic_walk.specs.inner.Ends.{AreEndsUpTo, AreRuled, IsBackTo, lasts_to};
-ghost use Rattle.vic_walk.specs.Spans.{IsPlace, IsSpanAt};
+ghost use Rattle.vic_walk.specs.Steps.{AreLogParts, IsOf, IsPlace, IsSpanAt};
 
-use crate::hints::{Hints, Near};
 use crate::lines::LogLines;
+use crate::log_parts::LogParts;
 use crate::marks::Marks;
 use crate::open_parts::OpenParts;
-use crate::parts::{Parts, Span};
+use crate::parts::Parts;
+use crate::steps::{Span, Step};
 use crate::three::up_to_three;
-use crate::walk::{Walk, span_of};
+use crate::walk::Walk;
 use std::alloc::{AllocError, Global};
-use vic_log::{Entry, RoundCursor};
+use vic_log::Entry;
 
 /// How far a log is possible, by the entries that were passed.
 #[derive(Drop)]
@@ -76,25 +76,20 @@ impl<'a> Reach<'a> {
     }
 
     /// Goes past an entry. If it is an unread slot that isn't met, `upto` goes back first.
-    fn pass(
-        &mut self,
-        rounds: &RoundCursor,
-        near: Near,
-        at: usize,
-        entry: &Entry,
-    ) -> Result<(), AllocError>
+    fn pass(&mut self, step: Step, at: usize, entry: &Entry) -> Result<(), AllocError>
+        requires { IsOf (part_count self.old.parts.now) step }
         ensures parts { self.new.parts.now ≡ self.old.parts.now }
         ensures back { OnOk result ((es : List EntryValue)
-            → IsPlace self.old.parts.now es at entry.now rounds.now
+            → IsPlace self.old.parts.now es at entry.now step
             → IsReachAt es at self.old → IsBackTo es at self.old.upto self.new.upto) }
         ensures ready { OnOk result ((es : List EntryValue)
-            → IsPlace self.old.parts.now es at entry.now rounds.now
+            → IsPlace self.old.parts.now es at entry.now step
             → IsReachAt es at self.old → IsReachAt es (at + 1) self.new) }
     {
         match *entry {
             Entry::Sent(request) => {
-                self.kept.pass_request(self.parts, near, &request)?;
-                self.all.pass_request(self.parts, near, &request)?;
+                self.kept.pass_request(step, &request)?;
+                self.all.pass_request(step, &request)?;
                 Ok(())
             }
             Entry::FieldCycle => {
@@ -103,11 +98,11 @@ impl<'a> Reach<'a> {
                 Ok(())
             }
             Entry::Collision => {
-                self.meet(span_of(self.parts, rounds, near), at, 2)?;
+                self.meet(step.span(), at, 2)?;
                 Ok(())
             }
             Entry::Garbled => {
-                self.meet(span_of(self.parts, rounds, near), at, 1)?;
+                self.meet(step.span(), at, 1)?;
                 Ok(())
             }
             Entry::Silent
@@ -177,27 +172,23 @@ impl<'a> Reach<'a> {
 pub fn first_lack(
     alloc: Global,
     lines: &LogLines,
-    parts: &Parts,
+    cut: &LogParts,
     walk: &Walk,
     upto: usize,
 ) -> Result<usize, AllocError>
-    requires cut { AreCut parts.now (entries lines.now) }
-    requires walk { HasEndsPast parts.now (entries lines.now) upto walk.now }
+    requires cut { AreLogParts (entries lines.now) cut.now }
+    requires walk { HasEndsPast cut.now.parts (entries lines.now) upto walk.now }
     ensures upto { IfOk result (λ m. m ≤ upto) }
     ensures met { IfOk result (λ m. AreMetBefore (entries lines.now) m) }
     ensures lack { IfOk result (λ m. m < upto → AreMetBefore (entries lines.now) (m + 1) → ⊥) }
 {
-    let mut reach = Reach::start(alloc, parts, &walk.ends, upto)?;
-    let mut rounds = RoundCursor::first();
-    let mut hints = Hints::first();
-    for index in 0..lines.len() {
+    let mut reach = Reach::start(alloc, &cut.parts, &walk.ends, upto)?;
+    for index in 0..cut.steps.len() {
         if reach.upto <= index {
             return Ok(reach.upto);
         }
         let entry = lines.entry(index);
-        let near = hints.next(parts.hints(), &entry);
-        reach.pass(&rounds, near, index, &entry)?;
-        rounds.advance(&entry);
+        reach.pass(cut.steps[index], index, &entry)?;
     }
     Ok(reach.upto)
 }

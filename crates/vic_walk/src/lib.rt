@@ -5,29 +5,32 @@
 
 mod answers;
 mod closed;
+mod cutting;
 mod gathered;
-mod hints;
 mod index;
 mod lacking;
 pub mod laws;
 mod lines;
 mod listing;
+mod log_parts;
 mod marks;
 mod open_parts;
 mod parts;
 mod ranked;
+mod steps;
 mod three;
 mod walk;
 mod walking;
 
 pub use answers::{Answering, open_answers};
 pub use closed::closed_keys;
-pub use hints::{Hints, Near};
 pub use lacking::first_lack;
 pub use lines::LogLines;
 pub use listing::list_start;
+pub use log_parts::LogParts;
 pub use marks::Marks;
 pub use open_parts::OpenParts;
-pub use parts::{Parts, Span};
-pub use walk::{LogWalk, Walk, span_of};
+pub use parts::Parts;
+pub use steps::{Span, Step};
+pub use walk::{LogWalk, Walk};
 pub use walking::walk_log;

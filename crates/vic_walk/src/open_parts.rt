@@ -4,15 +4,12 @@ ghost use Rattle.std.specs.Prelude.{◌≡◌, ◌+◌, ℕ, ◌<◌, ◌==◌, 
 ghost use Rattle.vic_frame.specs.Uids.{has};
 ghost use Rattle.vic_log.specs.declared.entry.Entry.{Entry as EntryValue};
 ghost use Rattle.vic_log.specs.declared.entry.Entry.TheVariants.{Sent};
-ghost use Rattle.vic_walk.specs.Borders.{AreBorders, part_count};
-ghost use Rattle.vic_walk.specs.Cuts.{AreCut};
 ghost use Rattle.vic_walk.specs.Marked.{is_marked};
+ghost use Rattle.vic_walk.specs.Steps.{IsOf, IsPlace};
 
-use crate::hints::Near;
 use crate::marks::Marks;
-use crate::parts::Parts;
+use crate::steps::Step;
 use std::alloc::{AllocError, Global};
-use vic_frame::low_bits_first::key;
 use vic_frame::{Request, Uid};
 
 /// Those of some parts that are open.
@@ -70,24 +67,17 @@ impl OpenParts {
 
     /// Makes the part of the UID Quiet that a request silences, if it silences one and the part
     /// lasts. `set` is any set of UIDs, of whose parts it is known which are Ready.
-    pub(crate) fn pass_request(
-        &mut self,
-        parts: &Parts,
-        near: Near,
-        request: &Request,
-    ) -> Result<(), AllocError>
-        requires { part_count parts.now ≡ length self.old.lasting }
+    pub(crate) fn pass_request(&mut self, step: Step, request: &Request) -> Result<(), AllocError>
+        requires { IsOf (length self.old.lasting) step }
         ensures room { length self.new.lasting ≡ length self.old.lasting }
-        ensures ready { OnOk result ((es : List EntryValue) (set : ℕ → Bool) (i : ℕ)
-            → slice_get es i ≡ Some (Sent request.now)
-            → AreBorders parts.now → AreCut parts.now es
-            → IsReadyAt parts.now es set i self.old
-            → IsReadyAt parts.now es set (i + 1) self.new) }
+        ensures ready { OnOk result ((bs : List ℕ) (es : List EntryValue) (set : ℕ → Bool) (i : ℕ)
+            → IsPlace bs es i (Sent request.now) step
+            → IsReadyAt bs es set i self.old → IsReadyAt bs es set (i + 1) self.new) }
     {
         match *request {
             Request::StayQuiet { uid, .. } => match Uid::new(uid) {
-                Some(uid) => {
-                    self.silence(parts.at_or_in(near.own, key(uid)))?;
+                Some(_) => {
+                    self.silence(step.own())?;
                     Ok(())
                 }
                 // no tag has this number

@@ -7,7 +7,8 @@ ghost use Rattle.vic_walk.specs.Borders.{AreBorders, part_count};
 ghost use Rattle.vic_walk.specs.inner.PartUids.{AreUidsOf, HasKey};
 
 use crate::marks::Marks;
-use crate::parts::{Parts, Span};
+use crate::parts::Parts;
+use crate::steps::Span;
 use arrayvec::ArrayVec;
 use vic_frame::Uid;
 use vic_frame::low_bits_first::uid_at;

@@ -2,18 +2,16 @@
 
 ghost use Rattle.std.specs.Prelude.{◌≡◌, ◌↔◌, ◌+◌, ℕ, ◌<◌, ◌≤◌, ◌==◌, ◌||◌, true, IfOk, OnOk, List, length};
 ghost use Rattle.vic_log.specs.declared.entry.Entry.{Entry as EntryValue};
-ghost use Rattle.vic_log.specs.Rounds.{is_slot};
 ghost use Rattle.vic_walk.specs.Borders.{part_count};
 ghost use Rattle.vic_walk.specs.Marked.{is_marked};
-ghost use Rattle.vic_walk.specs.Spans.{is_within, IsSpanAt, IsPlace};
+ghost use Rattle.vic_walk.specs.Steps.{is_within, IsOf, IsPlace};
 
-use crate::hints::Near;
+use crate::log_parts::LogParts;
 use crate::marks::Marks;
 use crate::open_parts::OpenParts;
-use crate::parts::{Parts, Span};
+use crate::steps::{Span, Step};
 use std::alloc::{AllocError, Global};
-use vic_frame::low_bits_first::key;
-use vic_log::{Entry, RoundCursor};
+use vic_log::Entry;
 
 /// What a walk over the first entries of a log knows of its parts.
 #[derive(Drop)]
@@ -106,67 +104,39 @@ impl Walk {
 
     /// Takes the walk past an entry; a part that it rules out gets this end. Returns whether the
     /// replies are still borne out.
-    pub(crate) fn pass(
-        &mut self,
-        parts: &Parts,
-        rounds: &RoundCursor,
-        near: Near,
-        end: u32,
-        entry: &Entry,
-    ) -> Result<bool, AllocError>
-        requires { part_count parts.now ≡ length self.old.open.lasting }
-        ensures walk { OnOk result ((es : List EntryValue) (i : ℕ) → end ≡ i + 1
-            → IsPlace parts.now es i entry.now rounds.now
-            → IsWalkAt parts.now es i self.old → IsWalkAt parts.now es (i + 1) self.new) }
-        ensures fine { IfOk result (λ fine. (es : List EntryValue) (i : ℕ)
-            → IsPlace parts.now es i entry.now rounds.now
-            → IsWalkAt parts.now es i self.old → AreBorneOut es i
+    pub(crate) fn pass(&mut self, step: Step, end: u32, entry: &Entry) -> Result<bool, AllocError>
+        requires { IsOf (length self.old.open.lasting) step }
+        ensures walk { OnOk result ((bs : List ℕ) (es : List EntryValue) (i : ℕ) → end ≡ i + 1
+            → IsPlace bs es i entry.now step
+            → IsWalkAt bs es i self.old → IsWalkAt bs es (i + 1) self.new) }
+        ensures fine { IfOk result (λ fine. (bs : List ℕ) (es : List EntryValue) (i : ℕ)
+            → IsPlace bs es i entry.now step
+            → IsWalkAt bs es i self.old → AreBorneOut es i
             → (fine ≡ true) ↔ AreBorneOut es (i + 1)) }
     {
         match *entry {
             Entry::Sent(request) => {
-                self.open.pass_request(parts, near, &request)?;
+                self.open.pass_request(step, &request)?;
                 Ok(true)
             }
             Entry::FieldCycle => {
                 self.open.wake();
                 Ok(true)
             }
-            Entry::Silent => Ok(!self.rule_out(span_of(parts, rounds, near), end)),
-            Entry::Heard(response) => {
-                let span = span_of(parts, rounds, near);
-                let own = parts.at_or_after(near.own, key(response.uid()));
-                Ok(self.hear(span, own, end))
-            }
-            Entry::Captured(response) => {
-                let span = span_of(parts, rounds, near);
-                let own = parts.at_or_after(near.own, key(response.uid()));
-                Ok(self.hear_among(span, own))
-            }
+            Entry::Silent => Ok(!self.rule_out(step.span(), end)),
+            Entry::Heard(_) => Ok(self.hear(step.span(), step.own(), end)),
+            Entry::Captured(_) => Ok(self.hear_among(step.span(), step.own())),
             // these rule out no UID
             Entry::Collision | Entry::Garbled | Entry::Unknown | Entry::Listed(_) => Ok(true),
         }
     }
 }
 
-/// The parts whose UIDs lie in the mask of the next slot, with hints for its line.
-pub fn span_of(parts: &Parts, rounds: &RoundCursor, near: Near) -> Span
-    ensures within { result.to ≤ part_count parts.now }
-    ensures inside { (es : List EntryValue) (i : ℕ) (e : EntryValue)
-        → IsPlace parts.now es i e rounds.now → is_slot e ≡ true
-        → IsSpanAt parts.now es i result }
-{
-    match rounds.keys() {
-        Some(block) => parts.span(&block, near.from, near.to),
-        None => Span { from: 0, to: 0 },
-    }
-}
-
 /// The parts of a log, and what a walk over it knows of them.
 #[derive(Drop)]
 pub struct LogWalk {
-    /// Cut for the log.
-    pub parts: Parts,
+    /// The parts, cut for the log.
+    pub cut: LogParts,
     /// What is known of them where the walk ended.
     pub walk: Walk,
     /// The position of the first entry with which a reply isn't borne out: its UID couldn't answer

@@ -4,7 +4,7 @@ use Rattle.vic_frame.specs.LowBitsFirst.{mirror}
 use Rattle.vic_frame.specs.Uids.{IsUid}
 use Rattle.vic_log.specs.declared.entry.Entry.{Entry}
 use Rattle.vic_log.specs.Quiet.{is_quiet}
-use Rattle.vic_walk.specs.declared.parts.Span.{Span}
+use Rattle.vic_walk.specs.declared.steps.Span.{Span}
 use Rattle.vic_walk.specs.Borders.{IsPartOf, part_count}
 use Rattle.vic_walk.specs.Marked.{is_marked}
 use Rattle.vic_margin.specs.declared.tally.Tally.{Tally}
@@ -21,7 +21,7 @@ pub record IsTallyOf (es : List Entry) (i u p : ℕ) (t : Tally) : Type 0 where
 
 -- the tally is before position i
 pub record IsTallyAt (bs : List ℕ) (es : List Entry) (i : ℕ) (t : Tally) : Type 0 where
-  pub parts : t.parts.now ≡ bs
+  pub room : length t.rest.items ≡ part_count bs
   pub few : t.counts.raised ≤ i
   pub known : (u p : ℕ) → IsUid u → IsPartOf bs (mirror u) p → IsTallyOf es i u p t
 
@@ -32,7 +32,7 @@ pub record IsTurned (which : ℕ → Bool) (old new : Tally) : Type 0 where
   pub same : (p : ℕ) → which p ≡ false
       → slice_index new.rest.items p ≡ slice_index old.rest.items p
   pub counts : new.counts ≡ old.counts
-  pub parts : new.parts.now ≡ old.parts.now
+  pub size : length new.rest.items ≡ length old.rest.items
 
 -- one more is counted in the parts of a span, and of those for which a test holds taken back
 pub record IsCounted (s : Span) (back : ℕ → Bool) (old new : Tally) : Type 0 where
@@ -43,7 +43,7 @@ pub record IsCounted (s : Span) (back : ℕ → Bool) (old new : Tally) : Type 0
   pub quiet : new.quiet ≡ old.quiet
   pub leaves : new.counts.leaves ≡ old.counts.leaves
   pub raised : new.counts.raised ≡ old.counts.raised + 1
-  pub parts : new.parts.now ≡ old.parts.now
+  pub size : length new.rest.items ≡ length old.rest.items
 
 -- the margin of the UIDs of each part
 pub record AreMargins (bs : List ℕ) (es : List Entry) (margins : List ℕ) : Type 0 where

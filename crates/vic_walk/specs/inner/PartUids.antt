@@ -2,10 +2,10 @@
 use Rattle.std.specs.Prelude.{◌≡◌, ℕ, ◌≤◌, ◌<◌, ◌&&◌, Bool, true, List}
 use Rattle.vic_frame.specs.LowBitsFirst.{mirror}
 use Rattle.vic_frame.specs.Uids.{IsUid}
-use Rattle.vic_walk.specs.declared.parts.Span.{Span}
+use Rattle.vic_walk.specs.declared.steps.Span.{Span}
 use Rattle.vic_walk.specs.Borders.{IsPartOf}
 use Rattle.vic_walk.specs.Marked.{is_marked}
-use Rattle.vic_walk.specs.Spans.{is_within}
+use Rattle.vic_walk.specs.Steps.{is_within}
 
 -- the test passes the UIDs of the marked parts of a span, and nothing else
 pub record AreUidsOf (bs : List ℕ) (marks : List Bool) (s : Span) (test : ℕ → Bool) : Type 0 where

@@ -1,9 +1,9 @@
 -- What it is that some parts are ruled out.
 use Rattle.std.specs.Prelude.{◌≡◌, ◌==◌, ℕ, Bool, true, not, ◌&&◌, length, slice_index, if◌then◌else◌}
-use Rattle.vic_walk.specs.declared.parts.Span.{Span}
+use Rattle.vic_walk.specs.declared.steps.Span.{Span}
 use Rattle.vic_walk.specs.declared.walk.Walk.{Walk}
 use Rattle.vic_walk.specs.Marked.{is_marked}
-use Rattle.vic_walk.specs.Spans.{is_within}
+use Rattle.vic_walk.specs.Steps.{is_within}
 
 -- it is in the span, and isn't this one
 abbrev pub is_other : Span → ℕ → ℕ → Bool

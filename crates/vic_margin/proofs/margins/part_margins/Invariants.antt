@@ -1,10 +1,6 @@
 use Rattle.vic_margin.proofs.Words.{IsTallyAt}
-use Rattle.vic_log.specs.OpenRounds.{IsCursorAt}
 use Rattle.vic_log.specs.Order.{entries}
 use Rattle.vic_margin.proofs.margins.part_margins.Given as goal
 
 abbrev pub invariant-loop-index : goal.invariant-loop-index
-invariant-loop-index l = record {
-  tally : IsTallyAt l.fn.parts (entries l.lines) l.index l.tally;
-  rounds : IsCursorAt (entries l.lines) l.index l.rounds;
-}
+invariant-loop-index l = IsTallyAt l.fn.cut.parts (entries l.lines) l.index l.tally

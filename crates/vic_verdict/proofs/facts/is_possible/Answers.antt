@@ -5,18 +5,18 @@ use Rattle.vic_verdict.proofs.facts.is_possible.Goals as goal
 pub returns-then-is_some : goal.returns-then-is_some
 returns-then-is_some c =
     let es = entries c.args.lines.now in
-    let walk = c.in_ok-parts.field-0 in
+    let walk = c.in_ok-cut.field-0 in
     let some = sym c.is_some.ensures ∙ c.if-is_some.true in (
       (λ no. absurd (false≢true no)),
-      (λ possible. absurd (broken_log walk.parts es walk.broken walk.walk c.in_ok-parts.ensures.walk some possible)),
+      (λ possible. absurd (broken_log walk.cut.parts es walk.broken walk.walk c.in_ok-cut.ensures.walk some possible)),
     )
 
 pub returns : goal.returns
 returns c =
     let es = entries c.args.lines.now in
-    let walk = c.in_ok-parts.field-0 in
+    let walk = c.in_ok-cut.field-0 in
     let none = sym c.is_some.ensures ∙ c.if-is_some.false in
-    let end = unbroken walk.parts es walk.broken walk.walk c.in_ok-parts.ensures.walk none in
+    let end = unbroken walk.cut.parts es walk.broken walk.walk c.in_ok-cut.ensures.walk none in
     let unread = c.in_ok-unread.unread.items in
     let iff = rw c.deref.ensures.value at c.are_met.ensures in (
       (λ met. possible_met es end.1 (found_met es unread c.in_ok-unread.ensures.found (iff.0 met))),

@@ -3,7 +3,7 @@ use Rattle.vic_walk.proofs.ListLaws.{unread_past}
 use Rattle.vic_walk.proofs.answers.after_unread.Goals as goal
 
 pub loop-after-init : goal.loop-after-init
-loop-after-init c = record { within = c.list_start-after.ensures.within; read = λ i past. unread_past _ c.list_start-after.result i c.list_start-after.ensures.list past }
+loop-after-init c = record { within = omega arith; read = λ i past. unread_past _ c.args.list i c.requires.list past }
 
 pub loop-after-preserved : goal.loop-after-preserved
 loop-after-preserved c =

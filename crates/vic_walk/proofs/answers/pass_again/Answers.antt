@@ -1,13 +1,14 @@
 use Rattle.vic_walk.proofs.Words.{◌≡◌, ◌+◌, ◌∙◌, Some, ap, inl, inr, is_slot, refl, sym, false, true}
 use Rattle.vic_walk.specs.Answers.{is_unread}
 use Rattle.vic_walk.specs.Needs.{needs_of}
+use Rattle.vic_walk.specs.Steps.{IsSpanAt}
 use Rattle.vic_walk.proofs.OpenAnswers.{answering_here, answering_kept, answering_more}
-use Rattle.vic_walk.proofs.Steps.{cycle_wakes, ready_woken}
+use Rattle.vic_walk.proofs.Effects.{cycle_wakes, ready_woken}
 use Rattle.vic_walk.proofs.answers.pass_again.Goals as goal
 
 pub returns-in_ok-pass_request-in-Sent-clause-ready : goal.returns-in_ok-pass_request-in-Sent-clause-ready
 returns-in_ok-pass_request-in-Sent-clause-ready c es set place h =
-    c.in_ok-pass_request-in-Sent.ensures.ready es set c.args.at (rw c.in-Sent.is at place.here) place.borders place.cut h
+    c.in_ok-pass_request-in-Sent.ensures.ready _ es set c.args.at (rw c.in-Sent.is at place) h
 
 pub returns-in_ok-pass_request-in-Sent-clause-found : goal.returns-in_ok-pass_request-in-Sent-clause-found
 returns-in_ok-pass_request-in-Sent-clause-found c es place h found =
@@ -27,8 +28,8 @@ pub returns-in_ok-push-in-Collision-clause-found : goal.returns-in_ok-push-in-Co
 returns-in_ok-push-in-Collision-clause-found c es place h found =
     let slot : is_slot c.args.entry.now ≡ true = elim c.in-Collision.is [ inl e ↦ rw e refl | inr e ↦ rw e refl ] in
     let unread : is_unread (Some c.args.entry.now) ≡ true = elim c.in-Collision.is [ inl e ↦ rw e refl | inr e ↦ rw e refl ] in
-    let span = c.span_of.ensures.inside es c.args.at _ place slot in
-    answering_more es c.args.at _ _ _ c.in_ok-push-in-Collision.ensures.items (answering_here _ es c.args.at c.span_of.result c.args.open.now _ refl (rw place.here unread) (ap needs_of place.here ∙ sym c.needs.ensures) span h (λ t. c.up_to_three-uids.ensures t place.borders)) found
+    let span : IsSpanAt c.args.parts.now es c.args.at c.span.result = rw c.span.ensures (place.step.slot _ place.here slot) in
+    answering_more es c.args.at _ _ _ c.in_ok-push-in-Collision.ensures.items (answering_here _ es c.args.at c.span.result c.args.open.now _ refl (rw place.here unread) (ap needs_of place.here ∙ sym c.needs.ensures) span h (λ t. c.up_to_three-uids.ensures t place.borders)) found
 
 pub returns-in-Silent-clause-found : goal.returns-in-Silent-clause-found
 returns-in-Silent-clause-found c es place h found =

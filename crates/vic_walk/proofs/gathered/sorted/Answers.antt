@@ -9,9 +9,7 @@ pub returns-clause-rising : goal.returns-clause-rising
 returns-clause-rising c = rw (dedup_is _ _ _ c.dedup.ensures.filtered) (IsStrictlyIncreasing-dedup _ c.sort_unstable.ensures.sorted)
 
 pub returns-clause-same : goal.returns-clause-same
-returns-clause-same c =
-    let sort = c.sort_unstable.ensures.permutation in
-    rw (dedup_is _ _ _ c.dedup.ensures.filtered) (record {
-      kept = λ b there. Contains-dedup_nat _ b (Contains-permutation _ _ b sort there);
-      borders = λ all. All-dedup _ IsBorder _ (All-permutation IsBorder _ _ sort all);
-    })
+returns-clause-same c b there = rw (dedup_is _ _ _ c.dedup.ensures.filtered) (Contains-dedup_nat _ b (Contains-permutation _ _ b c.sort_unstable.ensures.permutation there))
+
+pub returns-clause-borders : goal.returns-clause-borders
+returns-clause-borders c all = rw (dedup_is _ _ _ c.dedup.ensures.filtered) (All-dedup _ IsBorder _ (All-permutation IsBorder _ _ c.sort_unstable.ensures.permutation all))

@@ -1,5 +1,4 @@
 use Rattle.vic_walk.proofs.Words.{◌≡◌, ℕ, ◌+◌, ◌<◌, ◌≤◌}
-use Rattle.vic_log.specs.OpenRounds.{IsCursorAt}
 use Rattle.vic_log.specs.Order.{entries}
 use Rattle.vic_walk.specs.Met.{AreMetBefore, IsMetAt}
 use Rattle.vic_walk.specs.inner.Reach.{IsReachAt}
@@ -7,9 +6,8 @@ use Rattle.vic_walk.proofs.lacking.first_lack.Given as goal
 
 abbrev pub invariant-loop-index : goal.invariant-loop-index
 invariant-loop-index l = record {
-  parts : l.reach.parts.now ≡ l.parts;
+  parts : l.reach.parts.now ≡ l.cut.parts;
   ready : IsReachAt (entries l.lines) l.index l.reach;
-  rounds : IsCursorAt (entries l.lines) l.index l.rounds;
   back : l.reach.upto ≤ l.upto;
   met : (j : ℕ) → j < l.index → j < l.reach.upto → IsMetAt (entries l.lines) l.reach.upto j;
   lack : l.reach.upto < l.upto → AreMetBefore (entries l.lines) (l.reach.upto + 1) → ⊥;

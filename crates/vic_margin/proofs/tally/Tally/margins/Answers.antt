@@ -12,7 +12,7 @@ loop-part-preserved c =
       | then-not-has w ↦
           let it : is_marked c.args.self.quiet l.part ≡ false = ap (λ m. is_marked m l.part) (sym l.invariant.quiet) ∙ grind (arith, nat_tests, c.has.ensures, w.if-not-has.true) in
           rw w.tally-is (record {
-            turned = turned_more l.part c.args.self l.tally _ lt it w.turn.ensures.rest w.turn.ensures.counts w.turn.ensures.parts l.invariant.turned;
+            turned = turned_more l.part c.args.self l.tally _ lt it w.turn.ensures.rest w.turn.ensures.counts l.invariant.turned;
             quiet = w.turn.ensures.quiet ∙ l.invariant.quiet;
           })
       | else-not-has w ↦

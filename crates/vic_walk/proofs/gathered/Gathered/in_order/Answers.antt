@@ -1,26 +1,21 @@
-use Rattle.std.proofs.Common.{List, refl, subst, sym, ℕ, ◌∙◌}
-use Rattle.std.specs.List.{Contains}
-use Rattle.vic_walk.specs.Borders.{AreBorders}
-use Rattle.vic_walk.specs.inner.Gathered.{HasAll}
-use Rattle.vic_walk.proofs.PartLaws.{all_borders, are_borders}
+use Rattle.std.proofs.Common.{refl, ◌≡◌}
+use Rattle.vic_walk.proofs.PartLaws.{are_borders}
 use Rattle.vic_walk.proofs.gathered.Gathered.in_order.Goals as goal
 
-pub returns-then-have_ranks-clause-same : goal.returns-then-have_ranks-clause-same
-returns-then-have_ranks-clause-same c =
-    let given = sym (c.deref-then-are_borders.ensures.value ∙ c.self.view_is) in
-    let ranked = c.deref-then-are_borders-2.ensures.value in
-    let borders = subst AreBorders c.deref-2.ensures.value (c.if-are_borders.ensures refl) in
-    record {
-      kept = λ b there. subst (λ (bs : List ℕ). Contains bs b) ranked (c.if-have_ranks.ensures refl b (subst (λ (bs : List ℕ). Contains bs b) given there));
-      borders = λ all. all_borders _ borders;
-    }
+pub returns-then-have_ranks-clause-moved : goal.returns-then-have_ranks-clause-moved
+returns-then-have_ranks-clause-moved c =
+    let moved = rw (c.deref-then-are_borders.ensures.value, c.deref-then-are_borders-2.ensures.value, c.deref-then-are_borders-3.ensures.value) at (c.if-have_ranks.ensures refl) in
+    rw (c.between.ensures, ← c.self.view_is) moved
 
-pub returns-then-len-gt-MOST_RANKED-clause-borders : goal.returns-then-len-gt-MOST_RANKED-clause-borders
-returns-then-len-gt-MOST_RANKED-clause-borders c =
-    let same : HasAll c.args.self c.sorted.result.items = subst (λ (bs : List ℕ). HasAll bs c.sorted.result.items) c.self.view_is c.sorted.ensures.same in
-    are_borders _ _ c.sorted.ensures.rising same (rw c.self.view_is at c.self.invariant)
+pub between-parts-requires : goal.between-parts-requires
+between-parts-requires c =
+    let copied : c.extend_from_slice.new.self.items ≡ c.self.inside.borders.items = rw (c.in_ok-extend_from_slice.ensures.items, c.new-copied.ensures.items, c.deref-3.ensures.value) refl in
+    are_borders c.self.inside.borders.items _ c.sorted.ensures.rising (rw copied at c.sorted.ensures.same) (rw copied at c.sorted.ensures.borders) c.self.invariant
 
-pub returns-clause-borders : goal.returns-clause-borders
-returns-clause-borders c =
-    let same : HasAll c.args.self c.sorted-2.result.items = subst (λ (bs : List ℕ). HasAll bs c.sorted-2.result.items) c.self.view_is c.sorted-2.ensures.same in
-    are_borders _ _ c.sorted-2.ensures.rising same (rw c.self.view_is at c.self.invariant)
+pub ranks_in-requires : goal.ranks_in-requires
+ranks_in-requires c b there =
+    let copied : c.extend_from_slice.new.self.items ≡ c.self.inside.borders.items = rw (c.in_ok-extend_from_slice.ensures.items, c.new-copied.ensures.items, c.deref-3.ensures.value) refl in
+    rw c.between-parts.ensures (rw copied at c.sorted.ensures.same b (rw c.deref-4.ensures.value at there))
+
+pub returns-clause-moved : goal.returns-clause-moved
+returns-clause-moved c = rw (← c.self.view_is) (rw c.deref-4.ensures.value at c.in_ok-ranks.ensures)

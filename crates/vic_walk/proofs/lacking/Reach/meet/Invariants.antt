@@ -2,7 +2,7 @@ use Rattle.vic_walk.proofs.Words.{AreBorders, ◌≡◌, List, ℕ, ◌+◌, ◌
 use Rattle.vic_walk.specs.Met.{IsMetAt}
 use Rattle.vic_walk.specs.Needs.{needs_at}
 use Rattle.vic_walk.specs.inner.Reach.{IsReachAt}
-use Rattle.vic_walk.specs.Spans.{IsSpanAt}
+use Rattle.vic_walk.specs.Steps.{IsSpanAt}
 use Rattle.vic_walk.proofs.lacking.Reach.meet.Given as goal
 
 abbrev pub invariant-loop-self : goal.invariant-loop-self

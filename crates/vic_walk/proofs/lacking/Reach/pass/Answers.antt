@@ -1,21 +1,22 @@
 use Rattle.vic_walk.proofs.Words.{◌≡◌, ◌∙◌, ℕ, false, Some, inl, inr, Entry, Collision, Garbled, ap, refl, silences, wakes}
 use Rattle.vic_walk.specs.Needs.{needs, needs_of}
+use Rattle.vic_walk.specs.Steps.{IsSpanAt}
 use Rattle.vic_walk.proofs.GoingBack.{back_none, reach_past, reach_still}
-use Rattle.vic_walk.proofs.Steps.{nothing_collision, nothing_garbled}
+use Rattle.vic_walk.proofs.Effects.{nothing_collision, nothing_garbled}
 use Rattle.vic_walk.proofs.lacking.Reach.pass.Goals as goal
 
 pub returns-in_ok-pass_request-in-Sent-2-clause-ready : goal.returns-in_ok-pass_request-in-Sent-2-clause-ready
 returns-in_ok-pass_request-in-Sent-2-clause-ready c es place h =
-    let k = rw c.in-Sent.is at place.here in
+    let sent = rw c.in-Sent.is at place in
     record {
       known = h.known;
-      kept = c.in_ok-pass_request-in-Sent.ensures.ready es _ c.args.at k place.borders place.cut h.kept;
-      all = c.in_ok-pass_request-in-Sent-2.ensures.ready es _ c.args.at k place.borders place.cut h.all;
+      kept = c.in_ok-pass_request-in-Sent.ensures.ready _ es _ c.args.at sent h.kept;
+      all = c.in_ok-pass_request-in-Sent-2.ensures.ready _ es _ c.args.at sent h.all;
     }
 
 pub returns-in_ok-meet-in-Collision-clause-back : goal.returns-in_ok-meet-in-Collision-clause-back
 returns-in_ok-meet-in-Collision-clause-back c es place h =
-    let span = c.span_of.ensures.inside es c.args.at _ place (rw c.in-Collision.is refl) in
+    let span : IsSpanAt c.args.self.now.parts.now es c.args.at c.span.result = rw c.span.ensures (place.step.slot _ place.here (rw c.in-Collision.is refl)) in
     c.in_ok-meet-in-Collision.ensures.back es place.borders span (ap needs_of (rw c.in-Collision.is at place.here)) h
 
 pub returns-in_ok-meet-in-Collision-clause-ready : goal.returns-in_ok-meet-in-Collision-clause-ready
@@ -24,7 +25,7 @@ returns-in_ok-meet-in-Collision-clause-ready c es place h =
 
 pub returns-in_ok-meet-in-Garbled-clause-back : goal.returns-in_ok-meet-in-Garbled-clause-back
 returns-in_ok-meet-in-Garbled-clause-back c es place h =
-    let span = c.span_of-in-Garbled.ensures.inside es c.args.at _ place (rw c.in-Garbled.is refl) in
+    let span : IsSpanAt c.args.self.now.parts.now es c.args.at c.span-in-Garbled.result = rw c.span-in-Garbled.ensures (place.step.slot _ place.here (rw c.in-Garbled.is refl)) in
     c.in_ok-meet-in-Garbled.ensures.back es place.borders span (ap needs_of (rw c.in-Garbled.is at place.here)) h
 
 pub returns-in_ok-meet-in-Garbled-clause-ready : goal.returns-in_ok-meet-in-Garbled-clause-ready

@@ -1,5 +1,5 @@
 use Rattle.std.proofs.Common.{◌∙◌}
-use Rattle.vic_walk.proofs.Steps.{walk_starts}
+use Rattle.vic_walk.proofs.Effects.{walk_starts}
 use Rattle.vic_walk.proofs.walk.Walk.start.Goals as goal
 
 pub returns : goal.returns

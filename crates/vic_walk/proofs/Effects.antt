@@ -2,8 +2,8 @@
 use Rattle.vic_walk.proofs.Words.{◌≡◌, ◌==◌, IsReadyAt, Sent, FieldCycle, Silent, silences, wakes, names, AreCut, has, arith, nat_tests, or_left, or_right, cases_lt, replicate, length-replicate, get_or-replicate, is_uid_from, Captured, Collision, Garbled, Listed, Unknown, StayQuiet, Request, and-false, eqb-true, eq_swapped, uid_of, is_uid, mirror_of_uid, mirror_below, IsUid-from, ltb-true, false_from_ne_true, ◌↔◌, ℕ, zero, suc, ◌+◌, ◌<◌, ◌≤◌, Bool, true, false, ◌&&◌, ◌||◌, not, Option, Some, List, sym, refl, subst, ◌∙◌, inl, inr, add-one, if◌then◌else◌, slice_get, slice_index, length, cases_Bool, and_parts, and_from, or_cases, false≢true, and-true, Entry, Reply, Heard, IsUid, mirror, answers_at, is_quiet, is_open, reading_of, slots_before, AreBorders, AreBorneOut, IsEnd, IsPartOf, IsWalkAt, hears, is_marked, part_count, was_heard}
 use Rattle.vic_walk.specs.declared.open_parts.OpenParts.{OpenParts}
 use Rattle.vic_walk.specs.declared.walk.Walk.{Walk}
-use Rattle.vic_walk.specs.declared.parts.Span.{Span}
-use Rattle.vic_walk.specs.Spans.{IsSpanAt, is_within}
+use Rattle.vic_walk.specs.declared.steps.Span.{Span}
+use Rattle.vic_walk.specs.Steps.{IsSpanAt, is_within}
 use Rattle.vic_walk.specs.inner.Ruled.{HasLost, IsRuledOut, is_other}
 use Rattle.vic_walk.proofs.Entries.{entry_allows, eqb-same, open_step, quiet_step}
 use Rattle.vic_walk.proofs.PartLaws.{key_of_part, one_part, part_of_key}

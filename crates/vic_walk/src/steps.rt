@@ -1,0 +1,43 @@
+//! Which parts an entry concerns.
+
+ghost use Rattle.std.specs.Prelude.{◌≡◌};
+ghost use Rattle.vic_walk.specs.Steps.{span_of};
+
+/// Parts that follow one another.
+#[derive(Clone, Copy)]
+pub struct Span {
+    /// The first one.
+    pub from: usize,
+    /// The one after the last.
+    pub to: usize,
+}
+
+/// Which parts an entry concerns. There are fewer than 2^32.
+#[derive(Clone, Copy)]
+pub struct Step {
+    /// Of a slot: the first of the parts whose UIDs lie in its mask.
+    pub(crate) from: u32,
+    /// The one after the last of them.
+    pub(crate) to: u32,
+    /// The part of the UID that the entry silences or hears.
+    pub(crate) own: u32,
+}
+
+impl Step {
+    /// The parts whose UIDs lie in the mask of a slot.
+    pub fn span(self) -> Span
+        ensures { result ≡ span_of self }
+    {
+        Span {
+            from: self.from as usize,
+            to: self.to as usize,
+        }
+    }
+
+    /// The part of the UID that is silenced or heard.
+    pub fn own(self) -> usize
+        ensures { result ≡ self.own }
+    {
+        self.own as usize
+    }
+}
