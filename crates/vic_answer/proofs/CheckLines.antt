@@ -1,5 +1,5 @@
 -- Answers that begin with the line of `check`, and which of them with `complete `.
-use Rattle.vic_answer.proofs.Words.{◌≡◌, ℕ, List, [], ◌∷◌, ◌++◌, ap, append_assoc, append-nil, arith, refl, subst, sym, ◌∙◌, codes, decimal, Option, Some, None, MatchOption, flat_map, option_map, LogLine, Impossible, Absent, Unlisted, Unsettled, Doubtful, Complete, BeginsAsCheck, IsAnswer, IsAnswerText, IsCheckOf, IsCompleteText, answer_line, answer_status, verdict_line, Status, Entry, IsReport, verdict_by, verdict_of, uids_of, LogReport, ShownUid, finding_text, map, report_begins, none_where_complete, IsPopulationBehind, IsShownByNone, Shows, Verdict, complete_whole, complete_second, complete_third, Answered, Found, RefusedAt, IsAnswered, answer_of, IsVerdict, Explanation, IsExplanation, Margin, get_or}
+use Rattle.vic_answer.proofs.Words.{◌≡◌, ℕ, List, [], ◌∷◌, ◌++◌, ap, append_assoc, append-nil, arith, refl, subst, sym, ◌∙◌, codes, decimal, Option, Some, None, MatchOption, flat_map, option_map, LogLine, Impossible, Absent, Unlisted, Unsettled, Doubtful, Complete, BeginsAsCheck, IsAnswer, IsAnswerText, IsCheckOf, HasCompleteList, answer_line, answer_status, verdict_line, Status, Entry, IsReport, verdict_by, verdict_of, uids_of, LogReport, ShownUid, finding_text, map, report_begins, none_where_complete, IsPopulationBehind, IsShownByNone, Shows, Verdict, complete_whole, complete_second, complete_third, Answered, Found, RefusedAt, IsAnswered, answer_of, IsVerdict, Explanation, IsExplanation, Margin, get_or}
 use Rattle.vic_report.specs.declared.findings.Unsettled.{Unsettled as LeftToAsk}
 use Rattle.vic_report.specs.declared.reporting.LogReport.TheVariants as report
 use Rattle.vic_answer.specs.declared.findings.Finding.TheVariants as finding
@@ -11,7 +11,7 @@ use Rattle.vic_answer.specs.ReportText as reporting
 
 -- ---- a complete text
 
-pub complete_text : (text : List ℕ) (answer : Answered Verdict) (count : ℕ) → answer ≡ Found (Complete count) → IsAnswer text answer → IsCompleteText text count
+pub complete_text : (text : List ℕ) (answer : Answered Verdict) (count : ℕ) → answer ≡ Found (Complete count) → IsAnswer text answer → HasCompleteList text count
 complete_text text answer count is right =
     let h = subst (IsAnswer text) is right in
     record {
@@ -48,7 +48,7 @@ complete_line _ rest more h = absurd (omega (arith, first h))
 -- the text is complete, and the rest of its answer tells the count
 pub record IsCompleteAnswer (text rest : List ℕ) : Type 0 where
   pub count : ℕ
-  pub complete : IsCompleteText text count
+  pub complete : HasCompleteList text count
   pub told : rest ≡ decimal count ++ codes "\n"
 
 -- answers that begin with `complete ` tell so

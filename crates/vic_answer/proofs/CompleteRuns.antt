@@ -1,7 +1,7 @@
--- A run that wrote `complete ` has read a complete text.
+-- A run that wrote `complete ` has read a text whose list is complete.
 use Rattle.vic_answer.proofs.Words.{◌≡◌, ℕ, Bool, List, ◌++◌, Option, Some, None, Result, Ok, Err, inl, inr, refl, ap, subst, sym, append_cancel_left, Appends, lines_of_text, LogValue, IsLogOf, IsEnough, Reads, RunsOver, RunsOverRevealed, RunFault, Status, not_both}
 use Rattle.vic_answer.specs.Runs.{Answers}
-use Rattle.vic_answer.specs.CompleteRun.{BeginWith, IsCompleteWhereSaid, IsCompleteWhereSaidFirst, IsCompleteWhereWritten, IsCompleteWhereWrittenFirst, ReadsCompleteText}
+use Rattle.vic_answer.specs.CompleteRun.{BeginWith, IsCompleteWhereSaid, IsCompleteWhereSaidFirst, IsCompleteWhereWritten, IsCompleteWhereWrittenFirst, ReadsCompleteList}
 use Rattle.vic_answer.proofs.CheckLines.{IsCompleteAnswer, TellComplete, TellCompleteFirst}
 
 -- what a sink took behind the bytes before is the answer
@@ -23,8 +23,8 @@ said : (IsAnswerTo : List ℕ → List ℕ → Status → Type 0) {HasRead : Lis
 said IsAnswerTo {taken = taken} {taken' = taken'} status h before after was now =
     subst (λ a. IsAnswerTo h.text a status) (sym (answer_taken taken taken' before after h.holds.0 was now h.holds.2)) h.holds.1
 
--- a complete text was read to its end
-read_complete : {HasRead P : List ℕ → Type 0} {IsOver : Type 0} (h : Reads HasRead IsOver P) (line : List ℕ) → IsCompleteAnswer h.text line → ReadsCompleteText HasRead IsOver line
+-- a text whose list is complete was read to its end
+read_complete : {HasRead P : List ℕ → Type 0} {IsOver : Type 0} (h : Reads HasRead IsOver P) (line : List ℕ) → IsCompleteAnswer h.text line → ReadsCompleteList HasRead IsOver line
 read_complete h line told = record {
   text = h.text;
   read = h.given;

@@ -1,5 +1,5 @@
 -- Sources are read in turn.
-use Rattle.vic_answer.proofs.Words.{◌≡◌, ◌≢◌, ◌↔◌, ℕ, zero, suc, ◌+◌, ◌<◌, ◌≤◌, List, [], ◌∷◌, ◌++◌, length, take, slice_get, slice_get-get_or, slice_get_within, get_or_from_slice_get, Some, get_or, set, Bool, true, false, Err, IfErr, IsErrAnd, Ok, Result, refl, sym, ap, subst, ◌∙◌, arith, cases_lt, cases_order, get_or-set_other, get_or-set_same, inl, inr, length-append, length-take-le, AllZip, Grows, LogValue, AreComplete, Ended, Ending, GivesNoEarlyFault, GoOn, HasLog, AreRead, HasReadText, HoldsAt, IsAnswerable, IsKept, IsLast, IsReadToEnd, IsReadWithin, IsReconciled, IsReconciling, LeavesSource, Memory, Read, ReadsListAndLogs, ReadsTexts, Reconciled, Reconciles, Reconciling, Reconciliation, RunFault, StopsBy, Write, logs_read_by, logs_up_to, slice_get-append, slice_get_seam}
+use Rattle.vic_answer.proofs.Words.{◌≡◌, ◌≢◌, ◌↔◌, ℕ, zero, suc, ◌+◌, ◌<◌, ◌≤◌, List, [], ◌∷◌, ◌++◌, length, take, slice_get, slice_get-get_or, slice_get_within, get_or_from_slice_get, Some, get_or, set, Bool, true, false, Err, IfErr, IsErrAnd, Ok, Result, refl, sym, ap, subst, ◌∙◌, arith, cases_lt, cases_order, get_or-set_other, get_or-set_same, inl, inr, length-append, length-take-le, AllZip, Grows, LogValue, AreComplete, Ended, Ending, GivesNoEarlyFault, GoOn, HasLog, AreRead, HasReadText, HoldsAt, IsReadEnough, IsKept, IsLast, IsReadToEnd, IsReadWithin, IsReconciled, IsReconciling, LeavesSource, Memory, Read, ReadsListAndLogs, ReadsTexts, Reconciled, Reconciles, Reconciling, Reconciliation, RunFault, StopsBy, Write, logs_read_by, logs_up_to, slice_get-append, slice_get_seam}
 use Rattle.vic_answer.specs.declared.reconcile.Reconciling.TheVariants as state
 use Rattle.vic_answer.specs.declared.ending.Ending.TheVariants.{ListRefusedAt, NotListedAt, RefusedAt, ImpossibleAt}
 use Rattle.vic_answer.proofs.CompleteRuns.{over}
@@ -132,7 +132,7 @@ not_failed false h = refl
 
 module _ {R : Type 0} (returned : R → List ℕ) (ended has_failed : R → Bool) where
   -- a source that was read to an answer or an early fault was read to its end, if its text has a log
-  over_and_works : (s : R) (text : List ℕ) (log : LogValue) → HasLog text log → IsAnswerable ended has_failed s text → IsReadToEnd ended has_failed s text
+  over_and_works : (s : R) (text : List ℕ) (log : LogValue) → HasLog text log → IsReadEnough ended has_failed s text → IsReadToEnd ended has_failed s text
   over_and_works s text log is_log h = (over _ text log is_log h.0, h.1)
 
   -- the source that was read last, where it has failed if and only if the fault is `Read`
@@ -150,7 +150,7 @@ module _ {R : Type 0} (returned : R → List ℕ) (ended has_failed : R → Bool
   -- a log's source is the last that is read
   pub stops_at_log : {A : Type 0} (r : Result A RunFault) (reads : R → ℕ) (list : List ℕ) (joined : Reconciliation) (old new : List R) (at : ℕ) (d after : R) (e : RunFault)
       → r ≡ Err e → at < length new → length new ≡ length old → AreLeft reads has_failed old new at
-      → HaveRead returned (IsAnswerable ended has_failed) old new at (λ texts. IsKept list texts joined)
+      → HaveRead returned (IsReadEnough ended has_failed) old new at (λ texts. IsKept list texts joined)
       → LeavesSource reads has_failed (get_or new at d) after r → (e ≡ Read → GivesNoEarlyFault (Grows (returned (get_or new at d)) (returned after)))
       → StopsBy returned ended has_failed (λ texts. GoOn (list ∷ texts)) old (set new at after) e
   stops_at_log r reads list joined old new at d after e is lt long left h leaves cut =
@@ -187,7 +187,7 @@ module _ {R : Type 0} (returned : R → List ℕ) (ended has_failed : R → Bool
         others (suc k) lt = refl
 
     -- behind the list, a log's source is the last that is read
-    pub stops_behind_list : (e : RunFault) (text : List ℕ) → HasReadText returned (IsAnswerable ended has_failed) list list' text
+    pub stops_behind_list : (e : RunFault) (text : List ℕ) → HasReadText returned (IsReadEnough ended has_failed) list list' text
         → StopsBy returned ended has_failed (λ texts. GoOn (text ∷ texts)) logs logs' e
         → StopsBy returned ended has_failed GoOn (list ∷ logs) (list' ∷ logs') e
     stops_behind_list e text read h = record {
@@ -202,7 +202,7 @@ module _ {R : Type 0} (returned : R → List ℕ) (ended has_failed : R → Bool
         each : AreRead returned (IsReadToEnd ended has_failed) (list ∷ logs) (list' ∷ logs') (text ∷ h.texts)
         each zero t is =
             let log = log_of (text ∷ h.texts) 0 t h.go_on is in
-            let now : HasReadText returned (IsAnswerable ended has_failed) list list' t = subst (λ x. HasReadText returned (IsAnswerable ended has_failed) list list' x) (cc is) read in
+            let now : HasReadText returned (IsReadEnough ended has_failed) list list' t = subst (λ x. HasReadText returned (IsReadEnough ended has_failed) list list' x) (cc is) read in
             (list, list', refl, refl, (now.0, over_and_works list' t log.0 log.1 now.1))
         each (suc k) t is = h.each k t is
 
@@ -211,8 +211,8 @@ module _ {R : Type 0} (returned : R → List ℕ) (ended has_failed : R → Bool
         others (suc k) lt = h.others k (omega (arith, lt))
 
     -- all sources that an answer needs were read
-    pub stops_answered : (e : RunFault) (text : List ℕ) (read : Reconciling) → e ≢ Read → HasReadText returned (IsAnswerable ended has_failed) list list' text
-        → ReadsTexts returned (IsAnswerable ended has_failed) logs logs' (λ texts. IsReconciling text texts read × (length texts ≡ logs_read_by read (length logs)))
+    pub stops_answered : (e : RunFault) (text : List ℕ) (read : Reconciling) → e ≢ Read → HasReadText returned (IsReadEnough ended has_failed) list list' text
+        → ReadsTexts returned (IsReadEnough ended has_failed) logs logs' (λ texts. IsReconciling text texts read × (length texts ≡ logs_read_by read (length logs)))
         → StopsBy returned ended has_failed GoOn (list ∷ logs) (list' ∷ logs') e
     stops_answered e text read other first h = record {
       texts = before;
@@ -238,8 +238,8 @@ module _ {R : Type 0} (returned : R → List ℕ) (ended has_failed : R → Bool
         go_on : GoOn before
         go_on = go_on_before text h.texts read (length logs) n refl h.holds.0 h.holds.1
 
-        read_at : AreRead returned (IsAnswerable ended has_failed) (list ∷ logs) (list' ∷ logs') all
-        read_at zero t is = (list, list', refl, refl, subst (λ x. HasReadText returned (IsAnswerable ended has_failed) list list' x) (cc is) first)
+        read_at : AreRead returned (IsReadEnough ended has_failed) (list ∷ logs) (list' ∷ logs') all
+        read_at zero t is = (list, list', refl, refl, subst (λ x. HasReadText returned (IsReadEnough ended has_failed) list list' x) (cc is) first)
         read_at (suc k) t is = h.each k t is
 
         each : AreRead returned (IsReadToEnd ended has_failed) (list ∷ logs) (list' ∷ logs') before
@@ -270,8 +270,8 @@ if_err_other (Err e) P Q f h = f e h
 
 module _ {R : Type 0} (returned : R → List ℕ) (ended has_failed : R → Bool) (list list' : R) (logs logs' : List R) where
   pub reconciles : (begun read : Reconciling) (answer : Reconciled) (text : List ℕ)
-      → HasReadText returned (IsAnswerable ended has_failed) list list' text
-      → ReadsTexts returned (IsAnswerable ended has_failed) logs logs' (λ texts. IsReconciling text texts read × (length texts ≡ logs_read_by read (length logs)))
+      → HasReadText returned (IsReadEnough ended has_failed) list list' text
+      → ReadsTexts returned (IsReadEnough ended has_failed) logs logs' (λ texts. IsReconciling text texts read × (length texts ≡ logs_read_by read (length logs)))
       → ((text : List ℕ) (texts : List (List ℕ)) → IsReconciling text texts read → IsReconciled text texts answer)
       → ((e : Ending) → (read ≡ state.Ended e) ↔ (answer ≡ Ended e))
       → Reconciles returned ended has_failed list list' logs logs' answer
@@ -289,7 +289,7 @@ module _ {R : Type 0} (returned : R → List ℕ) (ended has_failed : R → Bool
 
   -- where the answer is complete, each text has a log, and was read to its end
   pub read_to_ends : (P : List ℕ → List (List ℕ) → Type 0) (rest : List ℕ)
-      → ReadsListAndLogs returned (IsAnswerable ended has_failed) list list' logs logs' P
+      → ReadsListAndLogs returned (IsReadEnough ended has_failed) list list' logs logs' P
       → ((text : List ℕ) (texts : List (List ℕ)) → P text texts → AreComplete text texts rest × (length texts ≡ length logs))
       → ReadsListAndLogs returned (λ s _. ended s ≡ true) list list' logs logs' (λ text texts. AreComplete text texts rest × (length texts ≡ length logs))
   read_to_ends P rest r complete =

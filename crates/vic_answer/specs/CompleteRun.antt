@@ -1,17 +1,17 @@
 -- What a run of `check`, `explain`, `report` or `margin` has read if it writes `complete`.
 use Rattle.std.specs.Prelude.{◌≡◌, ℕ, Bool, true, List, ◌++◌, Option, Some, Result, OnOk, codes, decimal}
 use Rattle.std.specs.Io.KnownBytes.{Consumes, IsAtEnd}
-use Rattle.vic_answer.specs.CheckText.{IsCompleteText}
+use Rattle.vic_answer.specs.CheckText.{HasCompleteList}
 
--- a complete text was read, and no more follows, and `rest` is the number of UIDs that it lists in
--- digits, and LF
-pub record ReadsCompleteText (HasRead : List ℕ → Type 0) (IsOver : Type 0) (rest : List ℕ)
+-- a text whose list is complete was read, and no more follows, and `rest` is the number of UIDs
+-- that it lists in digits, and LF
+pub record ReadsCompleteList (HasRead : List ℕ → Type 0) (IsOver : Type 0) (rest : List ℕ)
     : Type 0 where
   pub text : List ℕ
   pub read : HasRead text
   pub over : IsOver
   pub count : ℕ
-  pub complete : IsCompleteText text count
+  pub complete : HasCompleteList text count
   pub told : rest ≡ decimal count ++ codes "\n"
 
 -- if a run wrote `complete` and a space, and then these bytes, its source gave such a text
@@ -20,7 +20,7 @@ abbrev pub IsCompleteWhereSaid : {A E : Type 0} → Option (List ℕ) → Option
 IsCompleteWhereSaid left left' taken taken' result =
     OnOk result ((before rest : List ℕ) → taken ≡ Some before
     → taken' ≡ Some (before ++ (codes "complete " ++ rest))
-    → ReadsCompleteText (Consumes left left') (IsAtEnd left') rest)
+    → ReadsCompleteList (Consumes left left') (IsAtEnd left') rest)
 
 -- if a run wrote `complete` and a space, and then these bytes, its source's reads returned such a
 -- text, until one returned none
@@ -28,7 +28,7 @@ abbrev pub IsCompleteWhereWritten : {A E : Type 0} → List ℕ → List ℕ →
     → List ℕ → List ℕ → Result A E → Type 0
 IsCompleteWhereWritten returned returned' ended written written' result =
     OnOk result ((rest : List ℕ) → written' ≡ written ++ (codes "complete " ++ rest)
-    → ReadsCompleteText (λ text. returned' ≡ returned ++ text) (ended ≡ true) rest)
+    → ReadsCompleteList (λ text. returned' ≡ returned ++ text) (ended ≡ true) rest)
 
 -- bytes that begin with some that are so
 pub record BeginWith (AreSo : List ℕ → Type 0) (bytes : List ℕ) : Type 0 where
@@ -43,10 +43,10 @@ abbrev pub IsCompleteWhereSaidFirst : {A E : Type 0} → Option (List ℕ) → O
 IsCompleteWhereSaidFirst left left' taken taken' result =
     OnOk result ((before rest : List ℕ) → taken ≡ Some before
     → taken' ≡ Some (before ++ (codes "complete " ++ rest))
-    → BeginWith (ReadsCompleteText (Consumes left left') (IsAtEnd left')) rest)
+    → BeginWith (ReadsCompleteList (Consumes left left') (IsAtEnd left')) rest)
 
 abbrev pub IsCompleteWhereWrittenFirst : {A E : Type 0} → List ℕ → List ℕ → Bool
     → List ℕ → List ℕ → Result A E → Type 0
 IsCompleteWhereWrittenFirst returned returned' ended written written' result =
     OnOk result ((rest : List ℕ) → written' ≡ written ++ (codes "complete " ++ rest)
-    → BeginWith (ReadsCompleteText (λ text. returned' ≡ returned ++ text) (ended ≡ true)) rest)
+    → BeginWith (ReadsCompleteList (λ text. returned' ≡ returned ++ text) (ended ≡ true)) rest)

@@ -51,8 +51,8 @@ pub record ReadsListAndLogs {R : Type 0} (returned : R → List ℕ)
   pub logs_read : ReadsTexts returned IsRead logs logs' (P text)
 
 -- the source works, and these bytes of it determine the answer
-abbrev pub IsAnswerable : {R : Type 0} → (R → Bool) → (R → Bool) → R → List ℕ → Type 0
-IsAnswerable ended has_failed s text =
+abbrev pub IsReadEnough : {R : Type 0} → (R → Bool) → (R → Bool) → R → List ℕ → Type 0
+IsReadEnough ended has_failed s text =
     IsEnough (ended s ≡ true) text × (has_failed s ≡ false)
 
 -- how many logs are read, up to the text that ends the run
@@ -72,7 +72,7 @@ logs_for (Ended e) logs = logs_up_to e
 abbrev pub Reconciles : {R : Type 0} → (R → List ℕ) → (ended has_failed : R → Bool)
     → R → R → List R → List R → Reconciled → Type 0
 Reconciles returned ended has_failed list list' logs logs' answer =
-    ReadsListAndLogs returned (IsAnswerable ended has_failed) list list' logs logs'
+    ReadsListAndLogs returned (IsReadEnough ended has_failed) list list' logs logs'
     (λ text texts. IsReconciled text texts answer
     × (length texts ≡ logs_for answer (length logs)))
 

@@ -56,8 +56,8 @@ RunsWhere IsAnswerTo HasRead HasHandedOut IsOver taken taken' (Err Read) =
     GivesNoEarlyFault HasHandedOut
 RunsWhere IsAnswerTo HasRead HasHandedOut IsOver taken taken' (Err Memory) = ⊤
 
--- over the bytes that the source and the sink revealed before and after; this says nothing if they
--- reveal none
+-- over the bytes that the source and the sink revealed before and after, as a reader over memory
+-- reveals what is left of it; this says nothing of those that reveal none, as a file
 abbrev pub RunsOverRevealed : (List ℕ → List ℕ → Status → Type 0)
     → Option (List ℕ) → Option (List ℕ) → Option (List ℕ) → Option (List ℕ)
     → Result Status RunFault → Type 0

@@ -6,7 +6,7 @@ ghost use Rattle.vic_verdict.specs.Verdict.{IsVerdict};
 ghost use Rattle.vic_verdict.specs.declared.judging.Verdict.{Verdict as VerdictValue};
 ghost use Rattle.vic_verdict.specs.declared.judging.Verdict.TheVariants.{Complete};
 ghost use Rattle.vic_answer.specs.Answered as spec;
-ghost use Rattle.vic_answer.specs.CheckText.{IsAnswer, IsCompleteText};
+ghost use Rattle.vic_answer.specs.CheckText.{IsAnswer, HasCompleteList};
 
 use std::alloc::{AllocError, Global};
 use vic_log::{LineFault, Log, LogFault, read_log};
@@ -63,7 +63,7 @@ pub fn answer_of<T: HasVerdict>(answered: &Answered<T>) -> Answer
     }
 }
 
-/// Reads a complete text. It fails only if memory is refused.
+/// Reads a text in memory. It fails only if memory is refused.
 pub fn read_text(alloc: Global, text: &[u8]) -> Result<Reading, AllocError>
     ensures { IfOk result (spec.IsReading text.now) }
 {
@@ -89,7 +89,7 @@ pub(crate) fn answer_reading<T: Judgement>(
     }
 }
 
-/// The answer to a complete text, by what is found in its log: a `Verdict` as `check` answers, an
+/// The answer to a text in memory, by what is found in its log: a `Verdict` as `check` answers, an
 /// `Explanation` with a population that shows it, a `LogReport` with every finding, a `Margin`, or
 /// a `Survey`. It fails only if memory is refused.
 pub fn answer_text<T: Judgement>(alloc: Global, text: &[u8]) -> Result<Answered<T>, AllocError>
@@ -98,7 +98,7 @@ pub fn answer_text<T: Judgement>(alloc: Global, text: &[u8]) -> Result<Answered<
     // if it is `complete`, the list of the log is complete and has `count` UIDs
     ensures whole { IfOk result (λ a. (count : ℕ)
         → spec.answer_of T.verdict_of a ≡ Answered.Found (Complete count)
-        → IsCompleteText text.now count) }
+        → HasCompleteList text.now count) }
 {
     let reading = read_text(alloc, text)?;
     answer_reading(alloc, reading)

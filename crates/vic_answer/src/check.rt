@@ -3,7 +3,7 @@
 ghost use Rattle.std.specs.Prelude.{◌≡◌, ℕ, IfOk};
 ghost use Rattle.vic_verdict.specs.Verdict.{IsVerdict};
 ghost use Rattle.vic_verdict.specs.declared.judging.Verdict.TheVariants.{Complete};
-ghost use Rattle.vic_answer.specs.CheckText.{IsAnswer, IsCheckOf, IsCompleteText, answer_line};
+ghost use Rattle.vic_answer.specs.CheckText.{IsAnswer, IsCheckOf, HasCompleteList, answer_line};
 ghost use Rattle.vic_answer.specs.CompleteRun.{IsCompleteWhereSaid, IsCompleteWhereWritten};
 ghost use Rattle.vic_answer.specs.Runs.{LeavesSink, LeavesSource, RunsOver, RunsOverRevealed};
 ghost use Rattle.vic_answer.specs.declared.answered.Answered.TheVariants.{Found};
@@ -17,12 +17,12 @@ use std::alloc::{AllocError, Global};
 use vic_log::{Log, Sink, Source};
 use vic_verdict::{Verdict, judge};
 
-/// The answer to a complete text. It fails only if memory is refused.
+/// The answer to a text in memory. It fails only if memory is refused.
 pub fn judge_text(alloc: Global, text: &[u8]) -> Result<Answer, AllocError>
     ensures answer { IfOk result (IsAnswer text.now) }
     // if it is `complete`, the list of the log is complete and has `count` UIDs
     ensures whole { IfOk result (λ a. (count : ℕ) → a ≡ Found (Complete count)
-        → IsCompleteText text.now count) }
+        → HasCompleteList text.now count) }
 {
     answer_text(alloc, text)
 }

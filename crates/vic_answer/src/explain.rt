@@ -92,7 +92,7 @@ pub fn run_explain<R: Source, W: Sink>(
     run_judged::<Explanation, R, W>(alloc, source, sink)
 }
 
-/// The text up to the UIDs.
+/// The text up to the UIDs: the line of the answer and, if a population follows, that of its size.
 fn opening(explained: &Answered<Explanation>) -> Text
     ensures { result.items ++ listed_text (uids_of explained.now) ≡ explained_text explained.now }
 {

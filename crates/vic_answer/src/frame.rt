@@ -22,13 +22,13 @@ pub fn run_frame<W: Sink>(word: &[u8], sink: &mut W) -> Result<Status, RunFault>
     ensures written { Writes W.written W.taken W.is_flushed W.has_failed
         sink.old sink.new (frame_text word.now) result }
 {
-    let (text, status) = answer(word);
+    let (text, status) = text_and_status(word);
     write_and_flush(sink, text.as_slice())?;
     Ok(status)
 }
 
 /// The text and the status for a word.
-fn answer(word: &[u8]) -> (Text, Status)
+fn text_and_status(word: &[u8]) -> (Text, Status)
     ensures text { result.0.items ≡ frame_text word.now }
     ensures status { result.1 ≡ frame_status word.now }
 {

@@ -26,7 +26,7 @@ pub enum Listing {
     NotListedAt { line: u32 },
 }
 
-/// The UIDs of a complete text that has only `U` lines, as `reconcile` reads the list of what is
+/// The UIDs of a text in memory that has only `U` lines, as `reconcile` reads the list of what is
 /// expected. It fails only if memory is refused.
 pub fn list_text(alloc: Global, text: &[u8]) -> Result<Listing, AllocError>
     ensures { IfOk result (spec.IsListing text.now) }

@@ -5,7 +5,7 @@ ghost use Rattle.vic_answer.specs.Runs.{Writes};
 use crate::status::RunFault;
 use vic_log::{Sink, write_whole};
 
-/// Writes a complete text and flushes it. A sink that has failed isn't written to again.
+/// Writes a text and flushes it. A sink that has failed isn't written to again.
 pub(crate) fn write_and_flush<W: Sink>(sink: &mut W, text: &[u8]) -> Result<(), RunFault>
     ensures { Writes W.written W.taken W.is_flushed W.has_failed sink.old sink.new text.now result }
 {

@@ -3,7 +3,7 @@
 ghost use Rattle.std.specs.Prelude.{◌≡◌, ℕ, IfOk};
 ghost use Rattle.vic_verdict.specs.declared.judging.Verdict.TheVariants.{Complete};
 ghost use Rattle.vic_answer.specs.Answered.{IsAnswered, answer_of};
-ghost use Rattle.vic_answer.specs.CheckText.{IsAnswer, IsCompleteText};
+ghost use Rattle.vic_answer.specs.CheckText.{IsAnswer, HasCompleteList};
 ghost use Rattle.vic_answer.specs.OverlookedText.{AreOverlooked};
 
 use crate::answered::{Answered, HasVerdict, read_text};
@@ -28,7 +28,7 @@ impl HasVerdict for Overlooked {
     }
 }
 
-/// The answer to a complete text, with the margin of each UID that is handed in, in their order. It
+/// The answer to a text in memory, with the margin of each UID that is handed in, in their order. It
 /// fails only if memory is refused.
 pub fn overlooked_text(
     alloc: Global,
@@ -40,7 +40,7 @@ pub fn overlooked_text(
     // if it is `complete`, the list of the log is complete and has `count` UIDs
     ensures whole { IfOk result (λ o. (count : ℕ)
         → answer_of (λ x. x.verdict) o ≡ Answered.Found (Complete count)
-        → IsCompleteText text.now count) }
+        → HasCompleteList text.now count) }
 {
     match read_text(alloc, text)? {
         Answered::Found(log) => Ok(Answered::Found(overlooked_log(alloc, &log, uids)?)),

@@ -207,13 +207,18 @@ pub(crate) fn findings_text(
 }
 
 /// The line of a refusal, which names the file.
-fn refused_text(alloc: Global, line: u32, file: &str, name: &str) -> Result<Vec<u8>, AllocError>
-    ensures { IfOk result (λ text. text.items ≡ spec.refused_text line file.now name.now) }
+fn refused_text(
+    alloc: Global,
+    line: u32,
+    file: &str,
+    fault_name: &str,
+) -> Result<Vec<u8>, AllocError>
+    ensures { IfOk result (λ text. text.items ≡ spec.refused_text line file.now fault_name.now) }
 {
     let mut text = Vec::from_slice(alloc, at_line_of("refused at line ", line).as_slice())?;
     text.extend_from_slice(file.as_bytes())?;
     text.extend_from_slice(b": ")?;
-    text.extend_from_slice(name.as_bytes())?;
+    text.extend_from_slice(fault_name.as_bytes())?;
     text.extend_from_slice(b"\n")?;
     Ok(text)
 }

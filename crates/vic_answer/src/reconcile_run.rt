@@ -4,7 +4,7 @@ ghost use Rattle.std.specs.Prelude.{◌≡◌, ◌≢◌, ◌++◌, ℕ, [], ◌
 ghost use Rattle.std.specs.Prelude.{codes, map, string_bytes};
 ghost use Rattle.std.specs.List.{AllZip};
 ghost use Rattle.vic_answer.specs.Reconciled.{AreComplete, GoOn};
-ghost use Rattle.vic_answer.specs.ReconcileRun.{IsAnswerable, ReadsListAndLogs, ReadsTexts, Reconciles, StopsBy, WritesAnswer};
+ghost use Rattle.vic_answer.specs.ReconcileRun.{IsReadEnough, ReadsListAndLogs, ReadsTexts, Reconciles, StopsBy, WritesAnswer};
 ghost use Rattle.vic_answer.specs.inner.Reconciling.{IsReconciling, logs_read_by};
 ghost use Rattle.vic_answer.specs.Runs.{IsReadWithin, LeavesSink};
 ghost use Rattle.vic_answer.specs.declared.status.RunFault.TheVariants.{Write};
@@ -60,7 +60,7 @@ fn read_logs<R: Source>(
     logs: &mut [R],
 ) -> Result<Reconciling, RunFault>
     ensures texts { IfOk result (λ read. (list : List ℕ) → IsReconciling list [] begun
-        → ReadsTexts R.returned (IsAnswerable R.ended R.has_failed) logs.old logs.new (λ texts.
+        → ReadsTexts R.returned (IsReadEnough R.ended R.has_failed) logs.old logs.new (λ texts.
         IsReconciling list texts read × (length texts ≡ logs_read_by read (length logs.old)))) }
     ensures stops { IfErr result (λ e. (list : List ℕ) → IsReconciling list [] begun
         → StopsBy R.returned R.ended R.has_failed (λ texts. GoOn (list ∷ texts))

@@ -97,7 +97,7 @@ fn simulate_log(alloc: Global, given: &Log) -> Result<Simulated, AllocError>
 {
     match simulate(alloc, given) {
         Ok(filled) => {
-            // shows that the filled lines are in order
+            // `lines` ensures that they are those of a log, which `IsSimulated` asks for
             let _lines = filled.lines();
             Ok(Simulated::Filled(filled))
         }

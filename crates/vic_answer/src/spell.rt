@@ -58,13 +58,13 @@ pub fn run_spell<W: Sink>(words: &[String], sink: &mut W) -> Result<Status, RunF
     ensures written { Writes W.written W.taken W.is_flushed W.has_failed
         sink.old sink.new (spec.spell_text (map string_bytes words.now)) result }
 {
-    let (text, status) = answer(words);
+    let (text, status) = text_and_status(words);
     write_and_flush(sink, text.as_slice())?;
     Ok(status)
 }
 
 /// The text and the status for some words.
-fn answer(words: &[String]) -> (Text, Status)
+fn text_and_status(words: &[String]) -> (Text, Status)
     ensures text { result.0.items ≡ spec.spell_text (map string_bytes words.now) }
     ensures status { result.1 ≡ spec.spell_status (map string_bytes words.now) }
 {
@@ -268,7 +268,8 @@ fn byte_in(word: &str) -> Result<u8, SpellFault>
     Ok(number as u8)
 }
 
-/// The number that a word spells as `count` bytes in upper-case hex digits.
+/// The number that a word spells as `count` bytes in upper-case hex digits. What `hex` reads of it
+/// is spelled again, so that lower case is refused.
 fn hex_number_in(count: usize, word: &str) -> Result<u64, SpellFault>
     requires { count ≤ 8 }
     ensures { result ≡ spec.hex_number_in count word.now }

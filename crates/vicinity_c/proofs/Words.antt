@@ -31,7 +31,7 @@ pub use Rattle.vic_reconcile.specs.Families.{IsCertainUid, IsPossibleUid}
 pub use Rattle.vic_reconcile.specs.Findings.{IsWhole}
 pub use Rattle.vic_reconcile.specs.Surveys.{AreCertainIn, AreFindingsBy, AreNoneOf, AreOpenIn, AreTogether, IsAmong, IsToldBy, MayBe}
 pub use Rattle.vic_reconcile.specs.declared.surveys.PlainFindings.{PlainFindings}
-pub use Rattle.vic_answer.specs.CheckText.{IsCompleteText}
+pub use Rattle.vic_answer.specs.CheckText.{HasCompleteList}
 pub use Rattle.vic_answer.specs.Buffers.{IsReturned}
 pub use Rattle.vic_answer.specs.Numbers.{numbers_of, refusal_numbers}
 pub use Rattle.vic_answer.specs.SurveyNumbers.{IsAnswerWith, first_of, plain_answer}

@@ -4,7 +4,7 @@
 
 ghost use Rattle.std.specs.Prelude.{◌≡◌, ◌≢◌, ◌++◌};
 ghost use Rattle.vic_log.specs.Writing.{listed_text};
-ghost use Rattle.vic_answer.specs.CheckText.{IsCompleteText};
+ghost use Rattle.vic_answer.specs.CheckText.{HasCompleteList};
 ghost use Rattle.vic_answer.specs.ExplainedNumbers.{AreExplainedNumbersFor};
 ghost use Rattle.vic_answer.specs.Numbers.{AreNumbersFor, no_answer};
 
@@ -61,7 +61,7 @@ pub extern "C" fn vicinity_version() -> u32
 #[unsafe(no_mangle)]
 pub extern "C" fn vicinity_check(alloc: Global, text: &[u8], answer: &mut VicinityAnswer) -> u32
     ensures answer { answer.new.kind ≢ 0 → AreNumbersFor text.now answer.new }
-    ensures whole { answer.new.kind ≡ 1 → IsCompleteText text.now answer.new.count }
+    ensures whole { answer.new.kind ≡ 1 → HasCompleteList text.now answer.new.count }
     ensures no_answer { answer.new.kind ≡ 0 → answer.new ≡ no_answer }
     ensures status { result ≡ answer.new.status }
 {
@@ -85,7 +85,7 @@ pub extern "C" fn vicinity_explain(
     needed: &mut usize,
 ) -> u32
     ensures answer { answer.new.kind ≢ 0 → AreNumbersFor text.now answer.new }
-    ensures whole { answer.new.kind ≡ 1 → IsCompleteText text.now answer.new.count }
+    ensures whole { answer.new.kind ≡ 1 → HasCompleteList text.now answer.new.count }
     ensures explained { answer.new.kind ≢ 0
         → AreExplainedNumbersFor text.now answer.new needed.new population.old population.new }
     ensures no_answer { answer.new.kind ≡ 0 → answer.new ≡ no_answer }
@@ -117,7 +117,7 @@ pub extern "C" fn vicinity_check_listed(
     ensures answer { answer.new.kind ≢ 0
         → AreNumbersFor (text.now ++ listed_text uids.now) answer.new }
     ensures whole { answer.new.kind ≡ 1
-        → IsCompleteText (text.now ++ listed_text uids.now) answer.new.count }
+        → HasCompleteList (text.now ++ listed_text uids.now) answer.new.count }
     ensures no_answer { answer.new.kind ≡ 0 → answer.new ≡ no_answer }
     ensures status { result ≡ answer.new.status }
 {
@@ -144,7 +144,7 @@ pub extern "C" fn vicinity_explain_listed(
     ensures answer { answer.new.kind ≢ 0
         → AreNumbersFor (text.now ++ listed_text uids.now) answer.new }
     ensures whole { answer.new.kind ≡ 1
-        → IsCompleteText (text.now ++ listed_text uids.now) answer.new.count }
+        → HasCompleteList (text.now ++ listed_text uids.now) answer.new.count }
     ensures explained { answer.new.kind ≢ 0
         → AreExplainedNumbersFor (text.now ++ listed_text uids.now) answer.new needed.new
         population.old population.new }

@@ -5,7 +5,7 @@ ghost use Rattle.vic_log.specs.Lines.{lines_of_text};
 ghost use Rattle.vic_log.specs.Writing.{listed_text};
 ghost use Rattle.vic_verdict.specs.declared.judging.Verdict.TheVariants.{Complete};
 ghost use Rattle.vic_answer.specs.Answered.{answer_of};
-ghost use Rattle.vic_answer.specs.CheckText.{IsCompleteText};
+ghost use Rattle.vic_answer.specs.CheckText.{HasCompleteList};
 ghost use Rattle.vic_answer.specs.Buffers.{IsPutInto};
 ghost use Rattle.vic_answer.specs.Numbers.{AreNumbersFor, no_answer};
 ghost use Rattle.vicinity_c.specs.Arrays.{IsFirst, uid_fault};
@@ -51,7 +51,7 @@ pub extern "C" fn vicinity_margin(
     weakest: &mut VicinityWeakest,
 ) -> u32
     ensures answer { answer.new.kind ≢ 0 → AreNumbersFor text.now answer.new }
-    ensures whole { answer.new.kind ≡ 1 → IsCompleteText text.now answer.new.count }
+    ensures whole { answer.new.kind ≡ 1 → HasCompleteList text.now answer.new.count }
     ensures weakest { answer.new.kind ≢ 0
         → spec.AreMarginNumbersFor text.now answer.new weakest.new }
     ensures no_answer { answer.new.kind ≡ 0 → answer.new ≡ no_answer }
@@ -80,7 +80,7 @@ pub extern "C" fn vicinity_margin_listed(
     ensures answer { answer.new.kind ≢ 0
         → AreNumbersFor (text.now ++ listed_text uids.now) answer.new }
     ensures whole { answer.new.kind ≡ 1
-        → IsCompleteText (text.now ++ listed_text uids.now) answer.new.count }
+        → HasCompleteList (text.now ++ listed_text uids.now) answer.new.count }
     ensures weakest { answer.new.kind ≢ 0
         → spec.AreMarginNumbersFor (text.now ++ listed_text uids.now) answer.new weakest.new }
     ensures no_answer { answer.new.kind ≡ 0 → answer.new ≡ no_answer }
@@ -110,7 +110,7 @@ pub extern "C" fn vicinity_overlooked(
 ) -> u32
     ensures overlooked { answer.new.kind ≢ 0
         → spec.AreOverlookedNumbersFor text.now uids.now answer.new places.old places.new }
-    ensures whole { answer.new.kind ≡ 1 → IsCompleteText text.now answer.new.count }
+    ensures whole { answer.new.kind ≡ 1 → HasCompleteList text.now answer.new.count }
     ensures no_answer { answer.new.kind ≡ 0 → answer.new ≡ no_answer }
     ensures no_places { answer.new.kind ≡ 0 → places.new ≡ places.old }
     ensures status { result ≡ answer.new.status }
@@ -169,7 +169,7 @@ fn overlooked_by(
     ensures overlooked { IfOk result (spec.AreOverlookedBy text.now uids.now) }
     ensures whole { IfOk result (λ o. (count : ℕ)
         → answer_of (λ x. x.verdict) o ≡ Answered.Found (Complete count)
-        → IsCompleteText text.now count) }
+        → HasCompleteList text.now count) }
 {
     match uids_in(alloc, uids)? {
         Ok(uids) => overlooked_text(alloc, text, uids.as_slice()),

@@ -2,7 +2,7 @@
 
 ghost use Rattle.std.specs.Prelude.{◌≡◌, ◌≢◌, ◌++◌};
 ghost use Rattle.vic_log.specs.Writing.{listed_text};
-ghost use Rattle.vic_answer.specs.CheckText.{IsCompleteText};
+ghost use Rattle.vic_answer.specs.CheckText.{HasCompleteList};
 ghost use Rattle.vic_answer.specs.FindingNumbers.{AreReportedNumbersFor};
 ghost use Rattle.vic_answer.specs.Numbers.{AreNumbersFor, no_answer};
 
@@ -26,7 +26,7 @@ pub extern "C" fn vicinity_report(
     needed: &mut usize,
 ) -> u32
     ensures answer { answer.new.kind ≢ 0 → AreNumbersFor text.now answer.new }
-    ensures whole { answer.new.kind ≡ 1 → IsCompleteText text.now answer.new.count }
+    ensures whole { answer.new.kind ≡ 1 → HasCompleteList text.now answer.new.count }
     ensures reported { answer.new.kind ≢ 0
         → AreReportedNumbersFor text.now answer.new needed.new findings.old findings.new }
     ensures no_answer { answer.new.kind ≡ 0 → answer.new ≡ no_answer }
@@ -60,7 +60,7 @@ pub extern "C" fn vicinity_report_listed(
     ensures answer { answer.new.kind ≢ 0
         → AreNumbersFor (text.now ++ listed_text uids.now) answer.new }
     ensures whole { answer.new.kind ≡ 1
-        → IsCompleteText (text.now ++ listed_text uids.now) answer.new.count }
+        → HasCompleteList (text.now ++ listed_text uids.now) answer.new.count }
     ensures reported { answer.new.kind ≢ 0
         → AreReportedNumbersFor (text.now ++ listed_text uids.now) answer.new needed.new
         findings.old findings.new }

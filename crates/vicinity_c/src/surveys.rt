@@ -3,7 +3,7 @@
 ghost use Rattle.std.specs.Prelude.{◌≡◌, ◌≢◌, map};
 ghost use Rattle.vic_reconcile.specs.Surveys.{AreCertainIn, AreOpenIn};
 ghost use Rattle.vic_answer.specs.Buffers.{IsReturned};
-ghost use Rattle.vic_answer.specs.CheckText.{IsCompleteText};
+ghost use Rattle.vic_answer.specs.CheckText.{HasCompleteList};
 ghost use Rattle.vic_answer.specs.Numbers.{AreNumbersFor, no_answer};
 ghost use Rattle.vic_answer.specs.SurveyNumbers.{AreNumbersWith};
 ghost use Rattle.vicinity_c.specs.Inventory as inventory;
@@ -31,7 +31,7 @@ pub extern "C" fn vicinity_certain(
     needed: &mut usize,
 ) -> u32
     ensures answer { answer.new.kind ≢ 0 → AreNumbersFor text.now answer.new }
-    ensures whole { answer.new.kind ≡ 1 → IsCompleteText text.now answer.new.count }
+    ensures whole { answer.new.kind ≡ 1 → HasCompleteList text.now answer.new.count }
     ensures certain { answer.new.kind ≢ 0
         → AreNumbersWith AreCertainIn (λ u. u) text.now answer.new needed.new
         uids.old uids.new }
@@ -62,7 +62,7 @@ pub extern "C" fn vicinity_open_masks(
     needed: &mut usize,
 ) -> u32
     ensures answer { answer.new.kind ≢ 0 → AreNumbersFor text.now answer.new }
-    ensures whole { answer.new.kind ≡ 1 → IsCompleteText text.now answer.new.count }
+    ensures whole { answer.new.kind ≡ 1 → HasCompleteList text.now answer.new.count }
     ensures open_masks { answer.new.kind ≢ 0
         → AreNumbersWith AreOpenIn inventory.mask_fields text.now answer.new needed.new
         masks.old masks.new }
@@ -95,7 +95,7 @@ pub extern "C" fn vicinity_survey(
     masks_needed: &mut usize,
 ) -> u32
     ensures answer { answer.new.kind ≢ 0 → AreNumbersFor text.now answer.new }
-    ensures whole { answer.new.kind ≡ 1 → IsCompleteText text.now answer.new.count }
+    ensures whole { answer.new.kind ≡ 1 → HasCompleteList text.now answer.new.count }
     ensures certain { answer.new.kind ≢ 0
         → AreNumbersWith AreCertainIn (λ u. u) text.now answer.new uids_needed.new
         uids.old uids.new }
