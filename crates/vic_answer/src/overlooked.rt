@@ -28,8 +28,8 @@ impl HasVerdict for Overlooked {
     }
 }
 
-/// The answer to a text in memory, with the margin of each UID that is handed in, in their order. It
-/// fails only if memory is refused.
+/// The answer to a text in memory, with the margin of each UID that is handed in, in their order.
+/// It fails only if memory is refused.
 pub fn overlooked_text(
     alloc: Global,
     text: &[u8],
