@@ -97,7 +97,7 @@ fn step_at(steps: &[Step], position: usize) -> Option<(usize, Span)>
 
 /// How many UIDs a part counts as: one or several.
 fn weight(parts: &Parts, part: usize) -> usize {
-    if part < parts.count() && parts.end(part).saturating_sub(parts.first(part)) > 1 {
+    if part < parts.count() && parts.end_key(part).saturating_sub(parts.first_key(part)) > 1 {
         2
     } else {
         1

@@ -4,7 +4,6 @@ pub mod Turning
 pub mod Steps
 pub mod Places
 pub mod Lowest
-pub mod Kept
 pub mod Telling
 pub mod Counting
 pub mod Differing

@@ -21,6 +21,6 @@ pub use Rattle.vic_log.specs.Overlooked.{is_overlooked, denies_reply_of, some_de
 pub use Rattle.vic_margin.specs.UidMargins.{margin_before, margin_of, one_if}
 pub use Rattle.vic_margin.specs.declared.tally.Tally.{Tally}
 pub use Rattle.vic_margin.specs.inner.Tallies.{AreMargins, IsCounted, IsTallyAt, IsTallyOf, IsTurned}
-pub use Rattle.vic_walk.specs.Steps.{IsPlace, IsSpanAt}
+pub use Rattle.vic_walk.specs.Steps.{IsEntryAt, IsSpanAt}
 pub use Rattle.vic_margin.specs.inner.Trees.{within}
 pub use Rattle.vic_frame.proofs.KeyLaws.{is_uid}

@@ -12,7 +12,6 @@ mod counts;
 pub mod laws;
 mod least;
 mod margins;
-mod others;
 mod tally;
 mod weakest;
 

@@ -6,7 +6,7 @@ ghost use Rattle.vic_log.specs.declared.entry.Entry.TheVariants.{Sent};
 ghost use Rattle.vic_walk.specs.Marked.{is_marked};
 ghost use Rattle.vic_margin.specs.inner.Counts.{count_at};
 ghost use Rattle.vic_margin.specs.inner.Trees.{within};
-ghost use Rattle.vic_walk.specs.Steps.{IsOf, IsPlace};
+ghost use Rattle.vic_walk.specs.Steps.{IsStepBelow, IsEntryAt};
 
 use crate::counts::Counts;
 use std::alloc::{AllocError, Global};
@@ -100,9 +100,9 @@ impl Tally {
 
     /// Makes the part of the UID Quiet that a request silences, if it silences one.
     fn pass_request(&mut self, step: Step, request: &Request)
-        requires { IsOf (length self.old.rest.items) step }
+        requires { IsStepBelow (length self.old.rest.items) step }
         ensures { (bs : List ℕ) (es : List EntryValue) (i : ℕ)
-            → IsPlace bs es i (Sent request.now) step
+            → IsEntryAt bs es i (Sent request.now) step
             → IsTallyAt bs es i self.old → IsTallyAt bs es (i + 1) self.new }
     {
         match *request {
@@ -119,9 +119,9 @@ impl Tally {
     /// Takes the tally past an entry.
     pub(crate) fn pass(&mut self, step: Step, entry: &Entry)
         requires few { self.old.counts.raised + 1 < 2 ^ 32 }
-        requires step { IsOf (length self.old.rest.items) step }
+        requires step { IsStepBelow (length self.old.rest.items) step }
         ensures { (bs : List ℕ) (es : List EntryValue) (i : ℕ)
-            → IsPlace bs es i entry.now step → IsTallyAt bs es i self.old
+            → IsEntryAt bs es i entry.now step → IsTallyAt bs es i self.old
             → IsTallyAt bs es (i + 1) self.new }
     {
         match *entry {

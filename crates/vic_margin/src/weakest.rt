@@ -9,11 +9,11 @@ ghost use Rattle.vic_margin.specs.Margins.{IsWeakest};
 use crate::answer::{Margin, Weakest};
 use crate::least::least_besides;
 use crate::margins::{PartMargins, part_margins};
-use crate::others::other_keys;
 use std::alloc::{AllocError, Global};
 use vic_log::Log;
 use vic_tree::{OpenSet, RangeSet, SortedKeys};
 use vic_verdict::{Facts, Verdict, facts_and_parts_of, listed_uids, verdict_of_facts};
+use vic_walk::other_keys;
 
 /// The verdict on a log, and its margin, if it is possible. It fails only if memory is refused.
 pub fn margin(alloc: Global, log: &Log) -> Result<Margin, AllocError>
@@ -62,7 +62,7 @@ fn weakest_of(alloc: Global, margins: &PartMargins) -> Result<Weakest, AllocErro
     let Some(least) = least_besides(margins, &keys) else {
         unreachable!()
     };
-    let others = other_keys(alloc, margins, least)?;
+    let others = other_keys(alloc, &margins.parts, &margins.each, least)?;
     let set = RangeSet::without(alloc, others)?;
     let Some(mask) = set.widest_besides(&keys)? else {
         unreachable!()

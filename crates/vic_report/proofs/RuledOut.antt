@@ -6,7 +6,7 @@ use Rattle.vic_verdict.specs.Verdict.{IsLeast}
 use Rattle.vic_walk.proofs.Ending.{open_earlier}
 use Rattle.vic_frame.specs.LowBitsFirst.{mirror}
 use Rattle.vic_walk.specs.Borders.{IsPartOf}
-use Rattle.vic_walk.specs.Walk.{IsEnd, IsEndOfWalk, IsWalkAt, IsWalkOver}
+use Rattle.vic_walk.specs.Walk.{IsEnd, IsEndOfWalk, IsWalkAt, IsLogWalk}
 use Rattle.vic_walk.specs.declared.walk.LogWalk.{LogWalk}
 use Rattle.std.specs.Prelude.{slice_index}
 use Rattle.vic_walk.specs.declared.walk.Walk.{Walk}
@@ -32,7 +32,7 @@ comes_to_end bs es (Some i) w possible end =
     absurd (broken_log bs es (Some i) w end refl possible)
 
 -- and knows the end of each UID by that of its part
-known_end : (es : List Entry) (w : LogWalk) (u p key end : ℕ) → IsPossible es → IsWalkOver es w → IsUid u → key ≡ mirror u → IsPartOf w.cut.parts key p → end ≡ get_or w.walk.ends.items p end → IsEnd es (length es) u end
+known_end : (es : List Entry) (w : LogWalk) (u p key end : ℕ) → IsPossible es → IsLogWalk es w → IsUid u → key ≡ mirror u → IsPartOf w.cut.parts key p → end ≡ get_or w.walk.ends.items p end → IsEnd es (length es) u end
 known_end es w u p key end possible over is k part read =
     let at = comes_to_end w.cut.parts es w.broken w.walk possible over.walk in
     let inside = part.within in
@@ -45,7 +45,7 @@ has_end es n u zero h shut = absurd (false≢true (sym shut ∙ h))
 has_end es n u (suc j) h shut = let below = h.0 in (omega arith, omega (arith, below))
 
 -- so a walk knows the end of each UID in a list of such
-pub listed_end : (es : List Entry) (w : LogWalk) (us : List ℕ) (i u p key end : ℕ) → IsPossible es → IsWalkOver es w → All (λ v. is_open (slots_before es (length es)) v ≡ false) us → i < length us → u ≡ get_or us i u → IsUid u → key ≡ mirror u → IsPartOf w.cut.parts key p → end ≡ get_or w.walk.ends.items p end
+pub listed_end : (es : List Entry) (w : LogWalk) (us : List ℕ) (i u p key end : ℕ) → IsPossible es → IsLogWalk es w → All (λ v. is_open (slots_before es (length es)) v ≡ false) us → i < length us → u ≡ get_or us i u → IsUid u → key ≡ mirror u → IsPartOf w.cut.parts key p → end ≡ get_or w.walk.ends.items p end
     → IsEnd es (length es) u end × (0 < end) × (end ≤ length es)
 listed_end es w us i u p key end possible over shut lt at is k part read =
     let known = known_end es w u p key end possible over is k part read in

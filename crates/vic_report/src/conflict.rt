@@ -60,7 +60,7 @@ fn guessed_numbers(alloc: Global, log: &Log, last: u32) -> Result<Option<LineNum
 {
     let lines = log.lines();
     let count = lines.partition_point(|line| line.number() <= last);
-    let guess = guess_conflict(alloc, &LogLines::of(log).first(count))?;
+    let guess = guess_conflict(alloc, &LogLines::of(log).prefix(count))?;
     let numbers = LineNumbers::of(guess);
     if numbers.last() != Some(last) || !all_tell(lines, numbers.as_slice()) {
         return Ok(None);

@@ -24,7 +24,7 @@ use Rattle.vic_walk.proofs.PartLaws.{alike_in_block, below, from_border, own_par
 use Rattle.vic_walk.specs.Borders.{AreBorders, IsPartOf, part_count}
 use Rattle.vic_walk.specs.Cuts.{AreCut, names}
 use Rattle.vic_walk.specs.Listing.{IsListFrom}
-use Rattle.vic_walk.specs.Steps.{AreLogParts, IsPlace, IsStepAt, is_within, span_of}
+use Rattle.vic_walk.specs.Steps.{AreLogParts, IsEntryAt, IsStepAt, is_within, span_of}
 use Rattle.vic_walk.specs.declared.log_parts.LogParts.{LogParts}
 use Rattle.vic_walk.specs.declared.steps.Step.{Step}
 use Rattle.vic_walk.specs.inner.Gathered.{AreMoved, ArePlaced, HasAll, HasBlockAt, HasKeyAt, HasMaskAt, HasUidAt, IsPlaced}
@@ -204,7 +204,7 @@ silenced_own bs es i link v s step k is = step.named v is (rw k (or_left _ _ (eq
 
 -- ---- a place of a log
 
-pub place_at : (es : List Entry) (c : LogParts) (i : ℕ) (e : Entry) (s : Step) → AreLogParts es c → slice_get es i ≡ Some e → i < length c.steps.items → s ≡ get_or c.steps.items i s → IsPlace c.parts es i e s
+pub place_at : (es : List Entry) (c : LogParts) (i : ℕ) (e : Entry) (s : Step) → AreLogParts es c → slice_get es i ≡ Some e → i < length c.steps.items → s ≡ get_or c.steps.items i s → IsEntryAt c.parts es i e s
 place_at es c i e s cut here within read = record {
   here = here;
   borders = cut.borders;

@@ -1,19 +1,19 @@
 -- What each kind of entry makes of what a walk knows.
-use Rattle.vic_walk.proofs.Words.{◌≡◌, ◌==◌, IsReadyAt, Sent, FieldCycle, Silent, silences, wakes, names, AreCut, has, arith, nat_tests, or_left, or_right, cases_lt, replicate, length-replicate, get_or-replicate, is_uid_from, Captured, Collision, Garbled, Listed, Unknown, StayQuiet, Request, and-false, eqb-true, eq_swapped, uid_of, is_uid, mirror_of_uid, mirror_below, IsUid-from, ltb-true, false_from_ne_true, ◌↔◌, ℕ, zero, suc, ◌+◌, ◌<◌, ◌≤◌, Bool, true, false, ◌&&◌, ◌||◌, not, Option, Some, List, sym, refl, subst, ◌∙◌, inl, inr, add-one, if◌then◌else◌, slice_get, slice_index, length, cases_Bool, and_parts, and_from, or_cases, false≢true, and-true, Entry, Reply, Heard, IsUid, mirror, answers_at, is_quiet, is_open, reading_of, slots_before, AreBorders, AreBorneOut, IsEnd, IsPartOf, IsWalkAt, hears, is_marked, part_count, was_heard}
-use Rattle.vic_walk.specs.declared.open_parts.OpenParts.{OpenParts}
+use Rattle.vic_walk.proofs.Words.{◌≡◌, ◌==◌, AreStatesAt, Sent, FieldCycle, Silent, silences, wakes, names, AreCut, has, arith, nat_tests, or_left, or_right, cases_lt, replicate, length-replicate, get_or-replicate, is_uid_from, Captured, Collision, Garbled, Listed, Unknown, StayQuiet, Request, and-false, eqb-true, eq_swapped, uid_of, is_uid, mirror_of_uid, mirror_below, IsUid-from, ltb-true, false_from_ne_true, ◌↔◌, ℕ, zero, suc, ◌+◌, ◌<◌, ◌≤◌, Bool, true, false, ◌&&◌, ◌||◌, not, Option, Some, List, sym, refl, subst, ◌∙◌, inl, inr, add-one, if◌then◌else◌, slice_get, slice_index, length, cases_Bool, and_parts, and_from, or_cases, false≢true, and-true, Entry, Reply, Heard, IsUid, mirror, answers_at, is_quiet, is_open, reading_of, slots_before, AreBorders, AreBorneOut, IsEnd, IsPartOf, IsWalkAt, hears, is_marked, part_count, was_heard}
+use Rattle.vic_walk.specs.declared.part_states.PartStates.{PartStates}
 use Rattle.vic_walk.specs.declared.walk.Walk.{Walk}
 use Rattle.vic_walk.specs.declared.steps.Span.{Span}
 use Rattle.vic_walk.specs.Steps.{IsSpanAt, is_within}
-use Rattle.vic_walk.specs.inner.Ruled.{HasLost, IsRuledOut, is_other}
+use Rattle.vic_walk.specs.inner.Ruled.{LosesHeard, IsRuledOut, is_other}
 use Rattle.vic_walk.proofs.Entries.{entry_allows, eqb-same, open_step, quiet_step}
 use Rattle.vic_walk.proofs.PartLaws.{key_of_part, one_part, part_of_key}
 
 -- ---- before the first entry
 
-pub walk_starts : (bs : List ℕ) (es : List Entry) (n : ℕ) (w : Walk) → part_count bs ≡ n → w.open.lasting ≡ replicate n true → ((p : ℕ) → has w.open.quiet.items p ≡ false) → w.ends.items ≡ replicate n 0 → w.heard ≡ replicate n false → IsWalkAt bs es 0 w
-walk_starts bs es n w count lasting quiet ends heard = record {
+pub walk_starts : (bs : List ℕ) (es : List Entry) (n : ℕ) (w : Walk) → part_count bs ≡ n → w.open.ready ≡ replicate n true → ((p : ℕ) → has w.open.quiet.items p ≡ false) → w.ends.items ≡ replicate n 0 → w.heard ≡ replicate n false → IsWalkAt bs es 0 w
+walk_starts bs es n w count ready quiet ends heard = record {
   room = record {
-    lasting = rw lasting (length-replicate n true ∙ sym count);
+    ready = rw ready (length-replicate n true ∙ sym count);
     heard = rw heard (length-replicate n false ∙ sym count);
     ends = rw ends (length-replicate n 0 ∙ sym count);
     quiet = λ p listed. absurd (false≢true (sym (quiet p) ∙ listed));
@@ -22,7 +22,7 @@ walk_starts bs es n w count lasting quiet ends heard = record {
       let below : p < n = omega (arith, at.within, count) in
       let first : is_open (slots_before es 0) u ≡ true = rw (is_uid_from u is) refl in
       record {
-        lasting = rw (lasting, first) (get_or-replicate n p true false below);
+        ready = rw (ready, first) (get_or-replicate n p true false below);
         quiet = rw (quiet p, first) refl;
         end = rw (ends, get_or-replicate {A = ℕ} n p 0 0 below) first;
         heard = rw heard (get_or-replicate n p false false below);
@@ -42,10 +42,10 @@ end_here es i u before after = rw add-one (omega arith, before, after)
 -- ---- who is Ready
 
 -- what a walk knows of that
-pub ready_of : (bs : List ℕ) (es : List Entry) (i : ℕ) (w : Walk) → IsWalkAt bs es i w → IsReadyAt bs es (is_open (slots_before es i)) i w.open
+pub ready_of : (bs : List ℕ) (es : List Entry) (i : ℕ) (w : Walk) → IsWalkAt bs es i w → AreStatesAt bs es (is_open (slots_before es i)) i w.open
 ready_of bs es i w h = record {
-  room = h.room.lasting;
-  lasting = λ u p is at. (h.known u p is at).lasting;
+  room = h.room.ready;
+  ready = λ u p is at. (h.known u p is at).ready;
   quiet = λ u p is at. (h.known u p is at).quiet;
 }
 
@@ -53,10 +53,10 @@ quiet_same : (es : List Entry) (i : ℕ) (e : Entry) (u : ℕ) → slice_get es 
 quiet_same es i e u k silent awake = rw (quiet_step es i e u k, silent, awake) refl
 
 -- an entry that silences no UID, and wakes none
-pub ready_still : (bs : List ℕ) (es : List Entry) (set : ℕ → Bool) (i : ℕ) (e : Entry) (w : OpenParts) → slice_get es i ≡ Some e → ((u : ℕ) → IsUid u → silences (Some e) u ≡ false) → wakes (Some e) ≡ false → IsReadyAt bs es set i w → IsReadyAt bs es set (i + 1) w
+pub ready_still : (bs : List ℕ) (es : List Entry) (set : ℕ → Bool) (i : ℕ) (e : Entry) (w : PartStates) → slice_get es i ≡ Some e → ((u : ℕ) → IsUid u → silences (Some e) u ≡ false) → wakes (Some e) ≡ false → AreStatesAt bs es set i w → AreStatesAt bs es set (i + 1) w
 ready_still bs es set i e w k silent awake h = rw add-one (record {
   room = h.room;
-  lasting = λ u p is at. rw (quiet_same es i e u k (silent u is) awake) (h.lasting u p is at);
+  ready = λ u p is at. rw (quiet_same es i e u k (silent u is) awake) (h.ready u p is at);
   quiet = λ u p is at. rw (quiet_same es i e u k (silent u is) awake) (h.quiet u p is at);
 })
 
@@ -90,15 +90,15 @@ silenced_list false true false = refl
 silenced_list false false true = refl
 silenced_list false false false = refl
 
-pub ready_silenced : (bs : List ℕ) (es : List Entry) (set : ℕ → Bool) (i link v q : ℕ) (old new : OpenParts) → slice_get es i ≡ Some (Sent (StayQuiet link v)) → IsUid v → IsPartOf bs (mirror v) q → AreBorders bs → AreCut bs es → ((p : ℕ) → is_marked new.lasting p ≡ (not (p == q) && is_marked old.lasting p)) → length new.lasting ≡ length old.lasting → ((p : ℕ) → has new.quiet.items p ≡ (has old.quiet.items p || (p == q && is_marked old.lasting p))) → IsReadyAt bs es set i old → IsReadyAt bs es set (i + 1) new
-ready_silenced bs es set i link v q old new k is_too at_too borders cut lasting room quiet h =
+pub ready_silenced : (bs : List ℕ) (es : List Entry) (set : ℕ → Bool) (i link v q : ℕ) (old new : PartStates) → slice_get es i ≡ Some (Sent (StayQuiet link v)) → IsUid v → IsPartOf bs (mirror v) q → AreBorders bs → AreCut bs es → ((p : ℕ) → is_marked new.ready p ≡ (not (p == q) && is_marked old.ready p)) → length new.ready ≡ length old.ready → ((p : ℕ) → has new.quiet.items p ≡ (has old.quiet.items p || (p == q && is_marked old.ready p))) → AreStatesAt bs es set i old → AreStatesAt bs es set (i + 1) new
+ready_silenced bs es set i link v q old new k is_too at_too borders cut ready room quiet h =
     let named : names (slice_get es i) v ≡ true = rw k (or_left _ _ (eqb-same v)) in
     let later : (u p : ℕ) → IsUid u → IsPartOf bs (mirror u) p → is_quiet es (suc i) u ≡ (p == q || is_quiet es i u) =
     λ u p is at. quiet_step es i (Sent (StayQuiet link v)) u k ∙ rw (own_part bs es i u v p q borders cut named is is_too at at_too) refl in
     rw add-one (record {
       room = room ∙ h.room;
-      lasting = λ u p is at. rw (later u p is at, lasting p, h.lasting u p is at) (silenced_marks (set u) (is_quiet es i u) (p == q));
-      quiet = λ u p is at. rw (later u p is at, quiet p, h.quiet u p is at, h.lasting u p is at) (silenced_list (set u) (is_quiet es i u) (p == q));
+      ready = λ u p is at. rw (later u p is at, ready p, h.ready u p is at) (silenced_marks (set u) (is_quiet es i u) (p == q));
+      quiet = λ u p is at. rw (later u p is at, quiet p, h.quiet u p is at, h.ready u p is at) (silenced_list (set u) (is_quiet es i u) (p == q));
     })
 
 woken_marks : (o q : Bool) → ((o && not q) || (o && q)) ≡ o
@@ -107,10 +107,10 @@ woken_marks true false = refl
 woken_marks false q = refl
 
 -- all that are marked or listed are marked, and none is listed: so all are Ready
-pub ready_woken : (bs : List ℕ) (es : List Entry) (set : ℕ → Bool) (i j : ℕ) (old new : OpenParts) → ((u : ℕ) → is_quiet es j u ≡ false) → ((p : ℕ) → is_marked new.lasting p ≡ (is_marked old.lasting p || has old.quiet.items p)) → length new.lasting ≡ length old.lasting → ((p : ℕ) → has new.quiet.items p ≡ false) → IsReadyAt bs es set i old → IsReadyAt bs es set j new
-ready_woken bs es set i j old new awake lasting room quiet h = record {
+pub ready_woken : (bs : List ℕ) (es : List Entry) (set : ℕ → Bool) (i j : ℕ) (old new : PartStates) → ((u : ℕ) → is_quiet es j u ≡ false) → ((p : ℕ) → is_marked new.ready p ≡ (is_marked old.ready p || has old.quiet.items p)) → length new.ready ≡ length old.ready → ((p : ℕ) → has new.quiet.items p ≡ false) → AreStatesAt bs es set i old → AreStatesAt bs es set j new
+ready_woken bs es set i j old new awake ready room quiet h = record {
   room = room ∙ h.room;
-  lasting = λ u p is at. rw (awake u, lasting p, h.lasting u p is at, h.quiet u p is at) (woken_marks (set u) (is_quiet es i u) ∙ sym (and-true (set u)));
+  ready = λ u p is at. rw (awake u, ready p, h.ready u p is at, h.quiet u p is at) (woken_marks (set u) (is_quiet es i u) ∙ sym (and-true (set u)));
   quiet = λ u p is at. rw (awake u, quiet p) (sym (and-false (set u)));
 }
 
@@ -130,12 +130,12 @@ heard_none : (es : List Entry) (i : ℕ) (e : Entry) (u : ℕ) → slice_get es 
 heard_none es i e u k none = rw k (none true u).1
 
 -- then what is known changes only by who is Ready
-pub walk_unread : (bs : List ℕ) (es : List Entry) (i : ℕ) (e : Entry) (old new : Walk) → slice_get es i ≡ Some e → ReadsNone e → IsReadyAt bs es (is_open (slots_before es i)) (i + 1) new.open → new.heard ≡ old.heard → new.ends.items ≡ old.ends.items → IsWalkAt bs es i old → IsWalkAt bs es (i + 1) new
+pub walk_unread : (bs : List ℕ) (es : List Entry) (i : ℕ) (e : Entry) (old new : Walk) → slice_get es i ≡ Some e → ReadsNone e → AreStatesAt bs es (is_open (slots_before es i)) (i + 1) new.open → new.heard ≡ old.heard → new.ends.items ≡ old.ends.items → IsWalkAt bs es i old → IsWalkAt bs es (i + 1) new
 walk_unread bs es i e old new k none ready heard ends h =
-    let later : IsReadyAt bs es (is_open (slots_before es i)) (suc i) new.open = rw (← add-one) ready in
+    let later : AreStatesAt bs es (is_open (slots_before es i)) (suc i) new.open = rw (← add-one) ready in
     rw add-one (record {
       room = record {
-        lasting = later.room;
+        ready = later.room;
         heard = rw heard h.room.heard;
         ends = rw ends h.room.ends;
         quiet = λ p it. let within = new.open.listed p it in let room = later.room in omega (arith, within, room);
@@ -144,7 +144,7 @@ walk_unread bs es i e old new k none ready heard ends h =
           let before = h.known u p is at in
           let same = open_none es i e u k none in
           record {
-            lasting = rw same (later.lasting u p is at);
+            ready = rw same (later.ready u p is at);
             quiet = rw same (later.quiet u p is at);
             end = rw ends (end_kept es i u _ same before.end);
             heard = rw (heard, heard_none es i e u k none) before.heard;
@@ -236,18 +236,18 @@ end_read es i u n m o q r before after is h = elim (cases_Bool ((o && not q) && 
 pub walk_read : (bs : List ℕ) (es : List Entry) (i : ℕ) (out : ℕ → Bool) (old new : Walk) → RulesOut bs es i out → IsRuledOut old new out (i + 1) → ((u p : ℕ) → IsUid u → IsPartOf bs (mirror u) p → is_marked new.heard p ≡ (hears (slice_get es i) u || is_marked old.heard p)) → IsWalkAt bs es i old → IsWalkAt bs es (i + 1) new
 walk_read bs es i out old new rules ruled heard h = rw add-one (record {
   room = record {
-    lasting = ruled.room ∙ h.room.lasting;
-    heard = new.heard_room ∙ ruled.room ∙ h.room.lasting;
-    ends = new.ends_room ∙ ruled.room ∙ h.room.lasting;
+    ready = ruled.room ∙ h.room.ready;
+    heard = new.heard_room ∙ ruled.room ∙ h.room.ready;
+    ends = new.ends_room ∙ ruled.room ∙ h.room.ready;
     quiet = λ p listed. h.room.quiet p (rw ruled.quiet at listed);
   };
   known = λ u p is at.
       let before = h.known u p is at in
       let after = rules.openness u p is at in
       record {
-        lasting = rw (after, rules.quietness u, ruled.lasting p, before.lasting) (read_marks (is_open (slots_before es i) u) (is_quiet es i u) (out p));
+        ready = rw (after, rules.quietness u, ruled.ready p, before.ready) (read_marks (is_open (slots_before es i) u) (is_quiet es i u) (out p));
         quiet = rw (after, rules.quietness u, ruled.quiet, before.quiet) (read_list (is_open (slots_before es i) u) (is_quiet es i u) (out p));
-        end = end_read es i u _ _ (is_open (slots_before es i) u) (is_quiet es i u) (out p) refl after (ruled.ends p ∙ rw before.lasting refl) before.end;
+        end = end_read es i u _ _ (is_open (slots_before es i) u) (is_quiet es i u) (out p) refl after (ruled.ends p ∙ rw before.ready refl) before.end;
         heard = rw (heard u p is at, before.heard) refl;
       };
 })
@@ -303,8 +303,8 @@ none_ended false end n = refl
 
 pub nothing_ruled_out : (old new : Walk) (end : ℕ) → new.open ≡ old.open → new.ends.items ≡ old.ends.items → IsRuledOut old new (λ p. false) end
 nothing_ruled_out old new end same ends = record {
-  lasting = λ p. rw same (none_out (is_marked old.open.lasting p));
-  ends = λ p. rw ends (none_ended (is_marked old.open.lasting p) end (slice_index old.ends.items p));
+  ready = λ p. rw same (none_out (is_marked old.open.ready p));
+  ends = λ p. rw ends (none_ended (is_marked old.open.ready p) end (slice_index old.ends.items p));
   room = rw same refl;
   quiet = rw same refl;
 }
@@ -330,7 +330,7 @@ gone : (o q r : Bool) → r ≡ true → o ≡ true → not q ≡ true → (o &&
 gone o q r a b c = rw (a, b, c) refl
 
 -- a UID that is ruled out was heard: then they aren't
-pub lost_not_borne : (bs : List ℕ) (es : List Entry) (i : ℕ) (out : ℕ → Bool) (w : Walk) → RulesOut bs es i out → AreBorders bs → IsWalkAt bs es i w → ((p : ℕ) → out p ≡ true → p < part_count bs) → HasLost w out → AreBorneOut es (suc i) → ⊥
+pub lost_not_borne : (bs : List ℕ) (es : List Entry) (i : ℕ) (out : ℕ → Bool) (w : Walk) → RulesOut bs es i out → AreBorders bs → IsWalkAt bs es i w → ((p : ℕ) → out p ≡ true → p < part_count bs) → LosesHeard w out → AreBorneOut es (suc i) → ⊥
 lost_not_borne bs es i out w rules borders h within lost b =
     let p = lost.0 in
     let there = key_of_part bs p borders (within p lost.1) in
@@ -340,12 +340,12 @@ lost_not_borne bs es i out w rules borders h within lost b =
     let at : IsPartOf bs (mirror u) p = rw (mirror_of_uid k there.1) there.0 in
     let known = h.known u p is at in
     let heard : was_heard es (suc i) u ≡ true = or_right _ _ (sym known.heard ∙ lost.3) in
-    let lasts = and_parts _ _ (sym known.lasting ∙ lost.2) in
+    let lasts = and_parts _ _ (sym known.ready ∙ lost.2) in
     let out_now : is_open (slots_before es (suc i)) u ≡ false = rules.openness u p is at ∙ gone (is_open (slots_before es i) u) (is_quiet es i u) (out p) lost.1 lasts.0 lasts.1 in
     false≢true (sym out_now ∙ b.openness u heard)
 
 -- no UID heard before is ruled out, so it is open still
-pub heard_still_open : (bs : List ℕ) (es : List Entry) (i u : ℕ) (out : ℕ → Bool) (w : Walk) → RulesOut bs es i out → AreBorders bs → IsWalkAt bs es i w → (HasLost w out → ⊥) → AreBorneOut es i → was_heard es i u ≡ true → is_open (slots_before es (suc i)) u ≡ true
+pub heard_still_open : (bs : List ℕ) (es : List Entry) (i u : ℕ) (out : ℕ → Bool) (w : Walk) → RulesOut bs es i out → AreBorders bs → IsWalkAt bs es i w → (LosesHeard w out → ⊥) → AreBorneOut es i → was_heard es i u ≡ true → is_open (slots_before es (suc i)) u ≡ true
 heard_still_open bs es i u out w rules borders h none b heard =
     let o = b.openness u heard in
     let is : IsUid u = IsUid-from u (and_parts _ _ o).0 in
@@ -354,10 +354,10 @@ heard_still_open bs es i u out w rules borders h none b heard =
     let known = h.known u p is part.1 in
     let kept : (out p && not (is_quiet es i u)) ≡ false = false_from_ne_true _ (λ it.
     let both = and_parts _ _ it in
-    none (p, both.0, known.lasting ∙ and_from _ _ o both.1, known.heard ∙ heard)) in
+    none (p, both.0, known.ready ∙ and_from _ _ o both.1, known.heard ∙ heard)) in
     rules.openness u p is part.1 ∙ rw (o, kept) refl
 
-pub borne_silent : (bs : List ℕ) (es : List Entry) (i : ℕ) (s : Span) (w : Walk) (lost : Bool) → slice_get es i ≡ Some Silent → IsSpanAt bs es i s → s.to ≤ part_count bs → AreBorders bs → IsWalkAt bs es i w → (lost ≡ true) ↔ HasLost w (is_within s) → AreBorneOut es i → (not lost ≡ true) ↔ AreBorneOut es (i + 1)
+pub borne_silent : (bs : List ℕ) (es : List Entry) (i : ℕ) (s : Span) (w : Walk) (lost : Bool) → slice_get es i ≡ Some Silent → IsSpanAt bs es i s → s.to ≤ part_count bs → AreBorders bs → IsWalkAt bs es i w → (lost ≡ true) ↔ LosesHeard w (is_within s) → AreBorneOut es i → (not lost ≡ true) ↔ AreBorneOut es (i + 1)
 borne_silent bs es i s w lost k span within borders h iff b =
     let rules = silent_rules_out bs es i s k span in
     rw add-one (
@@ -380,14 +380,14 @@ within_count : (bs : List ℕ) (s : Span) (p : ℕ) → s.to ≤ part_count bs �
 within_count bs s p within in_span = omega (arith, ltb-true p s.to (and_parts _ _ in_span).1)
 
 -- a UID was read, and the parts for which the test holds are ruled out, of which its own is none
-borne_reply : (bs : List ℕ) (es : List Entry) (i v own : ℕ) (s : Span) (out : ℕ → Bool) (w : Walk) (fine : Bool) → HearsOnly (slice_get es i) v → RulesOut bs es i out → out own ≡ false → ((p : ℕ) → out p ≡ true → is_within s p ≡ true) → IsUid v → IsPartOf bs (mirror v) own → IsSpanAt bs es i s → s.to ≤ part_count bs → AreBorders bs → IsWalkAt bs es i w → (fine ≡ true) ↔ ((is_within s own ≡ true) × (is_marked w.open.lasting own ≡ true) × (HasLost w out → ⊥)) → AreBorneOut es i → (fine ≡ true) ↔ AreBorneOut es (i + 1)
+borne_reply : (bs : List ℕ) (es : List Entry) (i v own : ℕ) (s : Span) (out : ℕ → Bool) (w : Walk) (fine : Bool) → HearsOnly (slice_get es i) v → RulesOut bs es i out → out own ≡ false → ((p : ℕ) → out p ≡ true → is_within s p ≡ true) → IsUid v → IsPartOf bs (mirror v) own → IsSpanAt bs es i s → s.to ≤ part_count bs → AreBorders bs → IsWalkAt bs es i w → (fine ≡ true) ↔ ((is_within s own ≡ true) × (is_marked w.open.ready own ≡ true) × (LosesHeard w out → ⊥)) → AreBorneOut es i → (fine ≡ true) ↔ AreBorneOut es (i + 1)
 borne_reply bs es i v own s out w fine only rules mine inside is at span within borders h iff b =
     let known = h.known v own is at in
     let lies = span v own is at in
     rw add-one (
       (λ it.
           let f = iff.0 it in
-          let lasts = and_parts (is_open (slots_before es i) v) (not (is_quiet es i v)) (sym known.lasting ∙ f.1) in
+          let lasts = and_parts (is_open (slots_before es i) v) (not (is_quiet es i v)) (sym known.ready ∙ f.1) in
           record {
             answer = λ j u below hear. elim (cases_lt j i) [
               | inl before ↦ b.answer j u before hear
@@ -410,15 +410,15 @@ borne_reply bs es i v own s out w fine only rules mine inside is at span within 
           let open_before = (and_parts _ _ (sym (rules.openness v own is at) ∙ open_after)).0 in
           iff.1 (
             sym lies ∙ answers.0,
-            known.lasting ∙ and_from _ _ open_before answers.1,
+            known.ready ∙ and_from _ _ open_before answers.1,
             λ lost. lost_not_borne bs es i out w rules borders h (λ p gone. within_count bs s p within (inside p gone)) lost b',
           )),
     )
 
-pub borne_heard : (bs : List ℕ) (es : List Entry) (i own : ℕ) (r : Reply) (s : Span) (w : Walk) (fine : Bool) → slice_get es i ≡ Some (Heard r) → IsUid r.uid → IsPartOf bs (mirror r.uid) own → IsSpanAt bs es i s → s.to ≤ part_count bs → AreBorders bs → AreCut bs es → IsWalkAt bs es i w → (fine ≡ true) ↔ ((is_within s own ≡ true) × (is_marked w.open.lasting own ≡ true) × (HasLost w (is_other s own) → ⊥)) → AreBorneOut es i → (fine ≡ true) ↔ AreBorneOut es (i + 1)
+pub borne_heard : (bs : List ℕ) (es : List Entry) (i own : ℕ) (r : Reply) (s : Span) (w : Walk) (fine : Bool) → slice_get es i ≡ Some (Heard r) → IsUid r.uid → IsPartOf bs (mirror r.uid) own → IsSpanAt bs es i s → s.to ≤ part_count bs → AreBorders bs → AreCut bs es → IsWalkAt bs es i w → (fine ≡ true) ↔ ((is_within s own ≡ true) × (is_marked w.open.ready own ≡ true) × (LosesHeard w (is_other s own) → ⊥)) → AreBorneOut es i → (fine ≡ true) ↔ AreBorneOut es (i + 1)
 borne_heard bs es i own r s w fine k is at span within borders cut h iff b =
     borne_reply bs es i r.uid own s (is_other s own) w fine (heard_only es i r k) (heard_rules_out bs es i own r s k is at borders cut span) (not_own s own) (λ p other. (and_parts _ _ other).0) is at span within borders h iff b
 
-pub borne_captured : (bs : List ℕ) (es : List Entry) (i own : ℕ) (r : Reply) (s : Span) (w : Walk) (fine : Bool) → slice_get es i ≡ Some (Captured r) → IsUid r.uid → IsPartOf bs (mirror r.uid) own → IsSpanAt bs es i s → s.to ≤ part_count bs → AreBorders bs → IsWalkAt bs es i w → (fine ≡ true) ↔ ((is_within s own ≡ true) × (is_marked w.open.lasting own ≡ true)) → AreBorneOut es i → (fine ≡ true) ↔ AreBorneOut es (i + 1)
+pub borne_captured : (bs : List ℕ) (es : List Entry) (i own : ℕ) (r : Reply) (s : Span) (w : Walk) (fine : Bool) → slice_get es i ≡ Some (Captured r) → IsUid r.uid → IsPartOf bs (mirror r.uid) own → IsSpanAt bs es i s → s.to ≤ part_count bs → AreBorders bs → IsWalkAt bs es i w → (fine ≡ true) ↔ ((is_within s own ≡ true) × (is_marked w.open.ready own ≡ true)) → AreBorneOut es i → (fine ≡ true) ↔ AreBorneOut es (i + 1)
 borne_captured bs es i own r s w fine k is at span within borders h iff b =
     borne_reply bs es i r.uid own s (λ p. false) w fine (captured_only es i r k) (captured_rules_out bs es i r k) refl (λ p gone. absurd (false≢true gone)) is at span within borders h ((λ it. let f = iff.0 it in (f.0, f.1, λ lost. false≢true lost.1)), (λ f. iff.1 (f.0, f.1))) b

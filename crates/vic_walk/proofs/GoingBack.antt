@@ -10,16 +10,16 @@ use Rattle.vic_walk.specs.Met.{AreMetBefore, IsMetAt, answers_open}
 use Rattle.vic_walk.specs.Needs.{needs, needs_at, needs_of}
 use Rattle.vic_walk.specs.declared.lacking.Reach.{Reach}
 use Rattle.vic_walk.specs.declared.steps.Span.{Span}
-use Rattle.vic_walk.specs.declared.open_parts.OpenParts.{OpenParts}
+use Rattle.vic_walk.specs.declared.part_states.PartStates.{PartStates}
 use Rattle.vic_walk.specs.inner.PartUids.{AreUidsOf}
-use Rattle.vic_walk.specs.inner.Ends.{AreRuled, IsBackTo, lasts_to}
+use Rattle.vic_walk.specs.inner.Ends.{AreRuled, IsBackTo, is_open_before}
 use Rattle.vic_walk.specs.inner.Reach.{IsReachAt}
 use Rattle.vic_walk.specs.Steps.{IsSpanAt}
 use Rattle.vic_walk.proofs.Ending.{open_earlier}
 use Rattle.vic_walk.proofs.OpenAnswers.{open_by_parts}
 use Rattle.vic_walk.proofs.Ruling.{marked_at, marked_else}
 use Rattle.vic_walk.proofs.Effects.{DoesNothing, ready_still}
-use Rattle.vic_walk.proofs.Words.{if◌then◌else◌, silences, wakes, ◌-◌, get_or, length-set, list_any_more, inl, inr, cases_eq, cases_lt, ◌++◌, slice_set, ◌≡◌, ◌==◌, ℕ, ◌+◌, ◌<◌, ◌≤◌, ◌∷◌, ◌∙◌, ◌&&◌, ◌||◌, not, Bool, true, false, Option, Some, None, List, [], length, refl, sym, ap, and_parts, and_from, or_cases, arith, eqb-true, nat_tests, nat_lt, nat_eq, slice_index, slice_get, Entry, Collision, Garbled, IsPartOf, IsReadyAt, IsUid, IsUid-from, has, is_marked, is_open, is_quiet, mirror, part_count, slots_before}
+use Rattle.vic_walk.proofs.Words.{if◌then◌else◌, silences, wakes, ◌-◌, get_or, length-set, list_any_more, inl, inr, cases_eq, cases_lt, ◌++◌, slice_set, ◌≡◌, ◌==◌, ℕ, ◌+◌, ◌<◌, ◌≤◌, ◌∷◌, ◌∙◌, ◌&&◌, ◌||◌, not, Bool, true, false, Option, Some, None, List, [], length, refl, sym, ap, and_parts, and_from, or_cases, arith, eqb-true, nat_tests, nat_lt, nat_eq, slice_index, slice_get, Entry, Collision, Garbled, IsPartOf, AreStatesAt, IsUid, IsUid-from, has, is_marked, is_open, is_quiet, mirror, part_count, slots_before}
 
 -- ---- which slots are met
 
@@ -62,7 +62,7 @@ pub met_only_by : (es : List Entry) (n j : ℕ) (us : List ℕ) → UpToThree (a
 met_only_by es n j us three h = enough (answers_open es n j) us h.uids (needs_at es j) (needs_of_few (slice_get es j)) three h.different h.answer h.enough
 
 -- these are the UIDs of the parts of the span that are marked
-pub uids_at : (es : List Entry) (i : ℕ) (s : Span) (r : Reach) → IsSpanAt r.parts.now es i s → IsReachAt es i r → AreUidsOf r.parts.now r.kept.lasting s (answers_open es r.upto i)
+pub uids_at : (es : List Entry) (i : ℕ) (s : Span) (r : Reach) → IsSpanAt r.parts.now es i s → IsReachAt es i r → AreUidsOf r.parts.now r.kept.ready s (answers_open es r.upto i)
 uids_at es i s r span h = record {
   uids = λ u it. IsUid-from u (and_parts _ _ (and_parts (is_open (slots_before es r.upto) u) _ it).0).0;
   marked = open_by_parts r.parts.now es (is_open (slots_before es r.upto)) i s r.kept span h.kept;
@@ -70,7 +70,7 @@ uids_at es i s r span h = record {
 
 -- ---- one position back
 
-lasts_before : (m e : ℕ) → lasts_to m e ≡ (lasts_to (m + 1) e || e == m + 1)
+lasts_before : (m e : ℕ) → is_open_before m e ≡ (is_open_before (m + 1) e || e == m + 1)
 lasts_before m e = grind (arith, nat_tests)
 
 -- in front are those that end before a position, behind are those that don't
@@ -81,10 +81,10 @@ pub record AreApart (ends ps : List ℕ) (k n : ℕ) : Type 0 where
 split : (ps : List ℕ) (k p : ℕ) → has ps p ≡ (has (take k ps) p || has (drop k ps) p)
 split ps k p = ap (λ qs. has qs p) (sym (take-append-drop k ps)) ∙ list_any-append (nat_eq p) (take k ps) (drop k ps)
 
-ruled_front : (e l m : ℕ) (p : ℕ) (x y : Bool) → (x || y) ≡ (nat_lt p l && not (lasts_to (m + 1) e)) → (x ≡ true → e < m + 1) → (y ≡ true → m + 1 ≤ e) → x ≡ (nat_lt p l && not (lasts_to m e))
+ruled_front : (e l m : ℕ) (p : ℕ) (x y : Bool) → (x || y) ≡ (nat_lt p l && not (is_open_before (m + 1) e)) → (x ≡ true → e < m + 1) → (y ≡ true → m + 1 ≤ e) → x ≡ (nat_lt p l && not (is_open_before m e))
 ruled_front e l m p x y is f g = grind (arith, nat_tests)
 
-ruled_back : (e l m : ℕ) (p : ℕ) (x y : Bool) → (x || y) ≡ (nat_lt p l && not (lasts_to (m + 1) e)) → (x ≡ true → e < m + 1) → (y ≡ true → m + 1 ≤ e) → y ≡ (nat_lt p l && e == m + 1)
+ruled_back : (e l m : ℕ) (p : ℕ) (x y : Bool) → (x || y) ≡ (nat_lt p l && not (is_open_before (m + 1) e)) → (x ≡ true → e < m + 1) → (y ≡ true → m + 1 ≤ e) → y ≡ (nat_lt p l && e == m + 1)
 ruled_back e l m p x y is f g = grind (arith, nat_tests)
 
 -- those in front aren't open before the position before
@@ -115,10 +115,10 @@ back_list false true false = refl
 back_list false false q = refl
 
 -- they are added to the parts that are open
-pub record AreAdded (old new : OpenParts) (ready : List Bool) (ps : List ℕ) : Type 0 where
-  pub lasting : (p : ℕ) → is_marked new.lasting p ≡ (is_marked old.lasting p || (has ps p && is_marked ready p))
-  pub quiet : (p : ℕ) → has new.quiet.items p ≡ (has old.quiet.items p || (has ps p && not (is_marked ready p)))
-  pub room : length new.lasting ≡ length old.lasting
+pub record AreAdded (old new : PartStates) (marks : List Bool) (ps : List ℕ) : Type 0 where
+  pub ready : (p : ℕ) → is_marked new.ready p ≡ (is_marked old.ready p || (has ps p && is_marked marks p))
+  pub quiet : (p : ℕ) → has new.quiet.items p ≡ (has old.quiet.items p || (has ps p && not (is_marked marks p)))
+  pub room : length new.ready ≡ length old.ready
 
 -- the parts listed are below a number still when one that is below it may be listed too
 pub listed_more : (n q : ℕ) (old new : List ℕ) (ok : Bool) → new ≡ (if ok then old ++ q ∷ [] else old) → q < n → ((p : ℕ) → has old p ≡ true → p < n) → (p : ℕ) → has new p ≡ true → p < n
@@ -129,22 +129,22 @@ listed_more n q old new true is below h p it = elim (or_cases _ _ (sym (list_any
 listed_more n q old new false is below h p it = h p (rw is at it)
 
 -- one part of a list more: it is marked, or listed
-pub added_marked : (old now new : OpenParts) (ready : List Bool) (ps : List ℕ) (i : ℕ) → i < length ps → is_marked ready (get_or ps i 0) ≡ true → get_or ps i 0 < length now.lasting → new.lasting ≡ slice_set now.lasting (get_or ps i 0) true → new.quiet.items ≡ now.quiet.items → AreAdded old now ready (take i ps) → AreAdded old new ready (take (i + 1) ps)
-added_marked old now new ready ps i within marked below lasting quiet h = record {
-  lasting = λ p. rw (lasting, list_any_more (nat_eq p) ps i 0 within) (elim (cases_eq p (get_or ps i 0)) [
-    | inl here ↦ rw (here, marked_at now.lasting (get_or ps i 0) true below, marked) (grind (arith, nat_tests))
-    | inr other ↦ rw (marked_else now.lasting (get_or ps i 0) p true other, h.lasting p) (grind (arith, nat_tests))
+pub added_marked : (old now new : PartStates) (marks : List Bool) (ps : List ℕ) (i : ℕ) → i < length ps → is_marked marks (get_or ps i 0) ≡ true → get_or ps i 0 < length now.ready → new.ready ≡ slice_set now.ready (get_or ps i 0) true → new.quiet.items ≡ now.quiet.items → AreAdded old now marks (take i ps) → AreAdded old new marks (take (i + 1) ps)
+added_marked old now new marks ps i within marked below ready quiet h = record {
+  ready = λ p. rw (ready, list_any_more (nat_eq p) ps i 0 within) (elim (cases_eq p (get_or ps i 0)) [
+    | inl here ↦ rw (here, marked_at now.ready (get_or ps i 0) true below, marked) (grind (arith, nat_tests))
+    | inr other ↦ rw (marked_else now.ready (get_or ps i 0) p true other, h.ready p) (grind (arith, nat_tests))
   ]);
   quiet = λ p. rw (quiet, list_any_more (nat_eq p) ps i 0 within, h.quiet p) (elim (cases_eq p (get_or ps i 0)) [
     | inl here ↦ rw (here, marked) (grind (arith, nat_tests))
     | inr other ↦ grind (arith, nat_tests)
   ]);
-  room = rw lasting (length-set now.lasting (get_or ps i 0) true ∙ h.room);
+  room = rw ready (length-set now.ready (get_or ps i 0) true ∙ h.room);
 }
 
-pub added_listed : (old now new : OpenParts) (ready : List Bool) (ps : List ℕ) (i : ℕ) → i < length ps → is_marked ready (get_or ps i 0) ≡ false → new.lasting ≡ now.lasting → new.quiet.items ≡ now.quiet.items ++ get_or ps i 0 ∷ [] → AreAdded old now ready (take i ps) → AreAdded old new ready (take (i + 1) ps)
-added_listed old now new ready ps i within unmarked lasting quiet h = record {
-  lasting = λ p. rw (lasting, list_any_more (nat_eq p) ps i 0 within, h.lasting p) (elim (cases_eq p (get_or ps i 0)) [
+pub added_listed : (old now new : PartStates) (marks : List Bool) (ps : List ℕ) (i : ℕ) → i < length ps → is_marked marks (get_or ps i 0) ≡ false → new.ready ≡ now.ready → new.quiet.items ≡ now.quiet.items ++ get_or ps i 0 ∷ [] → AreAdded old now marks (take i ps) → AreAdded old new marks (take (i + 1) ps)
+added_listed old now new marks ps i within unmarked ready quiet h = record {
+  ready = λ p. rw (ready, list_any_more (nat_eq p) ps i 0 within, h.ready p) (elim (cases_eq p (get_or ps i 0)) [
     | inl here ↦ rw (here, unmarked) (grind (arith, nat_tests))
     | inr other ↦ grind (arith, nat_tests)
   ]);
@@ -152,7 +152,7 @@ added_listed old now new ready ps i within unmarked lasting quiet h = record {
     | inl here ↦ rw (here, unmarked) (grind (arith, nat_tests))
     | inr other ↦ grind (arith, nat_tests)
   ]);
-  room = rw lasting h.room;
+  room = rw ready h.room;
 }
 
 -- a slice from one place on has what is left behind it
@@ -160,28 +160,26 @@ pub slice_rest : (ps : List ℕ) (k : ℕ) → take (length ps - k) (drop k ps) 
 slice_rest ps k = take_all (length ps - k) (drop k ps) (omega (arith, length-drop k ps))
 
 -- the parts that aren't open, as a reach has them
-pub ruled_of : (r : Reach) → AreRuled r.ends.now r.upto r.ordered r.ruled.items
-ruled_of r = record { order = r.order; ruled = r.ruled_out }
 
-pub reach_back : (es : List Entry) (i k m : ℕ) (old new : Reach) → AreApart old.ends.now old.ruled.items k (m + 1) → old.upto ≡ m + 1 → new.upto ≡ m → new.parts.now ≡ old.parts.now → new.ends.now ≡ old.ends.now → new.all.lasting ≡ old.all.lasting → new.all.quiet.items ≡ old.all.quiet.items → AreAdded old.kept new.kept old.all.lasting (drop k old.ruled.items) → IsReachAt es i old → IsReachAt es i new
+pub reach_back : (es : List Entry) (i k m : ℕ) (old new : Reach) → AreApart old.ends.now old.ruled.items k (m + 1) → old.upto ≡ m + 1 → new.upto ≡ m → new.parts.now ≡ old.parts.now → new.ends.now ≡ old.ends.now → new.all.ready ≡ old.all.ready → new.all.quiet.items ≡ old.all.quiet.items → AreAdded old.kept new.kept old.all.ready (drop k old.ruled.items) → IsReachAt es i old → IsReachAt es i new
 reach_back es i k m old new apart from to same_parts same_ends same_marks same_list added h =
     let bs = old.parts.now in
     let ends = old.ends.now in
-    let was_open : (u p : ℕ) → IsUid u → IsPartOf bs (mirror u) p → is_open (slots_before es (m + 1)) u ≡ lasts_to (m + 1) (slice_index ends p) = λ u p is at. h.known u p (m + 1) is at (omega (arith, from)) in
+    let was_open : (u p : ℕ) → IsUid u → IsPartOf bs (mirror u) p → is_open (slots_before es (m + 1)) u ≡ is_open_before (m + 1) (slice_index ends p) = λ u p is at. h.known u p (m + 1) is at (omega (arith, from)) in
     let now_open : (u p : ℕ) → IsUid u → IsPartOf bs (mirror u) p → is_open (slots_before es m) u ≡ (is_open (slots_before es (m + 1)) u || slice_index ends p == m + 1) = λ u p is at. h.known u p m is at (omega (arith, from)) ∙ rw (was_open u p is at) (lasts_before m (slice_index ends p)) in
-    let back : (p : ℕ) → p < part_count bs → has (drop k old.ruled.items) p ≡ (slice_index ends p == m + 1) = λ p lt. back_at ends old.ruled.items k m p _ apart (rw from at (ruled_of old)) ∙ (let room = old.ends_room in grind (arith, nat_tests)) in
-    let ready : (u p : ℕ) → IsUid u → IsPartOf bs (mirror u) p → is_marked old.all.lasting p ≡ not (is_quiet es i u) = h.all.lasting in
-    let before : IsReadyAt bs es (is_open (slots_before es (m + 1))) i old.kept = rw from at h.kept in
+    let back : (p : ℕ) → p < part_count bs → has (drop k old.ruled.items) p ≡ (slice_index ends p == m + 1) = λ p lt. back_at ends old.ruled.items k m p _ apart (rw from at old.ruled_out) ∙ (let room = old.ends_room in grind (arith, nat_tests)) in
+    let ready : (u p : ℕ) → IsUid u → IsPartOf bs (mirror u) p → is_marked old.all.ready p ≡ not (is_quiet es i u) = h.all.ready in
+    let before : AreStatesAt bs es (is_open (slots_before es (m + 1))) i old.kept = rw from at h.kept in
     record {
       known = rw (same_parts, same_ends) (λ u p j is at le. h.known u p j is at (omega (arith, from, to, le)));
       kept = rw (to, same_parts) (record {
         room = added.room ∙ before.room;
-        lasting = λ u p is at. rw (now_open u p is at, added.lasting p, back p at.within, before.lasting u p is at, ready u p is at) (back_marks (is_open (slots_before es (m + 1)) u) (slice_index ends p == m + 1) (is_quiet es i u));
+        ready = λ u p is at. rw (now_open u p is at, added.ready p, back p at.within, before.ready u p is at, ready u p is at) (back_marks (is_open (slots_before es (m + 1)) u) (slice_index ends p == m + 1) (is_quiet es i u));
         quiet = λ u p is at. rw (now_open u p is at, added.quiet p, back p at.within, before.quiet u p is at, ready u p is at) (back_list (is_open (slots_before es (m + 1)) u) (slice_index ends p == m + 1) (is_quiet es i u));
       });
       all = rw same_parts (record {
         room = rw same_marks h.all.room;
-        lasting = λ u p is at. rw same_marks (h.all.lasting u p is at);
+        ready = λ u p is at. rw same_marks (h.all.ready u p is at);
         quiet = λ u p is at. rw same_list (h.all.quiet u p is at);
       });
     }
@@ -262,9 +260,9 @@ first_marks true = refl
 first_marks false = refl
 
 -- parts that are all Ready
-pub ready_first : (bs : List ℕ) (es : List Entry) (set : ℕ → Bool) (w : OpenParts) → length w.lasting ≡ part_count bs → ((p : ℕ) → has w.quiet.items p ≡ false) → ((u p : ℕ) → IsUid u → IsPartOf bs (mirror u) p → is_marked w.lasting p ≡ set u) → IsReadyAt bs es set 0 w
+pub ready_first : (bs : List ℕ) (es : List Entry) (set : ℕ → Bool) (w : PartStates) → length w.ready ≡ part_count bs → ((p : ℕ) → has w.quiet.items p ≡ false) → ((u p : ℕ) → IsUid u → IsPartOf bs (mirror u) p → is_marked w.ready p ≡ set u) → AreStatesAt bs es set 0 w
 ready_first bs es set w room none marks = record {
   room = room;
-  lasting = λ u p is at. marks u p is at ∙ first_marks (set u);
+  ready = λ u p is at. marks u p is at ∙ first_marks (set u);
   quiet = λ u p is at. none p ∙ grind (arith, nat_tests);
 }

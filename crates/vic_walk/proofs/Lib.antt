@@ -13,4 +13,4 @@ mod PartUids
 mod OpenAnswers
 pub mod Ending
 pub mod GoingBack
-mod ClosedKeys
+mod PartKeys

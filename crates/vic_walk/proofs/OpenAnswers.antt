@@ -10,10 +10,10 @@ use Rattle.vic_walk.specs.Answers.{AreAnswering, IsAnsweringAt, is_open_there, i
 use Rattle.vic_walk.specs.Needs.{needs_at}
 use Rattle.vic_walk.specs.declared.answers.Answering.{Answering}
 use Rattle.vic_walk.specs.declared.steps.Span.{Span}
-use Rattle.vic_walk.specs.declared.open_parts.OpenParts.{OpenParts}
+use Rattle.vic_walk.specs.declared.part_states.PartStates.{PartStates}
 use Rattle.vic_walk.specs.inner.PartUids.{AreUidsOf}
 use Rattle.vic_walk.specs.Steps.{IsSpanAt, is_within}
-use Rattle.vic_walk.proofs.Words.{◌≡◌, ℕ, ◌+◌, ◌<◌, ◌≤◌, ◌++◌, ◌∷◌, ◌∙◌, ◌&&◌, not, Bool, true, false, List, [], inl, inr, refl, sym, and_parts, arith, cases_lt, false≢true, slice_get, Entry, IsPartOf, IsReadyAt, IsUid, IsUid-from, answers_at, is_marked, is_open, is_quiet, mirror}
+use Rattle.vic_walk.proofs.Words.{◌≡◌, ℕ, ◌+◌, ◌<◌, ◌≤◌, ◌++◌, ◌∷◌, ◌∙◌, ◌&&◌, not, Bool, true, false, List, [], inl, inr, refl, sym, and_parts, arith, cases_lt, false≢true, slice_get, Entry, IsPartOf, AreStatesAt, IsUid, IsUid-from, answers_at, is_marked, is_open, is_quiet, mirror}
 
 pub answering_none : (es : List Entry) → AreAnswering es 0 []
 answering_none es = record { rising = λ i j d lt within. absurd (omega (arith, within)); each = All-nil _; all = λ i below. absurd (omega arith) }
@@ -68,10 +68,10 @@ answers_by false q true = refl
 answers_by false q false = refl
 
 -- of a set of UIDs, those that answer are in the parts of the span that are marked
-pub open_by_parts : (bs : List ℕ) (es : List Entry) (set : ℕ → Bool) (i : ℕ) (s : Span) (w : OpenParts) → IsSpanAt bs es i s → IsReadyAt bs es set i w → (u p : ℕ) → IsUid u → IsPartOf bs (mirror u) p → (set u && answers_at es i u) ≡ (is_within s p && is_marked w.lasting p)
-open_by_parts bs es set i s w span ready u p is at = rw (ready.lasting u p is at, span u p is at) (answers_by (set u) (is_quiet es i u) (is_within s p))
+pub open_by_parts : (bs : List ℕ) (es : List Entry) (set : ℕ → Bool) (i : ℕ) (s : Span) (w : PartStates) → IsSpanAt bs es i s → AreStatesAt bs es set i w → (u p : ℕ) → IsUid u → IsPartOf bs (mirror u) p → (set u && answers_at es i u) ≡ (is_within s p && is_marked w.ready p)
+open_by_parts bs es set i s w span ready u p is at = rw (ready.ready u p is at, span u p is at) (answers_by (set u) (is_quiet es i u) (is_within s p))
 
-pub answering_here : (bs : List ℕ) (es : List Entry) (i : ℕ) (s : Span) (w : OpenParts) (a : Answering) → a.at ≡ i → is_unread (slice_get es i) ≡ true → needs_at es i ≡ a.need → IsSpanAt bs es i s → IsReadyAt bs es (is_open (slots_of es)) i w → ((t : ℕ → Bool) → AreUidsOf bs w.lasting s t → UpToThree t a.uids.items) → IsAnsweringAt es i a
+pub answering_here : (bs : List ℕ) (es : List Entry) (i : ℕ) (s : Span) (w : PartStates) (a : Answering) → a.at ≡ i → is_unread (slice_get es i) ≡ true → needs_at es i ≡ a.need → IsSpanAt bs es i s → AreStatesAt bs es (is_open (slots_of es)) i w → ((t : ℕ → Bool) → AreUidsOf bs w.ready s t → UpToThree t a.uids.items) → IsAnsweringAt es i a
 answering_here bs es i s w a place unread need span ready three = record {
   place = place;
   unread = unread;

@@ -3,7 +3,7 @@ use Rattle.vic_walk.proofs.Words.{◌≡◌, ◌↔◌, refl, false≢true, ℕ,
 use Rattle.vic_walk.specs.declared.steps.Span.{Span}
 use Rattle.vic_walk.specs.declared.walk.Walk.{Walk}
 use Rattle.vic_walk.specs.Steps.{is_within}
-use Rattle.vic_walk.specs.inner.Ruled.{HasLost, IsRuledOut}
+use Rattle.vic_walk.specs.inner.Ruled.{LosesHeard, IsRuledOut}
 
 -- the part is one of the span's before part `from`
 abbrev pub is_before : Span → ℕ → ℕ → Bool
@@ -11,14 +11,14 @@ is_before s from p = is_within s p && nat_lt p from
 
 -- one of them lasted, and was heard
 abbrev pub HasLostBefore : Walk → Span → ℕ → Type 0
-HasLostBefore old s from = (p : ℕ) × (is_before s from p ≡ true) × (is_marked old.open.lasting p ≡ true) × (is_marked old.heard p ≡ true)
+HasLostBefore old s from = (p : ℕ) × (is_before s from p ≡ true) × (is_marked old.open.ready p ≡ true) × (is_marked old.heard p ≡ true)
 
 -- those that lasted are ruled out
 pub record IsRuledOutTo (old now : Walk) (s : Span) (from end : ℕ) (lost : Bool) : Type 0 where
   pub low : s.from ≤ from
-  pub lasting : (p : ℕ) → is_marked now.open.lasting p ≡ (is_marked old.open.lasting p && not (is_before s from p))
-  pub ends : (p : ℕ) → slice_index now.ends.items p ≡ (if is_marked old.open.lasting p && is_before s from p then end else slice_index old.ends.items p)
-  pub room : length now.open.lasting ≡ length old.open.lasting
+  pub ready : (p : ℕ) → is_marked now.open.ready p ≡ (is_marked old.open.ready p && not (is_before s from p))
+  pub ends : (p : ℕ) → slice_index now.ends.items p ≡ (if is_marked old.open.ready p && is_before s from p then end else slice_index old.ends.items p)
+  pub room : length now.open.ready ≡ length old.open.ready
   pub quiet : now.open.quiet.items ≡ old.open.quiet.items
   pub heard : now.heard ≡ old.heard
   pub loses : (lost ≡ true) ↔ HasLostBefore old s from
@@ -29,7 +29,7 @@ none_before s p = grind (arith, nat_tests)
 pub none_ruled_out : (old : Walk) (s : Span) (end : ℕ) → IsRuledOutTo old old s s.from end false
 none_ruled_out old s end = record {
   low = omega arith;
-  lasting = λ p. rw (none_before s p) (grind (arith, nat_tests));
+  ready = λ p. rw (none_before s p) (grind (arith, nat_tests));
   ends = λ p. rw (none_before s p) (grind (arith, nat_tests));
   room = refl;
   quiet = refl;
@@ -55,20 +55,20 @@ ruled_end old now s from p here none low = elim (cases_lt p from) [
   ]
 ]
 
-pub all_ruled_out : (old now : Walk) (s : Span) (from end : ℕ) (lost : Bool) → NoneBetween (is_marked now.open.lasting) from s.to → IsRuledOutTo old now s from end lost → IsRuledOut old now (is_within s) end
+pub all_ruled_out : (old now : Walk) (s : Span) (from end : ℕ) (lost : Bool) → NoneBetween (is_marked now.open.ready) from s.to → IsRuledOutTo old now s from end lost → IsRuledOut old now (is_within s) end
 all_ruled_out old now s from end lost none h = record {
-  lasting = λ p. marked_end old.open.lasting now.open.lasting s from p (h.lasting p) none h.low;
-  ends = λ p. rw (← ruled_end old.open.lasting now.open.lasting s from p (h.lasting p) none h.low) (h.ends p);
+  ready = λ p. marked_end old.open.ready now.open.ready s from p (h.ready p) none h.low;
+  ends = λ p. rw (← ruled_end old.open.ready now.open.ready s from p (h.ready p) none h.low) (h.ends p);
   room = h.room;
   quiet = h.quiet;
 }
 
-pub all_lost : (old now : Walk) (s : Span) (from end : ℕ) (lost : Bool) → NoneBetween (is_marked now.open.lasting) from s.to → IsRuledOutTo old now s from end lost → (lost ≡ true) ↔ HasLost old (is_within s)
+pub all_lost : (old now : Walk) (s : Span) (from end : ℕ) (lost : Bool) → NoneBetween (is_marked now.open.ready) from s.to → IsRuledOutTo old now s from end lost → (lost ≡ true) ↔ LosesHeard old (is_within s)
 all_lost old now s from end lost none h = (
   (λ yes. let w = h.loses.0 yes in (w.0, (and_parts _ _ w.1).0, w.2, w.3)),
   (λ w.
-      let same = ruled_end old.open.lasting now.open.lasting s from w.0 (h.lasting w.0) none h.low in
-      let both : (is_marked old.open.lasting w.0 && is_before s from w.0) ≡ true = rw (same, w.2, w.1) refl in
+      let same = ruled_end old.open.ready now.open.ready s from w.0 (h.ready w.0) none h.low in
+      let both : (is_marked old.open.ready w.0 && is_before s from w.0) ≡ true = rw (same, w.2, w.1) refl in
       h.loses.1 (w.0, (and_parts _ _ both).1, w.2, w.3)),
 )
 
@@ -96,21 +96,21 @@ found_old old now s from part first within low here =
     let yes = first.passes in let a = first.from in (grind (arith, nat_tests, and_parts), grind (arith, nat_tests, and_from))
 
 -- the first part from `from` on that is marked is ruled out too
-pub ruled_out_next : (old now new : Walk) (s : Span) (from end part : ℕ) (lost : Bool) → IsFirst (is_marked now.open.lasting) from part → part < s.to → part < length now.open.lasting → new.open.lasting ≡ slice_set now.open.lasting part false → new.ends.items ≡ slice_set now.ends.items part end → new.open.quiet.items ≡ now.open.quiet.items → new.heard ≡ now.heard → IsRuledOutTo old now s from end lost → IsRuledOutTo old new s (part + 1) end (lost || is_marked now.heard part)
-ruled_out_next old now new s from end part lost first within room lasting ends quiet heard h =
-    let mine = found_old old.open.lasting now.open.lasting s from part first within h.low (h.lasting part) in
-    let others : (p : ℕ) → p ≢ part → _ = λ p other. skipped old.open.lasting now.open.lasting s from part p first within h.low other (h.lasting p) in
+pub ruled_out_next : (old now new : Walk) (s : Span) (from end part : ℕ) (lost : Bool) → IsFirst (is_marked now.open.ready) from part → part < s.to → part < length now.open.ready → new.open.ready ≡ slice_set now.open.ready part false → new.ends.items ≡ slice_set now.ends.items part end → new.open.quiet.items ≡ now.open.quiet.items → new.heard ≡ now.heard → IsRuledOutTo old now s from end lost → IsRuledOutTo old new s (part + 1) end (lost || is_marked now.heard part)
+ruled_out_next old now new s from end part lost first within room ready ends quiet heard h =
+    let mine = found_old old.open.ready now.open.ready s from part first within h.low (h.ready part) in
+    let others : (p : ℕ) → p ≢ part → _ = λ p other. skipped old.open.ready now.open.ready s from part p first within h.low other (h.ready p) in
     record {
       low = omega (arith, h.low, first.from);
-      lasting = λ p. elim (cases_eq p part) [
-        | inl here ↦ rw (lasting, here, marked_at now.open.lasting part false room, mine.1) (sym (and-false _))
-        | inr other ↦ rw (lasting, marked_else now.open.lasting part p false other) (others p other).0
+      ready = λ p. elim (cases_eq p part) [
+        | inl here ↦ rw (ready, here, marked_at now.open.ready part false room, mine.1) (sym (and-false _))
+        | inr other ↦ rw (ready, marked_else now.open.ready part p false other) (others p other).0
       ];
       ends = λ p. elim (cases_eq p part) [
         | inl here ↦ rw (ends, here, get_or-set_same now.ends.items part end 0 (omega (arith, room, now.ends_room)), mine.0, mine.1) refl
         | inr other ↦ rw (ends, get_or-set_other now.ends.items part p end 0 other, ← (others p other).1) (h.ends p)
       ];
-      room = rw lasting (length-set now.open.lasting part false ∙ h.room);
+      room = rw ready (length-set now.open.ready part false ∙ h.room);
       quiet = quiet ∙ h.quiet;
       heard = heard ∙ h.heard;
       loses = (
@@ -121,7 +121,7 @@ ruled_out_next old now new s from end part lost first within room lasting ends q
         (λ w. elim (cases_eq w.0 part) [
           | inl here ↦ or_right lost _ (rw (h.heard, ← here) w.3)
           | inr other ↦
-              let both : (is_marked old.open.lasting w.0 && is_before s from w.0) ≡ true = rw ((others w.0 other).1, w.2, w.1) refl in
+              let both : (is_marked old.open.ready w.0 && is_before s from w.0) ≡ true = rw ((others w.0 other).1, w.2, w.1) refl in
               or_left lost _ (h.loses.1 (w.0, (and_parts _ _ both).1, w.2, w.3))
         ]),
       );

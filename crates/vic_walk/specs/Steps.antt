@@ -22,26 +22,26 @@ IsSpanAt bs es i s =
     (u p : ℕ) → IsUid u → IsPartOf bs (mirror u) p
     → lies_in_some (mask_at es i) u ≡ is_within s p
 
--- of a slot
+-- the parts whose UIDs lie in the mask of a slot, by its step
 abbrev pub span_of : Step → Span
 span_of s = record { from = s.from; to = s.to }
 
--- the step concerns parts below a count
-pub record IsOf (count : ℕ) (s : Step) : Type 0 where
+-- the step is one among so many parts
+pub record IsStepBelow (count : ℕ) (s : Step) : Type 0 where
   pub to : s.to ≤ count
   pub own : s.own < count
 
 -- the step concerns the parts that the entry at position i does: if it is a slot line, those whose
 -- UIDs lie in its mask; and if it names a UID, the part of that
 pub record IsStepAt (bs : List ℕ) (es : List Entry) (i : ℕ) (s : Step) : Type 0 where
-  pub below : IsOf (part_count bs) s
+  pub below : IsStepBelow (part_count bs) s
   pub slot : (e : Entry) → slice_get es i ≡ Some e → is_slot e ≡ true
       → IsSpanAt bs es i (span_of s)
   pub named : (u : ℕ) → IsUid u → names (slice_get es i) u ≡ true → IsPartOf bs (mirror u) s.own
   pub heard : (u : ℕ) → hears (slice_get es i) u ≡ true → IsUid u
 
--- the entry at position i of a log, for which the borders are cut, and its step
-pub record IsPlace (bs : List ℕ) (es : List Entry) (i : ℕ) (e : Entry) (s : Step) : Type 0 where
+-- at position i of a log, for which the borders are cut, is this entry, with this step
+pub record IsEntryAt (bs : List ℕ) (es : List Entry) (i : ℕ) (e : Entry) (s : Step) : Type 0 where
   pub here : slice_get es i ≡ Some e
   pub borders : AreBorders bs
   pub cut : AreCut bs es

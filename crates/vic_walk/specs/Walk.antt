@@ -24,10 +24,10 @@ IsEnd es i u (suc j) =
     (j < i) × (is_open (slots_before es j) u ≡ true)
     × (is_open (slots_before es (suc j)) u ≡ false)
 
--- before position i, what the walk says of a part is so of a UID in it: the part lasts if the UID
--- is open and Ready, and is among the Quiet ones if it is open and Quiet
+-- before position i, what the walk says of a part is so of a UID in it: whether it is open and
+-- Ready, open and Quiet, by which entry it is ruled out, and whether it was heard
 pub record IsKnown (es : List Entry) (i u p : ℕ) (w : Walk) : Type 0 where
-  pub lasting : is_marked w.open.lasting p
+  pub ready : is_marked w.open.ready p
       ≡ (is_open (slots_before es i) u && not (is_quiet es i u))
   pub quiet : has w.open.quiet.items p ≡ (is_open (slots_before es i) u && is_quiet es i u)
   pub end : IsEnd es i u (slice_index w.ends.items p)
@@ -35,7 +35,7 @@ pub record IsKnown (es : List Entry) (i u p : ℕ) (w : Walk) : Type 0 where
 
 -- there is room for that many parts
 pub record HasRoom (count : ℕ) (w : Walk) : Type 0 where
-  pub lasting : length w.open.lasting ≡ count
+  pub ready : length w.open.ready ≡ count
   pub heard : length w.heard ≡ count
   pub ends : length w.ends.items ≡ count
   pub quiet : (p : ℕ) → has w.open.quiet.items p ≡ true → p < count
@@ -62,7 +62,7 @@ IsEndOfWalk bs es None w = IsWalkAt bs es (length es) w × AreBorneOut es (lengt
 IsEndOfWalk bs es (Some i) w =
     (i < length es) × IsWalkAt bs es (suc i) w × AreBorneOut es i × (AreBorneOut es (suc i) → ⊥)
 
--- the parts are cut for the entries, and the walk over them is one from the first entry on
-pub record IsWalkOver (es : List Entry) (w : LogWalk) : Type 0 where
+-- the parts are cut for the entries, and the walk over these ends where it says
+pub record IsLogWalk (es : List Entry) (w : LogWalk) : Type 0 where
   pub cut : AreLogParts es w.cut
   pub walk : IsEndOfWalk w.cut.parts es w.broken w.walk

@@ -3,7 +3,7 @@ pub mod Bits
 pub mod Gathered
 pub mod Searching
 pub mod Ruled
-pub mod Ready
+pub mod PartStates
 pub mod PartUids
 pub mod RangesTo
 pub mod Ends

@@ -9,14 +9,14 @@ ghost use Rattle.vic_log.specs.Slots.{slots_of, is_open};
 ghost use Rattle.vic_walk.specs.Answers.{AreAnswering, is_unread};
 ghost use Rattle.vic_walk.specs.Borders.{part_count};
 ghost use Rattle.vic_walk.specs.Listing.{IsListFrom};
-ghost use Rattle.vic_walk.specs.Needs.{needs};
-ghost use Rattle.vic_walk.specs.Steps.{AreLogParts, IsOf, IsPlace};
+ghost use Rattle.vic_walk.specs.Steps.{AreLogParts, IsStepBelow, IsEntryAt};
 ghost use Rattle.vic_walk.specs.Walk.{AreOpenParts, HasRoom, IsWalkAt};
-ghost use Rattle.vic_walk.specs.inner.Ready.{IsReadyAt};
+ghost use Rattle.vic_walk.specs.inner.PartStates.{AreStatesAt};
 
 use crate::lines::LogLines;
 use crate::log_parts::LogParts;
-use crate::open_parts::OpenParts;
+use crate::needs::{is_unread, needs};
+use crate::part_states::PartStates;
 use crate::parts::Parts;
 use crate::steps::Step;
 use crate::three::up_to_three;
@@ -38,42 +38,25 @@ pub struct Answering {
     pub uids: ArrayVec<Uid, 3>,
 }
 
-/// How many tags, at least, answered in a slot without being named by its line.
-fn needs(entry: &Entry) -> usize
-    ensures { result ≡ needs entry.now }
-{
-    match *entry {
-        Entry::Collision => 2,
-        Entry::Garbled => 1,
-        Entry::Sent(_)
-        | Entry::Silent
-        | Entry::Heard(_)
-        | Entry::Captured(_)
-        | Entry::Unknown
-        | Entry::Listed(_)
-        | Entry::FieldCycle => 0,
-    }
-}
-
 /// Moves open parts past an entry; notes which open UIDs answer there, if it is an unread slot.
 fn pass_again(
-    open: &mut OpenParts,
+    open: &mut PartStates,
     found: &mut Vec<Answering>,
     parts: &Parts,
     step: Step,
     at: usize,
     entry: &Entry,
 ) -> Result<(), AllocError>
-    requires open { part_count parts.now ≡ length open.old.lasting }
-    requires step { IsOf (part_count parts.now) step }
-    ensures room { length open.new.lasting ≡ length open.old.lasting }
+    requires open { part_count parts.now ≡ length open.old.ready }
+    requires step { IsStepBelow (part_count parts.now) step }
+    ensures room { length open.new.ready ≡ length open.old.ready }
     ensures ready { OnOk result ((es : List EntryValue) (set : ℕ → Bool)
-        → IsPlace parts.now es at entry.now step
-        → IsReadyAt parts.now es set at open.old
-        → IsReadyAt parts.now es set (at + 1) open.new) }
+        → IsEntryAt parts.now es at entry.now step
+        → AreStatesAt parts.now es set at open.old
+        → AreStatesAt parts.now es set (at + 1) open.new) }
     ensures found { OnOk result ((es : List EntryValue)
-        → IsPlace parts.now es at entry.now step
-        → IsReadyAt parts.now es (is_open (slots_of es)) at open.old
+        → IsEntryAt parts.now es at entry.now step
+        → AreStatesAt parts.now es (is_open (slots_of es)) at open.old
         → AreAnswering es at found.old.items → AreAnswering es (at + 1) found.new.items) }
 {
     match *entry {
@@ -86,7 +69,7 @@ fn pass_again(
             Ok(())
         }
         Entry::Collision | Entry::Garbled => {
-            let uids = up_to_three(parts, &open.lasting, step.span());
+            let uids = up_to_three(parts, &open.ready, step.span());
             found.push(Answering {
                 at,
                 need: needs(entry),
@@ -96,22 +79,6 @@ fn pass_again(
         }
         Entry::Silent | Entry::Heard(_) | Entry::Captured(_) | Entry::Unknown | Entry::Listed(_) =>
             Ok(()),
-    }
-}
-
-/// Whether an entry is an unread slot.
-fn is_unread(entry: &Entry) -> bool
-    ensures { result ≡ is_unread (Some entry.now) }
-{
-    match *entry {
-        Entry::Collision | Entry::Garbled => true,
-        Entry::Sent(_)
-        | Entry::Silent
-        | Entry::Heard(_)
-        | Entry::Captured(_)
-        | Entry::Unknown
-        | Entry::Listed(_)
-        | Entry::FieldCycle => { false }
     }
 }
 
@@ -135,7 +102,7 @@ fn after_unread(lines: &LogLines, list: usize) -> usize
 }
 
 /// For each unread slot of a log, in the order of the log, the open UIDs that answer there. The
-/// walk has come to the end of the log; afterwards its `open.lasting` marks exactly the open parts,
+/// walk has come to the end of the log; afterwards its `open.ready` marks exactly the open parts,
 /// Quiet ones too, none is listed in `open.quiet`, and `ends` and `heard` stay as they were.
 pub fn open_answers(
     alloc: Global,
@@ -149,7 +116,7 @@ pub fn open_answers(
     ensures found { IfOk result (λ found.
         AreAnswering (entries lines.now) (length (entries lines.now)) found.items) }
     ensures parts { OnOk result (AreOpenParts cut.now.parts (entries lines.now)
-        walk.new.open.lasting) }
+        walk.new.open.ready) }
     ensures quiet { OnOk result ((p : ℕ) → has walk.new.open.quiet.items p ≡ false) }
     ensures room { OnOk result (HasRoom (part_count cut.now.parts) walk.new) }
     ensures heard { OnOk result (walk.new.heard ≡ walk.old.heard) }

@@ -1,5 +1,6 @@
 //! Borders that are gathered in any order. A log names most of its borders several times, and near
-//! to each other; so what was added lately isn't added again, which makes sorting shorter.
+//! to each other; so a small cache, by hash, keeps most of them from being added again, which makes
+//! sorting shorter.
 
 ghost use Rattle.std.specs.Prelude.{◌≡◌, ℕ, ◌+◌, ◌≤◌, true, Some, IfOk, IfSome, OnOk, length, slice_index};
 ghost use Rattle.std.specs.List.{All, Contains};
@@ -14,11 +15,11 @@ use std::marker::Model;
 use vic_frame::UID_BITS;
 use vic_frame::low_bits_first::UidKey;
 
-/// How many borders are remembered, as a power of two.
-const LATELY_BITS: u32 = 11;
+/// How many cells the cache has, as a power of two.
+const CACHE_BITS: u32 = 11;
 
-/// What a border is multiplied by, so that borders in any order are remembered in different places:
-/// 2^64 divided by the golden ratio.
+/// What a border is multiplied by, so that borders in any order have different cells: 2^64 divided
+/// by the golden ratio.
 const SPREAD: u64 = 0x9E37_79B9_7F4A_7C15;
 
 /// A key, or the end of the keys.
@@ -48,22 +49,14 @@ impl Border {
             number: key.number() + 1,
         }
     }
-
-    /// Its number: that of the key, or `2^56`.
-    #[inline(always)]
-    pub(crate) fn number(self) -> u64
-        ensures { result ≡ self.number }
-    {
-        self.number
-    }
 }
 
 /// Borders in the order in which they were added.
 #[derive(Drop)]
 pub(crate) struct Gathered {
     borders: Vec<u64>,
-    /// In the place that a border selects: where the last one stands that selected it.
-    lately: Vec<u32>,
+    /// In the cell of a border: where the last one stands that has this cell.
+    cache: Vec<u32>,
 }
 
 impl Model for Gathered {
@@ -80,11 +73,11 @@ impl Model for Gathered {
 impl Gathered {
     /// The border before all keys, and the one after them.
     pub(crate) fn new(alloc: Global) -> Result<Gathered, AllocError> {
-        let lately = vec![in alloc; 0; 1usize << LATELY_BITS]?;
+        let cache = vec![in alloc; 0; 1usize << CACHE_BITS]?;
         let mut borders = Vec::new(alloc);
         borders.push(0)?;
         borders.push(1 << UID_BITS)?;
-        Ok(Gathered { borders, lately })
+        Ok(Gathered { borders, cache })
     }
 
     /// Where the border before all keys stands.
@@ -96,11 +89,11 @@ impl Gathered {
         0
     }
 
-    /// Where a border stands, if it was added and is remembered.
-    fn place_lately(&self, border: u64) -> Option<u32>
+    /// Where a border stands, if the cache still has it.
+    fn cached(&self, border: u64) -> Option<u32>
         ensures { IfSome result (StandsAt self.now border) }
     {
-        let at = self.lately.get(place_of(border)).copied()?;
+        let at = self.cache.get(cell_of(border)).copied()?;
         let place = at as usize;
         if place < self.borders.len() && self.borders[place] == border {
             Some(at)
@@ -115,15 +108,15 @@ impl Gathered {
         ensures there { IfOk result (StandsAt self.new border.number) }
     {
         let border = border.number;
-        if let Some(at) = self.place_lately(border) {
+        if let Some(at) = self.cached(border) {
             return Ok(at);
         }
         if self.borders.len() > u32::MAX as usize {
             return Err(AllocError);
         }
         let at = self.borders.len() as u32;
-        if let Some(place) = self.lately.get_mut(place_of(border)) {
-            *place = at;
+        if let Some(cell) = self.cache.get_mut(cell_of(border)) {
+            *cell = at;
         }
         self.borders.push(border)?;
         Ok(at)
@@ -152,9 +145,9 @@ impl Gathered {
     }
 }
 
-/// The place in which a border is remembered.
-fn place_of(border: u64) -> usize {
-    (border.wrapping_mul(SPREAD) >> (u64::BITS - LATELY_BITS)) as usize
+/// The cell of a border in the cache.
+fn cell_of(border: u64) -> usize {
+    (border.wrapping_mul(SPREAD) >> (u64::BITS - CACHE_BITS)) as usize
 }
 
 /// Whether numbers are borders in rising order, from the first key to the end of the keys.

@@ -9,13 +9,14 @@ ghost use Rattle.vic_walk.specs.Borders.{AreBorders, part_count};
 ghost use Rattle.vic_walk.specs.Marked.{is_marked};
 ghost use Rattle.vic_walk.specs.Met.{AreMetBefore, HasEndsPast};
 ghost use Rattle.vic_walk.specs.Needs.{needs_at};
-ghost use Rattle.vic_walk.specs.inner.Ends.{AreEndsUpTo, AreRuled, IsBackTo, lasts_to};
-ghost use Rattle.vic_walk.specs.Steps.{AreLogParts, IsOf, IsPlace, IsSpanAt};
+ghost use Rattle.vic_walk.specs.inner.Ends.{AreEndsUpTo, AreRuled, IsBackTo, is_open_before};
+ghost use Rattle.vic_walk.specs.Steps.{AreLogParts, IsStepBelow, IsEntryAt, IsSpanAt};
 
 use crate::lines::LogLines;
 use crate::log_parts::LogParts;
 use crate::marks::Marks;
-use crate::open_parts::OpenParts;
+use crate::needs::needs;
+use crate::part_states::PartStates;
 use crate::parts::Parts;
 use crate::steps::{Span, Step};
 use crate::three::up_to_three;
@@ -23,7 +24,8 @@ use crate::walk::Walk;
 use std::alloc::{AllocError, Global};
 use vic_log::Entry;
 
-/// How far a log is possible, by the entries that were passed.
+/// How far a log is possible, by the entries that were passed: up to a position that only goes
+/// back.
 #[derive(Drop)]
 struct Reach<'a> {
     parts: &'a Parts,
@@ -31,20 +33,18 @@ struct Reach<'a> {
     ends: &'a [u32],
     /// The unread slots passed before this position are met by the UIDs that are open before it.
     upto: usize,
-    /// Which of the parts that are open before `upto` are Ready now, and which Quiet.
-    kept: OpenParts,
-    /// Which of all parts are, whether open or not.
-    all: OpenParts,
+    /// The parts that are open before `upto`.
+    kept: PartStates,
+    /// All parts, open or not.
+    all: PartStates,
     /// The parts that aren't open before `upto`.
     ruled: Vec<usize>,
     /// Whether these are in the order of their ends.
     ordered: bool,
     ghost ends_room: { length ends.now ≡ part_count parts.now },
-    ghost kept_room: { length kept.lasting ≡ part_count parts.now },
-    ghost all_room: { length all.lasting ≡ part_count parts.now },
-    ghost order: { ordered ≡ true → IsNonDecreasingBy (λ p. slice_index ends.now p) ruled.items },
-    ghost ruled_out: { (p : ℕ) → has ruled.items p
-        ≡ (nat_lt p (length ends.now) && not (lasts_to upto (slice_index ends.now p))) },
+    ghost kept_room: { length kept.ready ≡ part_count parts.now },
+    ghost all_room: { length all.ready ≡ part_count parts.now },
+    ghost ruled_out: { AreRuled ends.now upto ordered ruled.items },
 }
 
 impl<'a> Reach<'a> {
@@ -60,7 +60,7 @@ impl<'a> Reach<'a> {
         requires { length ends.now ≡ part_count parts.now }
         ensures upto { IfOk result (λ r. r.upto ≡ upto) }
         ensures parts { IfOk result (λ r. r.parts.now ≡ parts.now) }
-        ensures ready { IfOk result (λ r. (es : List EntryValue)
+        ensures reach { IfOk result (λ r. (es : List EntryValue)
             → AreEndsUpTo parts.now es upto ends.now → IsReachAt es 0 r) }
     {
         let (kept, ruled) = divide(alloc, ends, upto)?;
@@ -68,8 +68,8 @@ impl<'a> Reach<'a> {
             parts,
             ends,
             upto,
-            kept: OpenParts::ready(alloc, kept),
-            all: OpenParts::ready(alloc, Marks::all(alloc, ends.len())?),
+            kept: PartStates::all_ready(alloc, kept),
+            all: PartStates::all_ready(alloc, Marks::all(alloc, ends.len())?),
             ruled,
             ordered: false,
         })
@@ -77,13 +77,13 @@ impl<'a> Reach<'a> {
 
     /// Goes past an entry. If it is an unread slot that isn't met, `upto` goes back first.
     fn pass(&mut self, step: Step, at: usize, entry: &Entry) -> Result<(), AllocError>
-        requires { IsOf (part_count self.old.parts.now) step }
+        requires { IsStepBelow (part_count self.old.parts.now) step }
         ensures parts { self.new.parts.now ≡ self.old.parts.now }
         ensures back { OnOk result ((es : List EntryValue)
-            → IsPlace self.old.parts.now es at entry.now step
+            → IsEntryAt self.old.parts.now es at entry.now step
             → IsReachAt es at self.old → IsBackTo es at self.old.upto self.new.upto) }
-        ensures ready { OnOk result ((es : List EntryValue)
-            → IsPlace self.old.parts.now es at entry.now step
+        ensures reach { OnOk result ((es : List EntryValue)
+            → IsEntryAt self.old.parts.now es at entry.now step
             → IsReachAt es at self.old → IsReachAt es (at + 1) self.new) }
     {
         match *entry {
@@ -97,12 +97,8 @@ impl<'a> Reach<'a> {
                 self.all.wake();
                 Ok(())
             }
-            Entry::Collision => {
-                self.meet(step.span(), at, 2)?;
-                Ok(())
-            }
-            Entry::Garbled => {
-                self.meet(step.span(), at, 1)?;
+            Entry::Collision | Entry::Garbled => {
+                self.meet(step.span(), at, needs(entry))?;
                 Ok(())
             }
             Entry::Silent
@@ -120,11 +116,11 @@ impl<'a> Reach<'a> {
         ensures back { OnOk result ((es : List EntryValue) → AreBorders self.old.parts.now
             → IsSpanAt self.old.parts.now es at span → needs_at es at ≡ need
             → IsReachAt es at self.old → IsBackTo es at self.old.upto self.new.upto) }
-        ensures ready { OnOk result ((es : List EntryValue) (i : ℕ)
+        ensures reach { OnOk result ((es : List EntryValue) (i : ℕ)
             → IsReachAt es i self.old → IsReachAt es i self.new) }
     {
         while at < self.upto {
-            if need <= up_to_three(self.parts, &self.kept.lasting, span).len() {
+            if need <= up_to_three(self.parts, &self.kept.ready, span).len() {
                 return Ok(());
             }
             self.step_back()?;
@@ -138,12 +134,12 @@ impl<'a> Reach<'a> {
         requires { 0 < self.old.upto }
         ensures parts { self.new.parts.now ≡ self.old.parts.now }
         ensures upto { OnOk result (self.new.upto + 1 ≡ self.old.upto) }
-        ensures ready { OnOk result ((es : List EntryValue) (i : ℕ)
+        ensures reach { OnOk result ((es : List EntryValue) (i : ℕ)
             → IsReachAt es i self.old → IsReachAt es i self.new) }
     {
         self.put_in_order();
         let left = count_below(&self.ruled, self.ends, self.upto);
-        self.kept.add(&self.all.lasting, &self.ruled[left..])?;
+        self.kept.add(&self.all.ready, &self.ruled[left..])?;
         self.ruled.truncate(left);
         self.upto -= 1;
         Ok(())
@@ -166,9 +162,9 @@ impl<'a> Reach<'a> {
     }
 }
 
-/// The first position at which an unread slot lacks tags, or `upto` if none does before it. The
-/// unread slots before that position are met by the UIDs that are open before it; of the position
-/// after it this isn't so. The walk has passed all entries before `upto`.
+/// The last position, up to `upto`, before which all unread slots are met by the UIDs that are open
+/// before it: if it isn't `upto`, some unread slot lacks tags with the entry there. The walk has
+/// passed all entries before `upto`.
 pub fn first_lack(
     alloc: Global,
     lines: &LogLines,
@@ -197,13 +193,13 @@ pub fn first_lack(
 fn divide(alloc: Global, ends: &[u32], upto: usize) -> Result<(Marks, Vec<usize>), AllocError>
     ensures room { IfOk result (λ r. length r.0 ≡ length ends.now) }
     ensures kept { IfOk result (λ r. (p : ℕ) → is_marked r.0 p
-        ≡ (nat_lt p (length ends.now) && lasts_to upto (slice_index ends.now p))) }
+        ≡ (nat_lt p (length ends.now) && is_open_before upto (slice_index ends.now p))) }
     ensures ruled { IfOk result (λ r. AreRuled ends.now upto false r.1.items) }
 {
     let mut kept = Marks::none(alloc, ends.len())?;
     let mut ruled = Vec::new(alloc);
     for part in 0..ends.len() {
-        if lasts(ends[part], upto) {
+        if is_open_before(upto, ends[part]) {
             kept.put(part);
         } else {
             ruled.push(part)?;
@@ -213,8 +209,8 @@ fn divide(alloc: Global, ends: &[u32], upto: usize) -> Result<(Marks, Vec<usize>
 }
 
 /// Whether a part with this end is open before a position.
-fn lasts(end: u32, position: usize) -> bool
-    ensures { result ≡ lasts_to position end }
+fn is_open_before(position: usize, end: u32) -> bool
+    ensures { result ≡ is_open_before position end }
 {
     end == 0 || position < end as usize
 }

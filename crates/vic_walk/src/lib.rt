@@ -4,7 +4,6 @@
 #![tactic(auto)]
 
 mod answers;
-mod closed;
 mod cutting;
 mod gathered;
 mod index;
@@ -14,7 +13,9 @@ mod lines;
 mod listing;
 mod log_parts;
 mod marks;
-mod open_parts;
+mod needs;
+mod part_keys;
+mod part_states;
 mod parts;
 mod ranked;
 mod steps;
@@ -23,13 +24,13 @@ mod walk;
 mod walking;
 
 pub use answers::{Answering, open_answers};
-pub use closed::closed_keys;
 pub use lacking::first_lack;
 pub use lines::LogLines;
 pub use listing::list_start;
 pub use log_parts::LogParts;
 pub use marks::Marks;
-pub use open_parts::OpenParts;
+pub use part_keys::{closed_keys, other_keys};
+pub use part_states::PartStates;
 pub use parts::Parts;
 pub use steps::{Span, Step};
 pub use walk::{LogWalk, Walk};

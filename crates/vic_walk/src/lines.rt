@@ -44,7 +44,7 @@ impl<'a> LogLines<'a> {
     }
 
     /// The first ones, this many.
-    pub fn first(&self, count: usize) -> LogLines<'a>
+    pub fn prefix(&self, count: usize) -> LogLines<'a>
         requires { count ≤ length self.now }
         ensures { result ≡ take count self.now }
     {

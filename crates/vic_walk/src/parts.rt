@@ -62,7 +62,7 @@ impl Parts {
     }
 
     /// The first key of a part.
-    pub fn first(&self, part: usize) -> u64
+    pub fn first_key(&self, part: usize) -> u64
         requires { part < part_count self.now }
         ensures first { result ≡ slice_index self.now part }
         ensures borders { AreBorders self.now }
@@ -71,7 +71,7 @@ impl Parts {
     }
 
     /// What comes after the last key of a part.
-    pub fn end(&self, part: usize) -> u64
+    pub fn end_key(&self, part: usize) -> u64
         requires { part < part_count self.now }
         ensures { result ≡ slice_index self.now (part + 1) }
     {

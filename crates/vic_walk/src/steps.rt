@@ -1,7 +1,7 @@
 //! Which parts an entry concerns.
 
 ghost use Rattle.std.specs.Prelude.{◌≡◌};
-ghost use Rattle.vic_walk.specs.Steps.{span_of};
+ghost use Rattle.vic_walk.specs.Steps.{is_within, span_of};
 
 /// Parts that follow one another.
 #[derive(Clone, Copy)]
@@ -12,7 +12,17 @@ pub struct Span {
     pub to: usize,
 }
 
-/// Which parts an entry concerns. There are fewer than 2^32.
+impl Span {
+    /// Whether it has a part.
+    pub(crate) fn has(self, part: usize) -> bool
+        ensures { result ≡ is_within self part }
+    {
+        self.from <= part && part < self.to
+    }
+}
+
+/// Which parts an entry concerns, by their numbers, which are below 2^32. Until the borders are in
+/// order, the numbers are those of borders, by where they stand in `Gathered`.
 #[derive(Clone, Copy)]
 pub struct Step {
     /// Of a slot: the first of the parts whose UIDs lie in its mask.

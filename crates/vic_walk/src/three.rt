@@ -38,7 +38,7 @@ fn gather_part(found: &mut ArrayVec<Uid, 3>, parts: &Parts, part: usize)
     ensures { Gathers (HasKey (slice_index parts.now part) (slice_index parts.now (part + 1)))
         found.old.items found.new.items }
 {
-    for key in parts.first(part)..parts.end(part) {
+    for key in parts.first_key(part)..parts.end_key(part) {
         if found.is_full() {
             return;
         }

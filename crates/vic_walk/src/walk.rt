@@ -4,11 +4,11 @@ ghost use Rattle.std.specs.Prelude.{◌≡◌, ◌↔◌, ◌+◌, ℕ, ◌<◌,
 ghost use Rattle.vic_log.specs.declared.entry.Entry.{Entry as EntryValue};
 ghost use Rattle.vic_walk.specs.Borders.{part_count};
 ghost use Rattle.vic_walk.specs.Marked.{is_marked};
-ghost use Rattle.vic_walk.specs.Steps.{is_within, IsOf, IsPlace};
+ghost use Rattle.vic_walk.specs.Steps.{is_within, IsStepBelow, IsEntryAt};
 
 use crate::log_parts::LogParts;
 use crate::marks::Marks;
-use crate::open_parts::OpenParts;
+use crate::part_states::PartStates;
 use crate::steps::{Span, Step};
 use std::alloc::{AllocError, Global};
 use vic_log::Entry;
@@ -16,20 +16,20 @@ use vic_log::Entry;
 /// What a walk over the first entries of a log knows of its parts.
 #[derive(Drop)]
 pub struct Walk {
-    /// The parts that are open.
-    pub open: OpenParts,
-    /// For each part 0 while it is open; else one more than the position of the entry that rules it
-    /// out.
+    /// The parts that are open: those that are Ready, and those that are Quiet.
+    pub open: PartStates,
+    /// For each part its end: 0 while it is open; else one more than the position of the entry that
+    /// rules it out.
     pub ends: Vec<u32>,
     /// The parts that were heard; such a part has only one UID.
     pub heard: Marks,
-    ghost ends_room: { length ends.items ≡ length open.lasting },
-    ghost heard_room: { length heard ≡ length open.lasting },
+    ghost ends_room: { length ends.items ≡ length open.ready },
+    ghost heard_room: { length heard ≡ length open.ready },
 }
 
 impl Walk {
     ghost use Rattle.vic_walk.specs.Walk.{AreBorneOut, IsWalkAt};
-    ghost use Rattle.vic_walk.specs.inner.Ruled.{is_other, HasLost, IsRuledOut};
+    ghost use Rattle.vic_walk.specs.inner.Ruled.{is_other, LosesHeard, IsRuledOut};
 
     /// The walk before the first entry: that many parts, all open and Ready.
     pub(crate) fn start(alloc: Global, count: usize) -> Result<Walk, AllocError>
@@ -37,24 +37,24 @@ impl Walk {
             → IsWalkAt bs es 0 w) }
     {
         Ok(Walk {
-            open: OpenParts::ready(alloc, Marks::all(alloc, count)?),
+            open: PartStates::all_ready(alloc, Marks::all(alloc, count)?),
             ends: vec![in alloc; 0; count]?,
             heard: Marks::none(alloc, count)?,
         })
     }
 
-    /// Rules out the parts of a span that last, with this end. Returns whether one of them was
-    /// heard.
+    /// Rules out the parts of a span that are open and Ready, with this end. Returns whether one of
+    /// them was heard.
     fn rule_out(&mut self, span: Span, end: u32) -> bool
-        requires { span.to ≤ length self.old.open.lasting }
+        requires { span.to ≤ length self.old.open.ready }
         ensures ruled_out { IsRuledOut self.old self.new (is_within span) end }
         ensures heard { self.new.heard ≡ self.old.heard }
-        ensures lost { (result ≡ true) ↔ HasLost self.old (is_within span) }
+        ensures lost { (result ≡ true) ↔ LosesHeard self.old (is_within span) }
     {
         let mut lost = false;
         let mut from = span.from;
-        while let Some(part) = self.open.lasting.first(from, span.to) {
-            self.open.lasting.take(part);
+        while let Some(part) = self.open.ready.first(from, span.to) {
+            self.open.ready.take(part);
             self.ends[part] = end;
             lost |= self.heard.has(part);
             from = part + 1;
@@ -62,55 +62,56 @@ impl Walk {
         lost
     }
 
-    /// Hears the UID of part `own` in a slot whose mask has the UIDs of a span: rules out the other
-    /// parts of the span that last, with this end. Returns whether the replies are still borne out:
-    /// `own` is in the span and lasts, and none of the parts now ruled out was heard.
+    /// Hears the UID of part `own` alone in a slot whose mask has the UIDs of a span: rules out the
+    /// other parts of the span that are open and Ready, with this end. Returns whether the replies
+    /// are still borne out: `own` is in the span, open and Ready, and none of the parts now ruled
+    /// out was heard.
     fn hear(&mut self, span: Span, own: usize, end: u32) -> bool
-        requires within { span.to ≤ length self.old.open.lasting }
-        requires own { own < length self.old.open.lasting }
+        requires within { span.to ≤ length self.old.open.ready }
+        requires own { own < length self.old.open.ready }
         ensures ruled_out { IsRuledOut self.old self.new (is_other span own) end }
         ensures heard { (p : ℕ) → is_marked self.new.heard p
             ≡ (p == own || is_marked self.old.heard p) }
         ensures fine { (result ≡ true) ↔ ((is_within span own ≡ true)
-            × (is_marked self.old.open.lasting own ≡ true)
-            × (HasLost self.old (is_other span own) → ⊥)) }
+            × (is_marked self.old.open.ready own ≡ true)
+            × (LosesHeard self.old (is_other span own) → ⊥)) }
     {
-        let lasts = self.open.lasting.has(own);
+        let is_ready = self.open.ready.has(own);
         // so that `rule_out` passes it over
-        self.open.lasting.take(own);
+        self.open.ready.take(own);
         let lost = self.rule_out(span, end);
-        if lasts {
-            self.open.lasting.put(own);
+        if is_ready {
+            self.open.ready.put(own);
         }
         self.heard.put(own);
-        lasts && span.from <= own && own < span.to && !lost
+        is_ready && span.has(own) && !lost
     }
 
     /// Hears the UID of part `own`, alone or among others, in a slot whose mask has the UIDs of a
-    /// span: rules out none. Returns whether the reply is borne out: `own` is in the span and
-    /// lasts.
+    /// span: rules out none. Returns whether the reply is borne out: `own` is in the span, open and
+    /// Ready.
     fn hear_among(&mut self, span: Span, own: usize) -> bool
-        requires { own < length self.old.open.lasting }
+        requires { own < length self.old.open.ready }
         ensures open { self.new.open ≡ self.old.open }
         ensures ends { self.new.ends.items ≡ self.old.ends.items }
         ensures heard { (p : ℕ) → is_marked self.new.heard p
             ≡ (p == own || is_marked self.old.heard p) }
         ensures fine { (result ≡ true) ↔ ((is_within span own ≡ true)
-            × (is_marked self.old.open.lasting own ≡ true)) }
+            × (is_marked self.old.open.ready own ≡ true)) }
     {
         self.heard.put(own);
-        self.open.lasting.has(own) && span.from <= own && own < span.to
+        self.open.ready.has(own) && span.has(own)
     }
 
     /// Takes the walk past an entry; a part that it rules out gets this end. Returns whether the
     /// replies are still borne out.
     pub(crate) fn pass(&mut self, step: Step, end: u32, entry: &Entry) -> Result<bool, AllocError>
-        requires { IsOf (length self.old.open.lasting) step }
+        requires { IsStepBelow (length self.old.open.ready) step }
         ensures walk { OnOk result ((bs : List ℕ) (es : List EntryValue) (i : ℕ) → end ≡ i + 1
-            → IsPlace bs es i entry.now step
+            → IsEntryAt bs es i entry.now step
             → IsWalkAt bs es i self.old → IsWalkAt bs es (i + 1) self.new) }
         ensures fine { IfOk result (λ fine. (bs : List ℕ) (es : List EntryValue) (i : ℕ)
-            → IsPlace bs es i entry.now step
+            → IsEntryAt bs es i entry.now step
             → IsWalkAt bs es i self.old → AreBorneOut es i
             → (fine ≡ true) ↔ AreBorneOut es (i + 1)) }
     {

@@ -2,7 +2,7 @@
 
 ghost use Rattle.std.specs.Prelude.{IfOk};
 ghost use Rattle.vic_log.specs.Order.{entries};
-ghost use Rattle.vic_walk.specs.Walk.{IsWalkOver};
+ghost use Rattle.vic_walk.specs.Walk.{IsLogWalk};
 
 use crate::lines::LogLines;
 use crate::log_parts::LogParts;
@@ -11,7 +11,7 @@ use std::alloc::{AllocError, Global};
 
 /// The walk over a log: to its end, or past the first entry with which a reply isn't borne out.
 pub fn walk_log(alloc: Global, lines: &LogLines) -> Result<LogWalk, AllocError>
-    ensures { IfOk result (IsWalkOver (entries lines.now)) }
+    ensures { IfOk result (IsLogWalk (entries lines.now)) }
 {
     let cut = LogParts::of(alloc, lines)?;
     let mut walk = Walk::start(alloc, cut.parts.count())?;

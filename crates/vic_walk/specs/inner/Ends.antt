@@ -9,20 +9,20 @@ use Rattle.vic_walk.specs.Borders.{IsPartOf}
 use Rattle.vic_walk.specs.Met.{IsMetAt}
 
 -- a part with this end is open before position n
-abbrev pub lasts_to : ℕ → ℕ → Bool
-lasts_to n end = end == 0 || nat_lt n end
+abbrev pub is_open_before : ℕ → ℕ → Bool
+is_open_before n end = end == 0 || nat_lt n end
 
 -- up to position n the ends of the parts tell where their UIDs are open
 abbrev pub AreEndsUpTo : List ℕ → List Entry → ℕ → List ℕ → Type 0
 AreEndsUpTo bs es n ends =
     (u p i : ℕ) → IsUid u → IsPartOf bs (mirror u) p → i ≤ n
-    → is_open (slots_before es i) u ≡ lasts_to i (slice_index ends p)
+    → is_open (slots_before es i) u ≡ is_open_before i (slice_index ends p)
 
 -- the parts that aren't open before position n; in the order of their ends, if they were put so
 pub record AreRuled (ends : List ℕ) (n : ℕ) (ordered : Bool) (ps : List ℕ) : Type 0 where
   pub order : ordered ≡ true → IsNonDecreasingBy (λ p. slice_index ends p) ps
   pub ruled : (p : ℕ) → has ps p
-      ≡ (nat_lt p (length ends) && not (lasts_to n (slice_index ends p)))
+      ≡ (nat_lt p (length ends) && not (is_open_before n (slice_index ends p)))
 
 -- from position n one has to go back to position m until the slot at position j is met, or m isn't
 -- behind it

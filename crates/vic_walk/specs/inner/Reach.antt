@@ -4,10 +4,11 @@ use Rattle.vic_log.specs.declared.entry.Entry.{Entry}
 use Rattle.vic_log.specs.Slots.{slots_before, is_open}
 use Rattle.vic_walk.specs.declared.lacking.Reach.{Reach}
 use Rattle.vic_walk.specs.inner.Ends.{AreEndsUpTo}
-use Rattle.vic_walk.specs.inner.Ready.{IsReadyAt}
+use Rattle.vic_walk.specs.inner.PartStates.{AreStatesAt}
 
--- before position i it is known of all parts which are Ready, and of those open before `upto`
+-- before position i: up to `upto` the ends are known; `kept` has the parts that are open before it,
+-- and `all` has all parts
 pub record IsReachAt (es : List Entry) (i : ℕ) (r : Reach) : Type 0 where
   pub known : AreEndsUpTo r.parts.now es r.upto r.ends.now
-  pub kept : IsReadyAt r.parts.now es (is_open (slots_before es r.upto)) i r.kept
-  pub all : IsReadyAt r.parts.now es (λ u. true) i r.all
+  pub kept : AreStatesAt r.parts.now es (is_open (slots_before es r.upto)) i r.kept
+  pub all : AreStatesAt r.parts.now es (λ u. true) i r.all

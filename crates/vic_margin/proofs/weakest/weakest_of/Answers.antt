@@ -25,7 +25,7 @@ unreachable-requires-in_default-2 c =
     let borders = c.args.margins.now.borders in
     let named : AreListedKeys es keys = listed_keys es keys _ _ c.in_ok-keys.ensures c.as_slice.ensures.value (rw c.lines.ensures.value at c.in_ok-listed.ensures.members) in
     let least : IsLeastOf c.args.margins.now.parts ms (is_free keys (2 ^ 56)) (Some m) = c.in-Some.ensures in
-    let others : (k p : ℕ) → IsPartOf c.args.margins.now.parts k p → k < 2 ^ 56 → in_ranges c.in_ok-others.others.items k ≡ not (slice_index ms p == m) = c.in_ok-others.ensures in
+    let others : (k p : ℕ) → IsPartOf c.args.margins.now.parts k p → k < 2 ^ 56 → in_ranges c.in_ok-others.others.items k ≡ not (slice_index ms p == m) = rw c.deref.ensures.value at c.in_ok-others.ensures.keys in
     let is : (u : ℕ) → IsUid u → without_keys (is_open_in c.in_ok-set.set) keys u ≡ has_it es m u = set_is _ ms keys es m (is_open_in c.in_ok-set.set) _ borders c.args.margins.now.margins named others c.in_ok-set.ensures in
     let empty : SameUids (without_keys (is_open_in c.in_ok-set.set) keys) (λ _. false) = rw c.in_default-2.is at c.in_ok-mask.ensures.empty in
     set_has_some es m (without_keys (is_open_in c.in_ok-set.set) keys) is (is_margin _ ms keys es m borders c.args.margins.now.margins named least).0 empty
@@ -39,7 +39,7 @@ returns c =
     let borders = c.args.margins.now.borders in
     let named : AreListedKeys es keys = listed_keys es keys _ _ c.in_ok-keys.ensures c.as_slice.ensures.value (rw c.lines.ensures.value at c.in_ok-listed.ensures.members) in
     let least : IsLeastOf c.args.margins.now.parts ms (is_free keys (2 ^ 56)) (Some m) = c.in-Some.ensures in
-    let others : (k p : ℕ) → IsPartOf c.args.margins.now.parts k p → k < 2 ^ 56 → in_ranges c.in_ok-others.others.items k ≡ not (slice_index ms p == m) = c.in_ok-others.ensures in
+    let others : (k p : ℕ) → IsPartOf c.args.margins.now.parts k p → k < 2 ^ 56 → in_ranges c.in_ok-others.others.items k ≡ not (slice_index ms p == m) = rw c.deref.ensures.value at c.in_ok-others.ensures.keys in
     let is : (u : ℕ) → IsUid u → without_keys (is_open_in c.in_ok-set.set) keys u ≡ has_it es m u = set_is _ ms keys es m (is_open_in c.in_ok-set.set) _ borders c.args.margins.now.margins named others c.in_ok-set.ensures in
     let widest : IsWidest (without_keys (is_open_in c.in_ok-set.set) keys) c.in-Some-2.mask = rw c.in-Some-2.is at c.in_ok-mask.ensures.found in
     record {

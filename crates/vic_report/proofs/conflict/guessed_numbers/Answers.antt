@@ -4,8 +4,8 @@ use Rattle.std.specs.Option.{option_eq}
 use Rattle.vic_report.proofs.Words.{◌≡◌, ◌∙◌, ℕ, Option, None, Some, false, ap, eqb-true, false≢true, not, subst, sym, true_from_ne_false, All, IsPossible, IsTellingLine, place_of}
 use Rattle.vic_report.proofs.conflict.guessed_numbers.Goals as goal
 
-pub first-requires : goal.first-requires
-first-requires c = rw (c.of.ensures.value, ← c.lines-lines.ensures.value) (search rules)
+pub prefix-requires : goal.prefix-requires
+prefix-requires c = rw (c.of.ensures.value, ← c.lines-lines.ensures.value) (search rules)
 
 is_last : (o : Option ℕ) (n : ℕ) → false ≡ not (option_eq eqb o (Some n)) → o ≡ Some n
 is_last None n h = absurd (false≢true h)

@@ -11,7 +11,7 @@ loop-index-init c =
     let es = entries c.args.lines.now in
     let w = c.wake.ensures in
     record {
-      ready = ready_woken _ es (is_open (slots_of es)) (length es) 0 c.args.walk.now.open _ (λ u. refl) w.lasting w.room w.quiet (ready_of _ es (length es) _ c.requires.walk);
+      ready = ready_woken _ es (is_open (slots_of es)) (length es) 0 c.args.walk.now.open _ (λ u. refl) w.ready w.room w.quiet (ready_of _ es (length es) _ c.requires.walk);
       found = rw c.new-found.ensures.items (answering_none es);
     }
 
@@ -37,5 +37,5 @@ pub returns-clause-parts : goal.returns-clause-parts
 returns-clause-parts c u p is at =
     let es = entries c.args.lines.now in
     let w = c.wake-2.ensures in
-    let ready = ready_woken _ es (is_open (slots_of es)) c.loop-index.index 0 c.loop-index.open c.wake-2.new.self (λ u. refl) w.lasting w.room w.quiet c.loop-index.invariant.ready in
-    ready.lasting u p is at ∙ and-true _
+    let ready = ready_woken _ es (is_open (slots_of es)) c.loop-index.index 0 c.loop-index.open c.wake-2.new.self (λ u. refl) w.ready w.room w.quiet c.loop-index.invariant.ready in
+    ready.ready u p is at ∙ and-true _

@@ -18,7 +18,7 @@ pub returns-in-FieldCycle-clause-ready : goal.returns-in-FieldCycle-clause-ready
 returns-in-FieldCycle-clause-ready c es set place h =
     let k = rw c.in-FieldCycle.is at place.here in
     let w = c.wake.ensures in
-    ready_woken _ es set c.args.at (c.args.at + 1) c.args.open.now _ (λ u. cycle_wakes es c.args.at u k) w.lasting w.room w.quiet h
+    ready_woken _ es set c.args.at (c.args.at + 1) c.args.open.now _ (λ u. cycle_wakes es c.args.at u k) w.ready w.room w.quiet h
 
 pub returns-in-FieldCycle-clause-found : goal.returns-in-FieldCycle-clause-found
 returns-in-FieldCycle-clause-found c es place h found =

@@ -1,29 +1,29 @@
 use Rattle.std.proofs.Common.{Global, Vec}
-use Rattle.vic_walk.specs.inner.Ends.{lasts_to}
+use Rattle.vic_walk.specs.inner.Ends.{is_open_before}
 use Rattle.vic_walk.proofs.Words.{◌≡◌, ℕ, ◌∙◌, Bool, true, false, false≢true, not, arith, length, length-set, slice_index, sym, ap, has, is_marked, List}
 use Rattle.vic_walk.proofs.GoingBack.{more_parts, no_part, push_part, put_part}
 use Rattle.vic_walk.proofs.lacking.divide.Goals as goal
-use Rattle.vic_walk.proofs.lacking.divide.Goals.{then-lasts, else-lasts+in_ok-push}
+use Rattle.vic_walk.proofs.lacking.divide.Goals.{then-is_open_before, else-is_open_before+in_ok-push}
 
 pub loop-part-preserved : goal.loop-part-preserved
 loop-part-preserved c =
     let l = c.loop-part in
     let ends = c.args.ends.now in
-    let here = lasts_to c.args.upto (slice_index ends l.part) in
-    elim c.if-lasts.branch [
-      | then-lasts w ↦
-          let it : here ≡ true = sym c.lasts.ensures ∙ w.if-lasts.true in
+    let here = is_open_before c.args.upto (slice_index ends l.part) in
+    elim c.if-is_open_before.branch [
+      | then-is_open_before w ↦
+          let it : here ≡ true = sym c.is_open_before.ensures ∙ w.if-is_open_before.true in
           record {
             room = ap length (w.kept-is ∙ w.put.ensures) ∙ length-set l.kept l.part true ∙ l.invariant.room;
-            kept = λ p. more_parts (λ q. lasts_to c.args.upto (slice_index ends q)) l.part p _ _ (l.invariant.kept p) (ap (λ (m : List Bool). is_marked m p) (w.kept-is ∙ w.put.ensures) ∙ put_part l.kept l.part p here it (omega (arith, l.invariant.room, c.loop-part-test.true)));
-            ruled = λ p. more_parts (λ q. not (lasts_to c.args.upto (slice_index ends q))) l.part p _ _ (l.invariant.ruled p) (ap (λ (v : Vec ℕ Global). has v.items p) w.ruled-is ∙ no_part p l.part (has l.ruled.items p) (not here) (ap not it));
+            kept = λ p. more_parts (λ q. is_open_before c.args.upto (slice_index ends q)) l.part p _ _ (l.invariant.kept p) (ap (λ (m : List Bool). is_marked m p) (w.kept-is ∙ w.put.ensures) ∙ put_part l.kept l.part p here it (omega (arith, l.invariant.room, c.loop-part-test.true)));
+            ruled = λ p. more_parts (λ q. not (is_open_before c.args.upto (slice_index ends q))) l.part p _ _ (l.invariant.ruled p) (ap (λ (v : Vec ℕ Global). has v.items p) w.ruled-is ∙ no_part p l.part (has l.ruled.items p) (not here) (ap not it));
           }
-      | else-lasts+in_ok-push w ↦
-          let it : here ≡ false = sym c.lasts.ensures ∙ w.if-lasts.false in
+      | else-is_open_before+in_ok-push w ↦
+          let it : here ≡ false = sym c.is_open_before.ensures ∙ w.if-is_open_before.false in
           record {
             room = ap length w.kept-is ∙ l.invariant.room;
-            kept = λ p. more_parts (λ q. lasts_to c.args.upto (slice_index ends q)) l.part p _ _ (l.invariant.kept p) (ap (λ (m : List Bool). is_marked m p) w.kept-is ∙ no_part p l.part (is_marked l.kept p) here it);
-            ruled = λ p. more_parts (λ q. not (lasts_to c.args.upto (slice_index ends q))) l.part p _ _ (l.invariant.ruled p) (ap (λ (v : Vec ℕ Global). has v.items p) w.ruled-is ∙ ap (λ (ps : List ℕ). has ps p) w.in_ok-push.ensures.items ∙ push_part l.ruled.items l.part p (not here) (ap not it));
+            kept = λ p. more_parts (λ q. is_open_before c.args.upto (slice_index ends q)) l.part p _ _ (l.invariant.kept p) (ap (λ (m : List Bool). is_marked m p) w.kept-is ∙ no_part p l.part (is_marked l.kept p) here it);
+            ruled = λ p. more_parts (λ q. not (is_open_before c.args.upto (slice_index ends q))) l.part p _ _ (l.invariant.ruled p) (ap (λ (v : Vec ℕ Global). has v.items p) w.ruled-is ∙ ap (λ (ps : List ℕ). has ps p) w.in_ok-push.ensures.items ∙ push_part l.ruled.items l.part p (not here) (ap not it));
           }
     ]
 

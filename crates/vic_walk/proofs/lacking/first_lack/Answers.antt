@@ -2,7 +2,7 @@ use Rattle.vic_walk.proofs.Words.{◌∙◌, arith, cases_lt, inl, inr, length, 
 use Rattle.vic_log.specs.Order.{entries}
 use Rattle.vic_walk.specs.inner.Ends.{AreEndsUpTo, IsBackTo}
 use Rattle.vic_walk.proofs.Ending.{open_to_end}
-use Rattle.vic_walk.specs.Steps.{IsPlace}
+use Rattle.vic_walk.specs.Steps.{IsEntryAt}
 use Rattle.vic_walk.proofs.CutLaws.{place_at}
 use Rattle.vic_walk.proofs.GoingBack.{lack_next, met_next}
 use Rattle.vic_walk.proofs.ListLaws.{met_past}
@@ -20,7 +20,7 @@ loop-index-init c =
     let known : AreEndsUpTo c.args.cut.now.parts es c.args.upto ends = λ u p i is at le. open_to_end es w.position u (slice_index ends p) i (w.ends u p is at) (let far = w.far in omega (arith, le, far)) in
     record {
       parts = r.parts;
-      ready = r.ready es (rw c.deref.ensures.value known);
+      reach = r.reach es (rw c.deref.ensures.value known);
       back = omega (arith, r.upto);
       met = λ j below. absurd (omega (arith, below));
       lack = λ less. absurd (omega (arith, less, r.upto));
@@ -30,11 +30,11 @@ pub loop-index-preserved : goal.loop-index-preserved
 loop-index-preserved c =
     let es = entries c.args.lines.now in
     let l = c.loop-index in
-    let place : IsPlace l.reach.parts.now es l.index c.entry-entry.result c.index.result.now = rw l.invariant.parts (place_at es c.args.cut.now l.index _ c.index.result.now c.requires.cut c.entry-entry.ensures.here (omega (arith, c.loop-index-test.true, c.len-index-end.ensures)) c.index.ensures) in
-    let back : IsBackTo es l.index l.reach.upto c.pass.new.self.upto = c.in_ok-pass.ensures.back es place l.invariant.ready in
+    let place : IsEntryAt l.reach.parts.now es l.index c.entry-entry.result c.index.result.now = rw l.invariant.parts (place_at es c.args.cut.now l.index _ c.index.result.now c.requires.cut c.entry-entry.ensures.here (omega (arith, c.loop-index-test.true, c.len-index-end.ensures)) c.index.ensures) in
+    let back : IsBackTo es l.index l.reach.upto c.pass.new.self.upto = c.in_ok-pass.ensures.back es place l.invariant.reach in
     record {
       parts = c.pass.ensures.parts ∙ l.invariant.parts;
-      ready = c.in_ok-pass.ensures.ready es place l.invariant.ready;
+      reach = c.in_ok-pass.ensures.reach es place l.invariant.reach;
       back = let le = back.back in omega (arith, le, l.invariant.back);
       met = met_next es l.index l.reach.upto c.pass.new.self.upto back l.invariant.met;
       lack = lack_next es l.index l.reach.upto c.pass.new.self.upto c.args.upto back l.invariant.lack;

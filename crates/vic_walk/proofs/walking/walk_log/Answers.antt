@@ -53,4 +53,4 @@ returns c =
 pub pass-requires : goal.pass-requires
 pass-requires c =
     let l = c.loop-index in
-    rw l.invariant.walk.room.lasting ((place_at _ _ l.index _ c.index.result.now l.invariant.cut c.entry-entry.ensures.here (omega (arith, c.loop-index-test.true, c.len-index-end.ensures)) c.index.ensures).step.below)
+    rw l.invariant.walk.room.ready ((place_at _ _ l.index _ c.index.result.now l.invariant.cut c.entry-entry.ensures.here (omega (arith, c.loop-index-test.true, c.len-index-end.ensures)) c.index.ensures).step.below)

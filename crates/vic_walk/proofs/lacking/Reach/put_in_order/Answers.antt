@@ -11,6 +11,8 @@ invariant_of-self c =
       ends_room = r.ends_room;
       kept_room = r.kept_room;
       all_room = r.all_room;
-      order = λ it. IsNonDecreasingBy-from_sort_by_key (λ (p : ℕ). slice_index r.ends.now p) _ sort.sorted (λ a r q k. search rules);
-      ruled_out = λ p. sym (list_any-IsPermutation (nat_eq p) _ _ sort.permutation) ∙ r.ruled_out p;
+      ruled_out = record {
+        order = λ it. IsNonDecreasingBy-from_sort_by_key (λ (p : ℕ). slice_index r.ends.now p) _ sort.sorted (λ a r q k. search rules);
+        ruled = λ p. sym (list_any-IsPermutation (nat_eq p) _ _ sort.permutation) ∙ r.ruled_out.ruled p;
+      };
     }

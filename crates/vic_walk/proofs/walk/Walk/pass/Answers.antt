@@ -14,7 +14,7 @@ pub returns-in-FieldCycle-clause-walk : goal.returns-in-FieldCycle-clause-walk
 returns-in-FieldCycle-clause-walk c bs es i e place h =
     let k = rw c.in-FieldCycle.is at place.here in
     let w = c.wake.ensures in
-    walk_unread _ es i _ c.args.self.now _ k cycle_none (ready_woken _ es _ i (i + 1) c.args.self.now.open _ (λ u. cycle_wakes es i u k) w.lasting w.room w.quiet (ready_of _ es i _ h)) refl refl h
+    walk_unread _ es i _ c.args.self.now _ k cycle_none (ready_woken _ es _ i (i + 1) c.args.self.now.open _ (λ u. cycle_wakes es i u k) w.ready w.room w.quiet (ready_of _ es i _ h)) refl refl h
 
 pub returns-in-Silent-clause-walk : goal.returns-in-Silent-clause-walk
 returns-in-Silent-clause-walk c bs es i e place h =

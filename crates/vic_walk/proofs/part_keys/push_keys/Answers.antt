@@ -1,5 +1,5 @@
-use Rattle.vic_walk.proofs.ClosedKeys.{ranges_to_pushed}
-use Rattle.vic_walk.proofs.closed.push_keys.Goals as goal
+use Rattle.vic_walk.proofs.PartKeys.{ranges_to_pushed}
+use Rattle.vic_walk.proofs.part_keys.push_keys.Goals as goal
 
 pub returns-in_ok-push-clause-ranges : goal.returns-in_ok-push-clause-ranges
 returns-in_ok-push-clause-ranges c forward h =

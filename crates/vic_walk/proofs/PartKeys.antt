@@ -1,27 +1,14 @@
--- The keys of the parts that are ruled out, found part by part.
-use Rattle.vic_walk.proofs.Words.{◌≡◌, ◌∙◌, ℕ, zero, suc, ◌+◌, ◌<◌, ◌≤◌, ◌&&◌, ◌||◌, not, [], Bool, true, false, List, arith, nat_tests, refl, sym, ap, subst, cases_lt, inl, inr, nat_eq, nat_le, nat_lt, mirror, mirror_below, slice_index, AreBorders, IsPartOf, part_count, Entry, is_open, slots_before, IsEnd, IsWalkAt}
-use Rattle.std.proofs.Common.{◌^◌, ◌≢◌, eq-eqb, get_or, length, ne_eqb}
-use Rattle.std.proofs.Common.{◌-◌, ◌++◌, ◌∷◌}
-use Rattle.std.proofs.lemmas.List.{get_or_default}
+-- The keys of the parts that a test passes, found part by part.
+use Rattle.vic_walk.proofs.Words.{◌≡◌, ◌∙◌, ◌==◌, ℕ, zero, suc, ◌+◌, ◌<◌, ◌≤◌, ◌&&◌, ◌||◌, not, [], Bool, true, false, List, arith, nat_tests, refl, sym, subst, cases_lt, inl, inr, nat_eq, nat_le, nat_lt, mirror, mirror_below, slice_index, AreBorders, IsPartOf, part_count, Entry, is_open, slots_before, IsEnd, IsWalkAt}
+use Rattle.std.proofs.Common.{◌^◌, ◌-◌, ◌++◌, ◌∷◌}
 use Rattle.std.proofs.lemmas.List.Elements.{All-nil, All-push, All-weaker}
 use Rattle.vic_tree.proofs.RangeLaws.{ranges_pushed}
-use Rattle.vic_walk.specs.inner.RangesTo.{AreRangesTo}
-use Rattle.vic_tree.specs.Ranges.{in_ranges, is_outside}
 use Rattle.vic_tree.specs.OpenSet.{SameUids}
+use Rattle.vic_tree.specs.Ranges.{in_ranges, is_outside}
+use Rattle.vic_walk.specs.inner.RangesTo.{AreRangesTo}
 use Rattle.vic_walk.proofs.Ending.{open_to_end}
 use Rattle.vic_walk.proofs.PartLaws.{end_of_part, part_of_key, up_to}
 use Rattle.vic_walk.specs.declared.walk.Walk.{Walk}
-
--- the part is ruled out
-abbrev pub is_closed : List ℕ → ℕ → Bool
-is_closed ends p = not (nat_eq (slice_index ends p) 0)
-
--- by what was read of the ends
-pub read_open : (ends : List ℕ) (p x : ℕ) → p < length ends → x ≡ get_or ends p x → x ≡ 0 → is_closed ends p ≡ false
-read_open ends p x within is e = ap not (eq-eqb _ 0 (sym (is ∙ get_or_default ends p x 0 within) ∙ e))
-
-pub read_closed : (ends : List ℕ) (p x : ℕ) → p < length ends → x ≡ get_or ends p x → x ≢ 0 → is_closed ends p ≡ true
-read_closed ends p x within is some = ap not (ne_eqb _ 0 (λ e. some (is ∙ get_or_default ends p x 0 within ∙ e)))
 
 -- ---- the ranges lie in order
 
@@ -42,13 +29,12 @@ ranges_to_pushed from end rs some small h = record {
 
 -- ---- part by part
 
--- of the first n parts those are in the ranges that are ruled out, except from `from` on, where all
--- are
-pub record AreClosedTo (bs ends : List ℕ) (n from : ℕ) (rs : List (ℕ × ℕ)) : Type 0 where
+-- of the first n parts those that pass are in the ranges, except from `from` on, where all pass
+pub record AreKeptTo (bs : List ℕ) (test : ℕ → Bool) (n from : ℕ) (rs : List (ℕ × ℕ)) : Type 0 where
   pub upto : from ≤ slice_index bs n
-  pub before : (k p : ℕ) → IsPartOf bs k p → k < from → in_ranges rs k ≡ is_closed ends p
+  pub before : (k p : ℕ) → IsPartOf bs k p → k < from → in_ranges rs k ≡ test p
   pub after : (k : ℕ) → from ≤ k → in_ranges rs k ≡ false
-  pub closed : (k p : ℕ) → IsPartOf bs k p → from ≤ k → p < n → is_closed ends p ≡ true
+  pub pass : (k p : ℕ) → IsPartOf bs k p → from ≤ k → p < n → test p ≡ true
 
 -- a key before the first of part n is in a part before it
 part_before : (bs : List ℕ) (k p n : ℕ) → AreBorders bs → IsPartOf bs k p → n ≤ part_count bs → k < slice_index bs n → p < n
@@ -64,30 +50,30 @@ key_before bs k p n borders own within lt =
     let end = own.before in
     omega (arith, h, end)
 
-pub none_closed : (bs ends : List ℕ) → AreClosedTo bs ends 0 0 []
-none_closed bs ends = record {
+pub none_kept : (bs : List ℕ) (test : ℕ → Bool) → AreKeptTo bs test 0 0 []
+none_kept bs test = record {
   upto = omega arith;
   before = λ k p own lt. absurd (omega (arith, lt));
   after = λ k le. refl;
-  closed = λ k p own le lt. absurd (omega (arith, lt));
+  pass = λ k p own le lt. absurd (omega (arith, lt));
 }
 
--- a part that is ruled out
-pub one_closed : (bs ends : List ℕ) (n from : ℕ) (rs : List (ℕ × ℕ)) → AreBorders bs → n < part_count bs → is_closed ends n ≡ true → AreClosedTo bs ends n from rs → AreClosedTo bs ends (n + 1) from rs
-one_closed bs ends n from rs borders within is_out i = record {
+-- a part that passes
+pub one_passes : (bs : List ℕ) (test : ℕ → Bool) (n from : ℕ) (rs : List (ℕ × ℕ)) → AreBorders bs → n < part_count bs → test n ≡ true → AreKeptTo bs test n from rs → AreKeptTo bs test (n + 1) from rs
+one_passes bs test n from rs borders within is i = record {
   upto = let next = (end_of_part bs n borders within).0 in let h = i.upto in omega (arith, next, h);
   before = i.before;
   after = i.after;
-  closed = λ k p own le lt. elim (cases_lt p n) [
-    | inl earlier ↦ i.closed k p own le earlier
-    | inr here ↦ let same : n ≡ p = omega (arith, lt, here) in subst (λ q. is_closed ends q ≡ true) same is_out
+  pass = λ k p own le lt. elim (cases_lt p n) [
+    | inl earlier ↦ i.pass k p own le earlier
+    | inr here ↦ let same : n ≡ p = omega (arith, lt, here) in subst (λ q. test q ≡ true) same is
   ];
 }
 
--- a part that is open
-pub one_open : (bs ends : List ℕ) (n from first end : ℕ) (rs qs : List (ℕ × ℕ)) → AreBorders bs → n < part_count bs → is_closed ends n ≡ false → first ≡ slice_index bs n → end ≡ slice_index bs (n + 1)
-    → ((k : ℕ) → in_ranges qs k ≡ (in_ranges rs k || (nat_le from k && nat_lt k first))) → AreClosedTo bs ends n from rs → AreClosedTo bs ends (n + 1) end qs
-one_open bs ends n from first end rs qs borders within isnt e f more i =
+-- a part that fails
+pub one_fails : (bs : List ℕ) (test : ℕ → Bool) (n from first end : ℕ) (rs qs : List (ℕ × ℕ)) → AreBorders bs → n < part_count bs → test n ≡ false → first ≡ slice_index bs n → end ≡ slice_index bs (n + 1)
+    → ((k : ℕ) → in_ranges qs k ≡ (in_ranges rs k || nat_le from k && nat_lt k first)) → AreKeptTo bs test n from rs → AreKeptTo bs test (n + 1) end qs
+one_fails bs test n from first end rs qs borders within isnt e f more i =
     let upto = i.upto in
     let next = (end_of_part bs n borders within).0 in
     record {
@@ -96,28 +82,28 @@ one_open bs ends n from first end rs qs borders within isnt e f more i =
         | inl low ↦ grind (arith, nat_tests, more k, i.before k p own low, low)
         | inr high ↦ elim (cases_lt k first) [
           | inl inside ↦
-              let is_out = i.closed k p own high (part_before bs k p n borders own (omega (arith, within)) (omega (arith, inside, e))) in
+              let is_out = i.pass k p own high (part_before bs k p n borders own (omega (arith, within)) (omega (arith, inside, e))) in
               grind (arith, nat_tests, more k, i.after k high, high, inside, is_out)
           | inr here ↦
               let one : p < n + 1 = part_before bs k p (n + 1) borders own (omega (arith, within)) (omega (arith, lt, f)) in
               let last : n ≤ p = (elim (cases_lt p n) [ inl earlier ↦ (let h = key_before bs k p n borders own (omega (arith, within)) earlier in absurd (omega (arith, h, here, e))) | inr later ↦ later ]) in
               let same : n ≡ p = omega (arith, one, last) in
-              let open_ = subst (λ q. is_closed ends q ≡ false) same isnt in
-              grind (arith, nat_tests, more k, i.after k high, here, open_)
+              let fails = subst (λ q. test q ≡ false) same isnt in
+              grind (arith, nat_tests, more k, i.after k high, here, fails)
         ]
       ];
       after = λ k le. let high : from ≤ k = omega (arith, le, upto, next, f) in let past : first ≤ k = omega (arith, le, next, e, f) in grind (arith, nat_tests, more k, i.after k high, past);
-      closed = λ k p own le lt. let h = key_before bs k p (n + 1) borders own (omega (arith, within)) lt in absurd (omega (arith, h, le, f));
+      pass = λ k p own le lt. let h = key_before bs k p (n + 1) borders own (omega (arith, within)) lt in absurd (omega (arith, h, le, f));
     }
 
 -- all parts
-pub all_closed : (bs ends : List ℕ) (n from : ℕ) (rs qs : List (ℕ × ℕ)) → AreBorders bs → n ≡ part_count bs → ((k : ℕ) → in_ranges qs k ≡ (in_ranges rs k || (nat_le from k && nat_lt k (2 ^ 56)))) → AreClosedTo bs ends n from rs
-    → (k p : ℕ) → IsPartOf bs k p → k < 2 ^ 56 → in_ranges qs k ≡ is_closed ends p
-all_closed bs ends n from rs qs borders all more i k p own key =
+pub all_kept : (bs : List ℕ) (test : ℕ → Bool) (n from : ℕ) (rs qs : List (ℕ × ℕ)) → AreBorders bs → part_count bs ≤ n → ((k : ℕ) → in_ranges qs k ≡ (in_ranges rs k || nat_le from k && nat_lt k (2 ^ 56))) → AreKeptTo bs test n from rs
+    → (k p : ℕ) → IsPartOf bs k p → k < 2 ^ 56 → in_ranges qs k ≡ test p
+all_kept bs test n from rs qs borders all more i k p own key =
     let within = own.within in
     elim (cases_lt k from) [
       | inl low ↦ grind (arith, nat_tests, more k, i.before k p own low, low)
-      | inr high ↦ let is_out = i.closed k p own high (omega (arith, within, all)) in grind (arith, nat_tests, more k, i.after k high, high, key, is_out)
+      | inr high ↦ let is = i.pass k p own high (omega (arith, within, all)) in grind (arith, nat_tests, more k, i.after k high, high, key, is)
     ]
 
 -- ---- what isn't ruled out is open
@@ -126,7 +112,7 @@ ended : (es : List Entry) (i u n : ℕ) → IsEnd es i u n → nat_eq n 0 ≡ is
 ended es i u zero end = sym end
 ended es i u (suc j) end = let lt = end.0 in sym (open_to_end es i u (suc j) i end (omega arith) ∙ grind (arith, nat_tests, lt))
 
-pub outside_open : (bs : List ℕ) (es : List Entry) (i : ℕ) (w : Walk) (rs : List (ℕ × ℕ)) → AreBorders bs → IsWalkAt bs es i w → ((k p : ℕ) → IsPartOf bs k p → k < 2 ^ 56 → in_ranges rs k ≡ is_closed w.ends.items p) → SameUids (is_outside rs) (is_open (slots_before es i))
+pub outside_open : (bs : List ℕ) (es : List Entry) (i : ℕ) (w : Walk) (rs : List (ℕ × ℕ)) → AreBorders bs → IsWalkAt bs es i w → ((k p : ℕ) → IsPartOf bs k p → k < 2 ^ 56 → in_ranges rs k ≡ not (slice_index w.ends.items p == 0)) → SameUids (is_outside rs) (is_open (slots_before es i))
 outside_open bs es i w rs borders walk closed u is =
     let key = mirror_below 56 u in
     let own = part_of_key bs (mirror u) borders key in

@@ -1,12 +1,12 @@
-//! The keys of the parts that a walk has ruled out.
+//! The keys of some of the parts, as ranges.
 
-ghost use Rattle.std.specs.Prelude.{◌≡◌, ℕ, ◌+◌, ◌^◌, ◌≤◌, ◌&&◌, ◌||◌, List, IfOk, OnOk, nat_le, nat_lt};
+ghost use Rattle.std.specs.Prelude.{◌≡◌, ◌==◌, ℕ, ◌+◌, ◌^◌, ◌<◌, ◌≤◌, ◌&&◌, ◌||◌, not, List, IfOk, OnOk, length, nat_le, nat_lt, slice_index};
 ghost use Rattle.vic_frame.specs.declared.uid.TheConstants.{UID_BITS};
 ghost use Rattle.vic_log.specs.declared.entry.Entry.{Entry as EntryValue};
 ghost use Rattle.vic_log.specs.Slots.{is_open, slots_before};
 ghost use Rattle.vic_tree.specs.OpenSet.{SameUids};
 ghost use Rattle.vic_tree.specs.Ranges.{AreRanges, in_ranges, is_outside};
-ghost use Rattle.vic_walk.specs.Borders.{part_count};
+ghost use Rattle.vic_walk.specs.Borders.{AreBorders, IsPartOf, part_count};
 ghost use Rattle.vic_walk.specs.Walk.{HasRoom, IsWalkAt};
 ghost use Rattle.vic_walk.specs.inner.RangesTo.{AreRangesTo};
 
@@ -16,9 +16,9 @@ use std::alloc::{AllocError, Global};
 use vic_frame::UID_BITS;
 use vic_tree::KeyRange;
 
-/// The keys of the parts that a walk has ruled out, as ranges in rising order with a key between
-/// any two: the UIDs outside of them are those that the entries so far leave open. To be called
-/// before `open_answers`, which changes the walk.
+/// The keys of the parts that a walk has ruled out, as `other_keys` has them: the UIDs outside of
+/// them are those that the entries so far leave open. To be called before `open_answers`, which
+/// changes the walk.
 pub fn closed_keys(alloc: Global, parts: &Parts, walk: &Walk) -> Result<Vec<KeyRange>, AllocError>
     requires { HasRoom (part_count parts.now) walk.now }
     ensures ranges { IfOk result (λ closed. AreRanges closed.items) }
@@ -26,17 +26,35 @@ pub fn closed_keys(alloc: Global, parts: &Parts, walk: &Walk) -> Result<Vec<KeyR
         → IsWalkAt parts.now es i walk.now
         → SameUids (is_outside closed.items) (is_open (slots_before es i))) }
 {
-    let mut closed = Vec::new(alloc);
-    // the keys from this one up to the part looked at are ruled out, and not in `closed` yet
+    other_keys(alloc, parts, &walk.ends, 0)
+}
+
+/// The keys of the parts that have another value than a given one, as ranges in rising order with a
+/// key between any two.
+pub fn other_keys(
+    alloc: Global,
+    parts: &Parts,
+    values: &[u32],
+    value: u32,
+) -> Result<Vec<KeyRange>, AllocError>
+    requires { length values.now ≡ part_count parts.now }
+    ensures ranges { IfOk result (λ others. AreRanges others.items) }
+    ensures keys { IfOk result (λ others. (k p : ℕ) → IsPartOf parts.now k p
+        → k < 2 ^ UID_BITS
+        → in_ranges others.items k ≡ not (slice_index values.now p == value)) }
+    ensures borders { AreBorders parts.now }
+{
+    let mut others = Vec::new(alloc);
+    // the keys from this one up to the part looked at have another, and aren't in `others` yet
     let mut from = 0;
     for part in 0..parts.count() {
-        if walk.ends[part] == 0 {
-            push_keys(&mut closed, from, parts.first(part))?;
-            from = parts.end(part);
+        if values[part] == value {
+            push_keys(&mut others, from, parts.first_key(part))?;
+            from = parts.end_key(part);
         }
     }
-    push_keys(&mut closed, from, 1 << UID_BITS)?;
-    Ok(closed)
+    push_keys(&mut others, from, 1 << UID_BITS)?;
+    Ok(others)
 }
 
 /// Adds the keys from one on and below another, if there are any, as one range.
