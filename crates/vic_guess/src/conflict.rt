@@ -13,18 +13,19 @@ use vic_walk::{Answering, LogLines, LogWalk, Parts, Span, open_answers, walk_log
 pub fn guess_conflict(alloc: Global, log: &LogLines) -> Result<Vec<u32>, AllocError> {
     let LogWalk {
         cut,
-        mut walk,
+        open,
+        ends,
         broken,
     } = walk_log(alloc, log)?;
     let lines = log.as_slice();
     let steps = steps_of(alloc, lines, &cut)?;
     let mut numbers = match broken {
-        Some(_) => match other_line(lines, &steps, &walk.ends) {
+        Some(_) => match other_line(lines, &steps, &ends) {
             Some(other) => vec![in alloc; other]?,
             None => Vec::new(alloc),
         },
         None => {
-            let found = open_answers(alloc, log, &cut, &mut walk)?;
+            let found = open_answers(alloc, log, &cut, open)?;
             lines_of_lack(alloc, lines, &steps, &cut.parts, &found)?
         }
     };
@@ -42,7 +43,7 @@ fn other_line(lines: &[PackedLine], steps: &[Step], ends: &[u32]) -> Option<u32>
         Step::Quiet(_) | Step::Wake | Step::Unread(..) => return None,
     };
     if lines.last()?.item().heard().is_some() {
-        if own < span.from || span.to <= own {
+        if !span.has(own) {
             return None;
         }
         let end = *ends.get(own)? as usize;

@@ -93,7 +93,7 @@ impl Tally {
             && not (is_marked self.old.quiet own))) self.old self.new }
     {
         self.counts.raise(span);
-        if span.from <= own && own < span.to && !self.quiet.has(own) {
+        if span.has(own) && !self.quiet.has(own) {
             self.rest[own] += 1;
         }
     }

@@ -6,10 +6,9 @@ use Rattle.vic_verdict.specs.Verdict.{IsLeast}
 use Rattle.vic_walk.proofs.Ending.{open_earlier}
 use Rattle.vic_frame.specs.LowBitsFirst.{mirror}
 use Rattle.vic_walk.specs.Borders.{IsPartOf}
-use Rattle.vic_walk.specs.Walk.{IsEnd, IsEndOfWalk, IsWalkAt, IsLogWalk}
-use Rattle.vic_walk.specs.declared.walk.LogWalk.{LogWalk}
+use Rattle.vic_walk.specs.Walk.{AreEndsAt, IsEnd, IsEndOfWalk, IsLogWalk}
+use Rattle.vic_walk.specs.declared.log_walk.LogWalk.{LogWalk}
 use Rattle.std.specs.Prelude.{slice_index}
-use Rattle.vic_walk.specs.declared.walk.Walk.{Walk}
 
 -- the entry of a line
 line_at : (lines : List LogLine) (i : ℕ) (l : LogLine) → slice_get lines i ≡ Some l → slice_get (entries lines) i ≡ Some l.item
@@ -26,18 +25,21 @@ rising_numbers n (y ∷ lines) (suc i) zero l x r le g h = absurd (omega (arith,
 rising_numbers n (y ∷ lines) (suc i) (suc j) l x r le g h = rising_numbers y.number lines i j l x r.1 (omega (arith, le)) g h
 
 -- a walk over a possible log comes to its end
-pub comes_to_end : (bs : List ℕ) (es : List Entry) (broken : Option ℕ) (w : Walk) → IsPossible es → IsEndOfWalk bs es broken w → IsWalkAt bs es (length es) w
-comes_to_end bs es None w possible end = end.0
-comes_to_end bs es (Some i) w possible end =
-    absurd (broken_log bs es (Some i) w end refl possible)
+comes_to_end : (bs : List ℕ) (es : List Entry) (w : LogWalk) (broken : Option ℕ) → IsPossible es → IsEndOfWalk bs es w broken → AreEndsAt bs es (length es) w.ends.items
+comes_to_end bs es w None possible end = end.1
+comes_to_end bs es w (Some i) possible end =
+    absurd (broken_log bs es w (Some i) end refl possible)
+
+pub ends_of : (es : List Entry) (w : LogWalk) → IsPossible es → IsLogWalk es w → AreEndsAt w.cut.parts es (length es) w.ends.items
+ends_of es w possible over = comes_to_end w.cut.parts es w w.broken possible over.walk
 
 -- and knows the end of each UID by that of its part
-known_end : (es : List Entry) (w : LogWalk) (u p key end : ℕ) → IsPossible es → IsLogWalk es w → IsUid u → key ≡ mirror u → IsPartOf w.cut.parts key p → end ≡ get_or w.walk.ends.items p end → IsEnd es (length es) u end
+known_end : (es : List Entry) (w : LogWalk) (u p key end : ℕ) → IsPossible es → IsLogWalk es w → IsUid u → key ≡ mirror u → IsPartOf w.cut.parts key p → end ≡ get_or w.ends.items p end → IsEnd es (length es) u end
 known_end es w u p key end possible over is k part read =
-    let at = comes_to_end w.cut.parts es w.broken w.walk possible over.walk in
+    let at = ends_of es w possible over in
     let inside = part.within in
-    let same : slice_index w.walk.ends.items p ≡ end = get_or_default w.walk.ends.items p 0 end (omega (arith, inside, at.room.ends)) ∙ sym read in
-    subst (IsEnd es (length es) u) same (at.known u p is (subst (λ x. IsPartOf w.cut.parts x p) k part)).end
+    let same : slice_index w.ends.items p ≡ end = get_or_default w.ends.items p 0 end (omega (arith, inside, at.room)) ∙ sym read in
+    subst (IsEnd es (length es) u) same (at.each u p is (subst (λ x. IsPartOf w.cut.parts x p) k part))
 
 -- a UID that isn't open has an end
 has_end : (es : List Entry) (n u end : ℕ) → IsEnd es n u end → is_open (slots_before es n) u ≡ false → (0 < end) × (end ≤ n)
@@ -45,7 +47,7 @@ has_end es n u zero h shut = absurd (false≢true (sym shut ∙ h))
 has_end es n u (suc j) h shut = let below = h.0 in (omega arith, omega (arith, below))
 
 -- so a walk knows the end of each UID in a list of such
-pub listed_end : (es : List Entry) (w : LogWalk) (us : List ℕ) (i u p key end : ℕ) → IsPossible es → IsLogWalk es w → All (λ v. is_open (slots_before es (length es)) v ≡ false) us → i < length us → u ≡ get_or us i u → IsUid u → key ≡ mirror u → IsPartOf w.cut.parts key p → end ≡ get_or w.walk.ends.items p end
+pub listed_end : (es : List Entry) (w : LogWalk) (us : List ℕ) (i u p key end : ℕ) → IsPossible es → IsLogWalk es w → All (λ v. is_open (slots_before es (length es)) v ≡ false) us → i < length us → u ≡ get_or us i u → IsUid u → key ≡ mirror u → IsPartOf w.cut.parts key p → end ≡ get_or w.ends.items p end
     → IsEnd es (length es) u end × (0 < end) × (end ≤ length es)
 listed_end es w us i u p key end possible over shut lt at is k part read =
     let known = known_end es w u p key end possible over is k part read in

@@ -31,11 +31,11 @@ pub(crate) fn lines_of_absent(
         return Ok(shown);
     }
     let lines = log.lines();
-    let LogWalk { cut, walk, .. } = walk_log(alloc, &LogLines::of(log))?;
+    let LogWalk { cut, ends, .. } = walk_log(alloc, &LogLines::of(log))?;
     let indexed = cut.parts.indexed(alloc)?;
     for uid in absent {
         // not 0, since the UID isn't open
-        let end = walk.ends[indexed.at(key(*uid))] as usize;
+        let end = ends[indexed.at(key(*uid))] as usize;
         let line = lines[end - 1].number();
         shown.push(ShownUid { uid: *uid, line })?;
     }

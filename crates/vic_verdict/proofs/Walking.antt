@@ -1,11 +1,11 @@
 -- What a walk over a log tells: how far the log is possible, and what meets its unread slots.
-use Rattle.vic_verdict.proofs.Words.{◌≡◌, ℕ, zero, suc, ◌+◌, ◌<◌, ◌≤◌, ◌∙◌, List, [], ◌∷◌, length, take, drop, get_or, Bool, true, false, Option, Some, None, refl, sym, ap, subst, arith, inl, inr, ⊎_elim, common_steps, gets, length-take-le, slice_get, slice_get_past, sum_by, sum_by-cons, All, cases_eq, cases_lt, and_from, and_parts, or_cases, or_left, or_right, eq-eqb, eqb-true, false_from_ne_true, false≢true, has, has_cases, AreDifferent, IsWithin, Reply, Entry, Heard, Captured, ◌&&◌, Collision, Garbled, AgreeBefore, answers_agree, answers_at, reading_of, slots_before, slots_of, is_open, with_entry, SuppliesAll, Answering, HasEnough, answering, IsPossible, IsFirstImpossible, AreFound, AreAnswering, IsAnsweringAt, is_unread, AreBorneOut, was_heard, hears, needs, needs_at, needs_of, all_needs}
-use Rattle.std.proofs.Common.{is_some}
+use Rattle.vic_verdict.proofs.Words.{◌≡◌, ℕ, zero, suc, ◌+◌, ◌<◌, ◌≤◌, ◌∙◌, List, [], ◌∷◌, length, take, drop, get_or, Bool, true, false, Option, Some, None, refl, sym, ap, subst, arith, nat_tests, inl, inr, ⊎_elim, common_steps, gets, length-take-le, slice_get, slice_get_past, sum_by, sum_by-cons, All, cases_eq, cases_lt, and_from, and_parts, or_cases, or_left, or_right, eq-eqb, eqb-true, false_from_ne_true, false≢true, has, has_cases, AreDifferent, IsWithin, Reply, Entry, Heard, Captured, ◌&&◌, Collision, Garbled, AgreeBefore, answers_agree, answers_at, reading_of, slots_before, slots_of, is_open, with_entry, SuppliesAll, Answering, HasEnough, answering, IsPossible, IsFirstImpossible, AreFound, AreAnswering, IsAnsweringAt, is_unread, AreBorneOut, was_heard, hears, needs, needs_at, needs_of, all_needs}
+use Rattle.std.proofs.Common.{is_some, ltb-true}
 use Rattle.std.proofs.lemmas.List.{take-append-drop, take_all}
 use Rattle.std.specs.List.{AllPairs}
-use Rattle.vic_walk.specs.Met.{AreMetBefore, HasEndsPast, IsMetAt, answers_open}
-use Rattle.vic_walk.specs.Walk.{IsEndOfWalk, IsWalkAt}
-use Rattle.vic_walk.specs.declared.walk.Walk.{Walk}
+use Rattle.vic_walk.specs.Met.{AreMetBefore, IsMetAt, answers_open}
+use Rattle.vic_walk.specs.Walk.{IsEndOfWalk}
+use Rattle.vic_walk.specs.declared.log_walk.LogWalk.{LogWalk}
 use Rattle.vic_walk.proofs.Ending.{open_earlier}
 use Rattle.vic_walk.proofs.GoingBack.{met_only_by}
 use Rattle.vic_verdict.proofs.Decide.{IsPossible-iff}
@@ -82,29 +82,19 @@ borne_out es n le possible = record {
   both j u below h = and_parts (is_open (slots_before es n) u) (answers_at es j u) (hears_asks (slice_get es j) u (λ v. is_open (slots_before es n) v && answers_at es j v) h (λ e k. (front_iff es n le).0 possible j e below k))
 
 -- at the end of a log that isn't broken they are
-pub walked : (bs : List ℕ) (es : List Entry) (broken : Option ℕ) (w : Walk) → IsEndOfWalk bs es broken w → ((i : ℕ) → broken ≡ Some i → ⊥) → IsWalkAt bs es (length es) w × AreBorneOut es (length es)
-walked bs es None w end none = end
-walked bs es (Some i) w end none = absurd (none i refl)
+pub walked : (bs : List ℕ) (es : List Entry) (w : LogWalk) (broken : Option ℕ) → IsEndOfWalk bs es w broken → ((i : ℕ) → broken ≡ Some i → ⊥) → IsEndOfWalk bs es w None
+walked bs es w None end none = end
+walked bs es w (Some i) end none = absurd (none i refl)
 
-pub unbroken : (bs : List ℕ) (es : List Entry) (broken : Option ℕ) (w : Walk) → IsEndOfWalk bs es broken w → is_some broken ≡ false → IsWalkAt bs es (length es) w × AreBorneOut es (length es)
-unbroken bs es broken w end none = walked bs es broken w end (λ i some. false≢true (sym none ∙ ap is_some some))
+pub unbroken : (bs : List ℕ) (es : List Entry) (w : LogWalk) (broken : Option ℕ) → IsEndOfWalk bs es w broken → is_some broken ≡ false → IsEndOfWalk bs es w None
+unbroken bs es w broken end none = walked bs es w broken end (λ i some. false≢true (sym none ∙ ap is_some some))
 
 -- and a log that is broken isn't possible
-pub broken_log : (bs : List ℕ) (es : List Entry) (broken : Option ℕ) (w : Walk) → IsEndOfWalk bs es broken w → is_some broken ≡ true → IsPossible es → ⊥
-broken_log bs es None w end some possible = false≢true some
-broken_log bs es (Some i) w end some possible =
+pub broken_log : (bs : List ℕ) (es : List Entry) (w : LogWalk) (broken : Option ℕ) → IsEndOfWalk bs es w broken → is_some broken ≡ true → IsPossible es → ⊥
+broken_log bs es w None end some possible = false≢true some
+broken_log bs es w (Some i) end some possible =
     let front = IsPossible-front (take (suc i) es) (drop (suc i) es) (subst IsPossible (sym (take-append-drop (suc i) es)) possible) in
     end.3 (borne_out es (suc i) (omega (arith, end.0)) front)
-
--- the ends that a walk knows, which are those of a walk with the same ends
-pub ends_past : (bs : List ℕ) (es : List Entry) (n i : ℕ) (w v : Walk) → n ≤ i → i ≤ length es → v.ends.items ≡ w.ends.items → IsWalkAt bs es i w → HasEndsPast bs es n v
-ends_past bs es n i w v far within same h = record {
-  position = i;
-  far = far;
-  within = within;
-  room = rw same h.room.ends;
-  ends = λ u p is at. rw same (h.known u p is at).end;
-}
 
 -- ---- which slots are met
 
@@ -171,15 +161,10 @@ first_unmet es n m long borne unmet le met lack =
 -- ---- what meets the unread slots
 
 pub unread_needs : (o : Option Entry) → is_unread o ≡ true → 0 < needs_of o
-unread_needs (Some Collision) h = omega arith
-unread_needs (Some Garbled) h = omega arith
-unread_needs (Some e) h = absurd (false≢true h)
-unread_needs None h = absurd (false≢true h)
+unread_needs o h = ltb-true 0 (needs_of o) h
 
 needs_unread : (o : Option Entry) → 0 < needs_of o → is_unread o ≡ true
-needs_unread (Some Collision) lt = refl
-needs_unread (Some Garbled) lt = refl
-needs_unread o lt = absurd (omega (arith, lt))
+needs_unread o some = grind (arith, nat_tests, some)
 
 needed_within : (es : List Entry) (i : ℕ) → 0 < needs_at es i → i < length es
 needed_within es i some = elim (cases_lt i (length es)) [

@@ -109,21 +109,22 @@ fn open_and_met<S: OpenSet>(
 {
     let LogWalk {
         cut,
-        mut walk,
+        open,
+        ends,
         broken,
     } = walk_log(alloc, lines)?;
     if let Some(at) = broken {
         // the replies aren't borne out at `at`; but before that line an unread slot may already
         // lack open UIDs: `first_lack` returns the first position at which one does, or `at`
-        return Ok(Err(first_lack(alloc, lines, &cut, &walk, at)?));
+        return Ok(Err(first_lack(alloc, lines, &cut, &ends, at)?));
     }
-    let closed = closed_keys(alloc, &cut.parts, &walk)?;
+    let closed = closed_keys(alloc, &cut.parts, &ends)?;
     let set = S::without(alloc, closed)?;
-    let unread = open_answers(alloc, lines, &cut, &mut walk)?;
+    let unread = open_answers(alloc, lines, &cut, open)?;
     if !are_met(&unread) {
         // after all lines an unread slot lacks open UIDs: `first_lack` returns the first position
         // at which one does
-        return Ok(Err(first_lack(alloc, lines, &cut, &walk, lines.len())?));
+        return Ok(Err(first_lack(alloc, lines, &cut, &ends, lines.len())?));
     }
     let heard = heard_uids(alloc, lines)?;
     Ok(Ok((set, Met { heard, unread }, cut)))
@@ -135,13 +136,14 @@ pub fn is_possible(alloc: Global, lines: &LogLines) -> Result<bool, AllocError>
 {
     let LogWalk {
         cut,
-        mut walk,
+        open,
         broken,
+        ..
     } = walk_log(alloc, lines)?;
     if broken.is_some() {
         return Ok(false);
     }
-    let unread = open_answers(alloc, lines, &cut, &mut walk)?;
+    let unread = open_answers(alloc, lines, &cut, open)?;
     Ok(are_met(&unread))
 }
 

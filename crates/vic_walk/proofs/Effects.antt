@@ -12,22 +12,22 @@ use Rattle.vic_walk.proofs.PartLaws.{key_of_part, one_part, part_of_key}
 
 pub walk_starts : (bs : List ℕ) (es : List Entry) (n : ℕ) (w : Walk) → part_count bs ≡ n → w.open.ready ≡ replicate n true → ((p : ℕ) → has w.open.quiet.items p ≡ false) → w.ends.items ≡ replicate n 0 → w.heard ≡ replicate n false → IsWalkAt bs es 0 w
 walk_starts bs es n w count ready quiet ends heard = record {
-  room = record {
-    ready = rw ready (length-replicate n true ∙ sym count);
-    heard = rw heard (length-replicate n false ∙ sym count);
-    ends = rw ends (length-replicate n 0 ∙ sym count);
-    quiet = λ p listed. absurd (false≢true (sym (quiet p) ∙ listed));
+  states = record {
+    room = rw ready (length-replicate n true ∙ sym count);
+    ready = λ u p is at. rw (ready, first u is) (get_or-replicate n p true false (below at.within));
+    quiet = λ u p is at. rw (quiet p, first u is) refl;
   };
-  known = λ u p is at.
-      let below : p < n = omega (arith, at.within, count) in
-      let first : is_open (slots_before es 0) u ≡ true = rw (is_uid_from u is) refl in
-      record {
-        ready = rw (ready, first) (get_or-replicate n p true false below);
-        quiet = rw (quiet p, first) refl;
-        end = rw (ends, get_or-replicate {A = ℕ} n p 0 0 below) first;
-        heard = rw heard (get_or-replicate n p false false below);
-      };
-}
+  ends = record {
+    room = rw ends (length-replicate n 0 ∙ sym count);
+    each = λ u p is at. rw (ends, get_or-replicate {A = ℕ} n p 0 0 (below at.within)) (first u is);
+  };
+  heard = λ u p is at. rw heard (get_or-replicate n p false false (below at.within));
+} where
+  below : {p : ℕ} → p < part_count bs → p < n
+  below within = omega (arith, within, count)
+
+  first : (u : ℕ) → IsUid u → is_open (slots_before es 0) u ≡ true
+  first u is = rw (is_uid_from u is) refl
 
 -- ---- the end of a UID
 
@@ -40,14 +40,6 @@ pub end_here : (es : List Entry) (i u : ℕ) → is_open (slots_before es i) u �
 end_here es i u before after = rw add-one (omega arith, before, after)
 
 -- ---- who is Ready
-
--- what a walk knows of that
-pub ready_of : (bs : List ℕ) (es : List Entry) (i : ℕ) (w : Walk) → IsWalkAt bs es i w → AreStatesAt bs es (is_open (slots_before es i)) i w.open
-ready_of bs es i w h = record {
-  room = h.room.ready;
-  ready = λ u p is at. (h.known u p is at).ready;
-  quiet = λ u p is at. (h.known u p is at).quiet;
-}
 
 quiet_same : (es : List Entry) (i : ℕ) (e : Entry) (u : ℕ) → slice_get es i ≡ Some e → silences (Some e) u ≡ false → wakes (Some e) ≡ false → is_quiet es (suc i) u ≡ is_quiet es i u
 quiet_same es i e u k silent awake = rw (quiet_step es i e u k, silent, awake) refl
@@ -133,22 +125,18 @@ heard_none es i e u k none = rw k (none true u).1
 pub walk_unread : (bs : List ℕ) (es : List Entry) (i : ℕ) (e : Entry) (old new : Walk) → slice_get es i ≡ Some e → ReadsNone e → AreStatesAt bs es (is_open (slots_before es i)) (i + 1) new.open → new.heard ≡ old.heard → new.ends.items ≡ old.ends.items → IsWalkAt bs es i old → IsWalkAt bs es (i + 1) new
 walk_unread bs es i e old new k none ready heard ends h =
     let later : AreStatesAt bs es (is_open (slots_before es i)) (suc i) new.open = rw (← add-one) ready in
+    let same = λ (u : ℕ). open_none es i e u k none in
     rw add-one (record {
-      room = record {
-        ready = later.room;
-        heard = rw heard h.room.heard;
-        ends = rw ends h.room.ends;
-        quiet = λ p it. let within = new.open.listed p it in let room = later.room in omega (arith, within, room);
+      states = record {
+        room = later.room;
+        ready = λ u p is at. rw (same u) (later.ready u p is at);
+        quiet = λ u p is at. rw (same u) (later.quiet u p is at);
       };
-      known = λ u p is at.
-          let before = h.known u p is at in
-          let same = open_none es i e u k none in
-          record {
-            ready = rw same (later.ready u p is at);
-            quiet = rw same (later.quiet u p is at);
-            end = rw ends (end_kept es i u _ same before.end);
-            heard = rw (heard, heard_none es i e u k none) before.heard;
-          };
+      ends = record {
+        room = rw ends h.ends.room;
+        each = λ u p is at. rw ends (end_kept es i u _ (same u) (h.ends.each u p is at));
+      };
+      heard = λ u p is at. rw (heard, heard_none es i e u k none) (h.heard u p is at);
     })
 
 -- an entry that does nothing to UIDs
@@ -170,7 +158,7 @@ pub nothing_listed : (v : ℕ) → DoesNothing (Listed v)
 nothing_listed v = record { reads = λ a u. (refl, refl); silent = λ u. refl; awake = refl }
 
 pub walk_idle : (bs : List ℕ) (es : List Entry) (i : ℕ) (e : Entry) (w : Walk) → slice_get es i ≡ Some e → DoesNothing e → IsWalkAt bs es i w → IsWalkAt bs es (i + 1) w
-walk_idle bs es i e w k n h = walk_unread bs es i e w w k n.reads (ready_still bs es _ i e w.open k (λ u is. n.silent u) n.awake (ready_of bs es i w h)) refl refl h
+walk_idle bs es i e w k n h = walk_unread bs es i e w w k n.reads (ready_still bs es _ i e w.open k (λ u is. n.silent u) n.awake h.states) refl refl h
 
 pub sent_none : (q : Request) → ReadsNone (Sent q)
 sent_none q a u = (refl, refl)
@@ -235,21 +223,16 @@ end_read es i u n m o q r before after is h = elim (cases_Bool ((o && not q) && 
 
 pub walk_read : (bs : List ℕ) (es : List Entry) (i : ℕ) (out : ℕ → Bool) (old new : Walk) → RulesOut bs es i out → IsRuledOut old new out (i + 1) → ((u p : ℕ) → IsUid u → IsPartOf bs (mirror u) p → is_marked new.heard p ≡ (hears (slice_get es i) u || is_marked old.heard p)) → IsWalkAt bs es i old → IsWalkAt bs es (i + 1) new
 walk_read bs es i out old new rules ruled heard h = rw add-one (record {
-  room = record {
-    ready = ruled.room ∙ h.room.ready;
-    heard = new.heard_room ∙ ruled.room ∙ h.room.ready;
-    ends = new.ends_room ∙ ruled.room ∙ h.room.ready;
-    quiet = λ p listed. h.room.quiet p (rw ruled.quiet at listed);
+  states = record {
+    room = ruled.room ∙ h.states.room;
+    ready = λ u p is at. rw (rules.openness u p is at, rules.quietness u, ruled.ready p, h.states.ready u p is at) (read_marks (is_open (slots_before es i) u) (is_quiet es i u) (out p));
+    quiet = λ u p is at. rw (rules.openness u p is at, rules.quietness u, ruled.quiet, h.states.quiet u p is at) (read_list (is_open (slots_before es i) u) (is_quiet es i u) (out p));
   };
-  known = λ u p is at.
-      let before = h.known u p is at in
-      let after = rules.openness u p is at in
-      record {
-        ready = rw (after, rules.quietness u, ruled.ready p, before.ready) (read_marks (is_open (slots_before es i) u) (is_quiet es i u) (out p));
-        quiet = rw (after, rules.quietness u, ruled.quiet, before.quiet) (read_list (is_open (slots_before es i) u) (is_quiet es i u) (out p));
-        end = end_read es i u _ _ (is_open (slots_before es i) u) (is_quiet es i u) (out p) refl after (ruled.ends p ∙ rw before.ready refl) before.end;
-        heard = rw (heard u p is at, before.heard) refl;
-      };
+  ends = record {
+    room = new.ends_room ∙ ruled.room ∙ h.states.room;
+    each = λ u p is at. end_read es i u _ _ (is_open (slots_before es i) u) (is_quiet es i u) (out p) refl (rules.openness u p is at) (ruled.ends p ∙ rw (h.states.ready u p is at) refl) (h.ends.each u p is at);
+  };
+  heard = λ u p is at. rw (heard u p is at, h.heard u p is at) refl;
 })
 
 -- ---- the entry was a silent slot, or heard a UID
@@ -338,9 +321,8 @@ lost_not_borne bs es i out w rules borders h within lost b =
     let u = uid_of k in
     let is : IsUid u = is_uid k in
     let at : IsPartOf bs (mirror u) p = rw (mirror_of_uid k there.1) there.0 in
-    let known = h.known u p is at in
-    let heard : was_heard es (suc i) u ≡ true = or_right _ _ (sym known.heard ∙ lost.3) in
-    let lasts = and_parts _ _ (sym known.ready ∙ lost.2) in
+    let heard : was_heard es (suc i) u ≡ true = or_right _ _ (sym (h.heard u p is at) ∙ lost.3) in
+    let lasts = and_parts _ _ (sym (h.states.ready u p is at) ∙ lost.2) in
     let out_now : is_open (slots_before es (suc i)) u ≡ false = rules.openness u p is at ∙ gone (is_open (slots_before es i) u) (is_quiet es i u) (out p) lost.1 lasts.0 lasts.1 in
     false≢true (sym out_now ∙ b.openness u heard)
 
@@ -351,10 +333,9 @@ heard_still_open bs es i u out w rules borders h none b heard =
     let is : IsUid u = IsUid-from u (and_parts _ _ o).0 in
     let part = part_of_key bs (mirror u) borders (mirror_below 56 u) in
     let p = part.0 in
-    let known = h.known u p is part.1 in
     let kept : (out p && not (is_quiet es i u)) ≡ false = false_from_ne_true _ (λ it.
     let both = and_parts _ _ it in
-    none (p, both.0, known.ready ∙ and_from _ _ o both.1, known.heard ∙ heard)) in
+    none (p, both.0, h.states.ready u p is part.1 ∙ and_from _ _ o both.1, h.heard u p is part.1 ∙ heard)) in
     rules.openness u p is part.1 ∙ rw (o, kept) refl
 
 pub borne_silent : (bs : List ℕ) (es : List Entry) (i : ℕ) (s : Span) (w : Walk) (lost : Bool) → slice_get es i ≡ Some Silent → IsSpanAt bs es i s → s.to ≤ part_count bs → AreBorders bs → IsWalkAt bs es i w → (lost ≡ true) ↔ LosesHeard w (is_within s) → AreBorneOut es i → (not lost ≡ true) ↔ AreBorneOut es (i + 1)
@@ -382,12 +363,12 @@ within_count bs s p within in_span = omega (arith, ltb-true p s.to (and_parts _ 
 -- a UID was read, and the parts for which the test holds are ruled out, of which its own is none
 borne_reply : (bs : List ℕ) (es : List Entry) (i v own : ℕ) (s : Span) (out : ℕ → Bool) (w : Walk) (fine : Bool) → HearsOnly (slice_get es i) v → RulesOut bs es i out → out own ≡ false → ((p : ℕ) → out p ≡ true → is_within s p ≡ true) → IsUid v → IsPartOf bs (mirror v) own → IsSpanAt bs es i s → s.to ≤ part_count bs → AreBorders bs → IsWalkAt bs es i w → (fine ≡ true) ↔ ((is_within s own ≡ true) × (is_marked w.open.ready own ≡ true) × (LosesHeard w out → ⊥)) → AreBorneOut es i → (fine ≡ true) ↔ AreBorneOut es (i + 1)
 borne_reply bs es i v own s out w fine only rules mine inside is at span within borders h iff b =
-    let known = h.known v own is at in
+    let known = h.states.ready v own is at in
     let lies = span v own is at in
     rw add-one (
       (λ it.
           let f = iff.0 it in
-          let lasts = and_parts (is_open (slots_before es i) v) (not (is_quiet es i v)) (sym known.ready ∙ f.1) in
+          let lasts = and_parts (is_open (slots_before es i) v) (not (is_quiet es i v)) (sym known ∙ f.1) in
           record {
             answer = λ j u below hear. elim (cases_lt j i) [
               | inl before ↦ b.answer j u before hear
@@ -410,7 +391,7 @@ borne_reply bs es i v own s out w fine only rules mine inside is at span within 
           let open_before = (and_parts _ _ (sym (rules.openness v own is at) ∙ open_after)).0 in
           iff.1 (
             sym lies ∙ answers.0,
-            known.ready ∙ and_from _ _ open_before answers.1,
+            known ∙ and_from _ _ open_before answers.1,
             λ lost. lost_not_borne bs es i out w rules borders h (λ p gone. within_count bs s p within (inside p gone)) lost b',
           )),
     )

@@ -18,7 +18,6 @@ use Rattle.vic_walk.specs.Steps.{IsSpanAt}
 use Rattle.vic_walk.proofs.Ending.{open_earlier}
 use Rattle.vic_walk.proofs.OpenAnswers.{open_by_parts}
 use Rattle.vic_walk.proofs.Ruling.{marked_at, marked_else}
-use Rattle.vic_walk.proofs.Effects.{DoesNothing, ready_still}
 use Rattle.vic_walk.proofs.Words.{if◌then◌else◌, silences, wakes, ◌-◌, get_or, length-set, list_any_more, inl, inr, cases_eq, cases_lt, ◌++◌, slice_set, ◌≡◌, ◌==◌, ℕ, ◌+◌, ◌<◌, ◌≤◌, ◌∷◌, ◌∙◌, ◌&&◌, ◌||◌, not, Bool, true, false, Option, Some, None, List, [], length, refl, sym, ap, and_parts, and_from, or_cases, arith, eqb-true, nat_tests, nat_lt, nat_eq, slice_index, slice_get, Entry, Collision, Garbled, IsPartOf, AreStatesAt, IsUid, IsUid-from, has, is_marked, is_open, is_quiet, mirror, part_count, slots_before}
 
 -- ---- which slots are met
@@ -221,17 +220,6 @@ back_none es i n none = record {
   met = λ below. met_free es n i none;
   lack = λ less. absurd (omega (arith, less));
 }
-
--- an entry that silences no UID, and wakes none
-pub reach_past : (es : List Entry) (i : ℕ) (e : Entry) (r : Reach) → slice_get es i ≡ Some e → ((u : ℕ) → silences (Some e) u ≡ false) → wakes (Some e) ≡ false → IsReachAt es i r → IsReachAt es (i + 1) r
-reach_past es i e r here silent awake h = record {
-  known = h.known;
-  kept = ready_still r.parts.now es _ i e r.kept here (λ u is. silent u) awake h.kept;
-  all = ready_still r.parts.now es _ i e r.all here (λ u is. silent u) awake h.all;
-}
-
-pub reach_still : (es : List Entry) (i : ℕ) (e : Entry) (r : Reach) → slice_get es i ≡ Some e → DoesNothing e → IsReachAt es i r → IsReachAt es (i + 1) r
-reach_still es i e r here nothing h = reach_past es i e r here nothing.silent nothing.awake h
 
 -- ---- before the first entry
 

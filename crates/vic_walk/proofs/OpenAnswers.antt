@@ -7,13 +7,19 @@ use Rattle.std.proofs.Common.{length-append}
 use Rattle.vic_tree.specs.OpenSet.{UpToThree}
 use Rattle.vic_log.specs.Slots.{slots_of}
 use Rattle.vic_walk.specs.Answers.{AreAnswering, IsAnsweringAt, is_open_there, is_unread}
-use Rattle.vic_walk.specs.Needs.{needs_at}
+use Rattle.vic_walk.specs.Needs.{needs, needs_at}
 use Rattle.vic_walk.specs.declared.answers.Answering.{Answering}
 use Rattle.vic_walk.specs.declared.steps.Span.{Span}
 use Rattle.vic_walk.specs.declared.part_states.PartStates.{PartStates}
 use Rattle.vic_walk.specs.inner.PartUids.{AreUidsOf}
 use Rattle.vic_walk.specs.Steps.{IsSpanAt, is_within}
-use Rattle.vic_walk.proofs.Words.{◌≡◌, ℕ, ◌+◌, ◌<◌, ◌≤◌, ◌++◌, ◌∷◌, ◌∙◌, ◌&&◌, not, Bool, true, false, List, [], inl, inr, refl, sym, and_parts, arith, cases_lt, false≢true, slice_get, Entry, IsPartOf, AreStatesAt, IsUid, IsUid-from, answers_at, is_marked, is_open, is_quiet, mirror}
+use Rattle.vic_walk.proofs.Words.{◌≡◌, ℕ, ◌+◌, ◌<◌, ◌≤◌, ◌++◌, ◌∷◌, ◌∙◌, ◌&&◌, not, Bool, true, false, List, [], inl, inr, refl, sym, and_parts, arith, cases_lt, false≢true, slice_get, Collision, Entry, Garbled, is_slot, IsPartOf, AreStatesAt, IsUid, IsUid-from, answers_at, is_marked, is_open, is_quiet, mirror}
+
+-- a line that requires tags is that of a slot
+pub needing_slot : (e : Entry) → 0 < needs e → is_slot e ≡ true
+needing_slot Collision some = refl
+needing_slot Garbled some = refl
+needing_slot e some = absurd (omega (arith, some))
 
 pub answering_none : (es : List Entry) → AreAnswering es 0 []
 answering_none es = record { rising = λ i j d lt within. absurd (omega (arith, within)); each = All-nil _; all = λ i below. absurd (omega arith) }

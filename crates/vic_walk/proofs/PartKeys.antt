@@ -1,5 +1,5 @@
 -- The keys of the parts that a test passes, found part by part.
-use Rattle.vic_walk.proofs.Words.{◌≡◌, ◌∙◌, ◌==◌, ℕ, zero, suc, ◌+◌, ◌<◌, ◌≤◌, ◌&&◌, ◌||◌, not, [], Bool, true, false, List, arith, nat_tests, refl, sym, subst, cases_lt, inl, inr, nat_eq, nat_le, nat_lt, mirror, mirror_below, slice_index, AreBorders, IsPartOf, part_count, Entry, is_open, slots_before, IsEnd, IsWalkAt}
+use Rattle.vic_walk.proofs.Words.{◌≡◌, ◌∙◌, ◌==◌, ℕ, zero, suc, ◌+◌, ◌<◌, ◌≤◌, ◌&&◌, ◌||◌, not, [], Bool, true, false, List, arith, nat_tests, refl, sym, subst, cases_lt, inl, inr, nat_eq, nat_le, nat_lt, mirror, mirror_below, slice_index, AreBorders, IsPartOf, part_count, Entry, is_open, slots_before, IsEnd}
 use Rattle.std.proofs.Common.{◌^◌, ◌-◌, ◌++◌, ◌∷◌}
 use Rattle.std.proofs.lemmas.List.Elements.{All-nil, All-push, All-weaker}
 use Rattle.vic_tree.proofs.RangeLaws.{ranges_pushed}
@@ -8,7 +8,7 @@ use Rattle.vic_tree.specs.Ranges.{in_ranges, is_outside}
 use Rattle.vic_walk.specs.inner.RangesTo.{AreRangesTo}
 use Rattle.vic_walk.proofs.Ending.{open_to_end}
 use Rattle.vic_walk.proofs.PartLaws.{end_of_part, part_of_key, up_to}
-use Rattle.vic_walk.specs.declared.walk.Walk.{Walk}
+use Rattle.vic_walk.specs.Walk.{AreEndsAt}
 
 -- ---- the ranges lie in order
 
@@ -112,9 +112,9 @@ ended : (es : List Entry) (i u n : ℕ) → IsEnd es i u n → nat_eq n 0 ≡ is
 ended es i u zero end = sym end
 ended es i u (suc j) end = let lt = end.0 in sym (open_to_end es i u (suc j) i end (omega arith) ∙ grind (arith, nat_tests, lt))
 
-pub outside_open : (bs : List ℕ) (es : List Entry) (i : ℕ) (w : Walk) (rs : List (ℕ × ℕ)) → AreBorders bs → IsWalkAt bs es i w → ((k p : ℕ) → IsPartOf bs k p → k < 2 ^ 56 → in_ranges rs k ≡ not (slice_index w.ends.items p == 0)) → SameUids (is_outside rs) (is_open (slots_before es i))
-outside_open bs es i w rs borders walk closed u is =
+pub outside_open : (bs : List ℕ) (es : List Entry) (i : ℕ) (ends : List ℕ) (rs : List (ℕ × ℕ)) → AreBorders bs → AreEndsAt bs es i ends → ((k p : ℕ) → IsPartOf bs k p → k < 2 ^ 56 → in_ranges rs k ≡ not (slice_index ends p == 0)) → SameUids (is_outside rs) (is_open (slots_before es i))
+outside_open bs es i ends rs borders at closed u is =
     let key = mirror_below 56 u in
     let own = part_of_key bs (mirror u) borders key in
-    let end = ended es i u (slice_index w.ends.items own.0) (walk.known u own.0 is own.1).end in
+    let end = ended es i u (slice_index ends own.0) (at.each u own.0 is own.1) in
     grind (arith, nat_tests, closed (mirror u) own.0 own.1 key, end)

@@ -28,5 +28,5 @@ pub use Rattle.vic_log.specs.declared.entry.Entry.TheVariants.{Captured, Collisi
 pub use Rattle.vic_walk.specs.Borders.{AreBorders, IsPartOf, part_count}
 pub use Rattle.vic_walk.specs.Cuts.{AreAlikeAt, AreCut, AreTogether, names}
 pub use Rattle.vic_walk.specs.Marked.{IsFirst, NoneBetween, is_marked}
-pub use Rattle.vic_walk.specs.Walk.{AreBorneOut, IsEnd, IsWalkAt, was_heard}
-pub use Rattle.vic_walk.specs.inner.PartStates.{AreStatesAt}
+pub use Rattle.vic_walk.specs.Walk.{AreBorneOut, AreStatesAt, IsEnd, was_heard}
+pub use Rattle.vic_walk.specs.inner.Walk.{IsWalkAt}

@@ -1,20 +1,16 @@
 -- The open UIDs that answer in the slots in which tags answered and none was read.
-use Rattle.std.specs.Prelude.{◌≡◌, ℕ, ◌<◌, Bool, true, false, ◌&&◌, Option, Some, None, List, slice_get}
+use Rattle.std.specs.Prelude.{◌≡◌, ℕ, ◌<◌, Bool, true, ◌&&◌, Option, List, nat_lt, slice_get}
 use Rattle.std.specs.List.{All, AllPairs, Any}
 use Rattle.vic_tree.specs.OpenSet.{UpToThree}
 use Rattle.vic_log.specs.declared.entry.Entry.{Entry}
-use Rattle.vic_log.specs.declared.entry.Entry.TheVariants.{Collision, Garbled}
 use Rattle.vic_log.specs.Populations.{answers_at}
 use Rattle.vic_log.specs.Slots.{slots_of, is_open}
-use Rattle.vic_walk.specs.Needs.{needs_at}
+use Rattle.vic_walk.specs.Needs.{needs_at, needs_of}
 use Rattle.vic_walk.specs.declared.answers.Answering.{Answering}
 
--- the entry is a slot line that names none of the tags that answered
+-- the entry is a slot line in which tags answered that it doesn't name
 abbrev pub is_unread : Option Entry → Bool
-is_unread (Some Collision) = true
-is_unread (Some Garbled) = true
-is_unread (Some e) = false
-is_unread None = false
+is_unread o = nat_lt 0 (needs_of o)
 
 -- the UID is open, and answers at position i
 abbrev pub is_open_there : List Entry → ℕ → ℕ → Bool

@@ -1,14 +1,11 @@
 -- Which slots are met by the UIDs that are open before a position.
-use Rattle.std.specs.Prelude.{◌≡◌, ℕ, ◌<◌, ◌≤◌, Bool, true, ◌&&◌, List, length, slice_index}
-use Rattle.vic_frame.specs.LowBitsFirst.{mirror}
-use Rattle.vic_frame.specs.Uids.{IsUid, has, AreDifferent}
+use Rattle.std.specs.Prelude.{◌≡◌, ℕ, ◌<◌, ◌≤◌, Bool, true, ◌&&◌, List, length}
+use Rattle.vic_frame.specs.Uids.{has, AreDifferent}
 use Rattle.vic_log.specs.declared.entry.Entry.{Entry}
 use Rattle.vic_log.specs.Populations.{answers_at}
 use Rattle.vic_log.specs.Slots.{slots_before, is_open}
-use Rattle.vic_walk.specs.declared.walk.Walk.{Walk}
 use Rattle.vic_walk.specs.Needs.{needs_at}
-use Rattle.vic_walk.specs.Borders.{IsPartOf, part_count}
-use Rattle.vic_walk.specs.Walk.{IsEnd}
+use Rattle.vic_walk.specs.Walk.{AreEndsAt}
 
 -- the UID is open before position n, and answers at position j
 abbrev pub answers_open : List Entry → ℕ → ℕ → ℕ → Bool
@@ -25,11 +22,9 @@ pub record IsMetAt (es : List Entry) (n j : ℕ) : Type 0 where
 abbrev pub AreMetBefore : List Entry → ℕ → Type 0
 AreMetBefore es n = (j : ℕ) → j < n → IsMetAt es n j
 
--- of each part the walk knows the end before a position, which isn't before n
-pub record HasEndsPast (bs : List ℕ) (es : List Entry) (n : ℕ) (w : Walk) : Type 0 where
+-- these are the ends of the parts before some position from n on
+pub record AreEndsPast (bs : List ℕ) (es : List Entry) (n : ℕ) (ends : List ℕ) : Type 0 where
   pub position : ℕ
   pub far : n ≤ position
   pub within : position ≤ length es
-  pub room : length w.ends.items ≡ part_count bs
-  pub ends : (u p : ℕ) → IsUid u → IsPartOf bs (mirror u) p
-      → IsEnd es position u (slice_index w.ends.items p)
+  pub known : AreEndsAt bs es position ends

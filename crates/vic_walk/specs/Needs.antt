@@ -15,6 +15,7 @@ needs (Sent q) = 0
 needs (Listed u) = 0
 needs FieldCycle = 0
 
+-- the same, 0 where there is no entry
 abbrev pub needs_of : Option Entry → ℕ
 needs_of (Some e) = needs e
 needs_of None = 0

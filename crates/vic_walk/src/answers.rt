@@ -2,7 +2,6 @@
 //! there.
 
 ghost use Rattle.std.specs.Prelude.{◌≡◌, ◌+◌, ◌<◌, ◌≤◌, ℕ, Bool, Some, true, false, List, IfOk, OnOk, length, slice_get};
-ghost use Rattle.vic_frame.specs.Uids.{has};
 ghost use Rattle.vic_log.specs.declared.entry.Entry.{Entry as EntryValue};
 ghost use Rattle.vic_log.specs.Order.{entries};
 ghost use Rattle.vic_log.specs.Slots.{slots_of, is_open};
@@ -10,17 +9,15 @@ ghost use Rattle.vic_walk.specs.Answers.{AreAnswering, is_unread};
 ghost use Rattle.vic_walk.specs.Borders.{part_count};
 ghost use Rattle.vic_walk.specs.Listing.{IsListFrom};
 ghost use Rattle.vic_walk.specs.Steps.{AreLogParts, IsStepBelow, IsEntryAt};
-ghost use Rattle.vic_walk.specs.Walk.{AreOpenParts, HasRoom, IsWalkAt};
-ghost use Rattle.vic_walk.specs.inner.PartStates.{AreStatesAt};
+ghost use Rattle.vic_walk.specs.Walk.{AreStatesAt};
 
 use crate::lines::LogLines;
 use crate::log_parts::LogParts;
-use crate::needs::{is_unread, needs};
+use crate::needs::needs;
 use crate::part_states::PartStates;
 use crate::parts::Parts;
 use crate::steps::Step;
 use crate::three::up_to_three;
-use crate::walk::Walk;
 use arrayvec::ArrayVec;
 use std::alloc::{AllocError, Global};
 use vic_frame::Uid;
@@ -38,8 +35,9 @@ pub struct Answering {
     pub uids: ArrayVec<Uid, 3>,
 }
 
-/// Moves open parts past an entry; notes which open UIDs answer there, if it is an unread slot.
-fn pass_again(
+/// Moves open parts past an entry; first notes which open UIDs answer there, if it is an unread
+/// slot.
+fn pass_and_note(
     open: &mut PartStates,
     found: &mut Vec<Answering>,
     parts: &Parts,
@@ -50,7 +48,7 @@ fn pass_again(
     requires open { part_count parts.now ≡ length open.old.ready }
     requires step { IsStepBelow (part_count parts.now) step }
     ensures room { length open.new.ready ≡ length open.old.ready }
-    ensures ready { OnOk result ((es : List EntryValue) (set : ℕ → Bool)
+    ensures states { OnOk result ((es : List EntryValue) (set : ℕ → Bool)
         → IsEntryAt parts.now es at entry.now step
         → AreStatesAt parts.now es set at open.old
         → AreStatesAt parts.now es set (at + 1) open.new) }
@@ -59,27 +57,13 @@ fn pass_again(
         → AreStatesAt parts.now es (is_open (slots_of es)) at open.old
         → AreAnswering es at found.old.items → AreAnswering es (at + 1) found.new.items) }
 {
-    match *entry {
-        Entry::Sent(request) => {
-            open.pass_request(step, &request)?;
-            Ok(())
-        }
-        Entry::FieldCycle => {
-            open.wake();
-            Ok(())
-        }
-        Entry::Collision | Entry::Garbled => {
-            let uids = up_to_three(parts, &open.ready, step.span());
-            found.push(Answering {
-                at,
-                need: needs(entry),
-                uids,
-            })?;
-            Ok(())
-        }
-        Entry::Silent | Entry::Heard(_) | Entry::Captured(_) | Entry::Unknown | Entry::Listed(_) =>
-            Ok(()),
+    let need = needs(entry);
+    if need > 0 {
+        let uids = up_to_three(parts, &open.ready, step.span());
+        found.push(Answering { at, need, uids })?;
     }
+    open.pass(step, entry)?;
+    Ok(())
 }
 
 /// The position after the last unread slot, 0 if there is none: from there on no slot is unread.
@@ -93,7 +77,7 @@ fn after_unread(lines: &LogLines, list: usize) -> usize
     let mut after = list;
     while after > 0 {
         let entry = lines.entry(after - 1);
-        if is_unread(&entry) {
+        if needs(&entry) > 0 {
             return after;
         }
         after -= 1;
@@ -101,35 +85,28 @@ fn after_unread(lines: &LogLines, list: usize) -> usize
     0
 }
 
-/// For each unread slot of a log, in the order of the log, the open UIDs that answer there. The
-/// walk has come to the end of the log; afterwards its `open.ready` marks exactly the open parts,
-/// Quiet ones too, none is listed in `open.quiet`, and `ends` and `heard` stay as they were.
+/// For each unread slot of a log, in the order of the log, the open UIDs that answer there. `open`
+/// is what is known at the end of the log.
 pub fn open_answers(
     alloc: Global,
     lines: &LogLines,
     cut: &LogParts,
-    walk: &mut Walk,
+    open: PartStates,
 ) -> Result<Vec<Answering>, AllocError>
     requires cut { AreLogParts (entries lines.now) cut.now }
-    requires walk { IsWalkAt cut.now.parts (entries lines.now) (length (entries lines.now))
-        walk.old }
-    ensures found { IfOk result (λ found.
+    requires open { AreStatesAt cut.now.parts (entries lines.now)
+        (is_open (slots_of (entries lines.now))) (length (entries lines.now)) «open» }
+    ensures { IfOk result (λ found.
         AreAnswering (entries lines.now) (length (entries lines.now)) found.items) }
-    ensures parts { OnOk result (AreOpenParts cut.now.parts (entries lines.now)
-        walk.new.open.ready) }
-    ensures quiet { OnOk result ((p : ℕ) → has walk.new.open.quiet.items p ≡ false) }
-    ensures room { OnOk result (HasRoom (part_count cut.now.parts) walk.new) }
-    ensures heard { OnOk result (walk.new.heard ≡ walk.old.heard) }
-    ensures ends { OnOk result (walk.new.ends.items ≡ walk.old.ends.items) }
 {
-    let open = &mut walk.open;
+    let mut open = open;
     // before the first entry no part is Quiet
     open.wake();
     let mut found = Vec::new(alloc);
     for index in 0..after_unread(lines, cut.steps.len()) {
         let entry = lines.entry(index);
-        pass_again(
-            open,
+        pass_and_note(
+            &mut open,
             &mut found,
             &cut.parts,
             cut.steps[index],
@@ -137,9 +114,5 @@ pub fn open_answers(
             &entry,
         )?;
     }
-    // parts that are Quiet at the end are open too
-    open.wake();
-    // lets go of the memory
-    open.quiet = Vec::new(alloc);
     Ok(found)
 }

@@ -7,7 +7,7 @@ ghost use Rattle.vic_log.specs.declared.entry.Entry.{Entry as EntryValue};
 ghost use Rattle.vic_log.specs.Order.{entries};
 ghost use Rattle.vic_walk.specs.Borders.{AreBorders, part_count};
 ghost use Rattle.vic_walk.specs.Marked.{is_marked};
-ghost use Rattle.vic_walk.specs.Met.{AreMetBefore, HasEndsPast};
+ghost use Rattle.vic_walk.specs.Met.{AreEndsPast, AreMetBefore};
 ghost use Rattle.vic_walk.specs.Needs.{needs_at};
 ghost use Rattle.vic_walk.specs.inner.Ends.{AreEndsUpTo, AreRuled, IsBackTo, is_open_before};
 ghost use Rattle.vic_walk.specs.Steps.{AreLogParts, IsStepBelow, IsEntryAt, IsSpanAt};
@@ -20,7 +20,6 @@ use crate::part_states::PartStates;
 use crate::parts::Parts;
 use crate::steps::{Span, Step};
 use crate::three::up_to_three;
-use crate::walk::Walk;
 use std::alloc::{AllocError, Global};
 use vic_log::Entry;
 
@@ -86,30 +85,16 @@ impl<'a> Reach<'a> {
             → IsEntryAt self.old.parts.now es at entry.now step
             → IsReachAt es at self.old → IsReachAt es (at + 1) self.new) }
     {
-        match *entry {
-            Entry::Sent(request) => {
-                self.kept.pass_request(step, &request)?;
-                self.all.pass_request(step, &request)?;
-                Ok(())
-            }
-            Entry::FieldCycle => {
-                self.kept.wake();
-                self.all.wake();
-                Ok(())
-            }
-            Entry::Collision | Entry::Garbled => {
-                self.meet(step.span(), at, needs(entry))?;
-                Ok(())
-            }
-            Entry::Silent
-            | Entry::Heard(_)
-            | Entry::Captured(_)
-            | Entry::Unknown
-            | Entry::Listed(_) => Ok(()),
+        let need = needs(entry);
+        if need > 0 {
+            self.meet(step.span(), at, need)?;
         }
+        self.kept.pass(step, entry)?;
+        self.all.pass(step, entry)?;
+        Ok(())
     }
 
-    /// Goes back until as many UIDs as a slot needs answer there, or else to its own position.
+    /// Goes back until as many UIDs as a slot needs answer there, or to the slot's own position.
     fn meet(&mut self, span: Span, at: usize, need: usize) -> Result<(), AllocError>
         requires { span.to ≤ part_count self.old.parts.now }
         ensures parts { self.new.parts.now ≡ self.old.parts.now }
@@ -128,8 +113,8 @@ impl<'a> Reach<'a> {
         Ok(())
     }
 
-    /// Goes back by one position: the parts that its entry rules out are open again. They are the
-    /// last ones in the order of their ends.
+    /// Goes back by one position: the parts that the entry there rules out are open again. They are
+    /// the last ones in the order of their ends.
     fn step_back(&mut self) -> Result<(), AllocError>
         requires { 0 < self.old.upto }
         ensures parts { self.new.parts.now ≡ self.old.parts.now }
@@ -162,23 +147,23 @@ impl<'a> Reach<'a> {
     }
 }
 
-/// The last position, up to `upto`, before which all unread slots are met by the UIDs that are open
-/// before it: if it isn't `upto`, some unread slot lacks tags with the entry there. The walk has
-/// passed all entries before `upto`.
+/// The position of the first entry with which an unread slot, there or before, lacks tags: `upto` if
+/// none does before it. The unread slots before a position lack none if the UIDs that are open
+/// before it meet them.
 pub fn first_lack(
     alloc: Global,
     lines: &LogLines,
     cut: &LogParts,
-    walk: &Walk,
+    ends: &[u32],
     upto: usize,
 ) -> Result<usize, AllocError>
     requires cut { AreLogParts (entries lines.now) cut.now }
-    requires walk { HasEndsPast cut.now.parts (entries lines.now) upto walk.now }
+    requires ends { AreEndsPast cut.now.parts (entries lines.now) upto ends.now }
     ensures upto { IfOk result (λ m. m ≤ upto) }
     ensures met { IfOk result (λ m. AreMetBefore (entries lines.now) m) }
     ensures lack { IfOk result (λ m. m < upto → AreMetBefore (entries lines.now) (m + 1) → ⊥) }
 {
-    let mut reach = Reach::start(alloc, &cut.parts, &walk.ends, upto)?;
+    let mut reach = Reach::start(alloc, &cut.parts, ends, upto)?;
     for index in 0..cut.steps.len() {
         if reach.upto <= index {
             return Ok(reach.upto);

@@ -1,7 +1,6 @@
 //! How many tags a slot line requires without naming them.
 
-ghost use Rattle.std.specs.Prelude.{◌≡◌, Some};
-ghost use Rattle.vic_walk.specs.Answers.{is_unread};
+ghost use Rattle.std.specs.Prelude.{◌≡◌};
 ghost use Rattle.vic_walk.specs.Needs.{needs};
 
 use vic_log::Entry;
@@ -20,21 +19,5 @@ pub(crate) fn needs(entry: &Entry) -> usize
         | Entry::Unknown
         | Entry::Listed(_)
         | Entry::FieldCycle => 0,
-    }
-}
-
-/// Whether an entry is an unread slot.
-pub(crate) fn is_unread(entry: &Entry) -> bool
-    ensures { result ≡ is_unread (Some entry.now) }
-{
-    match *entry {
-        Entry::Collision | Entry::Garbled => true,
-        Entry::Sent(_)
-        | Entry::Silent
-        | Entry::Heard(_)
-        | Entry::Captured(_)
-        | Entry::Unknown
-        | Entry::Listed(_)
-        | Entry::FieldCycle => { false }
     }
 }

@@ -7,26 +7,24 @@ ghost use Rattle.vic_log.specs.Slots.{is_open, slots_before};
 ghost use Rattle.vic_tree.specs.OpenSet.{SameUids};
 ghost use Rattle.vic_tree.specs.Ranges.{AreRanges, in_ranges, is_outside};
 ghost use Rattle.vic_walk.specs.Borders.{AreBorders, IsPartOf, part_count};
-ghost use Rattle.vic_walk.specs.Walk.{HasRoom, IsWalkAt};
+ghost use Rattle.vic_walk.specs.Walk.{AreEndsAt};
 ghost use Rattle.vic_walk.specs.inner.RangesTo.{AreRangesTo};
 
 use crate::parts::Parts;
-use crate::walk::Walk;
 use std::alloc::{AllocError, Global};
 use vic_frame::UID_BITS;
 use vic_tree::KeyRange;
 
-/// The keys of the parts that a walk has ruled out, as `other_keys` has them: the UIDs outside of
-/// them are those that the entries so far leave open. To be called before `open_answers`, which
-/// changes the walk.
-pub fn closed_keys(alloc: Global, parts: &Parts, walk: &Walk) -> Result<Vec<KeyRange>, AllocError>
-    requires { HasRoom (part_count parts.now) walk.now }
+/// By the ends of parts the keys of those that are ruled out, as `other_keys` has them: the UIDs
+/// outside of them are those that the entries so far leave open.
+pub fn closed_keys(alloc: Global, parts: &Parts, ends: &[u32]) -> Result<Vec<KeyRange>, AllocError>
+    requires { length ends.now ≡ part_count parts.now }
     ensures ranges { IfOk result (λ closed. AreRanges closed.items) }
     ensures outside { IfOk result (λ closed. (es : List EntryValue) (i : ℕ)
-        → IsWalkAt parts.now es i walk.now
+        → AreEndsAt parts.now es i ends.now
         → SameUids (is_outside closed.items) (is_open (slots_before es i))) }
 {
-    other_keys(alloc, parts, &walk.ends, 0)
+    other_keys(alloc, parts, ends, 0)
 }
 
 /// The keys of the parts that have another value than a given one, as ranges in rising order with a

@@ -3,7 +3,6 @@
 ghost use Rattle.std.specs.Prelude.{◌≡◌, ◌+◌, ℕ, ◌<◌, ◌==◌, ◌&&◌, ◌||◌, not, true, false, Bool, OnOk, List, Some, length, slice_get};
 ghost use Rattle.vic_frame.specs.Uids.{has};
 ghost use Rattle.vic_log.specs.declared.entry.Entry.{Entry as EntryValue};
-ghost use Rattle.vic_log.specs.declared.entry.Entry.TheVariants.{Sent};
 ghost use Rattle.vic_walk.specs.Marked.{is_marked};
 ghost use Rattle.vic_walk.specs.Steps.{IsStepBelow, IsEntryAt};
 
@@ -11,6 +10,7 @@ use crate::marks::Marks;
 use crate::steps::Step;
 use std::alloc::{AllocError, Global};
 use vic_frame::{Request, Uid};
+use vic_log::Entry;
 
 /// The parts of some set of UIDs, by the state of these.
 #[derive(Drop)]
@@ -23,7 +23,7 @@ pub struct PartStates {
 }
 
 impl PartStates {
-    ghost use Rattle.vic_walk.specs.inner.PartStates.{AreStatesAt};
+    ghost use Rattle.vic_walk.specs.Walk.{AreStatesAt};
 
     /// Parts that are all Ready.
     pub(crate) fn all_ready(alloc: Global, parts: Marks) -> PartStates
@@ -65,25 +65,38 @@ impl PartStates {
         self.quiet.clear();
     }
 
-    /// Makes the part of the UID Quiet that a request silences, if it silences one and the part is
-    /// Ready. `set` is the set of UIDs whose parts these are.
-    pub(crate) fn pass_request(&mut self, step: Step, request: &Request) -> Result<(), AllocError>
+    /// Goes past an entry: makes the part of a UID Quiet that a Stay Quiet request silences, if it
+    /// is Ready, and all parts Ready at a field cycle. It is so of the parts of any set of UIDs.
+    pub(crate) fn pass(&mut self, step: Step, entry: &Entry) -> Result<(), AllocError>
         requires { IsStepBelow (length self.old.ready) step }
         ensures room { length self.new.ready ≡ length self.old.ready }
-        ensures ready { OnOk result ((bs : List ℕ) (es : List EntryValue) (set : ℕ → Bool) (i : ℕ)
-            → IsEntryAt bs es i (Sent request.now) step
+        ensures states { OnOk result ((bs : List ℕ) (es : List EntryValue) (set : ℕ → Bool) (i : ℕ)
+            → IsEntryAt bs es i entry.now step
             → AreStatesAt bs es set i self.old → AreStatesAt bs es set (i + 1) self.new) }
     {
-        match *request {
-            Request::StayQuiet { uid, .. } => match Uid::new(uid) {
-                Some(_) => {
-                    self.silence(step.own())?;
-                    Ok(())
-                }
-                // no tag has this number
-                None => Ok(()),
+        match *entry {
+            Entry::Sent(request) => match request {
+                Request::StayQuiet { uid, .. } => match Uid::new(uid) {
+                    Some(_) => {
+                        self.silence(step.own())?;
+                        Ok(())
+                    }
+                    // no tag has this number
+                    None => Ok(()),
+                },
+                Request::Inventory { .. } => Ok(()),
             },
-            Request::Inventory { .. } => Ok(()),
+            Entry::FieldCycle => {
+                self.wake();
+                Ok(())
+            }
+            Entry::Silent
+            | Entry::Collision
+            | Entry::Heard(_)
+            | Entry::Garbled
+            | Entry::Captured(_)
+            | Entry::Unknown
+            | Entry::Listed(_) => Ok(()),
         }
     }
 

@@ -14,7 +14,7 @@ pub struct Span {
 
 impl Span {
     /// Whether it has a part.
-    pub(crate) fn has(self, part: usize) -> bool
+    pub fn has(self, part: usize) -> bool
         ensures { result ≡ is_within self part }
     {
         self.from <= part && part < self.to

@@ -6,7 +6,6 @@ ghost use Rattle.vic_walk.specs.Borders.{part_count};
 ghost use Rattle.vic_walk.specs.Marked.{is_marked};
 ghost use Rattle.vic_walk.specs.Steps.{is_within, IsStepBelow, IsEntryAt};
 
-use crate::log_parts::LogParts;
 use crate::marks::Marks;
 use crate::part_states::PartStates;
 use crate::steps::{Span, Step};
@@ -15,21 +14,22 @@ use vic_log::Entry;
 
 /// What a walk over the first entries of a log knows of its parts.
 #[derive(Drop)]
-pub struct Walk {
+pub(crate) struct Walk {
     /// The parts that are open: those that are Ready, and those that are Quiet.
-    pub open: PartStates,
+    pub(crate) open: PartStates,
     /// For each part its end: 0 while it is open; else one more than the position of the entry that
     /// rules it out.
-    pub ends: Vec<u32>,
+    pub(crate) ends: Vec<u32>,
     /// The parts that were heard; such a part has only one UID.
-    pub heard: Marks,
+    pub(crate) heard: Marks,
     ghost ends_room: { length ends.items ≡ length open.ready },
     ghost heard_room: { length heard ≡ length open.ready },
 }
 
 impl Walk {
-    ghost use Rattle.vic_walk.specs.Walk.{AreBorneOut, IsWalkAt};
+    ghost use Rattle.vic_walk.specs.Walk.{AreBorneOut};
     ghost use Rattle.vic_walk.specs.inner.Ruled.{is_other, LosesHeard, IsRuledOut};
+    ghost use Rattle.vic_walk.specs.inner.Walk.{IsWalkAt};
 
     /// The walk before the first entry: that many parts, all open and Ready.
     pub(crate) fn start(alloc: Global, count: usize) -> Result<Walk, AllocError>
@@ -116,33 +116,19 @@ impl Walk {
             → (fine ≡ true) ↔ AreBorneOut es (i + 1)) }
     {
         match *entry {
-            Entry::Sent(request) => {
-                self.open.pass_request(step, &request)?;
-                Ok(true)
-            }
-            Entry::FieldCycle => {
-                self.open.wake();
-                Ok(true)
-            }
             Entry::Silent => Ok(!self.rule_out(step.span(), end)),
             Entry::Heard(_) => Ok(self.hear(step.span(), step.own(), end)),
             Entry::Captured(_) => Ok(self.hear_among(step.span(), step.own())),
-            // these rule out no UID
-            Entry::Collision | Entry::Garbled | Entry::Unknown | Entry::Listed(_) => Ok(true),
+            // these rule out no UID, and hear none
+            Entry::Sent(_)
+            | Entry::FieldCycle
+            | Entry::Collision
+            | Entry::Garbled
+            | Entry::Unknown
+            | Entry::Listed(_) => {
+                self.open.pass(step, entry)?;
+                Ok(true)
+            }
         }
     }
-}
-
-/// The parts of a log, and what a walk over it knows of them.
-#[derive(Drop)]
-pub struct LogWalk {
-    /// The parts, cut for the log.
-    pub cut: LogParts,
-    /// What is known of them where the walk ended.
-    pub walk: Walk,
-    /// The position of the first entry with which a reply isn't borne out: its UID couldn't answer
-    /// where it was heard, or is ruled out by a silent slot or another reply. The walk ends after
-    /// it. `None` if it went to the end; the log may be impossible even so, since what collisions
-    /// and garbled slots require isn't looked at.
-    pub broken: Option<usize>,
 }

@@ -24,8 +24,7 @@ pub record AreRuled (ends : List ℕ) (n : ℕ) (ordered : Bool) (ps : List ℕ)
   pub ruled : (p : ℕ) → has ps p
       ≡ (nat_lt p (length ends) && not (is_open_before n (slice_index ends p)))
 
--- from position n one has to go back to position m until the slot at position j is met, or m isn't
--- behind it
+-- m is the last position up to n before which the slot at position j is met, or that isn't past j
 pub record IsBackTo (es : List Entry) (j n m : ℕ) : Type 0 where
   pub back : m ≤ n
   pub met : j < m → IsMetAt es m j

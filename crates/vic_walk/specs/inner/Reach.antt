@@ -4,7 +4,7 @@ use Rattle.vic_log.specs.declared.entry.Entry.{Entry}
 use Rattle.vic_log.specs.Slots.{slots_before, is_open}
 use Rattle.vic_walk.specs.declared.lacking.Reach.{Reach}
 use Rattle.vic_walk.specs.inner.Ends.{AreEndsUpTo}
-use Rattle.vic_walk.specs.inner.PartStates.{AreStatesAt}
+use Rattle.vic_walk.specs.Walk.{AreStatesAt}
 
 -- before position i: up to `upto` the ends are known; `kept` has the parts that are open before it,
 -- and `all` has all parts

@@ -8,7 +8,7 @@ returns-then-is_some c =
     let walk = c.in_ok-cut.field-0 in
     let some = sym c.is_some.ensures ∙ c.if-is_some.true in (
       (λ no. absurd (false≢true no)),
-      (λ possible. absurd (broken_log walk.cut.parts es walk.broken walk.walk c.in_ok-cut.ensures.walk some possible)),
+      (λ possible. absurd (broken_log walk.cut.parts es walk walk.broken c.in_ok-cut.ensures.walk some possible)),
     )
 
 pub returns : goal.returns
@@ -16,9 +16,14 @@ returns c =
     let es = entries c.args.lines.now in
     let walk = c.in_ok-cut.field-0 in
     let none = sym c.is_some.ensures ∙ c.if-is_some.false in
-    let end = unbroken walk.cut.parts es walk.broken walk.walk c.in_ok-cut.ensures.walk none in
+    let end = unbroken walk.cut.parts es walk walk.broken c.in_ok-cut.ensures.walk none in
     let unread = c.in_ok-unread.unread.items in
     let iff = rw c.deref.ensures.value at c.are_met.ensures in (
-      (λ met. possible_met es end.1 (found_met es unread c.in_ok-unread.ensures.found (iff.0 met))),
-      (λ possible. iff.1 (met_enough es unread c.in_ok-unread.ensures.found (met_possible es possible))),
+      (λ met. possible_met es end.2 (found_met es unread c.in_ok-unread.ensures (iff.0 met))),
+      (λ possible. iff.1 (met_enough es unread c.in_ok-unread.ensures (met_possible es possible))),
     )
+
+pub open_answers-requires-clause-open : goal.open_answers-requires-clause-open
+open_answers-requires-clause-open c =
+    let walk = c.in_ok-cut.field-0 in
+    (unbroken walk.cut.parts (entries c.args.lines.now) walk walk.broken c.in_ok-cut.ensures.walk (sym c.is_some.ensures ∙ c.if-is_some.false)).0

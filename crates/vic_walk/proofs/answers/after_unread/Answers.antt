@@ -1,4 +1,4 @@
-use Rattle.vic_walk.proofs.Words.{◌≡◌, ◌-◌, ◌∙◌, arith, cases_lt, inl, inr, sym}
+use Rattle.vic_walk.proofs.Words.{◌≡◌, ◌-◌, arith, nat_tests, cases_lt, inl, inr}
 use Rattle.vic_walk.proofs.ListLaws.{unread_past}
 use Rattle.vic_walk.proofs.answers.after_unread.Goals as goal
 
@@ -14,7 +14,7 @@ loop-after-preserved c =
     record {
       within = omega (arith, within);
       read = λ i from. elim (cases_lt i l.after) [
-        | inl before ↦ let same : i ≡ l.after - 1 = omega (arith, from, before) in rw (same, here) (sym c.is_unread.ensures ∙ c.if-is_unread.false)
+        | inl before ↦ let same : i ≡ l.after - 1 = omega (arith, from, before) in rw (same, here) (let no = c.if-needs-gt0.false in grind (arith, nat_tests, c.needs.ensures))
         | inr past ↦ l.invariant.read i past
       ];
     }

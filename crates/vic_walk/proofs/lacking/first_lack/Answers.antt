@@ -9,18 +9,18 @@ use Rattle.vic_walk.proofs.ListLaws.{met_past}
 use Rattle.vic_walk.proofs.lacking.first_lack.Goals as goal
 
 pub start-requires : goal.start-requires
-start-requires c = rw c.deref.ensures.value c.requires.walk.room
+start-requires c = c.requires.ends.known.room
 
 pub loop-index-init : goal.loop-index-init
 loop-index-init c =
     let es = entries c.args.lines.now in
-    let w = c.requires.walk in
-    let ends = c.args.walk.now.ends.items in
+    let w = c.requires.ends in
+    let ends = c.args.ends.now in
     let r = c.in_ok-reach.ensures in
-    let known : AreEndsUpTo c.args.cut.now.parts es c.args.upto ends = λ u p i is at le. open_to_end es w.position u (slice_index ends p) i (w.ends u p is at) (let far = w.far in omega (arith, le, far)) in
+    let known : AreEndsUpTo c.args.cut.now.parts es c.args.upto ends = λ u p i is at le. open_to_end es w.position u (slice_index ends p) i (w.known.each u p is at) (let far = w.far in omega (arith, le, far)) in
     record {
       parts = r.parts;
-      reach = r.reach es (rw c.deref.ensures.value known);
+      reach = r.reach es known;
       back = omega (arith, r.upto);
       met = λ j below. absurd (omega (arith, below));
       lack = λ less. absurd (omega (arith, less, r.upto));

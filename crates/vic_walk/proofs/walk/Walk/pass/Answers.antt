@@ -1,20 +1,9 @@
 use Rattle.vic_walk.proofs.Words.{◌+◌, inl, inr, IsPartOf, mirror, refl}
 use Rattle.vic_walk.proofs.CutLaws.{captured_own, heard_own}
-use Rattle.vic_walk.proofs.Effects.{borne_captured, borne_heard, borne_idle, borne_silent, captured_only, captured_rules_out, DoesNothing, heard_only, heard_part, heard_rules_out, nothing_ruled_out, nothing_unknown, nothing_collision, nothing_garbled, nothing_listed, silent_rules_out, cycle_none, cycle_wakes, ready_of, ready_woken, sent_none, walk_idle, walk_read, walk_unread}
+use Rattle.vic_walk.proofs.Effects.{ReadsNone, borne_captured, borne_heard, borne_idle, borne_silent, captured_only, captured_rules_out, heard_only, heard_part, heard_rules_out, nothing_ruled_out, nothing_unknown, nothing_collision, nothing_garbled, nothing_listed, silent_rules_out, cycle_none, sent_none, walk_read, walk_unread}
 use Rattle.vic_walk.specs.Steps.{IsSpanAt}
 use Rattle.vic_walk.proofs.walk.Walk.pass.Goals as goal
-
-pub returns-in_ok-pass_request-in-Sent-clause-walk : goal.returns-in_ok-pass_request-in-Sent-clause-walk
-returns-in_ok-pass_request-in-Sent-clause-walk c bs es i e place h =
-    let sent = rw c.in-Sent.is at place in
-    let w = c.in_ok-pass_request-in-Sent.ensures in
-    walk_unread _ es i _ c.args.self.now _ sent.here (sent_none c.in-Sent.request) (w.ready bs es _ i sent (ready_of _ es i _ h)) refl refl h
-
-pub returns-in-FieldCycle-clause-walk : goal.returns-in-FieldCycle-clause-walk
-returns-in-FieldCycle-clause-walk c bs es i e place h =
-    let k = rw c.in-FieldCycle.is at place.here in
-    let w = c.wake.ensures in
-    walk_unread _ es i _ c.args.self.now _ k cycle_none (ready_woken _ es _ i (i + 1) c.args.self.now.open _ (λ u. cycle_wakes es i u k) w.ready w.room w.quiet (ready_of _ es i _ h)) refl refl h
+use Rattle.vic_walk.proofs.walk.Walk.pass.Goals.{In-Sent}
 
 pub returns-in-Silent-clause-walk : goal.returns-in-Silent-clause-walk
 returns-in-Silent-clause-walk c bs es i e place h =
@@ -66,22 +55,28 @@ returns-in-Captured-clause-fine c bs es i place h b =
     let own : IsPartOf bs (mirror r.uid) c.own-in-Captured.result = rw c.own-in-Captured.ensures it.1 in
     borne_captured _ es i c.own-in-Captured.result r c.span-in-Captured.result c.args.self.now c.hear_among.result k it.0 own span (rw c.span-in-Captured.ensures place.step.below.to) place.borders h c.hear_among.ensures.fine b
 
-nothing : (c : goal.In-Collision) → DoesNothing c.args.entry.now
-nothing c = elim c.in-Collision.is [
-  | inl e ↦ rw e nothing_collision
-  | inr w ↦ elim w [
-    | inl e ↦ rw e nothing_garbled
-    | inr x ↦ elim x [
-      | inl e ↦ rw e nothing_unknown
-      | inr l ↦ rw l.1 (nothing_listed l.0)
+nothing : (c : In-Sent) → ReadsNone c.args.entry.now
+nothing c = elim c.in-Sent.is [
+  | inl r ↦ rw r.1 (sent_none r.0)
+  | inr v ↦ elim v [
+    | inl e ↦ rw e cycle_none
+    | inr w ↦ elim w [
+      | inl e ↦ rw e nothing_collision.reads
+      | inr x ↦ elim x [
+        | inl e ↦ rw e nothing_garbled.reads
+        | inr y ↦ elim y [
+          | inl e ↦ rw e nothing_unknown.reads
+          | inr l ↦ rw l.1 (nothing_listed l.0).reads
+        ]
+      ]
     ]
   ]
 ]
 
-pub returns-in-Collision-clause-walk : goal.returns-in-Collision-clause-walk
-returns-in-Collision-clause-walk c bs es i e place h =
-    walk_idle _ es i c.args.entry.now _ place.here (nothing c) h
-
-pub returns-in-Collision-clause-fine : goal.returns-in-Collision-clause-fine
-returns-in-Collision-clause-fine c bs es i place h b =
-    (λ it. borne_idle es i c.args.entry.now place.here (nothing c).reads b, λ it. refl)
+pub returns-in_ok-pass-in-Sent : goal.returns-in_ok-pass-in-Sent
+returns-in_ok-pass-in-Sent c =
+    let none = nothing c.before.before.before.before.before in
+    record {
+      walk = λ bs es i e place h. walk_unread _ es i _ c.args.self.now _ place.here none (c.in_ok-pass-in-Sent.ensures.states bs es _ i place h.states) refl refl h;
+      fine = λ bs es i place h b. (λ it. borne_idle es i c.args.entry.now place.here none b, λ it. refl);
+    }

@@ -1,7 +1,7 @@
 use Rattle.vic_walk.proofs.Words.{AreBorneOut, IsWalkAt}
 use Rattle.vic_log.specs.Order.{entries}
 use Rattle.vic_walk.specs.Steps.{AreLogParts}
-use Rattle.vic_walk.proofs.walking.walk_log.Given as goal
+use Rattle.vic_walk.proofs.log_walk.walk_log.Given as goal
 
 abbrev pub invariant-loop-index : goal.invariant-loop-index
 invariant-loop-index l = record {

@@ -2,7 +2,7 @@ use Rattle.vic_walk.proofs.Words.{◌≡◌, add-one, arith, nat_tests, length, 
 use Rattle.vic_log.specs.Order.{entries}
 use Rattle.vic_walk.proofs.CutLaws.{place_at}
 use Rattle.vic_walk.proofs.ListLaws.{walk_at_list}
-use Rattle.vic_walk.proofs.walking.walk_log.Goals as goal
+use Rattle.vic_walk.proofs.log_walk.walk_log.Goals as goal
 
 pub loop-index-init : goal.loop-index-init
 loop-index-init c = record {
@@ -34,7 +34,7 @@ returns-then-not-branch c =
       cut = l.invariant.cut;
       walk = (
         slice_get_within es l.index c.entry-entry.result here,
-        rw (← add-one) (c.in_ok-pass.ensures.walk _ es l.index refl place l.invariant.walk),
+        rw (← add-one) ((c.in_ok-pass.ensures.walk _ es l.index refl place l.invariant.walk).ends),
         l.invariant.borne,
         λ b. let yes_fine = fine.1 (rw add-one b) in let no_fine = c.if-not-branch.true in grind (arith, nat_tests),
       );
@@ -45,12 +45,10 @@ returns c =
     let l = c.loop-index in
     let cut = l.invariant.cut in
     let end : l.index ≡ length c.in_ok-cut.cut.steps.items = omega (arith, c.loop-index-test.false, l.auto.index-end, c.len-index-end.ensures) in
-    record {
-      cut = cut;
-      walk = walk_at_list _ (entries c.args.lines.now) _ l.walk cut.list cut.within (rw end at l.invariant.walk) (rw end at l.invariant.borne);
-    }
+    let at = walk_at_list _ (entries c.args.lines.now) _ l.walk cut.list cut.within (rw end at l.invariant.walk) (rw end at l.invariant.borne) in
+    record { cut = cut; walk = (at.0.states, at.0.ends, at.1) }
 
 pub pass-requires : goal.pass-requires
 pass-requires c =
     let l = c.loop-index in
-    rw l.invariant.walk.room.ready ((place_at _ _ l.index _ c.index.result.now l.invariant.cut c.entry-entry.ensures.here (omega (arith, c.loop-index-test.true, c.len-index-end.ensures)) c.index.ensures).step.below)
+    rw l.invariant.walk.states.room ((place_at _ _ l.index _ c.index.result.now l.invariant.cut c.entry-entry.ensures.here (omega (arith, c.loop-index-test.true, c.len-index-end.ensures)) c.index.ensures).step.below)
