@@ -1,7 +1,7 @@
 -- A run that wrote `complete ` has read a text whose list is complete.
 use Rattle.vic_answer.proofs.Words.{◌≡◌, ℕ, Bool, List, ◌++◌, Option, Some, None, Result, Ok, Err, inl, inr, refl, ap, subst, sym, append_cancel_left, Appends, lines_of_text, LogValue, IsLogOf, IsEnough, Reads, RunsOver, RunsOverRevealed, RunFault, Status, not_both}
 use Rattle.vic_answer.specs.Runs.{Answers}
-use Rattle.vic_answer.specs.CompleteRun.{BeginWith, IsCompleteWhereSaid, IsCompleteWhereSaidFirst, IsCompleteWhereWritten, IsCompleteWhereWrittenFirst, ReadsCompleteList}
+use Rattle.vic_answer.specs.CompleteRun.{BeginWith, IsCompleteWhereRevealed, IsCompleteWhereWritten, IsCompleteWhereWrittenFirst, ReadsCompleteList}
 use Rattle.vic_answer.proofs.CheckLines.{IsCompleteAnswer, TellComplete, TellCompleteFirst}
 
 -- what a sink took behind the bytes before is the answer
@@ -38,10 +38,10 @@ front_becomes : {P Q : List ℕ → Type 0} {bytes : List ℕ} → ((line : List
 front_becomes f b = record { front = b.front; more = b.more; right = f b.front b.right; are = b.are }
 
 module _ (IsAnswerTo : List ℕ → List ℕ → Status → Type 0) (tell : TellComplete IsAnswerTo) where
-  pub complete_where_said : (left left' taken taken' : Option (List ℕ)) (r : Result Status RunFault)
-      → RunsOverRevealed IsAnswerTo left left' taken taken' r → IsCompleteWhereSaid left left' taken taken' r
-  complete_where_said left left' taken taken' (Err e) h = tt
-  complete_where_said left left' taken taken' (Ok status) h = λ before rest was now.
+  pub complete_where_revealed : (left left' taken taken' : Option (List ℕ)) (r : Result Status RunFault)
+      → RunsOverRevealed IsAnswerTo left left' taken taken' r → IsCompleteWhereRevealed left left' taken taken' r
+  complete_where_revealed left left' taken taken' (Err e) h = tt
+  complete_where_revealed left left' taken taken' (Ok status) h = λ before rest was now.
       read_complete h rest (tell h.text rest status (said IsAnswerTo status h before _ was now))
 
   pub complete_where_written : (returned returned' : List ℕ) (ended : Bool) (written written' : List ℕ) (r : Result Status RunFault)
@@ -50,15 +50,8 @@ module _ (IsAnswerTo : List ℕ → List ℕ → Status → Type 0) (tell : Tell
   complete_where_written returned returned' ended written written' (Ok status) h = λ rest now.
       read_complete h rest (tell h.text rest status (said IsAnswerTo status h written _ refl (ap Some now)))
 
-module _ (IsAnswerTo : List ℕ → List ℕ → Status → Type 0) (tell : TellCompleteFirst IsAnswerTo) where
-  pub complete_where_said_first : (left left' taken taken' : Option (List ℕ)) (r : Result Status RunFault)
-      → RunsOverRevealed IsAnswerTo left left' taken taken' r → IsCompleteWhereSaidFirst left left' taken taken' r
-  complete_where_said_first left left' taken taken' (Err e) h = tt
-  complete_where_said_first left left' taken taken' (Ok status) h = λ before rest was now.
-      front_becomes (read_complete h) (tell h.text rest status (said IsAnswerTo status h before _ was now))
-
-  pub complete_where_written_first : (returned returned' : List ℕ) (ended : Bool) (written written' : List ℕ) (r : Result Status RunFault)
-      → RunsOver IsAnswerTo returned returned' ended written written' r → IsCompleteWhereWrittenFirst returned returned' ended written written' r
-  complete_where_written_first returned returned' ended written written' (Err e) h = tt
-  complete_where_written_first returned returned' ended written written' (Ok status) h = λ rest now.
-      front_becomes (read_complete h) (tell h.text rest status (said IsAnswerTo status h written _ refl (ap Some now)))
+pub complete_where_written_first : (IsAnswerTo : List ℕ → List ℕ → Status → Type 0) → TellCompleteFirst IsAnswerTo → (returned returned' : List ℕ) (ended : Bool) (written written' : List ℕ) (r : Result Status RunFault)
+    → RunsOver IsAnswerTo returned returned' ended written written' r → IsCompleteWhereWrittenFirst returned returned' ended written written' r
+complete_where_written_first IsAnswerTo tell returned returned' ended written written' (Err e) h = tt
+complete_where_written_first IsAnswerTo tell returned returned' ended written written' (Ok status) h = λ rest now.
+    front_becomes (read_complete h) (tell h.text rest status (said IsAnswerTo status h written _ refl (ap Some now)))

@@ -1,17 +1,17 @@
 -- What a list and logs say together, text by text.
-use Rattle.vic_answer.proofs.Words.{◌≡◌, ◌↔◌, ◌<◌, ◌≤◌, ℕ, zero, suc, List, [], ◌∷◌, ◌++◌, get_or, get_or-take, length-take-le, take, length, map, Some, None, Option, codes, refl, sym, ap, subst, ◌∙◌, IfOk, OnOk, Result, Ok, Err, decimal, slice_get, All, flat_map, arith, HasWrittenPrefix, length-map, map-append, lines_of_text, LogValue, entries, listed, IsFirstFault, IsVerdict, Impossible, IsReconciling, Reconciling, RunFault, Status, WritesAnswer, GoOn, logs_read_by, logs_for, logs_up_to, AreComplete, EndsAt, HasLog, HasPossibleLog, IsKept, IsReconciled, lines_of, Absent, verdict_line, doubtful_text, ending_text, reconciled_status, reconciled_text, unlisted_text, LogLine, AllZip, take-append_seam, AllZip-long, all_zipped_more, All-cons, All-head, All-nil, All-tail, LineFault, AreFindings, AreNone, IsJoined, DoubtfulUid, Findings, UnlistedUid, Reconciliation, IsPossibleLog, family_of, slice_get_seam, slice_get_within, get_or_from_slice_get, none_is_whole, Ending, Reconciled, NotWhole, Ended, Write}
+use Rattle.vic_answer.proofs.Words.{◌≡◌, ◌↔◌, ◌<◌, ◌≤◌, ℕ, zero, suc, List, [], ◌∷◌, ◌++◌, get_or-take, length-take-le, take, length, map, Some, None, Option, codes, refl, sym, ap, subst, ◌∙◌, IfOk, OnOk, Result, Ok, Err, decimal, slice_get, All, flat_map, arith, HasWrittenPrefix, length-map, map-append, lines_of_text, LogValue, entries, listed, IsFirstFault, IsVerdict, Impossible, IsProgress, Progress, RunFault, Status, WritesAnswer, GoOn, logs_read_by, logs_for, logs_up_to, AreComplete, EndsAt, HasLog, HasPossibleLog, AreJoined, IsReconciled, lines_of, Absent, verdict_line, doubtful_text, ending_text, reconciled_status, reconciled_text, unlisted_text, LogLine, AllZip, take-append_seam, AllZip-long, all_zipped_more, All-cons, All-head, All-nil, All-tail, LineFault, AreFindings, AreNone, IsJoined, DoubtfulUid, Findings, UnlistedUid, Reconciliation, IsPossibleLog, family_of, slice_get_seam, slice_get_within, get_or_from_slice_get, none_is_whole, Ending, Reconciled, NotWhole, Ended, Write}
 use Rattle.vic_answer.specs.Reconciled.{HaveLogs}
 use Rattle.vic_reconcile.specs.declared.findings.Unsettled.{Unsettled}
 use Rattle.vic_answer.specs.declared.ending.Ending.TheVariants.{ListRefusedAt, NotListedAt, RefusedAt, ImpossibleAt}
-use Rattle.vic_answer.specs.declared.reconcile.Reconciling.TheVariants as state
+use Rattle.vic_answer.specs.declared.reconcile.Progress.TheVariants as state
 use Rattle.vic_answer.specs.declared.reconcile.Reconciled.TheVariants.{Complete}
 use Rattle.vic_answer.specs.ReconcileText.{unsettled_text}
 use Rattle.vic_answer.proofs.CheckLines.{first}
 
 -- one log more is kept
-pub kept_more : (list text : List ℕ) (texts : List (List ℕ)) (log : LogValue) (old new : Reconciliation) (k : IsKept list texts old) → HasLog text log
-    → IsJoined (listed (entries k.expected.lines)) (map lines_of k.logs ++ log.lines ∷ []) new → IsKept list (texts ++ text ∷ []) new
-kept_more list text texts log old new k has_log joined = record {
+pub joined_more : (list text : List ℕ) (texts : List (List ℕ)) (log : LogValue) (old new : Reconciliation) (k : AreJoined list texts old) → HasLog text log
+    → IsJoined (listed (entries k.expected.lines)) (map lines_of k.logs ++ log.lines ∷ []) new → AreJoined list (texts ++ text ∷ []) new
+joined_more list text texts log old new k has_log joined = record {
   expected = k.expected;
   is_list = k.is_list;
   listed_alone = k.listed_alone;
@@ -28,21 +28,21 @@ possible_texts (t ∷ texts) (l ∷ logs) z all =
     (possible_texts texts logs z.1 (All-tail IsPossibleLog l.lines (map lines_of logs) all))
 
 -- the logs before one are those that are kept
-kept_before : (list text : List ℕ) (texts : List (List ℕ)) (r : Reconciliation) (n : ℕ) → IsKept list texts r → n ≡ length texts → All HasPossibleLog (take n (texts ++ text ∷ []))
-kept_before list text texts r n k e = rw (e, take-append_seam texts (text ∷ [])) (possible_texts texts k.logs k.are_logs k.holds.possible)
+joined_before : (list text : List ℕ) (texts : List (List ℕ)) (r : Reconciliation) (n : ℕ) → AreJoined list texts r → n ≡ length texts → All HasPossibleLog (take n (texts ++ text ∷ []))
+joined_before list text texts r n k e = rw (e, take-append_seam texts (text ∷ [])) (possible_texts texts k.logs k.are_logs k.holds.possible)
 
 -- as many logs are kept as texts were read
-pub kept_long : (list : List ℕ) (texts : List (List ℕ)) (r : Reconciliation) (n : ℕ) (k : IsKept list texts r) → n ≡ length (map lines_of k.logs) → n ≡ length texts
-kept_long list texts r n k e = e ∙ (length-map k.logs lines_of ∙ AllZip-long HasLog texts k.logs k.are_logs)
+pub joined_long : (list : List ℕ) (texts : List (List ℕ)) (r : Reconciliation) (n : ℕ) (k : AreJoined list texts r) → n ≡ length (map lines_of k.logs) → n ≡ length texts
+joined_long list texts r n k e = e ∙ (length-map k.logs lines_of ∙ AllZip-long HasLog texts k.logs k.are_logs)
 
 last_there : (texts : List (List ℕ)) (text : List ℕ) (n : ℕ) → n ≡ length texts → slice_get (texts ++ text ∷ []) n ≡ Some text
 last_there texts text n e = subst (λ m. slice_get (texts ++ text ∷ []) m ≡ Some text) (sym e) (slice_get_seam texts text [])
 
-pub ends_refused : (list text : List ℕ) (texts : List (List ℕ)) (r : Reconciliation) (n line : ℕ) (fault : LineFault) → IsKept list texts r → n ≡ length texts → IsFirstFault (lines_of_text text) line fault → EndsAt list (texts ++ text ∷ []) (RefusedAt n line fault)
-ends_refused list text texts r n line fault k e h = (((k.expected, k.is_list, k.listed_alone), kept_before list text texts r n k e), (text, last_there texts text n e, h))
+pub ends_refused : (list text : List ℕ) (texts : List (List ℕ)) (r : Reconciliation) (n line : ℕ) (fault : LineFault) → AreJoined list texts r → n ≡ length texts → IsFirstFault (lines_of_text text) line fault → EndsAt list (texts ++ text ∷ []) (RefusedAt n line fault)
+ends_refused list text texts r n line fault k e h = (((k.expected, k.is_list, k.listed_alone), joined_before list text texts r n k e), (text, last_there texts text n e, h))
 
-pub ends_impossible : (list text : List ℕ) (texts : List (List ℕ)) (r : Reconciliation) (n line : ℕ) (log : LogValue) → IsKept list texts r → n ≡ length texts → HasLog text log → IsVerdict log.lines (Impossible line) → EndsAt list (texts ++ text ∷ []) (ImpossibleAt n line)
-ends_impossible list text texts r n line log k e is h = (((k.expected, k.is_list, k.listed_alone), kept_before list text texts r n k e), (text, log, last_there texts text n e, is, h))
+pub ends_impossible : (list text : List ℕ) (texts : List (List ℕ)) (r : Reconciliation) (n line : ℕ) (log : LogValue) → AreJoined list texts r → n ≡ length texts → HasLog text log → IsVerdict log.lines (Impossible line) → EndsAt list (texts ++ text ∷ []) (ImpossibleAt n line)
+ends_impossible list text texts r n line log k e is h = (((k.expected, k.is_list, k.listed_alone), joined_before list text texts r n k e), (text, log, last_there texts text n e, is, h))
 
 -- an ending by a text is by that text
 pub ends_at : (e d : Ending) (n : ℕ) → state.Ended e ≡ state.Ended d → logs_up_to e ≡ n → logs_up_to d ≡ n
@@ -50,7 +50,7 @@ ends_at e d n is up = let same : e ≡ d = cc is in subst (λ x. logs_up_to x �
 
 -- ---- the answer
 
-have_logs : {list : List ℕ} {texts : List (List ℕ)} {r : Reconciliation} (P : List ℕ → List (List LogLine) → Type 0) (k : IsKept list texts r) → P (listed (entries k.expected.lines)) (map lines_of k.logs) → HaveLogs list texts P
+have_logs : {list : List ℕ} {texts : List (List ℕ)} {r : Reconciliation} (P : List ℕ → List (List LogLine) → Type 0) (k : AreJoined list texts r) → P (listed (entries k.expected.lines)) (map lines_of k.logs) → HaveLogs list texts P
 have_logs P k holds = record {
   expected = k.expected;
   is_list = k.is_list;
@@ -60,14 +60,14 @@ have_logs P k holds = record {
   holds = holds;
 }
 
-pub reconciled_complete : (list : List ℕ) (texts : List (List ℕ)) (r : Reconciliation) (f : Findings) (count : ℕ) (k : IsKept list texts r)
+pub reconciled_complete : (list : List ℕ) (texts : List (List ℕ)) (r : Reconciliation) (f : Findings) (count : ℕ) (k : AreJoined list texts r)
     → AreFindings (listed (entries k.expected.lines)) (map lines_of k.logs) f → AreNone f → count ≡ length (listed (entries k.expected.lines)) → IsReconciled list texts (Complete count)
 reconciled_complete list texts r f count k found none counted =
     have_logs _ k (none_is_whole (listed (entries k.expected.lines)) (map lines_of k.logs) f (family_of (map lines_of k.logs) k.holds.possible) found none, counted)
 
-pub reconciled_found : (list : List ℕ) (texts : List (List ℕ)) (r : Reconciliation) (f : Findings) (k : IsKept list texts r)
+pub reconciled_found : (list : List ℕ) (texts : List (List ℕ)) (r : Reconciliation) (f : Findings) (k : AreJoined list texts r)
     → AreFindings (listed (entries k.expected.lines)) (map lines_of k.logs) f → (AreNone f → ⊥) → IsReconciled list texts (NotWhole f)
-reconciled_found list texts r f k found some = have_logs _ k (found, some)
+reconciled_found list texts r f k found some = have_logs _ k (family_of (map lines_of k.logs) k.holds.possible, found, some)
 
 -- ---- what was written
 
@@ -94,15 +94,15 @@ complete_written file names (Complete count) list texts rest right same =
       holds = (right.holds.0, told ∙ ap (λ n. decimal n ++ codes "\n") right.holds.1);
     }
 complete_written file names (NotWhole f) list texts rest right same =
-    absurd (found_begins names f.absent.items f.unlisted.items f.unsettled f.doubtful.items rest (λ a u x d. right.holds.1 (record { absent = a; unlisted = u; unsettled = x; doubtful = d })) same)
+    absurd (found_begins names f.absent.items f.unlisted.items f.unsettled f.doubtful.items rest (λ a u x d. right.holds.2 (record { absent = a; unlisted = u; unsettled = x; doubtful = d })) same)
 complete_written file names (Ended e) list texts rest right same = absurd (ending_begins file names e rest same)
 
 -- ---- as many logs were read as the answer needs
 
-pub answered_all : (r : Reconciling) (a : Reconciled) (logs texts : ℕ) → texts ≡ logs_read_by r logs → ((e : Ending) → (r ≡ state.Ended e) ↔ (a ≡ Ended e)) → texts ≡ logs_for a logs
-answered_all (state.Going j) (Ended e) logs texts all ended = absurd (cc ((ended e).1 refl))
-answered_all (state.Going j) (Complete count) logs texts all ended = all
-answered_all (state.Going j) (NotWhole f) logs texts all ended = all
+pub answered_all : (r : Progress) (a : Reconciled) (logs texts : ℕ) → texts ≡ logs_read_by r logs → ((e : Ending) → (r ≡ state.Ended e) ↔ (a ≡ Ended e)) → texts ≡ logs_for a logs
+answered_all (state.Joined j) (Ended e) logs texts all ended = absurd (cc ((ended e).1 refl))
+answered_all (state.Joined j) (Complete count) logs texts all ended = all
+answered_all (state.Joined j) (NotWhole f) logs texts all ended = all
 answered_all (state.Ended e) a logs texts all ended = subst (λ x. texts ≡ logs_for x logs) (sym ((ended e).0 refl)) all
 
 -- where what was written begins as a complete answer does
@@ -114,16 +114,16 @@ all_where_complete file names (NotWhole f) rest logs texts same all = all
 -- ---- what lets a run go on
 
 -- what is kept of texts lets the run go on
-pub kept_go_on : (list : List ℕ) (texts : List (List ℕ)) (r : Reconciliation) → IsKept list texts r → GoOn (list ∷ texts)
-kept_go_on list texts r k = ((k.expected, k.is_list, k.listed_alone), possible_texts texts k.logs k.are_logs k.holds.possible)
+pub joined_go_on : (list : List ℕ) (texts : List (List ℕ)) (r : Reconciliation) → AreJoined list texts r → GoOn (list ∷ texts)
+joined_go_on list texts r k = ((k.expected, k.is_list, k.listed_alone), possible_texts texts k.logs k.are_logs k.holds.possible)
 
 All-take : (texts : List (List ℕ)) (n : ℕ) → n ≤ length texts → All HasPossibleLog texts → All HasPossibleLog (take n texts)
 All-take texts n le all = λ k d lt. let below : k < n = omega (arith, lt, length-take-le n texts le) in rw (get_or-take n texts k d below) (all k d (omega (arith, below, le)))
 
 -- so does each text before the last that is read
-pub go_on_before : (list : List ℕ) (texts : List (List ℕ)) (r : Reconciling) (logs n : ℕ) → n ≡ length texts → IsReconciling list texts r → length texts ≡ logs_read_by r logs → GoOn (take n (list ∷ texts))
+pub go_on_before : (list : List ℕ) (texts : List (List ℕ)) (r : Progress) (logs n : ℕ) → n ≡ length texts → IsProgress list texts r → length texts ≡ logs_read_by r logs → GoOn (take n (list ∷ texts))
 go_on_before list texts r logs zero is h all = tt
-go_on_before list texts (state.Going r) logs (suc n) is h all = let g = kept_go_on list texts r h in (g.0, All-take texts n (omega (arith, is)) g.1)
+go_on_before list texts (state.Joined r) logs (suc n) is h all = let g = joined_go_on list texts r h in (g.0, All-take texts n (omega (arith, is)) g.1)
 go_on_before list texts (state.Ended (ListRefusedAt line fault)) logs (suc n) is h all = absurd (omega (arith, is, all))
 go_on_before list texts (state.Ended (NotListedAt line)) logs (suc n) is h all = absurd (omega (arith, is, all))
 go_on_before list texts (state.Ended (RefusedAt k line fault)) logs (suc n) is h all = let e : k ≡ n = omega (arith, is, all) in subst (λ m. GoOn (list ∷ take m texts)) e h.0

@@ -1,9 +1,9 @@
 -- Sources are read in turn.
-use Rattle.vic_answer.proofs.Words.{◌≡◌, ◌≢◌, ◌↔◌, ℕ, zero, suc, ◌+◌, ◌<◌, ◌≤◌, List, [], ◌∷◌, ◌++◌, length, take, slice_get, slice_get-get_or, slice_get_within, get_or_from_slice_get, Some, get_or, set, Bool, true, false, Err, IfErr, IsErrAnd, Ok, Result, refl, sym, ap, subst, ◌∙◌, arith, cases_lt, cases_order, get_or-set_other, get_or-set_same, inl, inr, length-append, length-take-le, AllZip, Grows, LogValue, AreComplete, Ended, Ending, GivesNoEarlyFault, GoOn, HasLog, AreRead, HasReadText, HoldsAt, IsReadEnough, IsKept, IsLast, IsReadToEnd, IsReadWithin, IsReconciled, IsReconciling, LeavesSource, Memory, Read, ReadsListAndLogs, ReadsTexts, Reconciled, Reconciles, Reconciling, Reconciliation, RunFault, StopsBy, Write, logs_read_by, logs_up_to, slice_get-append, slice_get_seam}
-use Rattle.vic_answer.specs.declared.reconcile.Reconciling.TheVariants as state
+use Rattle.vic_answer.proofs.Words.{◌≡◌, ◌≢◌, ◌↔◌, ℕ, zero, suc, ◌+◌, ◌<◌, ◌≤◌, List, [], ◌∷◌, ◌++◌, length, take, slice_get, slice_get-get_or, slice_get_within, get_or_from_slice_get, Some, get_or, set, Bool, true, false, Err, IfErr, IsErrAnd, Ok, Result, refl, sym, ap, subst, ◌∙◌, arith, cases_lt, cases_order, get_or-set_other, get_or-set_same, inl, inr, length-append, length-take-le, AllZip, Grows, LogValue, AreComplete, Ended, Ending, GivesNoEarlyFault, GoOn, HasLog, AreRead, HasReadText, HoldsAt, IsReadEnough, AreJoined, IsLast, IsReadWithin, IsReconciled, IsProgress, LeavesSource, Memory, Read, ReadsListAndLogs, ReadsTexts, Reconciled, Reconciles, Progress, Reconciliation, RunFault, StopsBy, Write, logs_read_by, logs_up_to, slice_get-append, slice_get_seam}
+use Rattle.vic_answer.specs.declared.reconcile.Progress.TheVariants as state
 use Rattle.vic_answer.specs.declared.ending.Ending.TheVariants.{ListRefusedAt, NotListedAt, RefusedAt, ImpossibleAt}
 use Rattle.vic_answer.proofs.CompleteRuns.{over}
-use Rattle.vic_answer.proofs.Reconciles.{answered_all, go_on_before, kept_go_on, log_at, log_of}
+use Rattle.vic_answer.proofs.Reconciles.{answered_all, go_on_before, joined_go_on, log_at, log_of}
 
 -- ---- places of lists
 
@@ -43,8 +43,8 @@ pub within_same : {R : Type 0} (reads : R → ℕ) (has_failed : R → Bool) (s 
 within_same reads has_failed s = record { at_most = omega arith; untouched = λ _. refl }
 
 -- where no log was read, no log has ended the run
-none_before : (list : List ℕ) (begun : Reconciling) → IsReconciling list [] begun → 0 ≡ logs_read_by begun 0
-none_before list (state.Going r) h = refl
+none_before : (list : List ℕ) (begun : Progress) → IsProgress list [] begun → 0 ≡ logs_read_by begun 0
+none_before list (state.Joined r) h = refl
 none_before list (state.Ended (ListRefusedAt line fault)) h = refl
 none_before list (state.Ended (NotListedAt line)) h = refl
 none_before list (state.Ended (RefusedAt k line fault)) h = cc h.1.1
@@ -54,18 +54,18 @@ none_before list (state.Ended (ImpossibleAt k line)) h = cc h.1.2
 pub none_left : {R : Type 0} (reads : R → ℕ) (has_failed : R → Bool) (old : List R) → AreLeft reads has_failed old old 0
 none_left reads has_failed old = record { others = λ k le. refl; within = λ k s. within_same reads has_failed (get_or old k s) }
 
-pub none_read : {R : Type 0} (returned : R → List ℕ) (IsRead : R → List ℕ → Type 0) (old : List R) (list : List ℕ) (begun : Reconciling) → IsReconciling list [] begun
-    → HaveRead returned IsRead old old 0 (λ texts. IsReconciling list texts begun × (length texts ≡ logs_read_by begun 0))
+pub none_read : {R : Type 0} (returned : R → List ℕ) (IsRead : R → List ℕ → Type 0) (old : List R) (list : List ℕ) (begun : Progress) → IsProgress list [] begun
+    → HaveRead returned IsRead old old 0 (λ texts. IsProgress list texts begun × (length texts ≡ logs_read_by begun 0))
 none_read returned IsRead old list begun h = record { texts = []; as_many = refl; each = λ k text is. absurd (omega (arith, slice_get_within [] k text is)); holds = (h, none_before list begun h) }
 
 -- what is said of a log that was read, where its text ends the run or not
-pub now_ending : (texts : List (List ℕ)) (text : List ℕ) (read : Reconciling) (at : ℕ) → length texts ≡ at → ((e : Ending) → read ≡ state.Ended e → logs_up_to e ≡ length texts + 1) → length (texts ++ text ∷ []) ≡ logs_read_by read (at + 1)
-now_ending texts text (state.Going r) at is last = length-append texts (text ∷ []) ∙ ap (λ n. n + 1) is
+pub now_ending : (texts : List (List ℕ)) (text : List ℕ) (progress : Progress) (at : ℕ) → length texts ≡ at → ((e : Ending) → progress ≡ state.Ended e → logs_up_to e ≡ length texts + 1) → length (texts ++ text ∷ []) ≡ logs_read_by progress (at + 1)
+now_ending texts text (state.Joined r) at is last = length-append texts (text ∷ []) ∙ ap (λ n. n + 1) is
 now_ending texts text (state.Ended e) at is last = length-append texts (text ∷ []) ∙ sym (last e refl)
 
 -- and where all were read
-pub all_ending : (read : Reconciling) (texts at logs : ℕ) → texts ≡ logs_read_by read at → at ≡ logs → texts ≡ logs_read_by read logs
-all_ending read texts at logs h e = h ∙ ap (logs_read_by read) e
+pub all_ending : (progress : Progress) (texts at logs : ℕ) → texts ≡ logs_read_by progress at → at ≡ logs → texts ≡ logs_read_by progress logs
+all_ending progress texts at logs h e = h ∙ ap (logs_read_by progress) e
 
 module _ {R : Type 0} (reads : R → ℕ) (has_failed : R → Bool) (old new : List R) (at : ℕ) where
   -- the source that is read next
@@ -132,7 +132,7 @@ not_failed false h = refl
 
 module _ {R : Type 0} (returned : R → List ℕ) (ended has_failed : R → Bool) where
   -- a source that was read to an answer or an early fault was read to its end, if its text has a log
-  over_and_works : (s : R) (text : List ℕ) (log : LogValue) → HasLog text log → IsReadEnough ended has_failed s text → IsReadToEnd ended has_failed s text
+  over_and_works : (s : R) (text : List ℕ) (log : LogValue) → HasLog text log → IsReadEnough ended has_failed s text → (ended s ≡ true) × (has_failed s ≡ false)
   over_and_works s text log is_log h = (over _ text log is_log h.0, h.1)
 
   -- the source that was read last, where it has failed if and only if the fault is `Read`
@@ -150,11 +150,11 @@ module _ {R : Type 0} (returned : R → List ℕ) (ended has_failed : R → Bool
   -- a log's source is the last that is read
   pub stops_at_log : {A : Type 0} (r : Result A RunFault) (reads : R → ℕ) (list : List ℕ) (joined : Reconciliation) (old new : List R) (at : ℕ) (d after : R) (e : RunFault)
       → r ≡ Err e → at < length new → length new ≡ length old → AreLeft reads has_failed old new at
-      → HaveRead returned (IsReadEnough ended has_failed) old new at (λ texts. IsKept list texts joined)
+      → HaveRead returned (IsReadEnough ended has_failed) old new at (λ texts. AreJoined list texts joined)
       → LeavesSource reads has_failed (get_or new at d) after r → (e ≡ Read → GivesNoEarlyFault (Grows (returned (get_or new at d)) (returned after)))
       → StopsBy returned ended has_failed (λ texts. GoOn (list ∷ texts)) old (set new at after) e
   stops_at_log r reads list joined old new at d after e is lt long left h leaves cut =
-      let go_on = kept_go_on list h.texts joined h.holds in
+      let go_on = joined_go_on list h.texts joined h.holds in
       record {
         texts = h.texts;
         one_more = omega (arith, h.as_many, lt, long);
@@ -199,7 +199,7 @@ module _ {R : Type 0} (returned : R → List ℕ) (ended has_failed : R → Bool
       others = others;
     }
       where
-        each : AreRead returned (IsReadToEnd ended has_failed) (list ∷ logs) (list' ∷ logs') (text ∷ h.texts)
+        each : AreRead returned (λ s _. (ended s ≡ true) × (has_failed s ≡ false)) (list ∷ logs) (list' ∷ logs') (text ∷ h.texts)
         each zero t is =
             let log = log_of (text ∷ h.texts) 0 t h.go_on is in
             let now : HasReadText returned (IsReadEnough ended has_failed) list list' t = subst (λ x. HasReadText returned (IsReadEnough ended has_failed) list list' x) (cc is) read in
@@ -211,10 +211,10 @@ module _ {R : Type 0} (returned : R → List ℕ) (ended has_failed : R → Bool
         others (suc k) lt = h.others k (omega (arith, lt))
 
     -- all sources that an answer needs were read
-    pub stops_answered : (e : RunFault) (text : List ℕ) (read : Reconciling) → e ≢ Read → HasReadText returned (IsReadEnough ended has_failed) list list' text
-        → ReadsTexts returned (IsReadEnough ended has_failed) logs logs' (λ texts. IsReconciling text texts read × (length texts ≡ logs_read_by read (length logs)))
+    pub stops_answered : (e : RunFault) (text : List ℕ) (progress : Progress) → e ≢ Read → HasReadText returned (IsReadEnough ended has_failed) list list' text
+        → ReadsTexts returned (IsReadEnough ended has_failed) logs logs' (λ texts. IsProgress text texts progress × (length texts ≡ logs_read_by progress (length logs)))
         → StopsBy returned ended has_failed GoOn (list ∷ logs) (list' ∷ logs') e
-    stops_answered e text read other first h = record {
+    stops_answered e text progress other first h = record {
       texts = before;
       one_more = omega (arith, long, h.as_many);
       each = each;
@@ -236,13 +236,13 @@ module _ {R : Type 0} (returned : R → List ℕ) (ended has_failed : R → Bool
         long = length-take-le n all (omega arith)
 
         go_on : GoOn before
-        go_on = go_on_before text h.texts read (length logs) n refl h.holds.0 h.holds.1
+        go_on = go_on_before text h.texts progress (length logs) n refl h.holds.0 h.holds.1
 
         read_at : AreRead returned (IsReadEnough ended has_failed) (list ∷ logs) (list' ∷ logs') all
         read_at zero t is = (list, list', refl, refl, subst (λ x. HasReadText returned (IsReadEnough ended has_failed) list list' x) (cc is) first)
         read_at (suc k) t is = h.each k t is
 
-        each : AreRead returned (IsReadToEnd ended has_failed) (list ∷ logs) (list' ∷ logs') before
+        each : AreRead returned (λ s _. (ended s ≡ true) × (has_failed s ≡ false)) (list ∷ logs) (list' ∷ logs') before
         each k t is =
             let log = log_of before k t go_on is in
             let was = read_at k t (slice_get-take n all k t is) in
@@ -269,13 +269,13 @@ if_err_other (Err e) P Q f h = f e h
 -- ---- the answer to what was read
 
 module _ {R : Type 0} (returned : R → List ℕ) (ended has_failed : R → Bool) (list list' : R) (logs logs' : List R) where
-  pub reconciles : (begun read : Reconciling) (answer : Reconciled) (text : List ℕ)
+  pub reconciles : (progress : Progress) (answer : Reconciled) (text : List ℕ)
       → HasReadText returned (IsReadEnough ended has_failed) list list' text
-      → ReadsTexts returned (IsReadEnough ended has_failed) logs logs' (λ texts. IsReconciling text texts read × (length texts ≡ logs_read_by read (length logs)))
-      → ((text : List ℕ) (texts : List (List ℕ)) → IsReconciling text texts read → IsReconciled text texts answer)
-      → ((e : Ending) → (read ≡ state.Ended e) ↔ (answer ≡ Ended e))
+      → ReadsTexts returned (IsReadEnough ended has_failed) logs logs' (λ texts. IsProgress text texts progress × (length texts ≡ logs_read_by progress (length logs)))
+      → ((text : List ℕ) (texts : List (List ℕ)) → IsProgress text texts progress → IsReconciled text texts answer)
+      → ((e : Ending) → (progress ≡ state.Ended e) ↔ (answer ≡ Ended e))
       → Reconciles returned ended has_failed list list' logs logs' answer
-  reconciles begun read answer text first l right stays = record {
+  reconciles progress answer text first l right stays = record {
     text = text;
     list_read = first;
     logs_read = record {
@@ -283,7 +283,7 @@ module _ {R : Type 0} (returned : R → List ℕ) (ended has_failed : R → Bool
       as_many = l.as_many;
       each = l.each;
       others = l.others;
-      holds = (right text l.texts l.holds.0, answered_all read answer (length logs) (length l.texts) l.holds.1 stays);
+      holds = (right text l.texts l.holds.0, answered_all progress answer (length logs) (length l.texts) l.holds.1 stays);
     };
   }
 

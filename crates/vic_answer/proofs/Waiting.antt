@@ -1,5 +1,5 @@
 -- What was put behind bytes that wait, in turn.
-use Rattle.vic_answer.proofs.Words.{arith, OnOk, ◌≡◌, ◌+◌, ℕ, List, [], ◌++◌, length, take, None, Some, Option, Bool, Result, Ok, Err, refl, sym, ◌∙◌, ap, append_assoc, append-nil, subst, IsErr, IsErrAnd, take-append-le, Appends, HasTakenBut, HasTakenPrefix, RunFault, Writes, ⊤, Appends-trans, Appends-nil, take-append-add, PutsBehind, Puts}
+use Rattle.vic_answer.proofs.Words.{arith, OnOk, IfErr, Write, Accepts, ◌≢◌, ◌≡◌, ◌+◌, ℕ, List, [], ◌++◌, length, take, None, Some, Option, Bool, Result, Ok, Err, refl, sym, ◌∙◌, ap, append_assoc, append-nil, subst, IsErr, IsErrAnd, take-append-le, Appends, HasTakenBut, HasTakenPrefix, RunFault, Writes, ⊤, Appends-trans, Appends-nil, take-append-add, PutsBehind, Puts}
 use Rattle.std.proofs.Common.{length-append}
 
 -- a text behind a text
@@ -29,14 +29,14 @@ HasTakenPrefix-behind (Some us) None c w text more h k = absurd h.1
 HasTakenPrefix-behind _ b _ w text more h k = tt
 
 PutsBehind-then : (a b c : Option (List ℕ)) (w w' w'' xs ys : List ℕ) (r : Result ⊤ RunFault) → PutsBehind a b w w' xs (Ok tt) → PutsBehind b c w' w'' ys r → PutsBehind a c w w'' (xs ++ ys) r
-PutsBehind-then a b c w w' w'' xs ys (Ok y) h k = record { told = more_waits a b c w w' w'' xs ys h.told k.told; begun = tt }
-PutsBehind-then a b c w w' w'' xs ys (Err e) h k = record { told = tt; begun = subst (HasTakenPrefix a c) (append_assoc w xs ys) (HasTakenPrefix-behind a b c w' (w ++ xs) ys h.told k.begun) }
+PutsBehind-then a b c w w' w'' xs ys (Ok y) h k = record { all = more_waits a b c w w' w'' xs ys h.all k.all; part = tt }
+PutsBehind-then a b c w w' w'' xs ys (Err e) h k = record { all = tt; part = subst (HasTakenPrefix a c) (append_assoc w xs ys) (HasTakenPrefix-behind a b c w' (w ++ xs) ys h.all k.part) }
 
 PutsBehind-fails : (a b : Option (List ℕ)) (w w' w'' xs ys : List ℕ) (e : RunFault) → PutsBehind a b w w' xs (Err e) → PutsBehind a b w w'' (xs ++ ys) (Err e)
-PutsBehind-fails a b w w' w'' xs ys e h = record { told = tt; begun = subst (HasTakenPrefix a b) (append_assoc w xs ys) (HasTakenPrefix-longer a b (w ++ xs) ys h.begun) }
+PutsBehind-fails a b w w' w'' xs ys e h = record { all = tt; part = subst (HasTakenPrefix a b) (append_assoc w xs ys) (HasTakenPrefix-longer a b (w ++ xs) ys h.part) }
 
 PutsBehind-nil : (a : Option (List ℕ)) (w : List ℕ) → PutsBehind a a w w [] (Ok tt)
-PutsBehind-nil a w = record { told = ([], Appends-nil a, sym (append-nil w)); begun = tt }
+PutsBehind-nil a w = record { all = ([], Appends-nil a, sym (append-nil w)); part = tt }
 
 -- what waited was taken, behind what was taken before
 all_behind : (a b c : Option (List ℕ)) (w text : List ℕ) (r : Result ⊤ RunFault) → HasTakenBut a b w text → OnOk r (Appends b c w) → OnOk r (Appends a c text)
@@ -45,6 +45,17 @@ all_behind a b c w text (Err e) h k = tt
 
 part_behind : (a b c : Option (List ℕ)) (w text : List ℕ) → HasTakenBut a b w text → HasTakenPrefix b c w → HasTakenPrefix a c text
 part_behind a b c w text h k = subst (HasTakenPrefix a c) (append-nil text) (HasTakenPrefix-behind a b c w text [] h (subst (HasTakenPrefix b c) (sym (append-nil w)) k))
+
+-- at first nothing waited, and what waits is accepted
+accepts_behind : {a b c : Option (List ℕ)} {none w text : List ℕ} (r : Result ⊤ RunFault) → none ≡ [] → PutsBehind a b none w text (Ok tt) → Accepts b c w r → Accepts a c text r
+accepts_behind {a} {b} {c} {none} {w} {text} r start h k =
+    let sent : HasTakenBut a b w text = subst (λ ws. HasTakenBut a b w (ws ++ text)) start h.all in
+    record { all = all_behind a b c w text r sent k.all; part = part_behind a b c w text sent k.part }
+
+-- there is no fault but `Write`
+no_other : (P : Type 0) (r : Result ⊤ RunFault) → IfErr r (λ e. e ≡ Write) → IfErr r (λ e. e ≢ Write → P)
+no_other P (Ok x) is = tt
+no_other P (Err e) is = λ other. absurd (other is)
 
 err_is : (r : Result ⊤ RunFault) (e : RunFault) → IsErr r × IsErrAnd r (λ d. d ≡ e) → Err e ≡ r
 err_is (Ok x) e h = let no = h.0 in cc
@@ -56,8 +67,8 @@ module _ {W : Type 0} {written : W → List ℕ} {taken : W → Option (List ℕ
       → Puts written taken has_failed a b w w' xs (Ok tt) → Puts written taken has_failed b c w' w'' ys r
       → Puts written taken has_failed a c w w'' (xs ++ ys) r
   Puts-then {w = w} {w' = w'} {w'' = w''} {xs = xs} {ys = ys} {r = r} h k = record {
-    took = PutsBehind-then _ _ _ w w' w'' xs ys r h.took k.took;
-    wrote = PutsBehind-then _ _ _ w w' w'' xs ys r h.wrote k.wrote;
+    puts = PutsBehind-then _ _ _ w w' w'' xs ys r h.puts k.puts;
+    puts_revealed = PutsBehind-then _ _ _ w w' w'' xs ys r h.puts_revealed k.puts_revealed;
     fault = k.fault;
     failed = k.failed;
     untouched = λ e. let same = h.untouched e in k.untouched (ap has_failed same ∙ e) ∙ same;
@@ -68,8 +79,8 @@ module _ {W : Type 0} {written : W → List ℕ} {taken : W → Option (List ℕ
       → Puts written taken has_failed a b w w' xs r → Puts written taken has_failed a b w w' (xs ++ ys) r
   Puts-longer ys (Ok x) is h = cc
   Puts-longer ys {w = w} {w' = w'} {xs = xs} (Err e) is h = record {
-    took = PutsBehind-fails _ _ w w' w' xs ys e h.took;
-    wrote = PutsBehind-fails _ _ w w' w' xs ys e h.wrote;
+    puts = PutsBehind-fails _ _ w w' w' xs ys e h.puts;
+    puts_revealed = PutsBehind-fails _ _ w w' w' xs ys e h.puts_revealed;
     fault = h.fault;
     failed = h.failed;
     untouched = h.untouched;
@@ -88,8 +99,8 @@ module _ {W : Type 0} {written : W → List ℕ} {taken : W → Option (List ℕ
   -- no text
   pub Puts-nil : (a : W) (w : List ℕ) → Puts written taken has_failed a a w w [] (Ok tt)
   Puts-nil a w = record {
-    took = PutsBehind-nil (taken a) w;
-    wrote = PutsBehind-nil (Some (written a)) w;
+    puts = PutsBehind-nil (Some (written a)) w;
+    puts_revealed = PutsBehind-nil (taken a) w;
     fault = tt;
     failed = tt;
     untouched = λ e. refl;
@@ -99,16 +110,15 @@ module _ {W : Type 0} {written : W → List ℕ} {taken : W → Option (List ℕ
   pub Writes-behind : {is_flushed : W → Bool} {a b c : W} {none w text : List ℕ} {r : Result ⊤ RunFault}
       → none ≡ [] → Puts written taken has_failed a b none w text (Ok tt) → Writes written taken is_flushed has_failed b c w r
       → Writes written taken is_flushed has_failed a c text r
-  Writes-behind {a = a} {b = b} {c = c} {w = w} {text = text} {r = r} start h k =
-      let wrote : HasTakenBut (Some (written a)) (Some (written b)) w text = subst (λ ws. HasTakenBut (Some (written a)) (Some (written b)) w (ws ++ text)) start h.wrote.told in
-      let took : HasTakenBut (taken a) (taken b) w text = subst (λ ws. HasTakenBut (taken a) (taken b) w (ws ++ text)) start h.took.told in
-      record {
-        wrote = all_behind (Some (written a)) (Some (written b)) (Some (written c)) w text r wrote k.wrote;
-        part = part_behind (Some (written a)) (Some (written b)) (Some (written c)) w text wrote k.part;
-        all = all_behind (taken a) (taken b) (taken c) w text r took k.all;
-        flushed = k.flushed;
-        begun = part_behind (taken a) (taken b) (taken c) w text took k.begun;
-        fault = k.fault;
-        failed = k.failed;
-        untouched = λ e. let same = h.untouched e in k.untouched (ap has_failed same ∙ e) ∙ same;
-      }
+  Writes-behind {r = r} start h k = record {
+    accepts = accepts_behind r start h.puts k.accepts;
+    accepts_revealed = accepts_behind r start h.puts_revealed k.accepts_revealed;
+    fault = k.fault;
+    leaves_sink = record {
+      flushed = k.leaves_sink.flushed;
+      works = k.leaves_sink.works;
+      write = k.leaves_sink.write;
+      unwritten = no_other _ r k.fault;
+      untouched = λ e. let same = h.untouched e in k.leaves_sink.untouched (ap has_failed same ∙ e) ∙ same;
+    };
+  }

@@ -74,15 +74,15 @@ pub use Rattle.vic_answer.specs.CheckText.{BeginsAsCheck, IsAnswer, IsAnswerText
 pub use Rattle.vic_answer.specs.Digits.{hex_bytes, value_text}
 pub use Rattle.vic_answer.specs.ExplainText.{IsExplanationOf, explained_text, population_line, population_of}
 pub use Rattle.vic_answer.specs.FrameText.{reply_words, request_words}
-pub use Rattle.vic_answer.specs.ReconcileRun.{AreRead, HasReadText, HoldsAt, IsReadEnough, IsLast, IsReadToEnd, ReadsListAndLogs, ReadsTexts, Reconciles, StopsAtSource, StopsBy, WritesAnswer, logs_for, logs_up_to}
+pub use Rattle.vic_answer.specs.ReconcileRun.{AreRead, HasReadText, HoldsAt, IsReadEnough, IsLast, ReadsListAndLogs, ReadsTexts, Reconciles, StopsBy, WritesAnswer, logs_for, logs_up_to}
 pub use Rattle.vic_answer.specs.ReconcileText.{all_masks_text, doubtful_text, ending_text, masks_text, open_text, reconciled_status, reconciled_text, unlisted_text}
-pub use Rattle.vic_answer.specs.Reconciled.{AreComplete, EndsAt, GoOn, HasList, HasPossibleLog, IsReconciled, lines_of}
+pub use Rattle.vic_answer.specs.Reconciled.{AreComplete, EndsAt, GoOn, HasPossibleLog, IsReconciled, lines_of}
 pub use Rattle.vic_answer.specs.Findings.{report_findings}
 pub use Rattle.vic_answer.specs.FindingNumbers.{finding_numbers}
 pub use Rattle.vic_answer.specs.ReportText.{IsReportOf, finding_text, reported_text}
 pub use Rattle.vic_answer.specs.inner.FindingsLeft.{findings_left}
-pub use Rattle.vic_answer.specs.Runs.{GivesNoEarlyFault, IsEnough, IsReadWithin, LeavesSource, Reads, RunsOver, RunsOverRevealed, RunsWhere, Writes}
-pub use Rattle.vic_answer.specs.inner.Reconciling.{IsKept, IsReconciling, logs_read_by}
+pub use Rattle.vic_answer.specs.Runs.{Accepts, GivesNoEarlyFault, IsEnough, IsReadWithin, LeavesSource, Reads, RunsOver, RunsOverRevealed, RunsWhere, Writes}
+pub use Rattle.vic_answer.specs.inner.Progress.{AreJoined, IsProgress, logs_read_by}
 pub use Rattle.vic_answer.specs.SimulateText.{IsSimulationOf, simulated_status, simulated_text}
 pub use Rattle.vic_answer.specs.SpellText.{and_then, hex_decoded, hex_number_in, inventory_in, longest_mask, mask_in, number_ending, number_in, number_up_to, reply_in, says_inventory, says_reply, says_stay_quiet, sixteen_in, spelled_text, stay_quiet_in, value_in, word, words_of, words_reading}
 pub use Rattle.vic_answer.specs.declared.answered.Answered.{Answered}
@@ -91,7 +91,7 @@ pub use Rattle.vic_answer.specs.declared.ending.Ending.{Ending}
 pub use Rattle.vic_answer.specs.declared.findings.Finding.{Finding}
 pub use Rattle.vic_answer.specs.declared.reconcile.Reconciled.{Reconciled}
 pub use Rattle.vic_answer.specs.declared.reconcile.Reconciled.TheVariants.{Ended, NotWhole}
-pub use Rattle.vic_answer.specs.declared.reconcile.Reconciling.{Reconciling}
+pub use Rattle.vic_answer.specs.declared.reconcile.Progress.{Progress}
 pub use Rattle.vic_answer.specs.declared.spell.Said.TheVariants.{Asked, Replied}
 pub use Rattle.vic_answer.specs.declared.spell.SpellFault.{SpellFault}
 pub use Rattle.vic_answer.specs.declared.spell.SpellFault.TheVariants.{Words}

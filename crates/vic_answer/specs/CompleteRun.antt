@@ -14,14 +14,6 @@ pub record ReadsCompleteList (HasRead : List ℕ → Type 0) (IsOver : Type 0) (
   pub complete : HasCompleteList text count
   pub told : rest ≡ decimal count ++ codes "\n"
 
--- if a run wrote `complete` and a space, and then these bytes, its source gave such a text
-abbrev pub IsCompleteWhereSaid : {A E : Type 0} → Option (List ℕ) → Option (List ℕ)
-    → Option (List ℕ) → Option (List ℕ) → Result A E → Type 0
-IsCompleteWhereSaid left left' taken taken' result =
-    OnOk result ((before rest : List ℕ) → taken ≡ Some before
-    → taken' ≡ Some (before ++ (codes "complete " ++ rest))
-    → ReadsCompleteList (Consumes left left') (IsAtEnd left') rest)
-
 -- if a run wrote `complete` and a space, and then these bytes, its source's reads returned such a
 -- text, until one returned none
 abbrev pub IsCompleteWhereWritten : {A E : Type 0} → List ℕ → List ℕ → Bool
@@ -29,6 +21,14 @@ abbrev pub IsCompleteWhereWritten : {A E : Type 0} → List ℕ → List ℕ →
 IsCompleteWhereWritten returned returned' ended written written' result =
     OnOk result ((rest : List ℕ) → written' ≡ written ++ (codes "complete " ++ rest)
     → ReadsCompleteList (λ text. returned' ≡ returned ++ text) (ended ≡ true) rest)
+
+-- the same over the bytes that the source and the sink revealed before and after
+abbrev pub IsCompleteWhereRevealed : {A E : Type 0} → Option (List ℕ) → Option (List ℕ)
+    → Option (List ℕ) → Option (List ℕ) → Result A E → Type 0
+IsCompleteWhereRevealed left left' taken taken' result =
+    OnOk result ((before rest : List ℕ) → taken ≡ Some before
+    → taken' ≡ Some (before ++ (codes "complete " ++ rest))
+    → ReadsCompleteList (Consumes left left') (IsAtEnd left') rest)
 
 -- bytes that begin with some that are so
 pub record BeginWith (AreSo : List ℕ → Type 0) (bytes : List ℕ) : Type 0 where
@@ -38,13 +38,6 @@ pub record BeginWith (AreSo : List ℕ → Type 0) (bytes : List ℕ) : Type 0 w
   pub are : bytes ≡ front ++ more
 
 -- of a run that may write more lines: what it wrote next begins with the number and LF
-abbrev pub IsCompleteWhereSaidFirst : {A E : Type 0} → Option (List ℕ) → Option (List ℕ)
-    → Option (List ℕ) → Option (List ℕ) → Result A E → Type 0
-IsCompleteWhereSaidFirst left left' taken taken' result =
-    OnOk result ((before rest : List ℕ) → taken ≡ Some before
-    → taken' ≡ Some (before ++ (codes "complete " ++ rest))
-    → BeginWith (ReadsCompleteList (Consumes left left') (IsAtEnd left')) rest)
-
 abbrev pub IsCompleteWhereWrittenFirst : {A E : Type 0} → List ℕ → List ℕ → Bool
     → List ℕ → List ℕ → Result A E → Type 0
 IsCompleteWhereWrittenFirst returned returned' ended written written' result =

@@ -23,5 +23,5 @@ pub mod Tasks
 pub mod ReconcileRun
 pub mod SurveyNumbers
 pub mod Listing
-pub mod OverlookedText
+pub mod UidMargins
 pub mod inner

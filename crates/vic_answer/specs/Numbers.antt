@@ -4,7 +4,7 @@ use Rattle.vic_verdict.specs.declared.judging.Verdict.{Verdict}
 use Rattle.vic_verdict.specs.declared.judging.Verdict.TheVariants.{Impossible, Absent, Unlisted, Unsettled, Doubtful, Complete}
 use Rattle.vic_answer.specs.declared.answered.Answered.{Answered}
 use Rattle.vic_answer.specs.declared.answered.Answered.TheVariants.{Found, RefusedAt}
-use Rattle.vic_answer.specs.declared.text.TheConstants.{LINE_ROOM}
+use Rattle.vic_answer.specs.declared.text.TheConstants.{ANSWER_ROOM}
 use Rattle.vic_answer.specs.declared.numbers.VicinityAnswer.{VicinityAnswer}
 use Rattle.vic_answer.specs.CheckText.{IsAnswer, answer_line, answer_status}
 use Rattle.vic_answer.specs.FaultNumbers.{fault_number}
@@ -23,12 +23,12 @@ no_answer = record {
   mask_len = 0;
   mask_value = 0;
   uid = 0;
-  text = replicate LINE_ROOM 0;
+  text = replicate ANSWER_ROOM 0;
 }
 
 -- a text with zeros after it: in all, as many bytes as the buffer for an answer's line has
 abbrev pub padded : List ℕ → List ℕ
-padded text = text ++ replicate (LINE_ROOM - length text) 0
+padded text = text ++ replicate (ANSWER_ROOM - length text) 0
 
 -- a refusal at a line, by the number of a fault and its name
 abbrev pub refusal_numbers : (line fault : ℕ) → List ℕ → VicinityAnswer

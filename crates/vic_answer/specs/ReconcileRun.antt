@@ -78,22 +78,6 @@ Reconciles returned ended has_failed list list' logs logs' answer =
 
 -- ---- where a run without an answer stops
 
--- the source was read to its end, and works
-abbrev pub IsReadToEnd : {R : Type 0} → (R → Bool) → (R → Bool) → R → List ℕ → Type 0
-IsReadToEnd ended has_failed s text = (ended s ≡ true) × (has_failed s ≡ false)
-
--- of some sources, in their order, one is the last that was read, and P holds of it before and
--- after; those before it were read to their ends, and their texts let the run go on; those after
--- it are untouched
-pub record StopsAtSource {R : Type 0} (returned : R → List ℕ) (IsRead : R → List ℕ → Type 0)
-    (LetGoOn : List (List ℕ) → Type 0) (old new : List R) (P : R → R → Type 0) : Type 0 where
-  pub texts : List (List ℕ)
-  pub one_more : length texts < length old
-  pub each : AreRead returned IsRead old new texts
-  pub go_on : LetGoOn texts
-  pub last : HoldsAt old new (length texts) P
-  pub others : (k : ℕ) → length texts < k → slice_get new k ≡ slice_get old k
-
 -- the last source that was read, by the fault of the run: it has failed, before an early fault of
 -- its text, if and only if the fault is `Read`
 abbrev pub IsLast : {R : Type 0} → (R → List ℕ) → (R → Bool) → RunFault → R → R → Type 0
@@ -101,12 +85,17 @@ IsLast returned has_failed Read old new =
     (has_failed new ≡ true) × GivesNoEarlyFault (Grows (returned old) (returned new))
 IsLast returned has_failed fault old new = has_failed new ≡ false
 
--- where a run stopped that answers a fault
-abbrev pub StopsBy : {R : Type 0} → (R → List ℕ) → (ended has_failed : R → Bool)
-    → (List (List ℕ) → Type 0) → List R → List R → RunFault → Type 0
-StopsBy returned ended has_failed LetGoOn old new fault =
-    StopsAtSource returned (IsReadToEnd ended has_failed) LetGoOn old new
-    (IsLast returned has_failed fault)
+-- where a run stopped that answers a fault: of some sources, in their order, one is the last that
+-- was read; those before it were read to their ends and work, and their texts let the run go on;
+-- those after it are untouched
+pub record StopsBy {R : Type 0} (returned : R → List ℕ) (ended has_failed : R → Bool)
+    (LetGoOn : List (List ℕ) → Type 0) (old new : List R) (fault : RunFault) : Type 0 where
+  pub texts : List (List ℕ)
+  pub one_more : length texts < length old
+  pub each : AreRead returned (λ s _. (ended s ≡ true) × (has_failed s ≡ false)) old new texts
+  pub go_on : LetGoOn texts
+  pub last : HoldsAt old new (length texts) (IsLast returned has_failed fault)
+  pub others : (k : ℕ) → length texts < k → slice_get new k ≡ slice_get old k
 
 -- ---- what is written
 

@@ -9,6 +9,7 @@ use Rattle.vic_log.specs.declared.entry.LogLine.{LogLine}
 use Rattle.vic_verdict.specs.Possible.{IsPossible}
 use Rattle.vic_verdict.specs.Verdict.{IsVerdict}
 use Rattle.vic_verdict.specs.declared.judging.Verdict.TheVariants.{Impossible}
+use Rattle.vic_reconcile.specs.Families.{ArePossible}
 use Rattle.vic_reconcile.specs.Findings.{AreFindings, AreNone, IsFirstNotListed, IsList, IsWhole}
 use Rattle.vic_answer.specs.Answered.{HasLog}
 use Rattle.vic_answer.specs.declared.ending.Ending.{Ending}
@@ -61,7 +62,8 @@ abbrev pub IsReconciled : List ℕ → List (List ℕ) → Reconciled → Type 0
 IsReconciled list texts (Complete count) =
     HaveLogs list texts (λ expected logs. IsWhole expected logs × (count ≡ length expected))
 IsReconciled list texts (NotWhole f) =
-    HaveLogs list texts (λ expected logs. AreFindings expected logs f × (AreNone f → ⊥))
+    HaveLogs list texts (λ expected logs.
+    ArePossible logs × AreFindings expected logs f × (AreNone f → ⊥))
 IsReconciled list texts (Ended e) = EndsAt list texts e
 
 -- everything that is expected is somewhere, and nothing else, and these are the digits of how many

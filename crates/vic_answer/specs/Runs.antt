@@ -1,9 +1,9 @@
 -- What a run over a text reads and writes, and how it leaves its source and its sink.
-use Rattle.std.specs.Prelude.{◌≡◌, ◌≢◌, ◌↔◌, ◌⊎◌, ◌≤◌, ℕ, ◌+◌, Bool, true, false, ⊤, List, ◌++◌, Option, Some, Result, Ok, Err, OnOk, IfErr, IfOk, is_err}
+use Rattle.std.specs.Prelude.{◌≡◌, ◌≢◌, ◌↔◌, ◌⊎◌, ◌≤◌, ℕ, ◌+◌, Bool, true, false, ⊤, List, Option, Some, Result, Ok, Err, OnOk, IfErr, IfOk}
 use Rattle.std.specs.Io.KnownBytes.{Consumes, Appends, IsAtEnd}
 use Rattle.vic_log.specs.declared.fault.LineFault.{LineFault}
 use Rattle.vic_log.specs.declared.reader.TheConstants.{MAX_READS}
-use Rattle.vic_log.specs.Device.{HandsOut, Grows, HasTakenPrefix, HasWrittenPrefix}
+use Rattle.vic_log.specs.Device.{HandsOut, Grows, HasTakenPrefix}
 use Rattle.vic_log.specs.Early.{IsEarlyFault}
 use Rattle.vic_answer.specs.declared.status.RunFault.{RunFault}
 use Rattle.vic_answer.specs.declared.status.RunFault.TheVariants.{Read, Write, Memory}
@@ -56,15 +56,6 @@ RunsWhere IsAnswerTo HasRead HasHandedOut IsOver taken taken' (Err Read) =
     GivesNoEarlyFault HasHandedOut
 RunsWhere IsAnswerTo HasRead HasHandedOut IsOver taken taken' (Err Memory) = ⊤
 
--- over the bytes that the source and the sink revealed before and after, as a reader over memory
--- reveals what is left of it; this says nothing of those that reveal none, as a file
-abbrev pub RunsOverRevealed : (List ℕ → List ℕ → Status → Type 0)
-    → Option (List ℕ) → Option (List ℕ) → Option (List ℕ) → Option (List ℕ)
-    → Result Status RunFault → Type 0
-RunsOverRevealed IsAnswerTo left left' taken taken' result =
-    RunsWhere IsAnswerTo (Consumes left left') (HandsOut left left') (IsAtEnd left')
-    taken taken' result
-
 -- over the bytes that the source's reads returned, until one returned none, and that the sink's
 -- writes accepted: for every source and sink
 abbrev pub RunsOver : (List ℕ → List ℕ → Status → Type 0)
@@ -74,11 +65,25 @@ RunsOver IsAnswerTo returned returned' ended written written' result =
     RunsWhere IsAnswerTo (Grows returned returned') (Grows returned returned') (ended ≡ true)
     (Some written) (Some written') result
 
+-- over the bytes that the source and the sink revealed before and after, as a reader over memory
+-- reveals what is left of it; this says nothing of those that reveal none, as a file
+abbrev pub RunsOverRevealed : (List ℕ → List ℕ → Status → Type 0)
+    → Option (List ℕ) → Option (List ℕ) → Option (List ℕ) → Option (List ℕ)
+    → Result Status RunFault → Type 0
+RunsOverRevealed IsAnswerTo left left' taken taken' result =
+    RunsWhere IsAnswerTo (Consumes left left') (HandsOut left left') (IsAtEnd left')
+    taken taken' result
+
+-- a sink accepted a text, or a prefix of it if that failed
+pub record Accepts {A : Type 0} (taken taken' : Option (List ℕ)) (text : List ℕ)
+    (result : Result A RunFault) : Type 0 where
+  pub all : OnOk result (Appends taken taken' text)
+  pub part : HasTakenPrefix taken taken' text
+
 -- a text was written, with this status, or a prefix of it
 abbrev pub IsWritten : List ℕ → Status → List ℕ → List ℕ → Result Status RunFault → Type 0
 IsWritten text status written written' result =
-    IfOk result (λ s. s ≡ status) × OnOk result (written' ≡ written ++ text)
-    × HasWrittenPrefix written written' text
+    IfOk result (λ s. s ≡ status) × Accepts (Some written) (Some written') text result
 
 -- a source was read at most `MAX_READS` times, and not at all if it had failed before
 pub record IsReadWithin {R : Type 0} (reads : R → ℕ) (has_failed : R → Bool)
@@ -93,26 +98,22 @@ pub record LeavesSource {R A : Type 0} (reads : R → ℕ) (has_failed : R → B
   pub read : IfErr result (λ e. (e ≡ Read) ↔ (has_failed new ≡ true))
   pub within : IsReadWithin reads has_failed old new
 
--- how a run leaves its sink: flushed if the run ended with a status, failed if the result is
+-- how a run leaves its sink: flushed if the run ended without a fault, failed if the result is
 -- `Write`, untouched at any other fault and if it had failed before
-pub record LeavesSink {W : Type 0} (is_flushed has_failed : W → Bool)
-    (old new : W) (result : Result Status RunFault) : Type 0 where
+pub record LeavesSink {W A : Type 0} (is_flushed has_failed : W → Bool)
+    (old new : W) (result : Result A RunFault) : Type 0 where
   pub flushed : OnOk result (is_flushed new ≡ true)
   pub works : OnOk result (has_failed new ≡ false)
   pub write : IfErr result (λ e. e ≡ Write → has_failed new ≡ true)
   pub unwritten : IfErr result (λ e. e ≢ Write → new ≡ old)
   pub untouched : has_failed old ≡ true → new ≡ old
 
--- a sink accepted a text and flushed it, or failed and accepted a prefix of it; it is untouched if
--- it had failed before
+-- a sink accepted a text and flushed it, or failed and accepted a prefix of it, as its writes
+-- accepted it and as it reveals it
 pub record Writes {W A : Type 0} (written : W → List ℕ) (taken : W → Option (List ℕ))
     (is_flushed has_failed : W → Bool) (old new : W)
     (text : List ℕ) (result : Result A RunFault) : Type 0 where
-  pub wrote : OnOk result (written new ≡ written old ++ text)
-  pub part : HasWrittenPrefix (written old) (written new) text
-  pub all : OnOk result (Appends (taken old) (taken new) text)
-  pub flushed : OnOk result (is_flushed new ≡ true)
-  pub begun : HasTakenPrefix (taken old) (taken new) text
+  pub accepts : Accepts (Some (written old)) (Some (written new)) text result
+  pub accepts_revealed : Accepts (taken old) (taken new) text result
   pub fault : IfErr result (λ e. e ≡ Write)
-  pub failed : has_failed new ≡ is_err result
-  pub untouched : has_failed old ≡ true → new ≡ old
+  pub leaves_sink : LeavesSink is_flushed has_failed old new result

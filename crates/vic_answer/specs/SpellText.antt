@@ -34,32 +34,28 @@ and_then (Err e) f = Err e
 abbrev pub word : List (List ℕ) → ℕ → List ℕ
 word words i = slice_index_or words i []
 
--- a number below 2^64, if the word spells it in decimal
-abbrev pub decimal_of : ℕ → List ℕ → Result ℕ SpellFault
-decimal_of n w = if nat_lt n (2 ^ 64) && bytes_eq (decimal n) w then Ok n else Err Words
-
--- the number that a word spells in decimal
+-- the number that a word spells in decimal, below 2^64
 abbrev pub number_in : List ℕ → Result ℕ SpellFault
-number_in w = decimal_of (digits_value 10 w) w
+number_in w =
+    let n = digits_value 10 w in
+    if nat_lt n (2 ^ 64) && bytes_eq (decimal n) w then Ok n else Err Words
 
 -- the number that a word spells in decimal, up to a maximum
 abbrev pub number_up_to : ℕ → List ℕ → Result ℕ SpellFault
 number_up_to most w =
     and_then (number_in w) (λ n. if nat_le n most then Ok n else Err Range)
 
--- a number, if the word spells its last `count` bytes in upper-case hex digits
-abbrev pub hex_of : ℕ → ℕ → List ℕ → Result ℕ SpellFault
-hex_of count n w = if bytes_eq (hex_bytes count n) w then Ok n else Err Words
-
 -- the number with these last bytes, at most eight, most significant first
 abbrev pub number_ending : List ℕ → ℕ
 number_ending bytes = from_be_bytes w64 (replicate (8 - length bytes) 0 ++ bytes)
 
+-- the number of decoded bytes, if the word spells it in upper-case hex digits
 abbrev pub hex_decoded : ℕ → List ℕ → Result (List ℕ) FromHexError → Result ℕ SpellFault
-hex_decoded count w (Ok bytes) = hex_of count (number_ending bytes) w
+hex_decoded count w (Ok bytes) =
+    let n = number_ending bytes in if bytes_eq (hex_bytes count n) w then Ok n else Err Words
 hex_decoded count w (Err e) = Err Words
 
--- the number that a word spells as `count` bytes
+-- the number that a word spells as `count` bytes in upper-case hex digits
 abbrev pub hex_number_in : ℕ → List ℕ → Result ℕ SpellFault
 hex_number_in count w = hex_decoded count w (decode_sized w count)
 

@@ -7,8 +7,10 @@ use Rattle.vic_verdict.specs.Verdict.{IsVerdict}
 use Rattle.vic_verdict.specs.declared.judging.Verdict.{Verdict}
 use Rattle.vic_verdict.specs.declared.judging.Verdict.TheVariants as verdict
 use Rattle.vic_report.specs.declared.shown.ShownUid.{ShownUid}
+use Rattle.vic_reconcile.specs.Surveys.{IsSurvey}
 use Rattle.vic_reconcile.specs.declared.surveys.PlainFindings.{PlainFindings}
-use Rattle.vic_answer.specs.Answered.{HasLog, IsRefusedAt}
+use Rattle.vic_reconcile.specs.declared.surveys.Survey.{Survey}
+use Rattle.vic_answer.specs.Answered.{HasLog, IsAnswered, IsRefusedAt, answer_of}
 use Rattle.vic_answer.specs.declared.answered.Answered.{Answered}
 use Rattle.vic_answer.specs.declared.answered.Answered.TheVariants.{Found, RefusedAt}
 use Rattle.vic_answer.specs.declared.finding_numbers.VicinityFinding.{VicinityFinding}
@@ -27,6 +29,13 @@ abbrev pub IsAnswerWith : {T : Type 0} → (List LogLine → List T → Type 0) 
 IsAnswerWith P text (Found v) xs =
     (log : LogValue) × HasLog text log × IsVerdict log.lines v × P log.lines xs
 IsAnswerWith P text (RefusedAt n fault) xs = IsRefusedAt text n fault × (xs ≡ [])
+
+-- these are the items that P has of the log behind a survey
+abbrev pub AreItemsBehind : {T : Type 0} → (List LogLine → List T → Type 0) → Answered Survey
+    → List T → Type 0
+AreItemsBehind P surveyed xs =
+    (text : List ℕ) → IsAnswered IsSurvey text surveyed
+    → IsAnswerWith P text (answer_of (λ x. x.verdict) surveyed) xs
 
 -- these are the numbers of the answer to a text, there are `count` items, which P has of its log,
 -- and this is what becomes of the buffer for them

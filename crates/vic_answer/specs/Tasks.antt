@@ -1,9 +1,10 @@
 -- What each task reads and writes.
-use Rattle.std.specs.Prelude.{◌≡◌, ℕ, Bool, List, Option, None, Result, map, string_bytes}
+use Rattle.std.specs.Prelude.{◌≡◌, ℕ, Bool, List, Option, None, Result, IfErr, map, string_bytes}
 use Rattle.std.specs.Option.{option_map}
 use Rattle.vic_answer.specs.declared.task.Task.{Task}
 use Rattle.vic_answer.specs.declared.task.Task.TheVariants.{Check, Simulate, Explain, Report, Margin, Frame, Spell}
 use Rattle.vic_answer.specs.declared.status.RunFault.{RunFault}
+use Rattle.vic_answer.specs.declared.status.RunFault.TheVariants.{Write}
 use Rattle.vic_answer.specs.declared.status.Status.{Status}
 use Rattle.vic_answer.specs.CheckText.{IsCheckOf}
 use Rattle.vic_answer.specs.CompleteRun.{IsCompleteWhereWritten, IsCompleteWhereWrittenFirst}
@@ -42,11 +43,11 @@ Does (Margin file) returned returned' ended written written' result =
     RunsOver IsMarginOf returned returned' ended written written' result
     × IsCompleteWhereWrittenFirst returned returned' ended written written' result
 Does (Frame word) returned returned' ended written written' result =
-    (returned' ≡ returned)
+    (returned' ≡ returned) × IfErr result (λ e. e ≡ Write)
     × IsWritten (frame_text (string_bytes word)) (frame_status (string_bytes word))
     written written' result
 Does (Spell words) returned returned' ended written written' result =
-    (returned' ≡ returned)
+    (returned' ≡ returned) × IfErr result (λ e. e ≡ Write)
     × IsWritten (spell_text (map string_bytes words.items))
     (spell_status (map string_bytes words.items)) written written' result
 

@@ -1,5 +1,5 @@
 -- Definitions that private contracts alone cite.
 pub mod Readings
-pub mod Reconciling
+pub mod Progress
 pub mod Pieces
 pub mod FindingsLeft

@@ -4,7 +4,7 @@ ghost use Rattle.std.specs.Prelude.{◌≡◌, ℕ, IfOk};
 ghost use Rattle.vic_verdict.specs.Verdict.{IsVerdict};
 ghost use Rattle.vic_verdict.specs.declared.judging.Verdict.TheVariants.{Complete};
 ghost use Rattle.vic_answer.specs.CheckText.{IsAnswer, IsCheckOf, HasCompleteList, answer_line};
-ghost use Rattle.vic_answer.specs.CompleteRun.{IsCompleteWhereSaid, IsCompleteWhereWritten};
+ghost use Rattle.vic_answer.specs.CompleteRun.{IsCompleteWhereRevealed, IsCompleteWhereWritten};
 ghost use Rattle.vic_answer.specs.Runs.{LeavesSink, LeavesSource, RunsOver, RunsOverRevealed};
 ghost use Rattle.vic_answer.specs.declared.answered.Answered.TheVariants.{Found};
 
@@ -62,17 +62,17 @@ pub fn run_check<R: Source, W: Sink>(
     source: &mut R,
     sink: &mut W,
 ) -> Result<Status, RunFault>
-    ensures answer { RunsOverRevealed IsCheckOf (R.left source.old) (R.left source.new)
-        (W.taken sink.old) (W.taken sink.new) result }
-    // the same, even if source and sink reveal nothing
-    ensures bytes { RunsOver IsCheckOf (R.returned source.old) (R.returned source.new)
+    // over the bytes that the reads returned and the writes accepted
+    ensures answer { RunsOver IsCheckOf (R.returned source.old) (R.returned source.new)
         (R.ended source.new) (W.written sink.old) (W.written sink.new) result }
     // if it wrote `complete N`, the list of the log is complete and has N UIDs
-    ensures whole { IsCompleteWhereSaid (R.left source.old) (R.left source.new)
-        (W.taken sink.old) (W.taken sink.new) result }
-    // and even if source and sink reveal nothing
     ensures complete { IsCompleteWhereWritten (R.returned source.old) (R.returned source.new)
         (R.ended source.new) (W.written sink.old) (W.written sink.new) result }
+    // the same over the bytes that source and sink reveal
+    ensures answer_revealed { RunsOverRevealed IsCheckOf
+        (R.left source.old) (R.left source.new) (W.taken sink.old) (W.taken sink.new) result }
+    ensures complete_revealed { IsCompleteWhereRevealed
+        (R.left source.old) (R.left source.new) (W.taken sink.old) (W.taken sink.new) result }
     ensures leaves_source { LeavesSource R.reads R.has_failed source.old source.new result }
     ensures leaves_sink { LeavesSink W.is_flushed W.has_failed sink.old sink.new result }
 {

@@ -5,14 +5,14 @@ ghost use Rattle.arrayvec.specs.ArrayVec.{array_vec_len};
 ghost use Rattle.vic_log.specs.Writing.{listed_text};
 ghost use Rattle.vic_verdict.specs.Explained.{IsExplanation};
 ghost use Rattle.vic_answer.specs.ExplainText.{IsExplanationOf, explained_text, population_line, population_of, uids_of};
-ghost use Rattle.vic_answer.specs.CompleteRun.{IsCompleteWhereSaid, IsCompleteWhereWritten};
+ghost use Rattle.vic_answer.specs.CompleteRun.{IsCompleteWhereWritten};
 ghost use Rattle.vic_answer.specs.Runs.{LeavesSink, LeavesSource, RunsOver, RunsOverRevealed};
 
 use crate::answered::{Answered, HasVerdict, Judgement, answer_of};
 use crate::lines::answer_line;
 use crate::run::{Written, run_judged};
 use crate::status::{RunFault, Status};
-use crate::text::{LINE_ROOM, Text, put};
+use crate::text::{ANSWER_ROOM, Text, put};
 use itoa::Buffer;
 use std::alloc::{AllocError, Global};
 use vic_frame::Uid;
@@ -75,17 +75,15 @@ pub fn run_explain<R: Source, W: Sink>(
     source: &mut R,
     sink: &mut W,
 ) -> Result<Status, RunFault>
-    ensures answer { RunsOverRevealed IsExplanationOf (R.left source.old) (R.left source.new)
-        (W.taken sink.old) (W.taken sink.new) result }
-    // the same, even if source and sink reveal nothing
-    ensures bytes { RunsOver IsExplanationOf (R.returned source.old) (R.returned source.new)
+    // over the bytes that the reads returned and the writes accepted
+    ensures answer { RunsOver IsExplanationOf (R.returned source.old) (R.returned source.new)
         (R.ended source.new) (W.written sink.old) (W.written sink.new) result }
     // if it wrote `complete N`, the list of the log is complete and has N UIDs
-    ensures whole { IsCompleteWhereSaid (R.left source.old) (R.left source.new)
-        (W.taken sink.old) (W.taken sink.new) result }
-    // and even if source and sink reveal nothing
     ensures complete { IsCompleteWhereWritten (R.returned source.old) (R.returned source.new)
         (R.ended source.new) (W.written sink.old) (W.written sink.new) result }
+    // the same over the bytes that source and sink reveal
+    ensures answer_revealed { RunsOverRevealed IsExplanationOf
+        (R.left source.old) (R.left source.new) (W.taken sink.old) (W.taken sink.new) result }
     ensures leaves_source { LeavesSource R.reads R.has_failed source.old source.new result }
     ensures leaves_sink { LeavesSink W.is_flushed W.has_failed sink.old sink.new result }
 {
@@ -105,7 +103,7 @@ fn opening(explained: &Answered<Explanation>) -> Text
 
 /// Appends the line of a population's size.
 fn put_size(text: &mut Text, count: usize)
-    requires { array_vec_len text.old < LINE_ROOM }
+    requires { array_vec_len text.old < ANSWER_ROOM }
     ensures { text.new.items ≡ text.old.items ++ population_line count }
 {
     put(text, "population ");

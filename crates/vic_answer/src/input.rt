@@ -1,7 +1,7 @@
 //! How a log is read.
 
 ghost use Rattle.vic_answer.specs.Answered.{IsReading};
-ghost use Rattle.vic_answer.specs.inner.Readings.{Gives, GivesOver};
+ghost use Rattle.vic_answer.specs.inner.Readings.{GivesOver, GivesOverRevealed};
 ghost use Rattle.vic_answer.specs.Runs.{LeavesSource};
 
 use crate::answered::Reading;
@@ -11,9 +11,10 @@ use vic_log::{LogFault, LogReader, Source};
 
 /// Reads the log from a source, to its end or an early fault.
 pub(crate) fn read_source<R: Source>(alloc: Global, source: &mut R) -> Result<Reading, RunFault>
-    ensures reading { Gives IsReading (R.left source.old) (R.left source.new) result }
-    ensures bytes { GivesOver IsReading (R.returned source.old) (R.returned source.new)
+    ensures reading { GivesOver IsReading (R.returned source.old) (R.returned source.new)
         (R.ended source.new) result }
+    ensures reading_revealed { GivesOverRevealed IsReading (R.left source.old) (R.left source.new)
+        result }
     ensures leaves_source { LeavesSource R.reads R.has_failed source.old source.new result }
 {
     match LogReader::new(alloc).read_all(source) {

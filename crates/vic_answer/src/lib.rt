@@ -47,7 +47,7 @@ pub use lines::{answer_line, answer_status};
 pub use listing::{Listing, list_text, listed_in, listing_numbers};
 pub use margin::run_margin;
 pub use numbers::{NO_ANSWER, VicinityAnswer, numbers_of, refusal_numbers};
-pub use overlooked::{Overlooked, overlooked_text};
+pub use overlooked::{UidMargins, overlooked_text};
 pub use reconcile_run::run_reconcile;
 pub use report::run_report;
 pub use simulate::{SimulatedText, run_simulate, simulate_text};

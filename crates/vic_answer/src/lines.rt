@@ -7,7 +7,7 @@ ghost use Rattle.vic_answer.specs.Refusals as refusals;
 
 use crate::answered::Answer;
 use crate::status::Status;
-use crate::text::{LINE_ROOM, Text, put, put_decimal, put_mask, put_uid};
+use crate::text::{ANSWER_ROOM, Text, put, put_decimal, put_mask, put_uid};
 use arrayvec::ArrayVec;
 use vic_log::LineFault;
 use vic_verdict::Verdict;
@@ -18,7 +18,7 @@ pub(crate) const MAX_NAME_LEN: usize = 16;
 /// The line of an answer, with its LF.
 pub fn answer_line(answer: &Answer) -> Text
     ensures items { result.items ≡ spec.answer_line answer.now }
-    ensures len { array_vec_len result < LINE_ROOM }
+    ensures len { array_vec_len result < ANSWER_ROOM }
 {
     match answer {
         Answer::Found(verdict) => verdict_line(verdict),
@@ -51,7 +51,7 @@ fn verdict_status(verdict: &Verdict) -> Status
 /// The line of a verdict.
 pub(crate) fn verdict_line(verdict: &Verdict) -> Text
     ensures items { result.items ≡ spec.verdict_line verdict.now }
-    ensures len { array_vec_len result < LINE_ROOM }
+    ensures len { array_vec_len result < ANSWER_ROOM }
 {
     let mut text = ArrayVec::new();
     match *verdict {
@@ -88,7 +88,7 @@ pub(crate) fn verdict_line(verdict: &Verdict) -> Text
 pub(crate) fn refused_at(line: u32, name: &str) -> Text
     requires { length name.now ≤ MAX_NAME_LEN }
     ensures items { result.items ≡ refusals.refused_at line name.now }
-    ensures len { array_vec_len result < LINE_ROOM }
+    ensures len { array_vec_len result < ANSWER_ROOM }
 {
     let mut text = ArrayVec::new();
     put(&mut text, "refused at line ");
@@ -102,7 +102,7 @@ pub(crate) fn refused_at(line: u32, name: &str) -> Text
 /// The line of a refusal, by the fault of the line.
 pub(crate) fn refusal_line(line: u32, fault: &LineFault) -> Text
     ensures items { result.items ≡ refusals.refusal_line line fault.now }
-    ensures len { array_vec_len result < LINE_ROOM }
+    ensures len { array_vec_len result < ANSWER_ROOM }
 {
     refused_at(line, fault.name())
 }

@@ -2,7 +2,7 @@
 
 ghost use Rattle.std.specs.Prelude.{◌≡◌, ◌<◌, ◌++◌};
 ghost use Rattle.arrayvec.specs.ArrayVec.{array_vec_len};
-ghost use Rattle.vic_answer.specs.CompleteRun.{IsCompleteWhereSaidFirst, IsCompleteWhereWrittenFirst};
+ghost use Rattle.vic_answer.specs.CompleteRun.{IsCompleteWhereWrittenFirst};
 ghost use Rattle.vic_answer.specs.MarginText.{IsMarginOf, IsMarginOfLines, measured_text, weakest_text};
 ghost use Rattle.vic_answer.specs.Runs.{LeavesSink, LeavesSource, RunsOver, RunsOverRevealed};
 
@@ -11,7 +11,7 @@ use crate::lines::answer_line;
 use crate::output::write_and_flush;
 use crate::run::{Written, run_judged};
 use crate::status::{RunFault, Status};
-use crate::text::{LINE_ROOM, Text, put, put_decimal, put_mask};
+use crate::text::{ANSWER_ROOM, Text, put, put_decimal, put_mask};
 use std::alloc::{AllocError, Global};
 use vic_log::{Log, Sink, Source};
 use vic_margin::{Margin, Weakest, margin};
@@ -53,17 +53,15 @@ pub fn run_margin<R: Source, W: Sink>(
     source: &mut R,
     sink: &mut W,
 ) -> Result<Status, RunFault>
-    ensures answer { RunsOverRevealed IsMarginOf (R.left source.old) (R.left source.new)
-        (W.taken sink.old) (W.taken sink.new) result }
-    // the same, even if source and sink reveal nothing
-    ensures bytes { RunsOver IsMarginOf (R.returned source.old) (R.returned source.new)
+    // over the bytes that the reads returned and the writes accepted
+    ensures answer { RunsOver IsMarginOf (R.returned source.old) (R.returned source.new)
         (R.ended source.new) (W.written sink.old) (W.written sink.new) result }
     // if it wrote `complete N`, the list of the log is complete and has N UIDs
-    ensures whole { IsCompleteWhereSaidFirst (R.left source.old) (R.left source.new)
-        (W.taken sink.old) (W.taken sink.new) result }
-    // and even if source and sink reveal nothing
     ensures complete { IsCompleteWhereWrittenFirst (R.returned source.old) (R.returned source.new)
         (R.ended source.new) (W.written sink.old) (W.written sink.new) result }
+    // the same over the bytes that source and sink reveal
+    ensures answer_revealed { RunsOverRevealed IsMarginOf
+        (R.left source.old) (R.left source.new) (W.taken sink.old) (W.taken sink.new) result }
     ensures leaves_source { LeavesSource R.reads R.has_failed source.old source.new result }
     ensures leaves_sink { LeavesSink W.is_flushed W.has_failed sink.old sink.new result }
 {
@@ -86,7 +84,7 @@ fn measured_text(measured: &Answered<Margin>) -> Text
 
 /// Appends the lines of the margin of a log and of its weakest mask, if it has them.
 fn put_weakest(text: &mut Text, weakest: &Option<Weakest>)
-    requires { array_vec_len text.old < LINE_ROOM }
+    requires { array_vec_len text.old < ANSWER_ROOM }
     ensures { text.new.items ≡ text.old.items ++ weakest_text weakest.now }
 {
     if let Some(Weakest { margin, mask }) = weakest {

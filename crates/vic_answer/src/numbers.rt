@@ -9,7 +9,7 @@ use crate::answered::Answer;
 use crate::fault_numbers::fault_number;
 use crate::lines::{MAX_NAME_LEN, answer_line, answer_status, refused_at};
 use crate::status::Status;
-use crate::text::LINE_ROOM;
+use crate::text::ANSWER_ROOM;
 use vic_verdict::Verdict;
 
 /// The kind of an answer or of a finding in numbers; from 2 to 5 it is that of both.
@@ -58,7 +58,7 @@ pub struct VicinityAnswer {
     pub mask_value: u64,
     pub uid: u64,
     /// Its line, LF included, with zeros after it: to a log's text that of `check`.
-    pub text: [u8; LINE_ROOM],
+    pub text: [u8; ANSWER_ROOM],
 }
 
 /// No answer, since memory was refused.
@@ -71,7 +71,7 @@ pub const NO_ANSWER: VicinityAnswer = VicinityAnswer {
     mask_len: 0,
     mask_value: 0,
     uid: 0,
-    text: [0; LINE_ROOM],
+    text: [0; ANSWER_ROOM],
 };
 
 /// An answer in numbers, with its line.
@@ -143,11 +143,11 @@ fn verdict_fields(verdict: &Verdict) -> VicinityAnswer
 }
 
 /// A text with zeros after it, at least one.
-pub(crate) fn padded(text: &[u8]) -> [u8; LINE_ROOM]
-    requires { length text.now < LINE_ROOM }
+pub(crate) fn padded(text: &[u8]) -> [u8; ANSWER_ROOM]
+    requires { length text.now < ANSWER_ROOM }
     ensures { result ≡ spec.padded text.now }
 {
-    let mut room = [0; LINE_ROOM];
+    let mut room = [0; ANSWER_ROOM];
     room[..text.len()].copy_from_slice(text);
     room
 }

@@ -3,7 +3,7 @@
 ghost use Rattle.std.specs.Prelude.{◌≡◌, ◌≢◌, ◌↔◌, ◌+◌, ◌++◌, ℕ, [], ◌∷◌, List, IfErr, IfOk, length, map, string_bytes};
 ghost use Rattle.vic_answer.specs.Answered.{IsReading};
 ghost use Rattle.vic_answer.specs.Reconciled.{IsReconciled};
-ghost use Rattle.vic_answer.specs.inner.Reconciling.{IsKept, IsReconciling};
+ghost use Rattle.vic_answer.specs.inner.Progress.{AreJoined, IsProgress};
 ghost use Rattle.vic_answer.specs.inner.Readings.{GivesOver};
 ghost use Rattle.vic_answer.specs.ReconcileRun.{logs_up_to};
 ghost use Rattle.vic_answer.specs.ReconcileText as spec;
@@ -25,9 +25,9 @@ use vic_verdict::Verdict;
 
 /// What a list of what is expected and the logs that were read so far say.
 #[derive(Drop)]
-pub(crate) enum Reconciling {
-    /// All of the texts have logs, and those of the logs are possible.
-    Going(Reconciliation),
+pub(crate) enum Progress {
+    /// All of the texts have logs, which are joined in this; those of the logs are possible.
+    Joined(Reconciliation),
     /// One of the texts is refused, or its log is impossible.
     Ended(Ending),
 }
@@ -44,29 +44,26 @@ pub(crate) enum Reconciled {
 }
 
 /// Reads the list of what is expected from a source, to its end or an early fault.
-pub(crate) fn read_expected<R: Source>(
-    alloc: Global,
-    source: &mut R,
-) -> Result<Reconciling, RunFault>
-    ensures text { GivesOver (λ text r. IsReconciling text [] r) (R.returned source.old)
-        (R.returned source.new) (R.ended source.new) result }
+pub(crate) fn read_expected<R: Source>(alloc: Global, source: &mut R) -> Result<Progress, RunFault>
+    ensures text { GivesOver (λ text progress. IsProgress text [] progress)
+        (R.returned source.old) (R.returned source.new) (R.ended source.new) result }
     ensures leaves_source { LeavesSource R.reads R.has_failed source.old source.new result }
 {
     let reading = read_source(alloc, source)?;
     Ok(begin(alloc, reading)?)
 }
 
-/// The state after the list.
-fn begin(alloc: Global, reading: Reading) -> Result<Reconciling, AllocError>
-    ensures { IfOk result (λ r. (text : List ℕ)
-        → IsReading text reading → IsReconciling text [] r) }
+/// What the list says.
+fn begin(alloc: Global, reading: Reading) -> Result<Progress, AllocError>
+    ensures { IfOk result (λ progress. (text : List ℕ)
+        → IsReading text reading → IsProgress text [] progress) }
 {
     match reading {
         Reading::Found(list) => match Reconciliation::expecting(alloc, &list)? {
-            Ok(joined) => Ok(Reconciling::Going(joined)),
-            Err(line) => Ok(Reconciling::Ended(Ending::NotListedAt { line })),
+            Ok(joined) => Ok(Progress::Joined(joined)),
+            Err(line) => Ok(Progress::Ended(Ending::NotListedAt { line })),
         },
-        Reading::RefusedAt { line, fault } => Ok(Reconciling::Ended(Ending::ListRefusedAt {
+        Reading::RefusedAt { line, fault } => Ok(Progress::Ended(Ending::ListRefusedAt {
             line,
             fault,
         })),
@@ -78,13 +75,13 @@ pub(crate) fn read_next<R: Source>(
     alloc: Global,
     joined: Reconciliation,
     source: &mut R,
-) -> Result<Reconciling, RunFault>
-    ensures text { GivesOver (λ text r. (list : List ℕ) (texts : List (List ℕ))
-        → IsKept list texts joined → IsReconciling list (texts ++ text ∷ []) r)
+) -> Result<Progress, RunFault>
+    ensures text { GivesOver (λ text progress. (list : List ℕ) (texts : List (List ℕ))
+        → AreJoined list texts joined → IsProgress list (texts ++ text ∷ []) progress)
         (R.returned source.old) (R.returned source.new) (R.ended source.new) result }
     // if a text ends the run, it is this one
-    ensures last { IfOk result (λ r. (list : List ℕ) (texts : List (List ℕ)) (e : EndingValue)
-        → IsKept list texts joined → r ≡ Reconciling.Ended e
+    ensures last { IfOk result (λ progress. (list : List ℕ) (texts : List (List ℕ))
+        (e : EndingValue) → AreJoined list texts joined → progress ≡ Progress.Ended e
         → logs_up_to e ≡ length texts + 1) }
     ensures leaves_source { LeavesSource R.reads R.has_failed source.old source.new result }
 {
@@ -92,23 +89,23 @@ pub(crate) fn read_next<R: Source>(
     Ok(join(joined, reading)?)
 }
 
-/// The state after one more log.
-fn join(joined: Reconciliation, reading: Reading) -> Result<Reconciling, AllocError>
-    ensures text { IfOk result (λ r. (text list : List ℕ) (texts : List (List ℕ))
-        → IsReading text reading → IsKept list texts joined
-        → IsReconciling list (texts ++ text ∷ []) r) }
-    ensures last { IfOk result (λ r. (list : List ℕ) (texts : List (List ℕ)) (e : EndingValue)
-        → IsKept list texts joined → r ≡ Reconciling.Ended e
+/// What is said with one more log.
+fn join(joined: Reconciliation, reading: Reading) -> Result<Progress, AllocError>
+    ensures text { IfOk result (λ progress. (text list : List ℕ) (texts : List (List ℕ))
+        → IsReading text reading → AreJoined list texts joined
+        → IsProgress list (texts ++ text ∷ []) progress) }
+    ensures last { IfOk result (λ progress. (list : List ℕ) (texts : List (List ℕ))
+        (e : EndingValue) → AreJoined list texts joined → progress ≡ Progress.Ended e
         → logs_up_to e ≡ length texts + 1) }
 {
     let mut joined = joined;
     let log = joined.log_count();
     match reading {
         Reading::Found(next) => match joined.add(&next)? {
-            None => Ok(Reconciling::Going(joined)),
-            Some(line) => Ok(Reconciling::Ended(Ending::ImpossibleAt { log, line })),
+            None => Ok(Progress::Joined(joined)),
+            Some(line) => Ok(Progress::Ended(Ending::ImpossibleAt { log, line })),
         },
-        Reading::RefusedAt { line, fault } => Ok(Reconciling::Ended(Ending::RefusedAt {
+        Reading::RefusedAt { line, fault } => Ok(Progress::Ended(Ending::RefusedAt {
             log,
             line,
             fault,
@@ -117,14 +114,14 @@ fn join(joined: Reconciliation, reading: Reading) -> Result<Reconciling, AllocEr
 }
 
 /// The answer to the list and the logs that were read.
-pub(crate) fn reconciled_answer(reconciling: &Reconciling) -> Result<Reconciled, AllocError>
+pub(crate) fn reconciled_answer(progress: &Progress) -> Result<Reconciled, AllocError>
     ensures answer { IfOk result (λ r. (list : List ℕ) (texts : List (List ℕ))
-        → IsReconciling list texts reconciling.now → IsReconciled list texts r) }
+        → IsProgress list texts progress.now → IsReconciled list texts r) }
     ensures ended { IfOk result (λ r. (e : EndingValue)
-        → (reconciling.now ≡ Reconciling.Ended e) ↔ (r ≡ Reconciled.Ended e)) }
+        → (progress.now ≡ Progress.Ended e) ↔ (r ≡ Reconciled.Ended e)) }
 {
-    match reconciling {
-        Reconciling::Going(joined) => {
+    match progress {
+        Progress::Joined(joined) => {
             let found = joined.findings()?;
             if found.is_empty() {
                 let count = joined.count();
@@ -133,7 +130,7 @@ pub(crate) fn reconciled_answer(reconciling: &Reconciling) -> Result<Reconciled,
                 Ok(Reconciled::NotWhole(found))
             }
         }
-        Reconciling::Ended(ending) => Ok(Reconciled::Ended(*ending)),
+        Progress::Ended(ending) => Ok(Reconciled::Ended(*ending)),
     }
 }
 

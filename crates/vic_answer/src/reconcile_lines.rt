@@ -8,7 +8,7 @@ ghost use Rattle.vic_answer.specs.ReconcileText as spec;
 
 use crate::ending::Ending;
 use crate::lines::verdict_line;
-use crate::text::{LINE_ROOM, Text, put, put_decimal, put_mask, put_uid};
+use crate::text::{ANSWER_ROOM, Text, put, put_decimal, put_mask, put_uid};
 use arrayvec::ArrayVec;
 use std::alloc::{AllocError, Global};
 use vic_frame::{Mask, Uid};
@@ -28,7 +28,7 @@ fn name_of(names: &[String], log: usize) -> &str
 
 /// `words`, a line number and ` of `; a file's name follows.
 fn at_line_of(words: &str, line: u32) -> Text
-    requires { length words.now ≤ LINE_ROOM }
+    requires { length words.now ≤ ANSWER_ROOM }
     ensures { result.items ≡ spec.at_line_of words.now line }
 {
     let mut text = ArrayVec::new();

@@ -5,13 +5,11 @@ ghost use Rattle.std.specs.Prelude.{codes, map, string_bytes};
 ghost use Rattle.std.specs.List.{AllZip};
 ghost use Rattle.vic_answer.specs.Reconciled.{AreComplete, GoOn};
 ghost use Rattle.vic_answer.specs.ReconcileRun.{IsReadEnough, ReadsListAndLogs, ReadsTexts, Reconciles, StopsBy, WritesAnswer};
-ghost use Rattle.vic_answer.specs.inner.Reconciling.{IsReconciling, logs_read_by};
+ghost use Rattle.vic_answer.specs.inner.Progress.{IsProgress, logs_read_by};
 ghost use Rattle.vic_answer.specs.Runs.{IsReadWithin, LeavesSink};
 ghost use Rattle.vic_answer.specs.declared.status.RunFault.TheVariants.{Write};
 
-use crate::reconcile::{
-    Reconciling, read_expected, read_next, reconciled_answer, write_reconciled,
-};
+use crate::reconcile::{Progress, read_expected, read_next, reconciled_answer, write_reconciled};
 use crate::status::{RunFault, Status};
 use std::alloc::Global;
 use vic_log::{Sink, Source};
@@ -48,32 +46,33 @@ pub fn run_reconcile<R: Source, W: Sink>(
     ensures leaves_sink { LeavesSink W.is_flushed W.has_failed sink.old sink.new result }
 {
     let begun = read_expected(alloc, list)?;
-    let read = read_logs(alloc, begun, logs)?;
-    let answer = reconciled_answer(&read)?;
+    let progress = read_logs(alloc, begun, logs)?;
+    let answer = reconciled_answer(&progress)?;
     write_reconciled(alloc, &answer, list_name, names, sink)
 }
 
 /// Reads logs, one source after another, up to the first that is refused or impossible.
 fn read_logs<R: Source>(
     alloc: Global,
-    begun: Reconciling,
+    begun: Progress,
     logs: &mut [R],
-) -> Result<Reconciling, RunFault>
-    ensures texts { IfOk result (λ read. (list : List ℕ) → IsReconciling list [] begun
+) -> Result<Progress, RunFault>
+    ensures texts { IfOk result (λ progress. (list : List ℕ) → IsProgress list [] begun
         → ReadsTexts R.returned (IsReadEnough R.ended R.has_failed) logs.old logs.new (λ texts.
-        IsReconciling list texts read × (length texts ≡ logs_read_by read (length logs.old)))) }
-    ensures stops { IfErr result (λ e. (list : List ℕ) → IsReconciling list [] begun
+        IsProgress list texts progress
+        × (length texts ≡ logs_read_by progress (length logs.old)))) }
+    ensures stops { IfErr result (λ e. (list : List ℕ) → IsProgress list [] begun
         → StopsBy R.returned R.ended R.has_failed (λ texts. GoOn (list ∷ texts))
         logs.old logs.new e) }
     ensures leaves_sources { AllZip (IsReadWithin R.reads R.has_failed) logs.old logs.new }
     ensures fault { IfErr result (λ e. e ≢ Write) }
 {
-    let mut read = begun;
+    let mut progress = begun;
     for at in 0..logs.len() {
-        read = match read {
-            Reconciling::Going(joined) => read_next(alloc, joined, &mut logs[at])?,
-            Reconciling::Ended(ending) => return Ok(Reconciling::Ended(ending)),
+        progress = match progress {
+            Progress::Joined(joined) => read_next(alloc, joined, &mut logs[at])?,
+            Progress::Ended(ending) => return Ok(Progress::Ended(ending)),
         };
     }
-    Ok(read)
+    Ok(progress)
 }

@@ -3,7 +3,7 @@
 ghost use Rattle.vic_report.proofs.AllFindings.{report_begins};
 ghost use Rattle.vic_report.specs.Reports.{IsReport, verdict_of};
 ghost use Rattle.vic_answer.specs.inner.Pieces.{Puts};
-ghost use Rattle.vic_answer.specs.CompleteRun.{IsCompleteWhereSaid, IsCompleteWhereWritten};
+ghost use Rattle.vic_answer.specs.CompleteRun.{IsCompleteWhereWritten};
 ghost use Rattle.vic_answer.specs.ReportText.{IsReportOf, reported_text};
 ghost use Rattle.vic_answer.specs.Runs.{LeavesSink, LeavesSource, RunsOver, RunsOverRevealed};
 
@@ -57,17 +57,15 @@ pub fn run_report<R: Source, W: Sink>(
     source: &mut R,
     sink: &mut W,
 ) -> Result<Status, RunFault>
-    ensures answer { RunsOverRevealed IsReportOf (R.left source.old) (R.left source.new)
-        (W.taken sink.old) (W.taken sink.new) result }
-    // the same, even if source and sink reveal nothing
-    ensures bytes { RunsOver IsReportOf (R.returned source.old) (R.returned source.new)
+    // over the bytes that the reads returned and the writes accepted
+    ensures answer { RunsOver IsReportOf (R.returned source.old) (R.returned source.new)
         (R.ended source.new) (W.written sink.old) (W.written sink.new) result }
     // if it wrote `complete N`, the list of the log is complete and has N UIDs
-    ensures whole { IsCompleteWhereSaid (R.left source.old) (R.left source.new)
-        (W.taken sink.old) (W.taken sink.new) result }
-    // and even if source and sink reveal nothing
     ensures complete { IsCompleteWhereWritten (R.returned source.old) (R.returned source.new)
         (R.ended source.new) (W.written sink.old) (W.written sink.new) result }
+    // the same over the bytes that source and sink reveal
+    ensures answer_revealed { RunsOverRevealed IsReportOf
+        (R.left source.old) (R.left source.new) (W.taken sink.old) (W.taken sink.new) result }
     ensures leaves_source { LeavesSource R.reads R.has_failed source.old source.new result }
     ensures leaves_sink { LeavesSink W.is_flushed W.has_failed sink.old sink.new result }
 {

@@ -11,7 +11,7 @@ use crate::findings::{Finding, findings_in};
 use crate::lines::verdict_line;
 use crate::pieces::{Piece, put_text};
 use crate::status::RunFault;
-use crate::text::{LINE_ROOM, Text, put, put_decimal, put_mask};
+use crate::text::{ANSWER_ROOM, Text, put, put_decimal, put_mask};
 use arrayvec::ArrayVec;
 use vic_log::Sink;
 use vic_report::LogReport;
@@ -93,7 +93,7 @@ fn finding_text(finding: &Finding) -> Text
 
 /// Appends the line that names a line of the log.
 fn put_by_line(text: &mut Text, line: u32)
-    requires { array_vec_len text.old < LINE_ROOM }
+    requires { array_vec_len text.old < ANSWER_ROOM }
     ensures { text.new.items ≡ text.old.items ++ spec.by_line line }
 {
     put(text, "by line ");

@@ -31,11 +31,11 @@ pub(crate) fn run_judged<J: Written, R: Source, W: Sink>(
     source: &mut R,
     sink: &mut W,
 ) -> Result<Status, RunFault>
-    ensures answer { RunsOverRevealed (IsAnswerText J.IsOf J.verdict_of J.text_of)
-        (R.left source.old) (R.left source.new) (W.taken sink.old) (W.taken sink.new) result }
-    ensures bytes { RunsOver (IsAnswerText J.IsOf J.verdict_of J.text_of) (R.returned source.old)
+    ensures answer { RunsOver (IsAnswerText J.IsOf J.verdict_of J.text_of) (R.returned source.old)
         (R.returned source.new) (R.ended source.new)
         (W.written sink.old) (W.written sink.new) result }
+    ensures answer_revealed { RunsOverRevealed (IsAnswerText J.IsOf J.verdict_of J.text_of)
+        (R.left source.old) (R.left source.new) (W.taken sink.old) (W.taken sink.new) result }
     ensures leaves_source { LeavesSource R.reads R.has_failed source.old source.new result }
     ensures leaves_sink { LeavesSink W.is_flushed W.has_failed sink.old sink.new result }
 {

@@ -1,11 +1,11 @@
 //! The command `simulate`.
 
 ghost use Rattle.std.specs.Prelude.{◌≡◌, ℕ, List, IfOk};
-ghost use Rattle.vic_answer.specs.SimulateText.{IsSimulated, IsSimulationOf, simulated_text, simulated_status};
-ghost use Rattle.vic_answer.specs.Answered.{HasLog, IsReading};
+ghost use Rattle.vic_answer.specs.SimulateText.{IsSimulated, IsSimulatedText, IsSimulationOf, simulated_text, simulated_status};
+ghost use Rattle.vic_answer.specs.Answered.{IsReading};
 ghost use Rattle.vic_answer.specs.Runs.{RunsOver, RunsOverRevealed, LeavesSource, LeavesSink, Writes};
 
-use crate::answered::{Reading, read_text};
+use crate::answered::{Answered, Reading, read_text};
 use crate::input::read_source;
 use crate::lines::{refusal_line, refused_at};
 use crate::output::write_and_flush;
@@ -18,16 +18,14 @@ use vic_log::{LineFault, Log, MAX_LINES, Sink, Source, ToWrite, write_log};
 /// The first line number beyond `MAX_LINES`.
 const LINE_TOO_MANY: u32 = MAX_LINES + 1;
 
-/// What becomes of a text.
+/// What becomes of a log.
 #[derive(Drop)]
 pub(crate) enum Simulated {
-    /// Its log with the slots filled in.
+    /// It has its slots filled in.
     Filled(Log),
-    /// A line of it has a fault, and this is the first.
-    RefusedAt { line: u32, fault: LineFault },
-    /// Its log has slot lines already; this is the first.
+    /// It has slot lines already; this is the first.
     OutcomeGiven { line: u32 },
-    /// Its log, filled in, would have too many lines.
+    /// Filled in, it would have too many lines.
     TooManyLines,
 }
 
@@ -66,11 +64,12 @@ pub fn run_simulate<R: Source, W: Sink>(
     source: &mut R,
     sink: &mut W,
 ) -> Result<Status, RunFault>
-    ensures answer { RunsOverRevealed IsSimulationOf (R.left source.old) (R.left source.new)
-        (W.taken sink.old) (W.taken sink.new) result }
-    // the same, even if source and sink reveal nothing
-    ensures bytes { RunsOver IsSimulationOf (R.returned source.old) (R.returned source.new)
+    // over the bytes that the reads returned and the writes accepted
+    ensures answer { RunsOver IsSimulationOf (R.returned source.old) (R.returned source.new)
         (R.ended source.new) (W.written sink.old) (W.written sink.new) result }
+    // the same over the bytes that source and sink reveal
+    ensures answer_revealed { RunsOverRevealed IsSimulationOf
+        (R.left source.old) (R.left source.new) (W.taken sink.old) (W.taken sink.new) result }
     ensures leaves_source { LeavesSource R.reads R.has_failed source.old source.new result }
     ensures leaves_sink { LeavesSink W.is_flushed W.has_failed sink.old sink.new result }
 {
@@ -80,20 +79,19 @@ pub fn run_simulate<R: Source, W: Sink>(
 }
 
 /// What becomes of a text, by its log or first fault.
-fn simulate_reading(alloc: Global, reading: Reading) -> Result<Simulated, AllocError>
+fn simulate_reading(alloc: Global, reading: Reading) -> Result<Answered<Simulated>, AllocError>
     ensures { IfOk result (λ s. (text : List ℕ)
-        → IsReading text reading → IsSimulated text s) }
+        → IsReading text reading → IsSimulatedText text s) }
 {
     match reading {
-        Reading::Found(log) => simulate_log(alloc, &log),
-        Reading::RefusedAt { line, fault } => Ok(Simulated::RefusedAt { line, fault }),
+        Answered::Found(log) => Ok(Answered::Found(simulate_log(alloc, &log)?)),
+        Answered::RefusedAt { line, fault } => Ok(Answered::RefusedAt { line, fault }),
     }
 }
 
 /// What becomes of a log.
 fn simulate_log(alloc: Global, given: &Log) -> Result<Simulated, AllocError>
-    ensures { IfOk result (λ s. (text : List ℕ)
-        → HasLog text given.now → IsSimulated text s) }
+    ensures { IfOk result (IsSimulated given.now) }
 {
     match simulate(alloc, given) {
         Ok(filled) => {
@@ -118,20 +116,25 @@ fn refuse<W: Sink>(line: &Text, sink: &mut W) -> Result<Status, RunFault>
 }
 
 /// Writes the log that was filled in, or the line of a refusal, and flushes.
-fn write_simulated<W: Sink>(simulated: Simulated, sink: &mut W) -> Result<Status, RunFault>
+fn write_simulated<W: Sink>(
+    simulated: Answered<Simulated>,
+    sink: &mut W,
+) -> Result<Status, RunFault>
     ensures status { IfOk result (λ s. s ≡ simulated_status simulated) }
     ensures written { Writes W.written W.taken W.is_flushed W.has_failed
         sink.old sink.new (simulated_text simulated) result }
 {
     match simulated {
-        Simulated::Filled(log) => match write_log(&log, sink) {
+        Answered::Found(Simulated::Filled(log)) => match write_log(&log, sink) {
             Ok(()) => Ok(Status::Whole),
             Err(_) => Err(RunFault::Write),
         },
-        Simulated::RefusedAt { line, fault } => refuse(&refusal_line(line, &fault), sink),
-        Simulated::OutcomeGiven { line } => refuse(&refused_at(line, "OutcomeGiven"), sink),
-        Simulated::TooManyLines => {
+        Answered::Found(Simulated::OutcomeGiven { line }) => {
+            refuse(&refused_at(line, "OutcomeGiven"), sink)
+        }
+        Answered::Found(Simulated::TooManyLines) => {
             refuse(&refusal_line(LINE_TOO_MANY, &LineFault::TooManyLines), sink)
         }
+        Answered::RefusedAt { line, fault } => refuse(&refusal_line(line, &fault), sink),
     }
 }

@@ -24,10 +24,10 @@ const MAX_LINK: u8 = 3;
 /// Why words don't spell a frame.
 #[derive(Clone, Copy, Debug, Drop, PartialEq, Eq)]
 enum SpellFault {
-    /// They aren't a line of `frame`.
+    /// They aren't a line of `frame`, or a number in decimal is 2^64 or more.
     Words,
-    /// The link is above 3, or the mask is longer than its request allows, or its value has bits
-    /// above the mask.
+    /// Otherwise, the link is above 3, or the mask is longer than its request allows, or its value
+    /// has bits above the mask.
     Range,
 }
 

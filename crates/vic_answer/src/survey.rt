@@ -1,9 +1,8 @@
 //! The survey of a text's log: its certain UIDs and open masks.
 
-ghost use Rattle.std.specs.Prelude.{ℕ, List, IfOk};
+ghost use Rattle.std.specs.Prelude.{IfOk};
 ghost use Rattle.vic_reconcile.specs.Surveys.{AreCertainIn, AreOpenIn, IsSurvey};
-ghost use Rattle.vic_answer.specs.Answered.{IsAnswered, answer_of};
-ghost use Rattle.vic_answer.specs.SurveyNumbers.{IsAnswerWith};
+ghost use Rattle.vic_answer.specs.SurveyNumbers.{AreItemsBehind};
 
 use crate::answered::{Answered, HasVerdict, Judgement};
 use std::alloc::{AllocError, Global};
@@ -34,8 +33,7 @@ impl Judgement for Survey {
 /// The certain UIDs of the log behind this answer, in rising order; none if it is impossible or the
 /// text refused.
 pub fn certain_of(surveyed: &Answered<Survey>) -> &[Uid]
-    ensures { (text : List ℕ) → IsAnswered IsSurvey text surveyed.now
-        → IsAnswerWith AreCertainIn text (answer_of (λ x. x.verdict) surveyed.now) result.now }
+    ensures { AreItemsBehind AreCertainIn surveyed.now result.now }
 {
     match surveyed {
         Answered::Found(survey) => survey.certain.as_slice(),
@@ -46,8 +44,7 @@ pub fn certain_of(surveyed: &Answered<Survey>) -> &[Uid]
 /// All open masks of the log behind this answer, by length, then by value; none if it is impossible
 /// or the text refused.
 pub fn open_masks_of(alloc: Global, surveyed: &Answered<Survey>) -> Result<Vec<Mask>, AllocError>
-    ensures { IfOk result (λ masks. (text : List ℕ) → IsAnswered IsSurvey text surveyed.now
-        → IsAnswerWith AreOpenIn text (answer_of (λ x. x.verdict) surveyed.now) masks.items) }
+    ensures { IfOk result (λ masks. AreItemsBehind AreOpenIn surveyed.now masks.items) }
 {
     match surveyed {
         Answered::Found(survey) => survey.open_masks(alloc),

@@ -9,11 +9,11 @@ use itoa::Buffer;
 use vic_frame::Mask;
 use vic_log::push_hex;
 
-/// The bytes of an answer's line, padded with zeros, at least one: a line has at most 45.
-pub(crate) const LINE_ROOM: usize = 64;
+/// Room for the line of an answer, at most 45 bytes, and at least one zero after it.
+pub(crate) const ANSWER_ROOM: usize = 64;
 
 /// Room for three lines.
-pub const TEXT_ROOM: usize = 3 * LINE_ROOM;
+pub const TEXT_ROOM: usize = 3 * ANSWER_ROOM;
 
 /// A short text, in a buffer of fixed size.
 pub type Text = ArrayVec<u8, TEXT_ROOM>;

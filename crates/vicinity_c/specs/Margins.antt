@@ -9,12 +9,12 @@ use Rattle.vic_margin.specs.declared.answer.Weakest.{Weakest}
 use Rattle.vic_answer.specs.declared.answered.Answered.{Answered}
 use Rattle.vic_answer.specs.declared.answered.Answered.TheVariants.{Found, RefusedAt}
 use Rattle.vic_answer.specs.declared.numbers.VicinityAnswer.{VicinityAnswer}
-use Rattle.vic_answer.specs.declared.overlooked.Overlooked.{Overlooked}
+use Rattle.vic_answer.specs.declared.overlooked.UidMargins.{UidMargins}
 use Rattle.vic_answer.specs.Answered.{HasLog, IsAnswered, IsRefusedAt, answer_of}
 use Rattle.vic_answer.specs.Buffers.{IsPutInto}
 use Rattle.vic_answer.specs.MarginText.{IsMarginOfLines}
 use Rattle.vic_answer.specs.Numbers.{numbers_of}
-use Rattle.vic_answer.specs.OverlookedText.{AreOverlooked}
+use Rattle.vic_answer.specs.UidMargins.{AreUidMargins}
 use Rattle.vicinity_c.specs.Arrays.{HaveNoFault, IsFirst, uid_fault}
 use Rattle.vicinity_c.specs.declared.arrays.TheConstants.{MOST}
 use Rattle.vicinity_c.specs.declared.margins.VicinityWeakest.{VicinityWeakest}
@@ -64,14 +64,14 @@ pub record IsUidRefused (text uids : List ℕ) (n : ℕ) (fault : LineFault) : T
 
 -- the answer to a text and UIDs: the verdict on its log, and the margin of each UID; or the first
 -- fault of the text, or else of the UIDs
-abbrev pub AreOverlookedBy : List ℕ → List ℕ → Answered Overlooked → Type 0
+abbrev pub AreOverlookedBy : List ℕ → List ℕ → Answered UidMargins → Type 0
 AreOverlookedBy text uids (Found o) =
-    HaveNoFault (map uid_fault uids) × IsAnswered (AreOverlooked uids) text (Found o)
+    HaveNoFault (map uid_fault uids) × IsAnswered (AreUidMargins uids) text (Found o)
 AreOverlookedBy text uids (RefusedAt n fault) =
     IsRefusedAt text n fault ⊎ IsUidRefused text uids n fault
 
 -- the margins of so many UIDs, zeros if the text or a UID is refused
-abbrev pub margins_of : ℕ → Answered Overlooked → List ℕ
+abbrev pub margins_of : ℕ → Answered UidMargins → List ℕ
 margins_of count (Found o) = o.margins.items
 margins_of count (RefusedAt n fault) = replicate count 0
 
@@ -79,7 +79,7 @@ margins_of count (RefusedAt n fault) = replicate count 0
 -- for their margins
 pub record AreOverlookedNumbersFor (text uids : List ℕ) (numbers : VicinityAnswer)
     (room room' : List ℕ) : Type 0 where
-  pub overlooked : Answered Overlooked
+  pub overlooked : Answered UidMargins
   pub right : AreOverlookedBy text uids overlooked
   pub numbers_are : numbers ≡ numbers_of (answer_of (λ x. x.verdict) overlooked)
   pub put : IsPutInto (margins_of (length uids) overlooked) room room'

@@ -15,7 +15,7 @@ use crate::arrays::{MOST, uids_in};
 use crate::lines::with_listed;
 use std::alloc::{AllocError, Global};
 use vic_answer::{
-    Answered, NO_ANSWER, Overlooked, VicinityAnswer, answer_of, answer_text, copy_list, numbers_of,
+    Answered, NO_ANSWER, UidMargins, VicinityAnswer, answer_of, answer_text, copy_list, numbers_of,
     overlooked_text, read_text,
 };
 use vic_log::LineFault;
@@ -165,7 +165,7 @@ fn overlooked_by(
     alloc: Global,
     text: &[u8],
     uids: &[u64],
-) -> Result<Answered<Overlooked>, AllocError>
+) -> Result<Answered<UidMargins>, AllocError>
     ensures overlooked { IfOk result (spec.AreOverlookedBy text.now uids.now) }
     ensures whole { IfOk result (λ o. (count : ℕ)
         → answer_of (λ x. x.verdict) o ≡ Answered.Found (Complete count)
@@ -182,7 +182,7 @@ fn refusal_behind(
     alloc: Global,
     text: &[u8],
     index: usize,
-) -> Result<Answered<Overlooked>, AllocError>
+) -> Result<Answered<UidMargins>, AllocError>
     ensures overlooked { (uids : List ℕ) (number : ℕ)
         → IsFirst (map uid_fault uids) index number
         → IfOk result (spec.AreOverlookedBy text.now uids) }
@@ -224,7 +224,7 @@ fn line_count(text: &[u8]) -> usize
 }
 
 /// Puts the margins of so many UIDs at the start of a buffer, if they fit; zeros for a refusal.
-fn put_margins(overlooked: &Answered<Overlooked>, count: usize, room: &mut [u32])
+fn put_margins(overlooked: &Answered<UidMargins>, count: usize, room: &mut [u32])
     ensures { IsPutInto (spec.margins_of count overlooked.now) room.old room.new }
 {
     match overlooked {

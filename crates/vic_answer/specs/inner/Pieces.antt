@@ -8,16 +8,16 @@ use Rattle.vic_answer.specs.declared.status.RunFault.TheVariants.{Write}
 -- now, or it failed and accepted a prefix of them
 pub record PutsBehind (taken taken' : Option (List ℕ)) (waiting waiting' text : List ℕ)
     (result : Result ⊤ RunFault) : Type 0 where
-  pub told : OnOk result (HasTakenBut taken taken' waiting' (waiting ++ text))
-  pub begun : OnErr result (HasTakenPrefix taken taken' (waiting ++ text))
+  pub all : OnOk result (HasTakenBut taken taken' waiting' (waiting ++ text))
+  pub part : OnErr result (HasTakenPrefix taken taken' (waiting ++ text))
 
--- the same about what the sink reveals and about what its writes accepted, and how it leaves the
--- sink, which is untouched if it had failed before
+-- the same as the sink's writes accepted it and as it reveals it, and how it leaves the sink, which
+-- is untouched if it had failed before
 pub record Puts {W : Type 0} (written : W → List ℕ) (taken : W → Option (List ℕ))
     (has_failed : W → Bool) (old new : W)
     (waiting waiting' text : List ℕ) (result : Result ⊤ RunFault) : Type 0 where
-  pub took : PutsBehind (taken old) (taken new) waiting waiting' text result
-  pub wrote : PutsBehind (Some (written old)) (Some (written new)) waiting waiting' text result
+  pub puts : PutsBehind (Some (written old)) (Some (written new)) waiting waiting' text result
+  pub puts_revealed : PutsBehind (taken old) (taken new) waiting waiting' text result
   pub fault : IfErr result (λ e. e ≡ Write)
   pub failed : OnErr result (has_failed new ≡ true)
   pub untouched : has_failed old ≡ true → new ≡ old

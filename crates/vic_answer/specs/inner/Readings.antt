@@ -15,14 +15,14 @@ GivesWhere IsOf HasRead HasHandedOut IsOver (Err Read) = GivesNoEarlyFault HasHa
 GivesWhere IsOf HasRead HasHandedOut IsOver (Err Memory) = ⊤
 GivesWhere IsOf HasRead HasHandedOut IsOver (Err Write) = ⊥
 
--- about the bytes that the source revealed before and after
-abbrev pub Gives : {A : Type 0} → (List ℕ → A → Type 0) → Option (List ℕ) → Option (List ℕ)
-    → Result A RunFault → Type 0
-Gives IsOf left left' result =
-    GivesWhere IsOf (Consumes left left') (HandsOut left left') (IsAtEnd left') result
-
--- about the bytes that the source's reads returned
+-- over the bytes that the source's reads returned, until one returned none
 abbrev pub GivesOver : {A : Type 0} → (List ℕ → A → Type 0) → List ℕ → List ℕ → Bool
     → Result A RunFault → Type 0
 GivesOver IsOf returned returned' ended result =
     GivesWhere IsOf (Grows returned returned') (Grows returned returned') (ended ≡ true) result
+
+-- over the bytes that the source revealed before and after
+abbrev pub GivesOverRevealed : {A : Type 0} → (List ℕ → A → Type 0)
+    → Option (List ℕ) → Option (List ℕ) → Result A RunFault → Type 0
+GivesOverRevealed IsOf left left' result =
+    GivesWhere IsOf (Consumes left left') (HandsOut left left') (IsAtEnd left') result

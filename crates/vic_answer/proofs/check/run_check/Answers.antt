@@ -1,10 +1,10 @@
 use Rattle.vic_answer.proofs.Words.{IsCheckOf}
 use Rattle.vic_answer.proofs.CheckLines.{check_tells}
-use Rattle.vic_answer.proofs.CompleteRuns.{complete_where_said, complete_where_written}
+use Rattle.vic_answer.proofs.CompleteRuns.{complete_where_revealed, complete_where_written}
 use Rattle.vic_answer.proofs.check.run_check.Goals as goal
 
-pub returns-clause-whole : goal.returns-clause-whole
-returns-clause-whole g c = complete_where_said IsCheckOf check_tells _ _ _ _ c.run_judged.result c.run_judged.ensures.answer
-
 pub returns-clause-complete : goal.returns-clause-complete
-returns-clause-complete g c = complete_where_written IsCheckOf check_tells _ _ _ _ _ c.run_judged.result c.run_judged.ensures.bytes
+returns-clause-complete g c = complete_where_written IsCheckOf check_tells _ _ _ _ _ c.run_judged.result c.run_judged.ensures.answer
+
+pub returns-clause-complete_revealed : goal.returns-clause-complete_revealed
+returns-clause-complete_revealed g c = complete_where_revealed IsCheckOf check_tells _ _ _ _ c.run_judged.result c.run_judged.ensures.answer_revealed

@@ -1,10 +1,7 @@
 use Rattle.vic_answer.specs.MarginText.{IsMarginOf}
 use Rattle.vic_answer.proofs.CheckLines.{margin_tells}
-use Rattle.vic_answer.proofs.CompleteRuns.{complete_where_said_first, complete_where_written_first}
+use Rattle.vic_answer.proofs.CompleteRuns.{complete_where_written_first}
 use Rattle.vic_answer.proofs.margin.run_margin.Goals as goal
 
-pub returns-clause-whole : goal.returns-clause-whole
-returns-clause-whole g c = complete_where_said_first IsMarginOf margin_tells _ _ _ _ c.run_judged.result c.run_judged.ensures.answer
-
 pub returns-clause-complete : goal.returns-clause-complete
-returns-clause-complete g c = complete_where_written_first IsMarginOf margin_tells _ _ _ _ _ c.run_judged.result c.run_judged.ensures.bytes
+returns-clause-complete g c = complete_where_written_first IsMarginOf margin_tells _ _ _ _ _ c.run_judged.result c.run_judged.ensures.answer

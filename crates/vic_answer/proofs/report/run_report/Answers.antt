@@ -1,10 +1,7 @@
 use Rattle.vic_answer.proofs.Words.{IsReportOf}
 use Rattle.vic_answer.proofs.CheckLines.{report_tells}
-use Rattle.vic_answer.proofs.CompleteRuns.{complete_where_said, complete_where_written}
+use Rattle.vic_answer.proofs.CompleteRuns.{complete_where_written}
 use Rattle.vic_answer.proofs.report.run_report.Goals as goal
 
-pub returns-clause-whole : goal.returns-clause-whole
-returns-clause-whole g c = complete_where_said IsReportOf report_tells _ _ _ _ c.run_judged.result c.run_judged.ensures.answer
-
 pub returns-clause-complete : goal.returns-clause-complete
-returns-clause-complete g c = complete_where_written IsReportOf report_tells _ _ _ _ _ c.run_judged.result c.run_judged.ensures.bytes
+returns-clause-complete g c = complete_where_written IsReportOf report_tells _ _ _ _ _ c.run_judged.result c.run_judged.ensures.answer

@@ -1,7 +1,11 @@
-use Rattle.vic_answer.proofs.Words.{◌≡◌, ◌∙◌, ap, sym, subst, ℕ, List, Writes, simulated_text}
+use Rattle.vic_answer.proofs.Words.{sym}
 use Rattle.vic_answer.proofs.simulate.write_simulated.Goals as goal
 
-pub returns-in-OutcomeGiven-clause-written : goal.returns-in-OutcomeGiven-clause-written
-returns-in-OutcomeGiven-clause-written g c =
-    let text : c.refused_at.result.items ≡ simulated_text c.args.simulated = c.refused_at.ensures.items ∙ sym (ap simulated_text c.in-OutcomeGiven.is) in
-    subst (λ (t : List ℕ). Writes g.W.Sink.written g.W.Sink.taken g.W.Sink.is_flushed g.W.Sink.has_failed c.args.sink.now c.refuse-in-OutcomeGiven.new.sink t c.refuse-in-OutcomeGiven.result) text c.refuse-in-OutcomeGiven.ensures.written
+pub returns-in-Found-OutcomeGiven-clause-written : goal.returns-in-Found-OutcomeGiven-clause-written
+returns-in-Found-OutcomeGiven-clause-written g c = rw (c.in-Found-OutcomeGiven.is, c.in-Found-OutcomeGiven.field-0-is, sym c.refused_at.ensures.items) c.refuse.ensures.written
+
+pub returns-in-Found-TooManyLines-clause-written : goal.returns-in-Found-TooManyLines-clause-written
+returns-in-Found-TooManyLines-clause-written g c = rw (c.in-Found-TooManyLines.is, c.in-Found-TooManyLines.field-0-is, sym c.refusal_line.ensures.items) c.refuse-in-Found-TooManyLines.ensures.written
+
+pub returns-clause-written : goal.returns-clause-written
+returns-clause-written g c = rw (c.in-RefusedAt.is, sym c.refusal_line-in-RefusedAt.ensures.items) c.refuse-in-RefusedAt.ensures.written
