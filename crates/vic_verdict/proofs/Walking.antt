@@ -94,7 +94,7 @@ pub broken_log : (bs : List ℕ) (es : List Entry) (w : LogWalk) (broken : Optio
 broken_log bs es w None end some possible = false≢true some
 broken_log bs es w (Some i) end some possible =
     let front = IsPossible-front (take (suc i) es) (drop (suc i) es) (subst IsPossible (sym (take-append-drop (suc i) es)) possible) in
-    end.3 (borne_out es (suc i) (omega (arith, end.0)) front)
+    end.4 (borne_out es (suc i) (omega (arith, end.0)) front)
 
 -- ---- which slots are met
 

@@ -12,7 +12,7 @@ use Rattle.vic_walk.specs.declared.answers.Answering.{Answering}
 abbrev pub is_unread : Option Entry → Bool
 is_unread o = nat_lt 0 (needs_of o)
 
--- the UID is open, and answers at position i
+-- the UID is open at the end of the log, and answers at position i
 abbrev pub is_open_there : List Entry → ℕ → ℕ → Bool
 is_open_there es i u = is_open (slots_of es) u && answers_at es i u
 

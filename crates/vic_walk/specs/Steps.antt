@@ -32,7 +32,7 @@ pub record IsStepBelow (count : ℕ) (s : Step) : Type 0 where
   pub own : s.own < count
 
 -- the step concerns the parts that the entry at position i does: if it is a slot line, those whose
--- UIDs lie in its mask; and if it names a UID, the part of that
+-- UIDs lie in its mask; and if it names a UID, the part of that. What it hears is a UID
 pub record IsStepAt (bs : List ℕ) (es : List Entry) (i : ℕ) (s : Step) : Type 0 where
   pub below : IsStepBelow (part_count bs) s
   pub slot : (e : Entry) → slice_get es i ≡ Some e → is_slot e ≡ true

@@ -52,7 +52,8 @@ IsEndOfWalk bs es w None =
     × AreEndsAt bs es (length es) w.ends.items
     × AreBorneOut es (length es)
 IsEndOfWalk bs es w (Some i) =
-    (i < length es) × AreEndsAt bs es (suc i) w.ends.items
+    (i < length es) × AreStatesAt bs es (is_open (slots_before es (suc i))) (suc i) w.open
+    × AreEndsAt bs es (suc i) w.ends.items
     × AreBorneOut es i × (AreBorneOut es (suc i) → ⊥)
 
 -- the parts are cut for the entries, and the walk over these ends where it says

@@ -27,11 +27,11 @@ pub(crate) fn gather(alloc: Global, lines: &LogLines) -> Result<(Gathered, Vec<S
     ensures within { IfOk result (λ r. length r.1.items ≤ length (entries lines.now)) }
     ensures placed { IfOk result (λ r. ArePlaced (entries lines.now) r.0 r.1.items) }
 {
-    let end = list_start(lines);
+    let list = list_start(lines);
     let mut borders = Gathered::new(alloc)?;
-    let mut steps = Vec::with_capacity(alloc, end)?;
+    let mut steps = Vec::with_capacity(alloc, list)?;
     let mut cursor = RoundCursor::first();
-    for index in 0..end {
+    for index in 0..list {
         let entry = lines.entry(index);
         let (from, to) = push_mask(&mut borders, &cursor, &entry)?;
         let own = push_named(&mut borders, &entry)?;
@@ -65,7 +65,7 @@ fn push_mask(
 }
 
 /// Adds the borders around the UID that an entry silences or hears. Returns where the first
-/// stands.
+/// stands: that of the least border, which nobody uses, if it names none.
 fn push_named(borders: &mut Gathered, entry: &Entry) -> Result<u32, AllocError>
     ensures more { OnOk result (HasAll borders.old borders.new) }
     ensures key { IfOk result (HasKeyAt borders.new) }
@@ -92,7 +92,8 @@ fn push_named(borders: &mut Gathered, entry: &Entry) -> Result<u32, AllocError>
     }
 }
 
-/// Adds the borders of a block, if there is one. Returns where they stand.
+/// Adds the borders of a block, and returns where they stand. If there is none, both are where the
+/// least border stands, so that no part is between them.
 fn push_block(borders: &mut Gathered, block: Option<KeyBlock>) -> Result<(u32, u32), AllocError>
     ensures more { OnOk result (HasAll borders.old borders.new) }
     ensures end { IfOk result (λ r. r.1 < length borders.new) }

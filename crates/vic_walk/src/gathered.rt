@@ -84,7 +84,7 @@ impl Gathered {
     pub(crate) fn least(&self) -> u32
         ensures { StandsAt self.now 0 result }
     {
-        // shows a proof what is so of the borders
+        // a use of a field shows a proof the invariant
         let _ = &self.borders;
         0
     }
@@ -136,7 +136,7 @@ impl Gathered {
         if are_borders(&ranked) && have_ranks(&borders, &ranked, &ranks) {
             return Ok((Parts::between(ranked), ranks));
         }
-        // never so, but nothing is promised of `rank`
+        // not so of any log that fits in memory, but nothing is promised of `rank`
         let mut copied = Vec::new(alloc);
         copied.extend_from_slice(&borders)?;
         let parts = Parts::between(sorted(copied));

@@ -10,8 +10,9 @@ use vic_frame::UID_BITS;
 /// How many cells an index has at most, as a power of two: they take 4 MiB.
 const MOST_BITS: u32 = 20;
 
-/// How many borders at either end have no say in how wide the cells are. Of nested masks around
-/// many UIDs some are far from all others.
+/// How many borders at either end have no say in how wide the cells are, if there are many. Of
+/// nested masks around many UIDs some are far from all others: with a say, they would leave all
+/// others to a few cells.
 const FAR: usize = 128;
 
 /// A hint of where a key is among borders. Cells of one width cover the keys, but for those far
@@ -62,13 +63,17 @@ impl Index {
     pub(crate) fn hint(&self, key: u64) -> (usize, usize) {
         let cell = self.cell(key);
         match (self.below.get(cell), self.below.get(cell.saturating_add(1))) {
-            (Some(from), Some(to)) => ((*from as usize).saturating_sub(1), *to as usize),
+            (Some(from), Some(to)) => {
+                let last = self.below.last().copied().unwrap_or(0) as usize;
+                let to = (*to as usize).min(last.saturating_sub(1));
+                ((*from as usize).saturating_sub(1), to)
+            }
             _ => (0, 0),
         }
     }
 }
 
-/// The number of the last border up to a key, if it is this one or one of the next three. There is
+/// The number of the last border up to a key, if it is `from` or one of the next three. There is
 /// no branch that depends on the key: a wrong guess by the processor takes longer than all of it.
 pub(crate) fn up_to(borders: &[u64], from: usize, key: u64) -> usize {
     match borders.get(from.saturating_add(1)..from.saturating_add(4)) {
@@ -85,7 +90,7 @@ pub(crate) fn up_to(borders: &[u64], from: usize, key: u64) -> usize {
 fn base_and_shift(borders: &[u64], bits: u32) -> (u64, u32)
     ensures { result.1 ≤ UID_BITS }
 {
-    let far = FAR.min(borders.len() / 2);
+    let far = FAR.min(borders.len() / 8);
     let (Some(base), Some(end)) = (borders.get(far), borders.iter().rev().nth(far)) else {
         return (0, u32::from(UID_BITS));
     };

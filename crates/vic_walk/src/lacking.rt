@@ -130,7 +130,7 @@ impl<'a> Reach<'a> {
         Ok(())
     }
 
-    /// Puts the parts that aren't open in the order of their ends. Most logs don't need it.
+    /// Puts the parts that aren't open in the order of their ends, the first time that it goes back.
     fn put_in_order(&mut self)
         ensures ordered { self.new.ordered ≡ true }
         ensures parts { self.new.parts.now ≡ self.old.parts.now }
@@ -147,9 +147,8 @@ impl<'a> Reach<'a> {
     }
 }
 
-/// The position of the first entry with which an unread slot, there or before, lacks tags: `upto` if
-/// none does before it. The unread slots before a position lack none if the UIDs that are open
-/// before it meet them.
+/// The greatest position up to `upto` such that all unread slots before it are met by the UIDs that
+/// are open before it. If it isn't `upto`, its entry is the first impossible one.
 pub fn first_lack(
     alloc: Global,
     lines: &LogLines,
@@ -210,7 +209,8 @@ fn end_of(ends: &[u32], part: usize) -> u32
     }
 }
 
-/// How many of some parts, in the order of their ends, end before a position.
+/// How many of some parts, in the order of their ends, have an end below a position. (An end is one
+/// more than the position of its entry.)
 fn count_below(parts: &[usize], ends: &[u32], position: usize) -> usize
     requires order { IsNonDecreasingBy (λ p. slice_index ends.now p) parts.now }
     ensures within { result ≤ length parts.now }

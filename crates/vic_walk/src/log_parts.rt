@@ -13,11 +13,12 @@ use crate::parts::Parts;
 use crate::steps::Step;
 use std::alloc::{AllocError, Global};
 
-/// The parts of a log, and which of them each entry before its list concerns.
+/// The parts of a log, and its steps: which of the parts each entry before its list concerns.
 #[derive(Drop)]
 pub struct LogParts {
+    /// The parts.
     pub parts: Parts,
-    /// By the positions of the entries.
+    /// The steps, by the positions of the entries.
     pub steps: Vec<Step>,
 }
 

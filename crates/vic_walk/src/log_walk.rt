@@ -13,7 +13,7 @@ use std::alloc::{AllocError, Global};
 /// The parts of a log, and what is known of them where the walk over it ended.
 #[derive(Drop)]
 pub struct LogWalk {
-    /// The parts, cut for the log.
+    /// The parts, cut for the log, and its steps.
     pub cut: LogParts,
     /// The parts that are open.
     pub open: PartStates,
@@ -36,6 +36,7 @@ pub fn walk_log(alloc: Global, lines: &LogLines) -> Result<LogWalk, AllocError>
     let mut walk = Walk::start(alloc, cut.parts.count())?;
     for index in 0..cut.steps.len() {
         let entry = lines.entry(index);
+        // a position is less than 2^32
         if !walk.pass(cut.steps[index], (index + 1) as u32, &entry)? {
             let Walk { open, ends, .. } = walk;
             return Ok(LogWalk {

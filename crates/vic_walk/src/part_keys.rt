@@ -55,7 +55,8 @@ pub fn other_keys(
     Ok(others)
 }
 
-/// Adds the keys from one on and below another, if there are any, as one range.
+/// Adds the keys from one on and below another, if there are any, as one range. The key `end` stays
+/// outside: so the next range begins behind it.
 fn push_keys(ranges: &mut Vec<KeyRange>, from: u64, end: u64) -> Result<(), AllocError>
     requires { end ≤ 2 ^ UID_BITS }
     ensures ranges { OnOk result (from ≤ end → AreRangesTo from ranges.old.items

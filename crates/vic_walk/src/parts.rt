@@ -87,6 +87,8 @@ impl Parts {
             None => (0, 0),
         };
         let near = up_to(&self.borders, from, key.number());
+        // each is tested, since a hint may be wrong: near its first border, between its two
+        // borders, anywhere
         if self.is_between(key, near, near.saturating_add(1)) {
             near
         } else if self.is_between(key, from, to) {

@@ -22,7 +22,9 @@ impl Span {
 }
 
 /// Which parts an entry concerns, by their numbers, which are below 2^32. Until the borders are in
-/// order, the numbers are those of borders, by where they stand in `Gathered`.
+/// order, the numbers are those of borders, by where they stand in `Gathered`. Of an entry that is
+/// no slot line `from` and `to` are the same, and of one that names no UID `own` is 0: nobody uses
+/// it.
 #[derive(Clone, Copy)]
 pub struct Step {
     /// Of a slot: the first of the parts whose UIDs lie in its mask.

@@ -30,7 +30,7 @@ IsWith bit old new = (k : ℕ) → is_set new k ≡ (nat_eq k bit || is_set old 
 abbrev pub IsWithout : ℕ → List ℕ → List ℕ → Type 0
 IsWithout bit old new = (k : ℕ) → is_set new k ≡ (not (nat_eq k bit) && is_set old k)
 
--- a number of type usize can be that of any bit
+-- the number of each bit fits a usize
 abbrev pub AreCounted : List ℕ → Type 0
 AreCounted ws = length ws * WORD ≤ 2 ^ 64
 

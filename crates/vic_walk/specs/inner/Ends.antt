@@ -24,7 +24,8 @@ pub record AreRuled (ends : List ℕ) (n : ℕ) (ordered : Bool) (ps : List ℕ)
   pub ruled : (p : ℕ) → has ps p
       ≡ (nat_lt p (length ends) && not (is_open_before n (slice_index ends p)))
 
--- m is the last position up to n before which the slot at position j is met, or that isn't past j
+-- m is the greatest position up to n that isn't past j, or before which the slot at j is met by the
+-- UIDs that are open before m
 pub record IsBackTo (es : List Entry) (j n m : ℕ) : Type 0 where
   pub back : m ≤ n
   pub met : j < m → IsMetAt es m j

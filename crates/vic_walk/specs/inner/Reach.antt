@@ -6,8 +6,8 @@ use Rattle.vic_walk.specs.declared.lacking.Reach.{Reach}
 use Rattle.vic_walk.specs.inner.Ends.{AreEndsUpTo}
 use Rattle.vic_walk.specs.Walk.{AreStatesAt}
 
--- before position i: up to `upto` the ends are known; `kept` has the parts that are open before it,
--- and `all` has all parts
+-- the reach is before position i, at which the parts are Ready or Quiet: `kept` has those that are
+-- open before `upto`, up to which their ends are known, and `all` has all
 pub record IsReachAt (es : List Entry) (i : ℕ) (r : Reach) : Type 0 where
   pub known : AreEndsUpTo r.parts.now es r.upto r.ends.now
   pub kept : AreStatesAt r.parts.now es (is_open (slots_before es r.upto)) i r.kept

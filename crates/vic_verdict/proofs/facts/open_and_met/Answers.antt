@@ -12,7 +12,7 @@ first_lack-requires-clause-ends g c =
     let here = c.in-Some.is in
     let is : w.broken ≡ Some c.in-Some.at = cc in
     let end : IsEndOfWalk w.cut.parts (entries c.args.lines.now) w (Some c.in-Some.at) = rw is at c.in_ok-cut.ensures.walk in
-    rw c.deref.ensures.value (record { position = suc c.in-Some.at; far = omega arith; within = omega (arith, end.0); known = end.1 })
+    rw c.deref.ensures.value (record { position = suc c.in-Some.at; far = omega arith; within = omega (arith, end.0); known = end.2 })
 
 pub closed_keys-requires : goal.closed_keys-requires
 closed_keys-requires g c =
@@ -45,7 +45,7 @@ returns-in-Some-clause-facts g c =
     let is : w.broken ≡ Some c.in-Some.at = cc in
     let end : IsEndOfWalk w.cut.parts es w (Some c.in-Some.at) = rw is at c.in_ok-cut.ensures.walk in
     let lack = c.in_ok-first_lack.ensures in
-    first_broken es c.in-Some.at c.in_ok-first_lack.field-0 end.0 end.2 end.3 lack.upto lack.met lack.lack
+    first_broken es c.in-Some.at c.in_ok-first_lack.field-0 end.0 end.3 end.4 lack.upto lack.met lack.lack
 
 pub returns-then-not-are_met-clause-facts : goal.returns-then-not-are_met-clause-facts
 returns-then-not-are_met-clause-facts g c =

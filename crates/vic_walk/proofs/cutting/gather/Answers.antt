@@ -30,11 +30,11 @@ loop-index-preserved c =
       placed = rw pushed (placed_more es _ _ _ _ more i.placed (rw i.count placed));
     }
 
-end : (c : goal.After-loop-index) → length c.loop-index.steps.items ≡ c.list_start-end.result
+end : (c : goal.After-loop-index) → length c.loop-index.steps.items ≡ c.list_start-list.result
 end c = omega (arith, c.loop-index.invariant.count, c.loop-index-test.false, c.loop-index.auto.index-end)
 
 pub returns-clause-list : goal.returns-clause-list
-returns-clause-list c = rw (end c) c.list_start-end.ensures.list
+returns-clause-list c = rw (end c) c.list_start-list.ensures.list
 
 pub returns-clause-within : goal.returns-clause-within
-returns-clause-within c = omega (arith, end c, c.list_start-end.ensures.within, length-map c.args.lines.now (λ (x : LogLine). x.item))
+returns-clause-within c = omega (arith, end c, c.list_start-list.ensures.within, length-map c.args.lines.now (λ (x : LogLine). x.item))

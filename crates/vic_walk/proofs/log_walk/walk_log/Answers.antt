@@ -1,4 +1,4 @@
-use Rattle.vic_walk.proofs.Words.{◌≡◌, add-one, arith, nat_tests, length, slice_get_within, false≢true, refl, sym}
+use Rattle.vic_walk.proofs.Words.{◌≡◌, add-one, arith, nat_tests, length, slice_get_within, false≢true, refl, suc, sym, IsWalkAt}
 use Rattle.vic_log.specs.Order.{entries}
 use Rattle.vic_walk.proofs.CutLaws.{place_at}
 use Rattle.vic_walk.proofs.ListLaws.{walk_at_list}
@@ -30,11 +30,13 @@ returns-then-not-branch c =
     let here = c.entry-entry.ensures.here in
     let place = place_at es _ l.index _ c.index.result.now l.invariant.cut here (omega (arith, c.loop-index-test.true, c.len-index-end.ensures)) c.index.ensures in
     let fine = c.in_ok-pass.ensures.fine _ es l.index place l.invariant.walk l.invariant.borne in
+    let walk : IsWalkAt c.in_ok-cut.cut.parts es (suc l.index) c.pass.new.self = rw (← add-one) (c.in_ok-pass.ensures.walk _ es l.index refl place l.invariant.walk) in
     record {
       cut = l.invariant.cut;
       walk = (
         slice_get_within es l.index c.entry-entry.result here,
-        rw (← add-one) ((c.in_ok-pass.ensures.walk _ es l.index refl place l.invariant.walk).ends),
+        walk.states,
+        walk.ends,
         l.invariant.borne,
         λ b. let yes_fine = fine.1 (rw add-one b) in let no_fine = c.if-not-branch.true in grind (arith, nat_tests),
       );
