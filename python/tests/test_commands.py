@@ -175,6 +175,15 @@ class Words(Command):
         said = f"unsettled 4 0E\nopen 4 0E in {rest}\nopen 4 0F in {rest}\n"
         self.assertEqual(within(*words), (said.encode(), b"", 1))
 
+    def test_an_option_that_is_blank(self):
+        """A column without a name would say where items belong, and another one than the one that
+        is meant which tags they have."""
+        name = self.catalogue("uid,tag,shelf,\nE0040100000000A1,E0040100000000B2,0,\n")
+        for blank in (["--place", ""], ["--place= "], ["--column", ""], ["--encoding="]):
+            said, errors, status = within("reconcile", "--expected", name, *blank, *self.names[:2])
+            self.assertEqual((said, status), (b"", 4), blank)
+            self.assertIn(b": it is blank\nusage: ", errors)
+
     def test_logs_that_are_named_in_a_file(self):
         wanted = within(*self.names)
         for listed in ("\0".join(self.names), "\n".join(self.names)):

@@ -203,12 +203,15 @@ def has_unicode() -> bool:
 
 
 class Once(argparse.Action):
-    """An option that may be given once: of two values, one would be ignored."""
+    """An option that may be given once: of two values, one would be ignored.
+    So would one that is blank, as a variable of a shell may be."""
 
     def __call__(self, parser: argparse.ArgumentParser, asked: argparse.Namespace, value: Any,
                  option: Optional[str] = None) -> None:
         if option in vars(asked).setdefault("once", []):
             raise argparse.ArgumentError(self, "it is given twice")
+        if not str(value).strip():
+            raise argparse.ArgumentError(self, "it is blank")
         asked.once += [option] * (option is not None)
         setattr(asked, self.dest, value)
 
