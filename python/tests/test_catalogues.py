@@ -273,6 +273,19 @@ class Catalogues(Command):
             said = here("lines", self.catalogue(content), self.both(), options=["--tags", tags])
             self.assertEqual(said[::2], ("", 3))
             self.assertIn(f"row 1: {head} names a column: perhaps a line end is missing", said[1])
+        # the line end before x18 is lost, and the row has no other cell
+        for content, row in (("barcode,title\nx17,ax18,\n?,b\n", 2),
+                             ("barcode,title\n?,b\n\nX17, x18,\n", 4),
+                             ("title,barcode,shelf\na,x17,x18,\n?,?\n", 2),
+                             ("barcode,title\n?,b,\nx17,ax18,,\n", 3)):
+            name = self.catalogue(content)
+            self.assertEqual(here("lines", name, self.names[1], options=["--tags", tags]),
+                             ("", f"{name}, row {row}: it has more cells than others, and x18 "
+                              f"is a key of {tags}: perhaps a line end is missing", 3))
+        # each row has one more
+        name = self.catalogue("barcode,title\nx17,as x18,\nx18,,\n")
+        self.assertEqual(here("lines", name, self.both(), options=["--tags", tags]),
+                         ("complete 2\n", "", 0))
         name = self.catalogue("barcode,x17,\nX17,a,\nX18,,\n")
         self.assertEqual(here("lines", name, self.both(), options=["--tags", tags]),
                          ("complete 2\n", "", 0))

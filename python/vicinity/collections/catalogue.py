@@ -3,7 +3,7 @@ or a CSV file with a column of UIDs, or of something by which another file has t
 from __future__ import annotations
 
 from contextlib import suppress
-from typing import Callable, NamedTuple, Optional, Sequence
+from typing import Callable, Collection, NamedTuple, Optional, Sequence
 
 from .._answers import ListFault
 from .._calls import listed
@@ -27,6 +27,7 @@ SWALLOWED = "a cell in quotes has {} and a line end in it: perhaps a quote is mi
 #: What a UID in the name of a column tells: the first item would be lost.
 GLUED = "{} names a column: perhaps a line end is missing behind the names of the columns"
 MOVED = "{} isn't in the column {}, which is blank: perhaps cells are missing, or too many"
+JOINED = "it has more cells than others, and {} is a key of {}: perhaps a line end is missing"
 NAMES_IT = "name the one with the UIDs uid, or say by --column NAME which it is"
 NAMES_KEY = "--column NAME names the one by which --tags has the UIDs"
 
@@ -206,6 +207,7 @@ def _tagged(table: Table, is_ours: bool, how: How, tags: Table) -> Catalogue:
     last = max(at for at, head in enumerate(table.heads) if head)
     if glued and not any(cells[last].strip() for _, cells in table.rows):
         table.wrong(1, GLUED.format(shown(glued)))
+    _refuse_joined(table, key_at, by_key, tags.name)
     entries = [Entry(row, uid, [*cells, "" if uid is None else uid_text(uid)])
                for row, cells in table.rows
                for uid in by_key.get(cells[key_at].strip().casefold(), [None])]
@@ -215,6 +217,18 @@ def _tagged(table: Table, is_ours: bool, how: How, tags: Table) -> Catalogue:
                     + such_as)
     return Catalogue(table.name, table.form, [*table.heads, head], entries, len(table.heads),
                      key_at, keys=keys)
+
+
+def _refuse_joined(table: Table, key_at: int, keys: Collection[str], name: str) -> None:
+    """Refuses a row with too many cells in which another cell than that of its key ends in one:
+    a row that a lost line end has joined to it would be lost."""
+    longest = max(map(len, keys), default=0)
+    for row, cells in table.rows:
+        ends = [cell.strip()[-longest:] for cell in cells[:key_at] + cells[key_at + 1:]]
+        found = (end[at:] for end in ends for at in range(len(end)) if end[at:].casefold() in keys)
+        key = next(found, None) if row in table.longer else None
+        if key is not None:
+            table.wrong(row, JOINED.format(shown(key), shown(name)))
 
 
 def _is_uid(text: str) -> bool:

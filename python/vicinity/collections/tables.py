@@ -64,12 +64,14 @@ class Form(NamedTuple):
 
 class Table(NamedTuple):
     """The rows of a file with anything in them, each with its number:
-    counted from 1, as in a spreadsheet, where row 1 has the names of the columns."""
+    counted from 1, as in a spreadsheet, where row 1 has the names of the columns;
+    and the numbers of those that have more cells than these, and than the shortest row."""
 
     name: str
     form: Form
     heads: list[str]
     rows: list[tuple[int, list[str]]]
+    longer: set[int]
 
     def wrong(self, row: int, why: str) -> NoReturn:
         raise Wrong(f"{shown(self.name)}, row {row}: {why}")
@@ -110,19 +112,22 @@ def read_table(name: str, text: bytes, encoding: Optional[str]) -> Table:
                                        for cell in _cells(line, separator))
     form = form._replace(first=first, separator=separator, line_end=ended[len(line):] or "\n",
                          quoting=csv.QUOTE_ALL if is_quoted else csv.QUOTE_MINIMAL)
-    table = Table(name, form, [], [])
+    table = Table(name, form, [], [], set())
     rows = _rows(table, content)
     table.heads.extend(head.strip() for head in next(rows, []))
     twice = [it for it, times in Counter(table.heads).items() if it and times > 1]
     if twice:
         table.wrong(1, f"two columns are named {shown(twice[0])}")
-    width = len(table.heads)
+    width, lengths = len(table.heads), dict[int, int]()
     for number, row in enumerate(rows, 2):
         # blank ones may follow, but not where a lost line end has joined two rows
         if any(map(str.strip, row[width:])) or row[width:] and len(uids_in(*row)) > 1:
             table.wrong(number, f"it has {len(row)} cells, and row 1 has {width}")
         if any(cell.strip() for cell in row):
             table.rows.append((number, (row + [""] * width)[:width]))
+            lengths[number] = len(row)
+    usual = max(width, min(lengths.values(), default=0))
+    table.longer.update(number for number, length in lengths.items() if length > usual)
     return table
 
 
