@@ -5,6 +5,7 @@ import os
 import signal
 import subprocess
 import sys
+from unittest import mock
 
 from cases import (ALL, ANSWERS, FORMS_OF_RECONCILE, HEARD_A, LIST_A, NAMES, SILENCE_A, SIXTEEN,
                    Command, command, least, log, on_a_terminal, within)
@@ -189,6 +190,11 @@ class Words(Command):
         for listed in ("\0".join(self.names), "\n".join(self.names)):
             for words in ([], ["check"]):
                 self.assertEqual(command(*words, "--logs-from", "-", given=listed.encode()), wanted)
+        for end in "\n", "\r\n":
+            listed = self.write("names", f"{end.join(self.names)}{end}".encode())
+            with mock.patch.object(os, "linesep", "\r\n"):  # as on Windows
+                self.assertEqual(within("--logs-from", listed), wanted)
+        self.assertIn(rb"0.log\x0d: No such file", within("--logs-from", listed)[1])
         said = within("report", self.names[0], "--logs-from",
                       self.write("names", os.fsencode(self.names[2])))
         self.assertEqual(said, within("report", self.names[0], self.names[2]))

@@ -114,7 +114,7 @@ def names_of(asked: argparse.Namespace, are_needed: bool = True) -> list[str]:
     else by line ends. Each of these files has to name one."""
     names = list(asked.names)
     for file in asked.logs_from:
-        listed = read(file)
+        listed = read(file).replace(os.linesep.encode(), b"\n")
         separator = b"\0" if b"\0" in listed else b"\n"
         within = list(map(os.fsdecode, filter(None, listed.split(separator))))
         if not within:
