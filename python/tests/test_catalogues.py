@@ -202,6 +202,18 @@ class Catalogues(Command):
             self.assertEqual((said, status), ("", 3), changed)
             self.assertIn(": of the columns state", errors)
 
+    def test_a_result_of_which_the_row_of_an_unexpected_tag_is_broken_is_refused(self):
+        """Without its state it would be expected."""
+        name = self.catalogue("uid,title,shelf\nE0040100000000A1,a,0\n")
+        said = here("csv", name, self.both())[0]
+        tag, state = "E0040100000000B2", "unexpected,"
+        self.assertIn(f"{tag},,,{state}", said)
+        for broken in (f"{tag}\n,,,{state}", f"{tag},\n,,{state}", f"{tag},,\n,{state}",
+                       f"{tag},,,\n{state}", f"{tag},{state}", f"{tag},,\r,{state}"):
+            name = self.catalogue(said.replace(f"{tag},,,{state}", broken))
+            said_of_it, errors, status = here("lines", name, self.both())
+            self.assertEqual((said_of_it, status), ("", 3), broken)
+
     def test_rows_without_a_tag(self):
         name = self.catalogue("title,uid\na,\nb,E0040100000000A1\nc, \n")
         self.assertEqual(here("lines", name, self.names[1]),

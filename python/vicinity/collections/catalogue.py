@@ -123,7 +123,11 @@ def _without_added(table: Table) -> tuple[Table, bool]:
              for name in ADDED]
     state, where, _ = added
     for row, cells in table.rows:
-        if cells[state].strip() not in (HERE if cells[where].strip() else STATES):
+        said = cells[state].strip()
+        # the second row of one that was broken, or one of which two cells were deleted
+        is_part = (not any(map(_is_uid, cells)) if said == UNEXPECTED else
+                   not said and UNEXPECTED in map(str.strip, cells))
+        if is_part or said not in (HERE if cells[where].strip() else STATES):
             table.wrong(row, CUT)
     rows = [row for row in table.rows if row[1][state].strip() != UNEXPECTED]
     return _without(table._replace(rows=rows), added), True
