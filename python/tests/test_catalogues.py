@@ -214,6 +214,20 @@ class Catalogues(Command):
             said_of_it, errors, status = here("lines", name, self.both())
             self.assertEqual((said_of_it, status), ("", 3), broken)
 
+    def test_a_file_that_was_cut_off(self):
+        """What stood behind isn't expected, and a tag without its state is."""
+        name = self.catalogue("uid,title\nE0040100000000A1,a\n")
+        whole = here("csv", name, self.both())[0]
+        self.assertEqual(whole.count(","), 4 * 3)
+        for cut in ("E0040100000000B2", "E0040100000000B2,", "E0040100000000B2,,"):
+            name = self.catalogue(whole[:whole.index("E0040100000000B2")] + cut)
+            self.assertEqual(here("lines", name, self.both()),
+                             ("", f"{name}, row 3: the file ends within it: "
+                              "perhaps it was cut off", 3))
+        for end in "\n", ",b", ",b\n":
+            name = self.catalogue(f"title,uid,place\na,E0040100000000A1{end}")
+            self.assertEqual(here("lines", name, self.names[1]), ("complete 1\n", "", 0), end)
+
     def test_rows_without_a_tag(self):
         name = self.catalogue("title,uid\na,\nb,E0040100000000A1\nc, \n")
         self.assertEqual(here("lines", name, self.names[1]),

@@ -118,7 +118,7 @@ def read_table(name: str, text: bytes, encoding: Optional[str]) -> Table:
     twice = [it for it, times in Counter(table.heads).items() if it and times > 1]
     if twice:
         table.wrong(1, f"two columns are named {shown(twice[0])}")
-    width, lengths = len(table.heads), dict[int, int]()
+    width, lengths, number = len(table.heads), dict[int, int](), 1
     for number, row in enumerate(rows, 2):
         # blank ones may follow, but not where a lost line end has joined two rows
         if any(map(str.strip, row[width:])) or row[width:] and len(uids_in(*row)) > 1:
@@ -126,6 +126,8 @@ def read_table(name: str, text: bytes, encoding: Optional[str]) -> Table:
         if any(cell.strip() for cell in row):
             table.rows.append((number, (row + [""] * width)[:width]))
             lengths[number] = len(row)
+    if lengths.get(number, width) < width and not content.endswith(("\n", "\r")):
+        table.wrong(number, "the file ends within it: perhaps it was cut off")
     usual = max(width, min(lengths.values(), default=0))
     table.longer.update(number for number, length in lengths.items() if length > usual)
     return table
