@@ -227,10 +227,10 @@ def _refuse_joined(table: Table, key_at: int, keys: Collection[str], name: str) 
     """Refuses a row with too many cells in which another cell than that of its key ends in one:
     a row that a lost line end has joined to it would be lost."""
     longest = max(map(len, keys), default=0)
-    for row, cells in table.rows:
+    for row, cells in (it for it in table.rows if it[0] in table.longer):
         ends = [cell.strip()[-longest:] for cell in cells[:key_at] + cells[key_at + 1:]]
-        found = (end[at:] for end in ends for at in range(len(end)) if end[at:].casefold() in keys)
-        key = next(found, None) if row in table.longer else None
+        key = next((end[at:] for end in ends for at in range(len(end))
+                    if end[at:].casefold() in keys), None)
         if key is not None:
             table.wrong(row, JOINED.format(shown(key), shown(name)))
 
