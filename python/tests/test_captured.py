@@ -150,6 +150,12 @@ class Collections(Command):
                       self.on_a_terminal(listed, *logs)[1])
         catalogue = os.path.join(COLLECTION, "catalogue.csv")
         self.assertNotIn(power, self.on_a_terminal(catalogue, *SHELVES)[1])
+        # the cells of a shelf were merged: all rows but its first are blank
+        merged = self.write("merged.csv", b"uid,shelf\nE0040100000000A1,heard\n"
+                            b"E0040100000000B2,\nE0040100000000C3,\n")
+        self.assertTrue(self.on_a_terminal(merged, other, "--place", "shelf")[1].endswith(
+            "\n2 items have no place, as where cells are merged, and can't be misplaced.\n"))
+        self.assertNotIn("no place", self.on_a_terminal(merged, other)[1])
         self.assertEqual(within("reconcile", "--expected", listed, one), (b"complete 1\n", b"", 0))
 
 

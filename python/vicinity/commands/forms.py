@@ -75,7 +75,7 @@ def _findings(found: Collection) -> Iterator[str]:
 
 def notes(found: Collection) -> Iterator[str]:
     """What a person has to know beside the lines: what a complete answer is said of,
-    how sure it is, and which logs don't hold under capture."""
+    how sure it is, which logs don't hold under capture, and how many items have no place."""
     if not found.findings and not found.aside:
         yield HEARD
     if found.least is not None:
@@ -87,6 +87,10 @@ def notes(found: Collection) -> Iterator[str]:
         yield f"{ALSO} no. {ASK_AGAIN}, in {listing(names[:MOST_NAMES] + more)}."
     elif all(log.captured for log in found.logs):
         yield f"{ALSO} yes."
+    blank = sum(it.uid is not None and not it.belongs for it in found.expected.entries)
+    if blank and found.places.logs:
+        yield (f"{count(blank, 'item has', 'items have')} no place, as where cells are merged, "
+               "and can't be misplaced.")
 
 
 def as_csv(found: Collection) -> Iterator[bytes]:
