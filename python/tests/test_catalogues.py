@@ -243,6 +243,26 @@ class Catalogues(Command):
         self.assertEqual((told["counts"]["no tag"], plain),
                          (2, here("lines", name, self.names[1])[0]))
 
+    def test_a_separator_that_was_lost(self):
+        """The item would be one without a tag."""
+        head = "note,title,uid\n,Kim,E0040100000000A1\n"
+        for row, cells in (("EmmaE0040100000000B2", 1), (",Emma e0:04:01:00:00:00:00:b2", 2)):
+            name = self.catalogue(f"{head}{row}\n")
+            self.assertEqual(here("lines", name, self.names[1]),
+                             ("", f"{name}, row 3: it has {cells} cells, and row 1 has 3", 3))
+        name = self.catalogue(f"{head}was E0040100000000B2,Emma,\n")
+        self.assertEqual(here("lines", name, self.names[1]),
+                         ("no tag in row 3\ncomplete 1\n", "", 0))
+        name = self.catalogue("uid,note,shelf\nE0040100000000A1,was E0040100000000B2\n")
+        self.assertEqual(here("lines", name, self.names[1]), ("complete 1\n", "", 0))
+
+    def test_a_row_in_utf_16_that_was_added_as_another_encoding(self):
+        name = self.write("c.csv", "\ufefftitle,uid\r\nEmma,E0040100000000A1\r\n"
+                          .encode("utf-16-le") + b"Kim,E0040100000000B2\r\n")
+        said, errors, status = here("lines", name, self.names[1])
+        self.assertEqual((said, status), ("", 3))
+        self.assertIn("row 3: it isn't UTF-16-LE", errors)
+
     def test_names_of_logs_in_a_cell(self):
         one = self.write("a; b.log", log(ALL + HEARD_A))
         other = self.write("c.log", log(ALL + HEARD_A))

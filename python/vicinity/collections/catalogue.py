@@ -2,7 +2,6 @@
 or a CSV file with a column of UIDs, or of something by which another file has the UIDs."""
 from __future__ import annotations
 
-from contextlib import suppress
 from typing import Callable, Collection, NamedTuple, Optional, Sequence
 
 from .._answers import ListFault
@@ -10,7 +9,7 @@ from .._calls import listed
 from .._fields import refusal
 from .._process import shown
 from ..frames import parse_uid, uid_text
-from .tables import Form, Table, Wrong, read_table, uids_in
+from .tables import Form, Table, Wrong, is_uid, read_table, uids_in
 
 #: The column of the UIDs, if none is named.
 COLUMN = "uid"
@@ -125,7 +124,7 @@ def _without_added(table: Table) -> tuple[Table, bool]:
     for row, cells in table.rows:
         said = cells[state].strip()
         # the second row of one that was broken, or one of which two cells were deleted
-        is_part = (not any(map(_is_uid, cells)) if said == UNEXPECTED else
+        is_part = (not any(map(is_uid, cells)) if said == UNEXPECTED else
                    not said and UNEXPECTED in map(str.strip, cells))
         if is_part or said not in (HERE if cells[where].strip() else STATES):
             table.wrong(row, CUT)
@@ -147,7 +146,7 @@ def _refuse_cut(table: Table) -> None:
 def _table(name: str, text: bytes, encoding: Optional[str]) -> Table:
     """The table in a file, with all its rows."""
     table = read_table(name, text, encoding)
-    _refuse_swallowed(table, "a UID", _is_uid)
+    _refuse_swallowed(table, "a UID", is_uid)
     for head in table.heads:
         if uids_in(head):
             table.wrong(1, GLUED.format(shown(head)))
@@ -235,17 +234,10 @@ def _refuse_joined(table: Table, key_at: int, keys: Collection[str], name: str) 
             table.wrong(row, JOINED.format(shown(key), shown(name)))
 
 
-def _is_uid(text: str) -> bool:
-    with suppress(ValueError):
-        parse_uid(text)
-        return True
-    return False
-
-
 def _uid(table: Table, row: int, cells: Sequence[str], at: int) -> Optional[int]:
     """The UID in a cell of a row, or None if it is blank, and no other cell has one."""
     if not cells[at].strip():
-        moved = next(filter(_is_uid, cells), None)
+        moved = next(filter(is_uid, cells), None)
         if moved is None:
             return None
         table.wrong(row, MOVED.format(shown(moved), shown(table.heads[at])))

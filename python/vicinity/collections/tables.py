@@ -11,13 +11,15 @@ from contextlib import suppress
 from typing import Iterable, Iterator, NamedTuple, NoReturn, Optional, Sequence
 
 from .._process import shown
-from ..frames import BETWEEN_DIGITS
+from ..frames import BETWEEN_DIGITS, parse_uid
 
 #: Of these the one that makes the most columns of the first row separates the cells.
 SEPARATORS = ",;\t|"
 #: Cells in quotes, wherever one may begin.
 IN_QUOTES = re.compile('(^|[,;\t|])"(?:[^"]|"")*"')
 UID = re.compile("E0[0-9A-F]{14}")
+#: Zero bytes; and line ends of another encoding in UTF-16, which are no characters.
+DAMAGED = re.compile("[\0\u0a00\u0a0d]")
 #: With which bytes a file begins that says its encoding.
 MARKS = {codecs.BOM_UTF8: "utf-8", codecs.BOM_UTF16_LE: "utf-16-le",
          codecs.BOM_UTF16_BE: "utf-16-be"}
@@ -120,8 +122,11 @@ def read_table(name: str, text: bytes, encoding: Optional[str]) -> Table:
         table.wrong(1, f"two columns are named {shown(twice[0])}")
     width, lengths, number = len(table.heads), dict[int, int](), 1
     for number, row in enumerate(rows, 2):
-        # blank ones may follow, but not where a lost line end has joined two rows
-        if any(map(str.strip, row[width:])) or row[width:] and len(uids_in(*row)) > 1:
+        # blank ones may follow, but not where a lost line end has joined two rows; some may lack,
+        # but not where a lost separator has joined a UID to another cell
+        uids = set() if len(row) == width else uids_in(*row)
+        is_joined = len(uids) > 1 if row[width:] else bool(uids) and not any(map(is_uid, row))
+        if is_joined or any(map(str.strip, row[width:])):
             table.wrong(number, f"it has {len(row)} cells, and row 1 has {width}")
         if any(cell.strip() for cell in row):
             table.rows.append((number, (row + [""] * width)[:width]))
@@ -138,6 +143,14 @@ def uids_in(*cells: str) -> set[str]:
     return {uid for cell in cells for uid in UID.findall(BETWEEN_DIGITS.sub("", cell).upper())}
 
 
+def is_uid(cell: str) -> bool:
+    """Whether a cell has a UID, and nothing else."""
+    with suppress(ValueError):
+        parse_uid(cell)
+        return True
+    return False
+
+
 def _decoded(name: str, text: bytes, encoding: Optional[str]) -> tuple[Form, str]:
     """How a file is encoded, and its text."""
     mark = next((it for it in MARKS if text.startswith(it)), b"")
@@ -149,8 +162,9 @@ def _decoded(name: str, text: bytes, encoding: Optional[str]) -> tuple[Form, str
     named, text = WITHOUT_MARK.get(named, named), text[len(mark):]
     try:
         content = text.decode(named)
-        if "\0" in content:
-            raise UnicodeDecodeError(named, text, content.index("\0"), 0, "NUL")
+        if damaged := DAMAGED.search(content):
+            before = content[:damaged.start()].encode(named)
+            raise UnicodeDecodeError(named, text, len(before), 0, "no character")
         return Form(named, mark), content
     except UnicodeDecodeError as error:
         row = 1
