@@ -160,6 +160,10 @@ DAMAGED = {
     "zeros": f"uid,title\n{UID_A},Em".encode() + bytes(30) + b"lden\n",
     "UTF-16, half a character": f"\ufeffuid,title\n{UID_A},Em".encode("utf-16-le")[:-1],
     "UTF-16, half a pair": f"\ufeffuid,title\n{UID_A},\U0001F4D5".encode("utf-16-be")[:-2],
+    "UTF-16, a row added as ASCII":
+        f"\ufefftitle,uid\r\nEmma,{UID_A}\r\n".encode("utf-16-le") + f"Kim,{UID_B}\r\n".encode(),
+    "UTF-16, a byte was moved": b"\xff\xfe" + f"uid,title\n{UID_A},Em".encode("utf-16-le") + b"\0"
+        + f"ma\n{UID_B},Kim\n".encode("utf-16-le") + b"\n",
     "UTF-8, half a character": f"title,uid\n\u00c9t\u00e9,{UID_A}\n\u00e9".encode()[:-1],
     "line ends": f"uid,title\n{UID_A},{'a' * (1 << 17)}a\n".encode()}
 
@@ -203,6 +207,19 @@ def test_no_item_is_lost_behind_the_names_of_the_columns(drop):
     """Where a file with these alone, without a line end, stood before another one."""
     said = drop({"books.csv": f"uid,title{UID_B},Emma\n{UID_A},Kim\n", "shelf.log": SHELF})
     assert said["error"].startswith(f"books.csv, row 1: title{UID_B} names a column: perhaps")
+
+
+@pytest.mark.parametrize(("row", "cells"), [
+    (f"Emma{UID_B}", 1), (",Emma e0:04:01:00:00:00:00:b2", 2), (f"x'{UID_B},Emma", 2)])
+def test_no_item_is_lost_where_a_separator_is(drop, row, cells):
+    """It would be one without a tag, and what was asked for in vain a complete collection."""
+    table = f"note,title,uid\n,Kim,{UID_A}\n"
+    said = drop({"books.csv": f"{table}{row}\n", "shelf.log": SHELF})
+    assert said["error"] == f"books.csv, row 3: it has {cells} cells, and row 1 has 3"
+    said = drop({"books.csv": f"{table}was {UID_B},Emma,\n", "shelf.log": SHELF})
+    assert (said["kind"], said["counts"]["no tag"]) == ("complete", 1)
+    said = drop({"books.csv": f"uid,note,shelf\n{UID_A},was {UID_B}\n", "shelf.log": SHELF})
+    assert said["kind"] == "complete"
 
 
 def test_no_item_is_lost_where_a_line_end_is(drop):

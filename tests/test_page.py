@@ -434,7 +434,9 @@ def test_a_packed_file_is_no_catalogue(page, tmp_path):
     page.drop(log=log_of("I1 RA"))
     page.until("h1", "1 tag is here")
     page.choose(tmp_path, {"logs.zip": b"PK\x03\x04"})
-    page.until(".steps", "If it is a ZIP file with logs in it, unpack it, and open the logs.")
+    page.until("h1", "This file isn't a log, but a ZIP file, a spreadsheet or a document.")
+    assert page.texts(".steps")[0].startswith(
+        "If it is a ZIP file with logs in it, unpack it, and open the logs.\nIf it is a spreadsheet")
     page.choose(tmp_path, {"Thumbs.db": b"\xD0\xCF\x11\xE0\xA1\xB1\x1A\xE1", "books.csv": OF_A,
                            "A.log": log_of("I1 RA QA I1 S")})
     page.until("h1", "Count 1 log again.")
@@ -1479,6 +1481,64 @@ def test_a_page_that_was_saved_is_read_without_its_script(page, tmp_path):
     assert "Content Security Policy" in page.browser.console()[0]
 
 
+# The page as a browser saves it, with what its scripts have made of it.
+AS_SAVED = "return '<!doctype html>' + document.documentElement.outerHTML"
+
+
+def test_a_page_that_a_browser_has_saved(page, tmp_path):
+    """No green answer to one of several logs stands alone, or beside an empty field."""
+    page.drop(one=log_of("I1 RA QA I1 S UA"), two=log_of("I1 S UA"))
+    page.press("#logs button")
+    page.until("h1", "The one listed tag is here")
+    page.until("#each", "Complete: 1 of 2.")
+    file = tmp_path / "saved.html"
+    file.write_text(page.run(AS_SAVED))
+    page.open(file)
+    page.until("#status", "This is what a browser has saved of the page: its answers, without the")
+    page.press("#logs button", 1)
+    assert "two ! 0 of 1 listed tag is here; 1 didn't answer." in page.texts("#logs")[0]
+    assert page.texts("h1") == ["The one listed tag is here, and no other."]
+    assert not any(page.driver.find_element("id", it).is_displayed() for it in ("text", "save"))
+    page.drop(two=log_of("I1 S UA"))
+    page.until("h1", "0 of 1 listed tag is here")
+    assert (page.texts("#logs button"), page.texts("#status")) == ([], [""])
+
+
+def test_a_page_that_a_browser_has_saved_while_an_answer_was_pale(page, tmp_path):
+    page.drop(log=log_of("I1 RA QA I1 S UA"))
+    page.until("h1", "The one listed tag is here")
+    page.run("window.setTimeout = () => 0")
+    assert type_in(page, log_of("I1 S UA").decode())
+    file = tmp_path / "saved.html"
+    file.write_text(page.run(AS_SAVED))
+    page.open(file)
+    page.until("#status", "This is what a browser has saved")
+    assert page.driver.find_element("id", "told").get_attribute("aria-busy") == "true"
+
+
+# Pastes files, each by its name and text, or a text alone, into an element.
+PASTES = """
+const data = new DataTransfer(), [files, text, into] = arguments;
+for (const [name, content] of files) data.items.add(new File([content], name));
+if (text) data.setData("text/plain", text);
+const how = { clipboardData: data, bubbles: true, cancelable: true };
+return document.querySelector(into).dispatchEvent(new ClipboardEvent("paste", how));
+"""
+
+
+def test_what_is_pasted_beside_the_field(page):
+    """It is silently ignored nowhere. A picture that comes with a text isn't a file."""
+    log = log_of("I1 RA UA").decode()
+    assert not page.run(PASTES, [], log, "body")
+    page.until(".banner", "pasted text · complete 1")
+    assert not page.run(PASTES, [["one.log", log_of("I1 S UA").decode()]], "", "#text")
+    page.until(".banner", "one.log · absent")
+    for into in "body", "#text":
+        assert page.run(PASTES, [["image.png", ""]], "vicinity-log 1", into)
+    assert page.run(PASTES, [], "", "body") and page.texts(".banner code") == [
+        "absent E0040100000000A1"]
+
+
 def test_what_is_judged_of_another_log_is_ended(page):
     """The next answer doesn't wait for it."""
     page.run(HOLD)
@@ -1502,8 +1562,9 @@ def test_the_answer_to_an_earlier_text_goes_if_judging_takes_long(page):
     assert (page.said(), page.texts("h1")) == ("", [])
 
 
-def test_the_answer_to_an_earlier_text_is_neither_printed_nor_pressed(page):
-    """A press on a line of it, also by a key, put the earlier text back into an empty field."""
+def test_the_answer_to_an_earlier_text_is_neither_printed_nor_copied_nor_pressed(page):
+    """A press on a line of it, also by a key, put the earlier text back into an empty field. In an
+    e-mail it isn't pale; nor is it where it is said to whoever doesn't see it."""
     page.drop(log=log_of("I1 RA UA"))
     page.until("h1", "The one listed tag is here")
     page.run("window.setTimeout = () => 0")
@@ -1516,6 +1577,10 @@ def test_the_answer_to_an_earlier_text_is_neither_printed_nor_pressed(page):
     page.run("document.querySelector('#told .to-line').focus()")
     page.driver.switch_to.active_element.send_keys(Keys.ENTER)
     assert page.driver.find_element("id", "text").get_property("value") == ""
+    copied = page.run("""
+      getSelection().selectAllChildren(document.body);
+      return getSelection().toString() + document.getElementById("said").textContent;""")
+    assert "Nothing leaves this computer" in copied and "listed tag" not in copied
     page.media("print")
     assert not page.driver.find_element("id", "told").is_displayed()
 

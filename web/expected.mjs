@@ -1,6 +1,6 @@
 /** What is expected in a collection: a table with a column of UIDs, or a log that only lists them. */
 import { isLog, OF_UIDS, startOf } from "./catalogue.mjs";
-import { BETWEEN, Wrong, columnOf, isSpreadsheet, readTable, SAVE_AS_CSV, uidsWithin } from "./tables.mjs";
+import { Wrong, columnOf, digitsOf, isSpreadsheet, isUid, readTable, SAVE_AS_CSV, uidsWithin } from "./tables.mjs";
 import { count, hex, listing, printable } from "./words.mjs";
 
 /** @typedef {import("./library.mjs").Library} Library */
@@ -8,8 +8,6 @@ import { count, hex, listing, printable } from "./words.mjs";
 /** @typedef {{row: number, uid: bigint | null, cells: string[]}} Entry */
 /** @typedef {{name: string, heads: string[], uidAt: number, entries: Entry[]}} Catalogue */
 
-/** What may be before the digits of a UID. */
-const BEFORE = /^'?(0x)?/i, DIGITS = /^E0[0-9A-F]{14}$/;
 const OF_A_LIST = "A list has the header 'vicinity-log 1', and then for each UID a line: U, one space and its 16 digits. If the file was " +
   "cut off, copy it again";
 const GLUED = "perhaps a line end is missing behind the names of the columns";
@@ -114,12 +112,6 @@ function uidOfRow(name, row, cells, at) {
   if (!isUid(cell)) throw new Wrong(`${name}, row ${row}: ${cell} isn't a UID: 16 hex digits that begin with E0`);
   return BigInt(`0x${digitsOf(cell)}`);
 }
-
-/** @param {string} cell */
-const digitsOf = (cell) => cell.replace(BETWEEN, "").replace(BEFORE, "").toUpperCase();
-
-/** @param {string} cell */
-const isUid = (cell) => DIGITS.test(digitsOf(cell));
 
 /**
  * A table, of which no cell has others in it: those of rows that it has swallowed, since its quote isn't closed where it should be.

@@ -5,7 +5,7 @@ import { gathered, isLacking, isUnanswered, read } from "./opened.mjs";
 import { Pane } from "./pane.mjs";
 import { unfoldOnPaper } from "./printing.mjs";
 import { pageOf, save } from "./saving.mjs";
-import { overview, show, shown, titleOfEntry } from "./shown.mjs";
+import { headed, overview, show, shown, titleOfEntry } from "./shown.mjs";
 import { isSpreadsheet } from "./tables.mjs";
 import { Trial } from "./trial.mjs";
 import { count, EDITED, printable } from "./words.mjs";
@@ -15,7 +15,9 @@ import { Work } from "./work.mjs";
 
 /** How long after the last key a text is judged, and how long a judging goes on before it can be stopped, in ms. */
 const PAUSE = 250, PATIENCE = 400;
-const PASTE = "Paste a log here", NO_DROP = "No file was dropped, so nothing has changed. Save the text as a file, and open that.";
+const PASTE = "Paste a log here", PASTED = "pasted text";
+const NO_DROP = "No file was dropped, so nothing has changed. Save the text as a file, and open that.";
+const SAVED_COPY = "This is what a browser has saved of the page: its answers, without the logs. To go on, open these again.";
 
 const field = /** @type {HTMLTextAreaElement} */ (at("text")), files = /** @type {HTMLInputElement} */ (at("files"));
 const stop = at("stop"), status = at("status"), saves = at("save"), beside = at("beside"), pane = new Pane(field, shown, PASTE);
@@ -106,7 +108,7 @@ function drawList() {
 
 at("logs").addEventListener("click", ({ target }) => {
   const button = /** @type {HTMLElement} */ (target).closest("button");
-  if (!button) return;
+  if (!button || !entries.length) return;
   current = [...at("logs").querySelectorAll("button")].indexOf(button);
   edit();
   draw();
@@ -172,7 +174,7 @@ function changed(name, pause, before) {
   entries[current] = entry;
   answered = entry;
   saves.hidden = true;
-  document.title = titleOfEntry(entry);
+  headed(titleOfEntry(entry), "");
   drawList();
   entry.pause = window.setTimeout(() => { if (entries.includes(entry)) ask(entry); }, pause);
 }
@@ -181,7 +183,7 @@ const shownLog = () => entries[current];
 field.addEventListener("input", () => {
   trial.end();
   // what is typed is no text of a file that wasn't read
-  changed(entries.length && !isLacking(shownLog()) ? shownLog().name.replace(EDITED, "") + EDITED : "pasted text", PAUSE);
+  changed(entries.length && !isLacking(shownLog()) ? shownLog().name.replace(EDITED, "") + EDITED : PASTED, PAUSE);
 });
 const trial = new Trial(at("trial"), pane, shownLog, (name) => changed(name, 0, shownLog().before ?? shownLog()), asBefore);
 
@@ -224,6 +226,18 @@ document.addEventListener("drop", (event) => {
   open(dropped);
   if (!dropped.length) status.textContent = NO_DROP;
 });
+/** Files are pasted anywhere; a text also beside the field, as long as nothing is shown. With cells of a spreadsheet comes a picture. */
+document.addEventListener("paste", (event) => {
+  const data = event.clipboardData, isText = data?.types.includes("text/plain");
+  if (!data || (isText ? entries.length || event.target === field : !data.files.length)) return;
+  event.preventDefault();
+  open(isText ? [new File([data.getData("text/plain")], PASTED)] : data.files);
+});
 unfoldOnPaper();
-draw();
-at("old").remove();
+if (at("old")) draw();
+else {
+  // a browser has saved the page while it showed an answer
+  beside.hidden = saves.hidden = stop.hidden = true;
+  status.textContent = SAVED_COPY;
+}
+at("old")?.remove();

@@ -15,7 +15,9 @@ const NAME = "In its first row, name the column of tag numbers (16 characters, 0
 const NAMED = [`${NAME}.`, ...BOTH], SAVED = [`${NAME}, and save it as CSV.`, ...BOTH];
 /** A first line in which a column has this name. */
 const HAS_UID = /(?:^|[,;\t|"])uid(?:$|[,;\t|"])/i;
-const UNPACK = "If it is a ZIP file with logs in it, unpack it, and open the logs.";
+/** A file that isn't called a table, but begins as spreadsheets do. */
+const PACKED = "ZIP file, a spreadsheet or a document", UNPACK = "If it is a ZIP file with logs in it, unpack it, and open the logs.";
+const IF_SPREADSHEET = "If it is a spreadsheet with tag numbers:";
 const ANOTHER = "Choose another file, or count again.";
 /** How a text begins that somebody meant as a log: with a header, or with a line of it. */
 const OF_A_LOG = /^(vicinity-log|[TRHU] [0-9A-F]|[SCDNF]$|#)/i;
@@ -28,8 +30,8 @@ export function refused(told) {
   const last = line === told.counts.lines && line > 1;
   if (told.counts.lines === 0) return { headline: "The text is empty.", shelf: [ANOTHER], causes: [] };
   if (isSpreadsheet(told.faulty)) {
-    return { headline: `This file isn't a log, but a spreadsheet: ${SAVE_AS_CSV}.`, causes: [],
-      shelf: [...SAVED, ...TABLE.test(told.object.file) ? [] : [UNPACK]] };
+    const [what, shelf] = TABLE.test(told.object.file) ? [`spreadsheet: ${SAVE_AS_CSV}`, SAVED] : [PACKED, [UNPACK, { when: IF_SPREADSHEET, steps: SAVED }]];
+    return { headline: `This file isn't a log, but a ${what}.`, causes: [], shelf };
   }
   const foreign = isForeign(told);
   if (foreign && isTable(told.faulty)) {

@@ -104,9 +104,10 @@ const kept = (logs) => logs.some(isLacking) ? OPEN_AGAIN
 /**
  * Says what is shown, to whoever doesn't see it.
  * @param {string} title
+ * @param {string} words nothing of what is pale
  */
-function headed(title) {
+export function headed(title, words = document.querySelector("#each h1, #told h1")?.textContent ?? "") {
   document.title = title;
-  const said = at("said"), words = document.querySelector("#each h1, #told h1")?.textContent ?? "";
+  const said = at("said");
   if (said.textContent !== words) said.textContent = words;
 }

@@ -10,9 +10,9 @@ export const SAYS_SEPARATOR = /^"?sep=([^"\r\n])"?[ \t]*(?:\r\n?|\n)/i;
 export const LINE_END = /\r\n?|\n/;
 /** A cell in quotes; and cells in quotes wherever one may begin. */
 const QUOTED = /"((?:[^"]|"")*)"/y, IN_QUOTES = /(^|[,;\t|])"(?:[^"]|"")*"/g;
-/** A UID, and what may be among its digits. */
-const ANY_UID = /E0[0-9A-F]{14}/g;
-export const BETWEEN = /[\s:\-\u2010-\u2013]/g;
+/** A UID, what may be among its digits, and before them. */
+const ANY_UID = /E0[0-9A-F]{14}/g, A_UID = /^E0[0-9A-F]{14}$/;
+const BETWEEN = /[\s:\-\u2010-\u2013]/g, BEFORE = /^'?(0x)?/i;
 
 /** How a file of a spreadsheet program begins, read as UTF-8: packed as ZIP (.xlsx, .ods, .numbers), or as OLE has it (.xls). */
 const SPREADSHEET = /^(?:PK\x03\x04|\uFFFD\uFFFD\x11[\u0871\uFFFD])/;
@@ -21,6 +21,8 @@ export const TABLE = /\.(csv|tsv|xlsx?|ods|numbers)$/i;
 /** What to do with a spreadsheet. */
 export const SAVE_AS_CSV = "save it as CSV";
 const COPY_IT = "Copy it again, or save it as UTF-8";
+/** Zero bytes; and line ends of another encoding in UTF-16, which are no characters. */
+const DAMAGED_TEXT = /[\0\u0A00\u0A0D]/;
 /** How many characters a cell has at most, as in Python, how many bytes say whether a text was UTF-8, and for how many cells there is room. */
 const MOST_CELL = 131_072, MOST_SEEN = 1_000_000, MOST_CELLS_READ = 40_000_000;
 
@@ -47,7 +49,7 @@ function decoded(name, bytes) {
     const start = new TextDecoder().decode(bytes.subarray(0, MOST_SEEN)), many = (/** @type {RegExp} */ it) => start.match(it)?.length ?? 0;
     if (!utf16 && many(/[^\0-\x7F\uFFFD]/gu) <= many(/\uFFFD/g)) text = new TextDecoder("windows-1252").decode(bytes);
   }
-  if (text.includes("\0")) throw new Wrong(`${name}: it is damaged, or in another encoding. ${COPY_IT}`);
+  if (DAMAGED_TEXT.test(text)) throw new Wrong(`${name}: it is damaged, or in another encoding. ${COPY_IT}`);
   return text;
 }
 
@@ -109,15 +111,24 @@ function cellsIn(name, text, separator) {
  */
 export const uidsWithin = (cell) => cell.replace(BETWEEN, "").toUpperCase().match(ANY_UID) ?? [];
 
+/** @param {string} cell */
+export const digitsOf = (cell) => cell.replace(BETWEEN, "").replace(BEFORE, "").toUpperCase();
+
+/** @param {string} cell */
+export const isUid = (cell) => A_UID.test(digitsOf(cell));
+
 /**
- * A row with a cell for each column. Blank ones may follow, but not where a lost line end has joined two rows.
+ * A row with a cell for each column. Blank ones may follow, but not where a lost line end has joined two rows; some may lack, but not
+ * where a lost separator has joined a UID to another cell.
  * @param {string} name
  * @param {number} columns
  * @param {number} row
  * @param {string[]} cells
  */
 function fitting(name, columns, row, cells) {
-  if (cells.slice(columns).some((cell) => cell.trim()) || cells.length > columns && new Set(cells.flatMap(uidsWithin)).size > 1) {
+  const uids = cells.length === columns ? 0 : new Set(cells.flatMap(uidsWithin)).size;
+  const isJoined = cells.length < columns ? uids > 0 && !cells.some(isUid) : uids > 1;
+  if (isJoined || cells.slice(columns).some((cell) => cell.trim())) {
     throw new Wrong(`${name}, row ${row}: it has ${cells.length} cells, and row 1 has ${columns}`);
   }
   return [...cells, ...Array(Math.max(0, columns - cells.length)).fill("")].slice(0, columns);
