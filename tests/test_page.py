@@ -126,6 +126,7 @@ SAID = (
 FOREIGN = (("\uFEFFvicinity-log 1\n", "byte order mark"), ("v\0i\0c\0\n\0", "UTF-16"),
            ("uid,title\nE004,Emma\n", "This file isn't a log, but a table."),
            ("uid,title\nE004,Emma\n", "its first line begins with 'vicinity-log'"),
+           ("title|place\nEmma|A\n", "This file isn't a log, but a table."),
            ("Dear reader\n", "Choose another file, or count again."),
            ("uid,title\nE004,Emma\n", "in vicinity.html: choose or drop the table"),
            ("title;\"UID\"\nEmma;E004\n", "open both at once in vicinity.html"),
@@ -435,8 +436,8 @@ def test_a_packed_file_is_no_catalogue(page, tmp_path):
     page.until("h1", "1 tag is here")
     page.choose(tmp_path, {"logs.zip": b"PK\x03\x04"})
     page.until("h1", "This file isn't a log, but a ZIP file, a spreadsheet or a document.")
-    assert page.texts(".steps")[0].startswith(
-        "If it is a ZIP file with logs in it, unpack it, and open the logs.\nIf it is a spreadsheet")
+    assert page.texts(".steps")[0].startswith("If it is a ZIP file with logs in it, unpack it, and "
+                                              "open the logs.\nIf it is a spreadsheet with tag ")
     page.choose(tmp_path, {"Thumbs.db": b"\xD0\xCF\x11\xE0\xA1\xB1\x1A\xE1", "books.csv": OF_A,
                            "A.log": log_of("I1 RA QA I1 S")})
     page.until("h1", "Count 1 log again.")

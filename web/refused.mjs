@@ -70,7 +70,7 @@ function rightCrc(line) {
 }
 
 /** @param {string} text */
-const isTable = (text) => /[,;\t]/.test(text);
+const isTable = (text) => /[,;\t|]/.test(text);
 
 /** @param {string} text */
 function ofFirst(text) {
