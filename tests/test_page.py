@@ -1456,6 +1456,26 @@ def test_a_browser_that_runs_no_worker(page, why):
     page.until("h1", "The one listed tag is here")
 
 
+def test_a_browser_that_runs_no_web_assembly(page, file, tmp_path):
+    """As on a phone in lockdown mode. It says so in the same words."""
+    without = tmp_path / "without.html"
+    without.write_text(file.read_text().replace("WebAssembly.instantiate(", "WebAssembly.none("))
+    page.open(without)
+    page.drop(log=log_of("I1 RA UA"))
+    page.until(".error", "log: no answer (this browser doesn't run what judges it).")
+    assert all("this browser doesn't run" in it for it in page.browser.console())
+
+
+def test_no_sum_is_named_where_none_can_be_had(page, file, tmp_path):
+    """As on a page that comes by http."""
+    without = tmp_path / "without.html"
+    without.write_text(file.read_text().replace("crypto?.subtle", "crypto?.none"))
+    page.open(without)
+    page.drop(**{"books.csv": OF_A, "A.log": log_of("I1 RA QA I1 S")})
+    page.until(".banner.yes h1", "The one expected item is here, and no other.")
+    assert "SHA-256" not in page.texts(".record")[0]
+
+
 def test_a_browser_that_runs_no_script_of_the_page(page, file, tmp_path):
     """As where a server forbids it, or an old one."""
     assert page.driver.find_elements("id", "old") == []

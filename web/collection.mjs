@@ -328,6 +328,7 @@ function grantedOfAll(object) {
 function recordOfAll(object) {
   const expected = object.items.filter((item) => item.state !== "unexpected").length;
   const said = [count(expected, "item"), count(object.logs.length, "log"), `vicinity ${object.version}`];
-  const sums = (object.files ?? []).map(({ file, sha256 }) => el("p", {}, `${nameOf(file)}\u00A0· SHA-256 `, el("code", {}, sha256)));
+  const known = (object.files ?? []).filter(({ sha256 }) => sha256);
+  const sums = known.map(({ file, sha256 }) => el("p", {}, `${nameOf(file)}\u00A0· SHA-256 `, el("code", {}, sha256)));
   return el("footer", { class: "record" }, el("p", {}, said.join("\u00A0· ")), ...sums, ...signed(headlineOf(object), printable(object.name)));
 }

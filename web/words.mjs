@@ -10,12 +10,14 @@ const E0 = 0xE0n << BigInt(UID_BITS);
  * The UID that lies in a mask of at least these bits, which fixes it.
  * @param {Mask} mask
  */
-export const uidOf = (mask) => mask.value | E0;
+const uidOf = (mask) => mask.value | E0;
 
 /** What the name of a log ends with of which a line was tried otherwise. */
 export const TRIAL = / \(trial: .*\)$/;
 /** And of which the text was changed. */
 export const EDITED = " (edited)";
+/** Why there is no answer where no worker runs, or no WebAssembly. */
+export const FAILED = "this browser doesn't run what judges it";
 
 /**
  * 1 tag, 2,000 tags.

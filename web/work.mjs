@@ -1,11 +1,12 @@
 /** Judging, in a worker that can be stopped. */
+import { FAILED } from "./words.mjs";
 
 /** @typedef {import("./told.mjs").Told} Told */
 /** @typedef {import("./collection.mjs").CollectionObject} CollectionObject */
 /** @typedef {{told?: Told, collection?: CollectionObject, error?: string}} Done */
 
-/** Why there is no answer to what was ended, or where no worker runs. */
-export const STOPPED = "stopped", FAILED = "this browser doesn't run what judges it";
+/** Why there is no answer to what was ended. */
+export const STOPPED = "stopped";
 
 export class Work {
   #requested = 0;
