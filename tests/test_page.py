@@ -1525,6 +1525,20 @@ def test_a_page_that_a_browser_has_saved(page, tmp_path):
     assert (page.texts("#logs button"), page.texts("#status")) == ([], [""])
 
 
+def test_a_page_that_a_browser_has_saved_before_it_was_used(page, tmp_path):
+    """As to take it along: it is one like any other."""
+    file = tmp_path / "saved.html"
+    file.write_text(page.run(AS_SAVED))
+    page.open(file)
+    page.drop(log=log_of("I1 S UA"))
+    page.until("h1", "0 of 1 listed tag is here")
+    page.open(file)
+    assert (page.texts("#status"), page.texts("h1")) == (
+        [""], ["Did the RFID reader find every tag?"])
+    type_in(page, log_of("I1 S UA").decode())
+    page.until("h1", "0 of 1 listed tag is here")
+
+
 def test_a_page_that_a_browser_has_saved_while_an_answer_was_pale(page, tmp_path):
     page.drop(log=log_of("I1 RA QA I1 S UA"))
     page.until("h1", "The one listed tag is here")

@@ -234,7 +234,7 @@ document.addEventListener("paste", (event) => {
   open(isText ? [new File([data.getData("text/plain")], PASTED)] : data.files);
 });
 unfoldOnPaper();
-if (at("old")) draw();
+if (document.body.classList.contains("empty")) draw();
 else {
   // a browser has saved the page while it showed an answer
   beside.hidden = saves.hidden = stop.hidden = true;
