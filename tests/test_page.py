@@ -1736,10 +1736,10 @@ def test_many_logs_that_say_nothing_do_not_freeze_the_page(page):
     """Each item may be in each of their fields."""
     page.run(FROZEN)
     rows = "".join(f"{0xE004010000000000 + number:016X},{number % 400}\n"
-                   for number in range(12_000))
+                   for number in range(24_000))
     page.drop_files({"books.csv": f"uid,shelf\n{rows}".encode(),
                      **{f"{number}.log": b"no log\n" for number in range(400)}})
-    page.until("h1", "12,000 items not known yet; count all logs again.")
+    page.until("h1", "24,000 items not known yet; count all logs again.")
     assert page.run("return window.longest") < 3000
 
 

@@ -135,7 +135,12 @@ function itemsOf(catalogue, places, logs, list, files, missing) {
   const states = new Map(list.flatMap((it) => STATES[it.kind] ? [[it.uid, STATES[it.kind]]] : []));
   const unlisted = list.filter((it) => it.kind === FOUND.UNLISTED).map((it) => it.uid);
   const uids = [...catalogue.entries.flatMap(({ uid }) => uid ?? []), ...unlisted], { certain, open } = whereOf(logs, uids);
-  const named = (/** @type {number[]} */ at) => at.map((log) => files[log]);
+  // items of the same logs share their list: the page gets it once
+  const lists = /** @type {Map<string, string[]>} */ (new Map());
+  const named = (/** @type {number[]} */ at, key = at.join()) => {
+    if (!lists.has(key)) lists.set(key, at.map((log) => files[log]));
+    return /** @type {string[]} */ (lists.get(key));
+  };
   const beside = catalogue.heads.flatMap((head, at) => head && at !== catalogue.uidAt ? [at] : []);
   const columns = (/** @type {string[]} */ cells) => Object.fromEntries(beside.map((at) => [catalogue.heads[at], cells[at]]));
   const rows = catalogue.entries.map(({ uid, cells }) => {
