@@ -226,12 +226,13 @@ document.addEventListener("drop", (event) => {
   open(dropped);
   if (!dropped.length) status.textContent = NO_DROP;
 });
-/** Files are pasted anywhere; a text also beside the field, as long as nothing is shown. With cells of a spreadsheet comes a picture. */
+/** Files are pasted anywhere; a text also beside the field, as long as nothing is shown. Cells of a spreadsheet come with a picture. */
 document.addEventListener("paste", (event) => {
-  const data = event.clipboardData, isText = data?.types.includes("text/plain");
-  if (!data || (isText ? entries.length || event.target === field : !data.files.length)) return;
+  const pasted = [...event.clipboardData?.files ?? []].filter(({ type }) => !type.startsWith("image/"));
+  const text = event.clipboardData?.getData("text/plain");
+  if (!pasted.length && (!text || entries.length || event.target === field)) return;
   event.preventDefault();
-  open(isText ? [new File([data.getData("text/plain")], PASTED)] : data.files);
+  open(pasted.length ? pasted : [new File([text ?? ""], PASTED)]);
 });
 unfoldOnPaper();
 if (document.body.classList.contains("empty")) draw();
