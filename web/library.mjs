@@ -94,13 +94,12 @@ export class Library {
     /** @type {bigint[]} */
     const taken = [];
     try {
-      const result = work((bytes) => {
+      return work((bytes) => {
         const at = /** @type {bigint} */ (this.#calls.vicinity_allocate(BigInt(Math.max(bytes, 1))));
         if (at === 0n) throw new OutOfMemory();
         taken.push(at);
         return Number(at);
       });
-      return result;
     } catch (error) {
       this.#broken = !(error instanceof OutOfMemory || error instanceof TypeError);
       throw error;

@@ -22,4 +22,5 @@ if ("items" in object) {
   document.title = titleOf(told);
 }
 unfoldOnPaper();
-at("old").remove();
+// not in what a browser has saved of it
+at("old")?.remove();
