@@ -155,6 +155,27 @@ def test_a_result_of_which_cells_were_moved_is_refused(drop):
     assert said["error"].startswith("found.csv, row 3: of the columns state, certain in and may")
 
 
+@pytest.mark.parametrize("broken", ["\n,,unexpected,", ",\n,unexpected,", ",,\nunexpected,",
+                                    ",unexpected,", ",,\r,unexpected,"])
+def test_a_result_of_which_the_row_of_an_unexpected_tag_is_broken_is_refused(drop, broken):
+    """Without its state it would be expected."""
+    rows = "uid,title,shelf,state,certain in,may be in\n" + f"{UID_A},,,there,a,\n{UID_B}"
+    said = drop({"both.log": BOTH, "found.csv": f"{rows}{broken}both.log,\n"})
+    assert said["error"].startswith("found.csv, row ")
+    said = drop({"both.log": BOTH, "found.csv": f"{rows},,,unexpected,both.log,\n"})
+    assert (said["kind"], said["uid"]) == ("unlisted", UID_B)
+
+
+@pytest.mark.parametrize("cut", ["", ",", ",Ki"])
+def test_a_table_that_was_cut_off_within_a_row_is_refused(drop, cut):
+    """What stood behind wouldn't be expected."""
+    table = f"uid,title,shelf\n{UID_A},Emma,A\n{UID_B}{cut}"
+    said = drop({"books.csv": table, "shelf.log": SHELF})
+    assert said["error"] == "books.csv, row 3: the file ends within it: perhaps it was cut off"
+    for end in "\n", ",A" * (2 - cut.count(",")), ",\n ":
+        assert drop({"books.csv": table + end, "shelf.log": SHELF})["uid"] == UID_B
+
+
 # Tables of which bytes were lost, so that rows are.
 DAMAGED = {
     "zeros": f"uid,title\n{UID_A},Em".encode() + bytes(30) + b"lden\n",

@@ -76,7 +76,12 @@ function withoutAdded(table) {
     if (isCut) throw new Wrong(`${table.name}: ${CUT}`);
     return table;
   }
-  const odd = table.rows.find(({ cells }) => !(cells[where].trim() ? HERE : ANY_STATE).includes(cells[state].trim()));
+  const odd = table.rows.find(({ cells }) => {
+    const said = cells[state].trim();
+    // the second row of one that was broken, or one of which two cells were deleted
+    const isPart = said === UNEXPECTED ? !cells.some(isUid) : !said && cells.some((cell) => cell.trim() === UNEXPECTED);
+    return isPart || !(cells[where].trim() ? HERE : ANY_STATE).includes(said);
+  });
   if (odd) throw new Wrong(`${table.name}, row ${odd.row}: ${CUT}`);
   const kept = (/** @type {string[]} */ cells) => cells.filter((_, at) => !added.includes(at));
   return { ...table, heads: kept(table.heads), rows: table.rows.filter(({ cells }) => cells[state].trim() !== UNEXPECTED)

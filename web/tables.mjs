@@ -68,6 +68,10 @@ export function readTable(name, bytes) {
   if (rows.length * names.length > MOST_CELLS_READ) {
     throw new Wrong(`${name}: ${rows.length} rows of ${names.length} columns are too many. Delete those that aren't needed`);
   }
+  const last = rows[rows.length - 1] ?? [];
+  if (last.length < names.length && last.some((cell) => cell.trim()) && !/[\r\n]$/.test(text)) {
+    throw new Wrong(`${name}, row ${rows.length + 1}: the file ends within it: perhaps it was cut off`);
+  }
   const all = rows.map((cells, at) => ({ row: at + 2, cells: fitting(name, names.length, at + 2, cells) }));
   return { name, separator, heads: names, rows: all.filter(({ cells }) => cells.some((cell) => cell.trim())) };
 }
