@@ -50,6 +50,14 @@ def test_each_folder_counts(check, tmp_path):
         assert check(tmp_path / "bad", tmp_path / "good", flags=flags)[0] == 2
 
 
+def test_what_cannot_be_written_is_no_answer(release, tmp_path):
+    """awk ends with 2 then, as if the worst log were impossible."""
+    script = Program("/bin/bash", TOP / "examples/nightly/check-shelves", PYTHONPATH="python",
+                     LIBVICINITY=str(release / "libvicinity.so"))
+    with open("/dev/full", "wb") as full:
+        assert script.run(written(tmp_path, BROKEN), stdout=full).status == NO_ANSWER
+
+
 @pytest.mark.parametrize("words", [[], ["-d"], ["!"], ["("]])
 def test_without_a_folder(check, words):
     """A word that find would take for an option is the name of a folder too."""
