@@ -32,10 +32,12 @@ static int by_mask(const void *one, const void *other)
 /* The bits of a UID in reverse order. In the order of these keys the UIDs of a mask stand side by side. */
 static uint64_t key_of(uint64_t uid)
 {
-    uint64_t key = 0;
-    for (int i = 0; i < MOST_BITS; i++)
-        key = key << 1 | (uid >> i & 1);
-    return key;
+    uint64_t low = UINT64_MAX; /* the low half of each part that is turned */
+    for (int half = MOST_BITS / 2; half > 0; half /= 2) {
+        low ^= low << half;
+        uid = (uid >> half & low) | (uid & low) << half;
+    }
+    return uid;
 }
 
 static size_t count_below(const uint64_t *keys, size_t count, uint64_t key)
@@ -109,19 +111,40 @@ static void put_open(const struct surveys *told, const uint64_t *keys, size_t ce
     }
 }
 
-/* The first log in which a UID may be. */
-static uint32_t first_log_with(const struct surveys *told, uint64_t uid)
+/* Finds the first log in which each doubtful UID may be, by its key. */
+static void find_logs(const struct surveys *told, const uint64_t *keys, size_t doubtful, uint32_t *logs)
 {
-    for (uint32_t log = 0; log < told->logs; log++) {
+    for (uint32_t log = told->logs; log-- > 0;) {
         size_t count;
         const struct vicinity_mask *masks = masks_of(told, log, &count);
-        for (uint32_t len = 0; len <= UID_BITS; len++) {
-            struct vicinity_mask mask = {0, len, uid & ((UINT64_C(1) << len) - 1)};
-            if (bsearch(&mask, masks, count, sizeof mask, by_mask))
-                return log;
+        for (size_t i = 0; i < count; i++) {
+            size_t at = count_below(keys, doubtful, key_of(masks[i].value));
+            size_t end = count_below(keys, doubtful, key_of(masks[i].value | UINT64_MAX << masks[i].len));
+            while (at < end)
+                logs[at++] = log;
         }
     }
-    return 0;
+}
+
+/* Puts the doubtful UIDs, each with the first log in which it may be. */
+static void put_doubtful(const struct surveys *told, const struct vicinity_finding *findings, size_t count,
+                         struct text *answered)
+{
+    uint64_t *keys = malloc(count * sizeof *keys);
+    uint32_t *logs = calloc(count, sizeof *logs);
+    answered->refused |= !keys || !logs;
+    if (!answered->refused) {
+        for (size_t i = 0; i < count; i++)
+            keys[i] = key_of(findings[i].uid);
+        qsort(keys, count, sizeof *keys, by_number);
+        find_logs(told, keys, count, logs);
+        for (size_t i = 0; i < count; i++) {
+            put(answered, "doubtful %016" PRIX64 " in ", findings[i].uid);
+            put_name(answered, told->files[logs[count_below(keys, count, key_of(findings[i].uid))]]);
+        }
+    }
+    free(keys);
+    free(logs);
 }
 
 /* Puts all findings. `keys` are those of the certain UIDs. */
@@ -141,8 +164,8 @@ static void put_findings(const struct surveys *told, const struct vicinity_findi
             put_finding(answered, it);
             put_open(told, keys, certain, answered);
         } else {
-            put(answered, "doubtful %016" PRIX64 " in ", it->uid);
-            put_name(answered, told->files[first_log_with(told, it->uid)]);
+            put_doubtful(told, it, (size_t)(findings + count - it), answered); /* the last ones */
+            break;
         }
     }
 }

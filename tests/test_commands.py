@@ -6,12 +6,14 @@ changed logs, several logs, frames, texts as long as a log can be and texts that
 Each allocation of theirs is refused in turn."""
 import os
 import random
+import resource
 import subprocess
 import time
 from pathlib import Path
 
 import pytest
 
+from helpers.air import TOP_BYTE, UID_BITS
 from helpers.air import Listed as Claimed
 from helpers.families import case_of
 from helpers.fuzz import LISTED, changed, session
@@ -174,6 +176,16 @@ def test_many_changed_logs(ask, pair, tmp_path):
         if not chance.randrange(8):
             texts[0] = changed(chance, SEEDS)
         ask(["reconcile", *written(tmp_path, f"{'x' * chance.choice((0, 200))}{index}-", texts)])
+
+
+@pytest.mark.parametrize("pair", ["commands"], indirect=True)
+def test_many_tags_that_may_be_in_the_last_of_many_logs(ask, tmp_path):
+    """No log is looked through for each tag: within seconds of a processor."""
+    tags = random.Random(14).sample(range(1 << UID_BITS), 100_000)
+    texts = [text_of(3, (Claimed(TOP_BYTE | tag) for tag in tags)), log_of("I1 S"), log_of("")]
+    expected, silent, unasked = written(tmp_path, "log", texts)
+    ask(["reconcile", expected, *[silent] * 1000, unasked],
+        preexec_fn=lambda: resource.setrlimit(resource.RLIMIT_CPU, (4, 4)))
 
 
 def test_changed_frames(ask, pair):
