@@ -232,8 +232,14 @@ export class Library {
   /** @param {Uint8Array | string} text */
   certain(text) { return this.#listed("certain", (take) => this.#put(take, text), UID, uidAt, roomFor(text)); }
 
-  /** @param {Uint8Array | string} text */
-  openMasks(text) { return this.#listed("open_masks", (take) => this.#put(take, text), MASK, maskAt, roomFor(text)); }
+  /**
+   * All open masks: the one of all UIDs if the text is refused or impossible, as of `survey`.
+   * @param {Uint8Array | string} text
+   */
+  openMasks(text) {
+    const told = this.#listed("open_masks", (take) => this.#put(take, text), MASK, maskAt, roomFor(text));
+    return told.answer.status > 1 ? { ...told, list: [ALL] } : told;
+  }
 
   /**
    * The answer, the UIDs that must be there, and all open masks, of one look at the text. If it is refused or impossible, any

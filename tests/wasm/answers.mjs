@@ -41,12 +41,12 @@ function surveyed(library, text) {
   const certain = library.certain(text), open = library.openMasks(text), left = library.survey(text);
   const said = (/** @type {bigint[]} */ uids, /** @type {import("../../web/library.mjs").Mask[]} */ masks) =>
     [...uids.map((uid) => ` ${hex(uid)}`), ...masks.map((mask) => ` ${mask.fault} ${mask.len} ${hex(mask.value)}`), "\n"].join("");
-  const written = [shown(certain.answer), shown(open.answer), said(certain.list, open.list)];
-  const masks = certain.answer.status > 1 ? [ALL] : open.list; // what says nothing isn't an empty field
-  if (shown(left.answer) + said(left.certain, left.open) !== shown(certain.answer) + said(certain.list, masks)) {
-    written.push("the survey differs\n");
-  }
-  const { answer, list } = library.reconcile(EXPECTED, certain.list, open.list);
+  const isNone = certain.answer.status > 1, masks = isNone ? [] : open.list; // as the library for C lists them
+  const written = [shown(certain.answer), shown(open.answer), said(certain.list, masks)];
+  const all = said(certain.list, isNone ? [ALL] : masks); // what says nothing isn't an empty field
+  const same = [said(certain.list, open.list), said(left.certain, left.open)].every((it) => it === all);
+  if (!same || shown(left.answer) !== shown(certain.answer)) written.push("the survey differs\n");
+  const { answer, list } = library.reconcile(EXPECTED, certain.list, masks);
   written.push(shown(answer), ...list.map((found) =>
     `${found.kind} ${found.line} ${found.maskLen} ${hex(found.maskValue)} ${hex(found.uid)}\n`));
   return written.join("");
