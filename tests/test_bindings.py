@@ -130,7 +130,7 @@ def test_an_example_of_one_log_takes_no_more(example, language):
 
 @pytest.mark.parametrize("language", ["c", "cpp", "go", "rust", "python"])
 def test_an_example_that_cannot_write_has_no_answer(example, language, tmp_path):
-    """Nor a refusal."""
+    """Nor a refusal; but it needs no standard error."""
     check, whole = example(language, LIBRARIES[0]), TOP / "examples/whole-shelf.log"
     refused = tmp_path / "refused.log"
     refused.write_bytes(b"uid\n")
@@ -139,6 +139,7 @@ def test_an_example_that_cannot_write_has_no_answer(example, language, tmp_path)
             _, err, status = check.run(log, stdout=full)
             assert err and status == 4
         assert check.run(whole, stdout=full, stderr=full).status
+        assert check.run(whole, stderr=full)[::2] == (b"complete 4\n", 0)
     # standard output is closed, which Rust's std takes for success
     if language != "rust":
         assert check.run(whole, preexec_fn=lambda: os.close(1)).status == 4

@@ -20,14 +20,19 @@ fn read(file: Option<&OsString>) -> std::io::Result<Vec<u8>> {
     }
 }
 
+/// Shows a line beside the answer, if standard error accepts it; eprintln would panic if not.
+fn note(line: impl Display) {
+    let _ = writeln!(std::io::stderr(), "{line}");
+}
+
 fn check(text: &[u8]) -> Result<Answer, Box<dyn Error>> {
     let explained = vicinity::explain(text)?;
     for uid in explained.population {
-        eprintln!("U {uid}");
+        note(format_args!("U {uid}"));
     }
     if explained.answer.is_complete() {
         if let Some(weakest) = vicinity::margin(text)?.weakest {
-            eprintln!("margin {}\nweakest {}", weakest.margin, weakest.mask);
+            note(format_args!("margin {}\nweakest {}", weakest.margin, weakest.mask));
         }
     }
     Ok(explained.answer)
@@ -41,7 +46,7 @@ fn reconcile(list: &[u8], logs: &[OsString]) -> Result<Answer, Box<dyn Error>> {
     }
     let told = vicinity::reconcile(&expected, &surveys)?;
     for finding in told.findings {
-        eprintln!("{finding}");
+        note(finding);
     }
     Ok(told.answer)
 }
@@ -79,7 +84,7 @@ fn main() -> ExitCode {
             None => Err(error),
         })
         .unwrap_or_else(|error| {
-            eprintln!("{error}");
+            note(error);
             ExitCode::from(4)
         })
 }
