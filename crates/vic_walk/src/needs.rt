@@ -6,6 +6,7 @@ ghost use Rattle.vic_walk.specs.Needs.{needs};
 use vic_log::Entry;
 
 /// How many tags, at least, answered in a slot without being named by its line.
+#[inline(always)]
 pub(crate) fn needs(entry: &Entry) -> usize
     ensures { result ≡ needs entry.now }
 {
