@@ -15,8 +15,8 @@ pub fn copy_list<T: Copy>(list: &[T], room: &mut [T]) -> usize
     list.len()
 }
 
-/// Copies the values of items to the start of a buffer, if they fit, and returns how many there
-/// are.
+/// Copies the values of items, as `value_of` has them, to the start of a buffer, if they fit, and
+/// returns how many there are.
 pub fn copy_each<T: Copy, V: Copy, F: Fn(T) -> V>(items: &[T], room: &mut [V], value_of: F) -> usize
     requires { F.IsAlwaysCallable value_of }
     ensures { (told : T → V) → ((x : T) (v : _) → F.post value_of x v → v ≡ told x)

@@ -25,7 +25,7 @@ pub(crate) enum Finding {
     MoreOpenMasks,
     /// A line of a conflict.
     ConflictLine(u32),
-    /// The line that silenced the tag of a conflict.
+    /// The line that silenced the tag whose reply is a conflict by itself.
     SilencedBy(u32),
 }
 

@@ -89,7 +89,7 @@ pub(crate) fn read_next<R: Source>(
     Ok(join(joined, reading)?)
 }
 
-/// What is said with one more log.
+/// Joins the next log, or says that it ends the run.
 fn join(joined: Reconciliation, reading: Reading) -> Result<Progress, AllocError>
     ensures text { IfOk result (λ progress. (text list : List ℕ) (texts : List (List ℕ))
         → IsReading text reading → AreJoined list texts joined

@@ -24,10 +24,10 @@ const MAX_LINK: u8 = 3;
 /// Why words don't spell a frame.
 #[derive(Clone, Copy, Debug, Drop, PartialEq, Eq)]
 enum SpellFault {
-    /// They aren't a line of `frame`, or a number in decimal is 2^64 or more.
+    /// The first word that doesn't fit is none that `frame` writes there, or some lack or are left.
     Words,
-    /// Otherwise, the link is above 3, or the mask is longer than its request allows, or its value
-    /// has bits above the mask.
+    /// It is a link above 3, the length of a mask longer than its request allows, or the value of a
+    /// mask with bits above it.
     Range,
 }
 

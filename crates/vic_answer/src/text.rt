@@ -12,7 +12,7 @@ use vic_log::push_hex;
 /// Room for the line of an answer, at most 45 bytes, and at least one zero after it.
 pub(crate) const ANSWER_ROOM: usize = 64;
 
-/// Room for three lines.
+/// Room for three lines: those of `margin`.
 pub const TEXT_ROOM: usize = 3 * ANSWER_ROOM;
 
 /// A short text, in a buffer of fixed size.
@@ -24,7 +24,7 @@ const DECIMAL_LEN: usize = 10;
 /// How many digits eight bytes have in hex.
 const HEX_LEN: usize = 16;
 
-/// Appends a word.
+/// Appends a text.
 pub(crate) fn put(text: &mut Text, word: &str)
     requires { array_vec_len text.old + length word.now ≤ TEXT_ROOM }
     ensures items { text.new.items ≡ text.old.items ++ word.now }

@@ -92,8 +92,8 @@ fn push_named(borders: &mut Gathered, entry: &Entry) -> Result<u32, AllocError>
     }
 }
 
-/// Adds the borders of a block, and returns where they stand. If there is none, both are where the
-/// least border stands, so that no part is between them.
+/// Adds the borders of a block, and returns where they stand. If there is none, since no slot or no
+/// UID is there, both are where the least border stands, with no part between them.
 fn push_block(borders: &mut Gathered, block: Option<KeyBlock>) -> Result<(u32, u32), AllocError>
     ensures more { OnOk result (HasAll borders.old borders.new) }
     ensures end { IfOk result (λ r. r.1 < length borders.new) }

@@ -136,7 +136,7 @@ impl Gathered {
         if are_borders(&ranked) && have_ranks(&borders, &ranked, &ranks) {
             return Ok((Parts::between(ranked), ranks));
         }
-        // not so of any log that fits in memory, but nothing is promised of `rank`
+        // no log has so many borders that `rank` fails; but it promises nothing
         let mut copied = Vec::new(alloc);
         copied.extend_from_slice(&borders)?;
         let parts = Parts::between(sorted(copied));

@@ -34,7 +34,7 @@ struct Reach<'a> {
     upto: usize,
     /// The parts that are open before `upto`.
     kept: PartStates,
-    /// All parts, open or not.
+    /// All parts: by these it is known whether one that is open again is Ready or Quiet.
     all: PartStates,
     /// The parts that aren't open before `upto`.
     ruled: Vec<usize>,
@@ -130,7 +130,7 @@ impl<'a> Reach<'a> {
         Ok(())
     }
 
-    /// Puts the parts that aren't open in the order of their ends, the first time that it goes back.
+    /// Puts the parts that aren't open in the order of their ends, before it first goes back.
     fn put_in_order(&mut self)
         ensures ordered { self.new.ordered ≡ true }
         ensures parts { self.new.parts.now ≡ self.old.parts.now }

@@ -9,8 +9,8 @@ use Rattle.vic_walk.specs.Borders.{IsPartOf}
 use Rattle.vic_walk.specs.Marked.{is_marked}
 use Rattle.vic_walk.specs.Walk.{AreEndsAt, AreStatesAt, was_heard}
 
--- the walk is before position i: it knows which parts are open, Ready or Quiet, the end of each, and
--- which were heard
+-- the walk is before position i: it knows which parts are open, Ready or Quiet, the end of each,
+-- and which were heard
 pub record IsWalkAt (bs : List ℕ) (es : List Entry) (i : ℕ) (w : Walk) : Type 0 where
   pub states : AreStatesAt bs es (is_open (slots_before es i)) i w.open
   pub ends : AreEndsAt bs es i w.ends.items
