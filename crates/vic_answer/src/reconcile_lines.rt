@@ -132,15 +132,15 @@ fn add_masks(
     text: &mut Vec<u8>,
     names: &[String],
     log: usize,
-    open: &OpenMasks,
+    masks: &OpenMasks,
 ) -> Result<(), AllocError>
     ensures { OnOk result (text.new.items
-        ≡ text.old.items ++ spec.masks_text (map string_bytes names.now) log open.now) }
+        ≡ text.old.items ++ spec.masks_text (map string_bytes names.now) log masks.now) }
 {
-    for mask in open.masks.as_slice() {
+    for mask in masks.masks.as_slice() {
         add_named(text, open_in(mask).as_slice(), names, log)?;
     }
-    add_more(text, names, log, open.more)
+    add_more(text, names, log, masks.more)
 }
 
 /// Adds the open masks of all logs.

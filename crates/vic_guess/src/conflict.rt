@@ -12,21 +12,21 @@ use vic_walk::{Answering, LogLines, LogWalk, Parts, Span, open_answers, walk_log
 /// that one, and as few of those before it as needed. Their numbers, in no order.
 pub fn guess_conflict(alloc: Global, log: &LogLines) -> Result<Vec<u32>, AllocError> {
     let LogWalk {
-        cut,
+        log_parts,
         open,
         ends,
         broken,
     } = walk_log(alloc, log)?;
     let lines = log.as_slice();
-    let steps = steps_of(alloc, lines, &cut)?;
+    let steps = steps_of(alloc, lines, &log_parts)?;
     let mut numbers = match broken {
         Some(_) => match other_line(lines, &steps, &ends) {
             Some(other) => vec![in alloc; other]?,
             None => Vec::new(alloc),
         },
         None => {
-            let found = open_answers(alloc, log, &cut, open)?;
-            lines_of_lack(alloc, lines, &steps, &cut.parts, &found)?
+            let found = open_answers(alloc, log, &log_parts, open)?;
+            lines_of_lack(alloc, lines, &steps, &log_parts.parts, &found)?
         }
     };
     if let Some(last) = lines.last() {

@@ -53,12 +53,12 @@ fn was_ready(silenced: &mut [u32], part: usize, stretch: u32) -> bool {
 pub(crate) fn steps_of(
     alloc: Global,
     lines: &[PackedLine],
-    cut: &LogParts,
+    log_parts: &LogParts,
 ) -> Result<Vec<Step>, AllocError> {
-    let mut silenced = vec![in alloc; 0; cut.parts.count()]?;
+    let mut silenced = vec![in alloc; 0; log_parts.parts.count()]?;
     let mut stretch: u32 = 1;
     let mut steps = Vec::new(alloc);
-    for (at, (line, of)) in lines.iter().zip(&cut.steps).enumerate() {
+    for (at, (line, of)) in lines.iter().zip(&log_parts.steps).enumerate() {
         match step_of(at, line.number(), &line.item(), *of) {
             None => {}
             Some(Step::Quiet(part)) if !was_ready(&mut silenced, part, stretch) => {}

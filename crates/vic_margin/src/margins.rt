@@ -30,8 +30,8 @@ pub(crate) struct PartMargins<'a> {
 pub fn overlooked(alloc: Global, log: &Log, uids: &[Uid]) -> Result<Vec<u32>, AllocError>
     ensures { IfOk result (λ v. v.items ≡ map (margin_of (entries log.now.lines)) uids.now) }
 {
-    let cut = LogParts::of(alloc, &LogLines::of(log))?;
-    let margins = part_margins(alloc, log, cut)?;
+    let log_parts = LogParts::of(alloc, &LogLines::of(log))?;
+    let margins = part_margins(alloc, log, log_parts)?;
     let mut found = Vec::with_capacity(alloc, uids.len())?;
     for uid in uids {
         found.push(margins.each[margins.parts.at(key(*uid))])?;
@@ -43,13 +43,13 @@ pub fn overlooked(alloc: Global, log: &Log, uids: &[Uid]) -> Result<Vec<u32>, Al
 pub(crate) fn part_margins<'a>(
     alloc: Global,
     log: &'a Log,
-    cut: LogParts,
+    log_parts: LogParts,
 ) -> Result<PartMargins<'a>, AllocError>
-    requires { AreLogParts (entries log.now.lines) cut }
+    requires { AreLogParts (entries log.now.lines) log_parts }
     ensures { IfOk result (λ m. m.log.now ≡ log.now) }
 {
     let lines = LogLines::of(log);
-    let LogParts { parts, steps } = cut;
+    let LogParts { parts, steps } = log_parts;
     let mut tally = Tally::start(alloc, &parts)?;
     for index in 0..steps.len() {
         let entry = lines.entry(index);

@@ -23,7 +23,7 @@ pub fn margin(alloc: Global, log: &Log) -> Result<Margin, AllocError>
         (λ w. IsPossible (entries log.now.lines) × IsWeakest (entries log.now.lines) w)) }
 {
     match facts_and_parts_of::<RangeSet>(alloc, log)? {
-        Ok((facts, cut)) => {
+        Ok((facts, log_parts)) => {
             let Facts {
                 open,
                 met: _,
@@ -38,7 +38,7 @@ pub fn margin(alloc: Global, log: &Log) -> Result<Margin, AllocError>
                 | Verdict::Unlisted(_)
                 | Verdict::Doubtful(_)
                 | Verdict::Complete { .. } => {
-                    weakest_of(alloc, &part_margins(alloc, log, cut)?)?
+                    weakest_of(alloc, &part_margins(alloc, log, log_parts)?)?
                 }
             };
             Ok(Margin {

@@ -30,16 +30,16 @@ comes_to_end bs es w None possible end = end.1
 comes_to_end bs es w (Some i) possible end =
     absurd (broken_log bs es w (Some i) end refl possible)
 
-pub ends_of : (es : List Entry) (w : LogWalk) → IsPossible es → IsLogWalk es w → AreEndsAt w.cut.parts es (length es) w.ends.items
-ends_of es w possible over = comes_to_end w.cut.parts es w w.broken possible over.walk
+pub ends_of : (es : List Entry) (w : LogWalk) → IsPossible es → IsLogWalk es w → AreEndsAt w.log_parts.parts es (length es) w.ends.items
+ends_of es w possible over = comes_to_end w.log_parts.parts es w w.broken possible over.walk
 
 -- and knows the end of each UID by that of its part
-known_end : (es : List Entry) (w : LogWalk) (u p key end : ℕ) → IsPossible es → IsLogWalk es w → IsUid u → key ≡ mirror u → IsPartOf w.cut.parts key p → end ≡ get_or w.ends.items p end → IsEnd es (length es) u end
+known_end : (es : List Entry) (w : LogWalk) (u p key end : ℕ) → IsPossible es → IsLogWalk es w → IsUid u → key ≡ mirror u → IsPartOf w.log_parts.parts key p → end ≡ get_or w.ends.items p end → IsEnd es (length es) u end
 known_end es w u p key end possible over is k part read =
     let at = ends_of es w possible over in
     let inside = part.within in
     let same : slice_index w.ends.items p ≡ end = get_or_default w.ends.items p 0 end (omega (arith, inside, at.room)) ∙ sym read in
-    subst (IsEnd es (length es) u) same (at.each u p is (subst (λ x. IsPartOf w.cut.parts x p) k part))
+    subst (IsEnd es (length es) u) same (at.each u p is (subst (λ x. IsPartOf w.log_parts.parts x p) k part))
 
 -- a UID that isn't open has an end
 has_end : (es : List Entry) (n u end : ℕ) → IsEnd es n u end → is_open (slots_before es n) u ≡ false → (0 < end) × (end ≤ n)
@@ -47,7 +47,7 @@ has_end es n u zero h shut = absurd (false≢true (sym shut ∙ h))
 has_end es n u (suc j) h shut = let below = h.0 in (omega arith, omega (arith, below))
 
 -- so a walk knows the end of each UID in a list of such
-pub listed_end : (es : List Entry) (w : LogWalk) (us : List ℕ) (i u p key end : ℕ) → IsPossible es → IsLogWalk es w → All (λ v. is_open (slots_before es (length es)) v ≡ false) us → i < length us → u ≡ get_or us i u → IsUid u → key ≡ mirror u → IsPartOf w.cut.parts key p → end ≡ get_or w.ends.items p end
+pub listed_end : (es : List Entry) (w : LogWalk) (us : List ℕ) (i u p key end : ℕ) → IsPossible es → IsLogWalk es w → All (λ v. is_open (slots_before es (length es)) v ≡ false) us → i < length us → u ≡ get_or us i u → IsUid u → key ≡ mirror u → IsPartOf w.log_parts.parts key p → end ≡ get_or w.ends.items p end
     → IsEnd es (length es) u end × (0 < end) × (end ≤ length es)
 listed_end es w us i u p key end possible over shut lt at is k part read =
     let known = known_end es w u p key end possible over is k part read in

@@ -31,8 +31,12 @@ pub(crate) fn lines_of_absent(
         return Ok(shown);
     }
     let lines = log.lines();
-    let LogWalk { cut, ends, .. } = walk_log(alloc, &LogLines::of(log))?;
-    let indexed = cut.parts.indexed(alloc)?;
+    let LogWalk {
+        log_parts,
+        ends,
+        ..
+    } = walk_log(alloc, &LogLines::of(log))?;
+    let indexed = log_parts.parts.indexed(alloc)?;
     for uid in absent {
         // not 0, since the UID isn't open
         let end = ends[indexed.at(key(*uid))] as usize;

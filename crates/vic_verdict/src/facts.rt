@@ -65,14 +65,14 @@ pub fn facts_and_parts_of<S: OpenSet>(
     ensures facts { IfOk result (λ r. MatchResult r
         (λ p. AreFactsOf (entries log.now.lines) (S.is_open p.0.«open») p.0.met p.0.certain)
         (λ n. IsVerdict log.now.lines (Impossible n))) }
-    ensures cut { IfOk result (λ r. MatchResult r
+    ensures parts { IfOk result (λ r. MatchResult r
         (λ p. AreLogParts (entries log.now.lines) p.1) (λ _. ⊤)) }
     ensures log { AreLogLines log.now.lines }
 {
     match open_and_met::<S>(alloc, &LogLines::of(log))? {
-        Ok((open, met, cut)) => {
+        Ok((open, met, log_parts)) => {
             let certain = certain_uids(alloc, &met)?;
-            Ok(Ok((Facts { open, met, certain }, cut)))
+            Ok(Ok((Facts { open, met, certain }, log_parts)))
         }
         Err(at) => Ok(Err(log.lines()[at].number())),
     }
@@ -104,11 +104,11 @@ fn open_and_met<S: OpenSet>(
         × SameUids (S.is_open p.0) (is_open (slots_of (entries lines.now)))
         × IsMet (entries lines.now) p.1)
         (IsFirstImpossible (entries lines.now))) }
-    ensures cut { IfOk result (λ r. MatchResult r
+    ensures parts { IfOk result (λ r. MatchResult r
         (λ p. AreLogParts (entries lines.now) p.2) (λ _. ⊤)) }
 {
     let LogWalk {
-        cut,
+        log_parts,
         open,
         ends,
         broken,
@@ -116,18 +116,18 @@ fn open_and_met<S: OpenSet>(
     if let Some(at) = broken {
         // the replies aren't borne out at `at`; but before that line an unread slot may already
         // lack open UIDs: `first_lack` returns the first position at which one does, or `at`
-        return Ok(Err(first_lack(alloc, lines, &cut, &ends, at)?));
+        return Ok(Err(first_lack(alloc, lines, &log_parts, &ends, at)?));
     }
-    let closed = closed_keys(alloc, &cut.parts, &ends)?;
+    let closed = closed_keys(alloc, &log_parts.parts, &ends)?;
     let set = S::without(alloc, closed)?;
-    let unread = open_answers(alloc, lines, &cut, open)?;
+    let unread = open_answers(alloc, lines, &log_parts, open)?;
     if !are_met(&unread) {
         // after all lines an unread slot lacks open UIDs: `first_lack` returns the first position
         // at which one does
-        return Ok(Err(first_lack(alloc, lines, &cut, &ends, lines.len())?));
+        return Ok(Err(first_lack(alloc, lines, &log_parts, &ends, lines.len())?));
     }
     let heard = heard_uids(alloc, lines)?;
-    Ok(Ok((set, Met { heard, unread }, cut)))
+    Ok(Ok((set, Met { heard, unread }, log_parts)))
 }
 
 /// Whether a log is possible: whether some population could have produced it.
@@ -135,7 +135,7 @@ pub fn is_possible(alloc: Global, lines: &LogLines) -> Result<bool, AllocError>
     ensures { IfOk result (λ b. (b ≡ true) ↔ IsPossible (entries lines.now)) }
 {
     let LogWalk {
-        cut,
+        log_parts,
         open,
         broken,
         ..
@@ -143,7 +143,7 @@ pub fn is_possible(alloc: Global, lines: &LogLines) -> Result<bool, AllocError>
     if broken.is_some() {
         return Ok(false);
     }
-    let unread = open_answers(alloc, lines, &cut, open)?;
+    let unread = open_answers(alloc, lines, &log_parts, open)?;
     Ok(are_met(&unread))
 }
 

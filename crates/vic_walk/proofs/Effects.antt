@@ -1,7 +1,7 @@
 -- What each kind of entry makes of what a walk knows.
 use Rattle.vic_walk.proofs.Words.{◌≡◌, ◌==◌, AreStatesAt, Sent, FieldCycle, Silent, silences, wakes, names, AreCut, has, arith, nat_tests, or_left, or_right, cases_lt, replicate, length-replicate, get_or-replicate, is_uid_from, Captured, Collision, Garbled, Listed, Unknown, StayQuiet, Request, and-false, eqb-true, eq_swapped, uid_of, is_uid, mirror_of_uid, mirror_below, IsUid-from, ltb-true, false_from_ne_true, ◌↔◌, ℕ, zero, suc, ◌+◌, ◌<◌, ◌≤◌, Bool, true, false, ◌&&◌, ◌||◌, not, Option, Some, List, sym, refl, subst, ◌∙◌, inl, inr, add-one, if◌then◌else◌, slice_get, slice_index, length, cases_Bool, and_parts, and_from, or_cases, false≢true, and-true, Entry, Reply, Heard, IsUid, mirror, answers_at, is_quiet, is_open, reading_of, slots_before, AreBorders, AreBorneOut, IsEnd, IsPartOf, IsWalkAt, hears, is_marked, part_count, was_heard}
 use Rattle.vic_walk.specs.declared.part_states.PartStates.{PartStates}
-use Rattle.vic_walk.specs.declared.walk.Walk.{Walk}
+use Rattle.vic_walk.specs.declared.walk_state.WalkState.{WalkState}
 use Rattle.vic_walk.specs.declared.steps.Span.{Span}
 use Rattle.vic_walk.specs.Steps.{IsSpanAt, is_within}
 use Rattle.vic_walk.specs.inner.Ruled.{LosesHeard, IsRuledOut, is_other}
@@ -10,7 +10,7 @@ use Rattle.vic_walk.proofs.PartLaws.{key_of_part, one_part, part_of_key}
 
 -- ---- before the first entry
 
-pub walk_starts : (bs : List ℕ) (es : List Entry) (n : ℕ) (w : Walk) → part_count bs ≡ n → w.open.ready ≡ replicate n true → ((p : ℕ) → has w.open.quiet.items p ≡ false) → w.ends.items ≡ replicate n 0 → w.heard ≡ replicate n false → IsWalkAt bs es 0 w
+pub walk_starts : (bs : List ℕ) (es : List Entry) (n : ℕ) (w : WalkState) → part_count bs ≡ n → w.open.ready ≡ replicate n true → ((p : ℕ) → has w.open.quiet.items p ≡ false) → w.ends.items ≡ replicate n 0 → w.heard ≡ replicate n false → IsWalkAt bs es 0 w
 walk_starts bs es n w count ready quiet ends heard = record {
   states = record {
     room = rw ready (length-replicate n true ∙ sym count);
@@ -122,7 +122,7 @@ heard_none : (es : List Entry) (i : ℕ) (e : Entry) (u : ℕ) → slice_get es 
 heard_none es i e u k none = rw k (none true u).1
 
 -- then what is known changes only by who is Ready
-pub walk_unread : (bs : List ℕ) (es : List Entry) (i : ℕ) (e : Entry) (old new : Walk) → slice_get es i ≡ Some e → ReadsNone e → AreStatesAt bs es (is_open (slots_before es i)) (i + 1) new.open → new.heard ≡ old.heard → new.ends.items ≡ old.ends.items → IsWalkAt bs es i old → IsWalkAt bs es (i + 1) new
+pub walk_unread : (bs : List ℕ) (es : List Entry) (i : ℕ) (e : Entry) (old new : WalkState) → slice_get es i ≡ Some e → ReadsNone e → AreStatesAt bs es (is_open (slots_before es i)) (i + 1) new.open → new.heard ≡ old.heard → new.ends.items ≡ old.ends.items → IsWalkAt bs es i old → IsWalkAt bs es (i + 1) new
 walk_unread bs es i e old new k none ready heard ends h =
     let later : AreStatesAt bs es (is_open (slots_before es i)) (suc i) new.open = rw (← add-one) ready in
     let same = λ (u : ℕ). open_none es i e u k none in
@@ -157,7 +157,7 @@ nothing_unknown = record { reads = λ a u. (refl, refl); silent = λ u. refl; aw
 pub nothing_listed : (v : ℕ) → DoesNothing (Listed v)
 nothing_listed v = record { reads = λ a u. (refl, refl); silent = λ u. refl; awake = refl }
 
-pub walk_idle : (bs : List ℕ) (es : List Entry) (i : ℕ) (e : Entry) (w : Walk) → slice_get es i ≡ Some e → DoesNothing e → IsWalkAt bs es i w → IsWalkAt bs es (i + 1) w
+pub walk_idle : (bs : List ℕ) (es : List Entry) (i : ℕ) (e : Entry) (w : WalkState) → slice_get es i ≡ Some e → DoesNothing e → IsWalkAt bs es i w → IsWalkAt bs es (i + 1) w
 walk_idle bs es i e w k n h = walk_unread bs es i e w w k n.reads (ready_still bs es _ i e w.open k (λ u is. n.silent u) n.awake h.states) refl refl h
 
 pub sent_none : (q : Request) → ReadsNone (Sent q)
@@ -221,7 +221,7 @@ end_read es i u n m o q r before after is h = elim (cases_Bool ((o && not q) && 
   | inr kept ↦ rw (is, kept) (end_kept es i u n (after ∙ (read_kept o q r kept ∙ before)) h)
 ]
 
-pub walk_read : (bs : List ℕ) (es : List Entry) (i : ℕ) (out : ℕ → Bool) (old new : Walk) → RulesOut bs es i out → IsRuledOut old new out (i + 1) → ((u p : ℕ) → IsUid u → IsPartOf bs (mirror u) p → is_marked new.heard p ≡ (hears (slice_get es i) u || is_marked old.heard p)) → IsWalkAt bs es i old → IsWalkAt bs es (i + 1) new
+pub walk_read : (bs : List ℕ) (es : List Entry) (i : ℕ) (out : ℕ → Bool) (old new : WalkState) → RulesOut bs es i out → IsRuledOut old new out (i + 1) → ((u p : ℕ) → IsUid u → IsPartOf bs (mirror u) p → is_marked new.heard p ≡ (hears (slice_get es i) u || is_marked old.heard p)) → IsWalkAt bs es i old → IsWalkAt bs es (i + 1) new
 walk_read bs es i out old new rules ruled heard h = rw add-one (record {
   states = record {
     room = ruled.room ∙ h.states.room;
@@ -284,7 +284,7 @@ none_ended : (marked : Bool) (end n : ℕ) → n ≡ (if marked && false then en
 none_ended true end n = refl
 none_ended false end n = refl
 
-pub nothing_ruled_out : (old new : Walk) (end : ℕ) → new.open ≡ old.open → new.ends.items ≡ old.ends.items → IsRuledOut old new (λ p. false) end
+pub nothing_ruled_out : (old new : WalkState) (end : ℕ) → new.open ≡ old.open → new.ends.items ≡ old.ends.items → IsRuledOut old new (λ p. false) end
 nothing_ruled_out old new end same ends = record {
   ready = λ p. rw same (none_out (is_marked old.open.ready p));
   ends = λ p. rw ends (none_ended (is_marked old.open.ready p) end (slice_index old.ends.items p));
@@ -313,7 +313,7 @@ gone : (o q r : Bool) → r ≡ true → o ≡ true → not q ≡ true → (o &&
 gone o q r a b c = rw (a, b, c) refl
 
 -- a UID that is ruled out was heard: then they aren't
-pub lost_not_borne : (bs : List ℕ) (es : List Entry) (i : ℕ) (out : ℕ → Bool) (w : Walk) → RulesOut bs es i out → AreBorders bs → IsWalkAt bs es i w → ((p : ℕ) → out p ≡ true → p < part_count bs) → LosesHeard w out → AreBorneOut es (suc i) → ⊥
+pub lost_not_borne : (bs : List ℕ) (es : List Entry) (i : ℕ) (out : ℕ → Bool) (w : WalkState) → RulesOut bs es i out → AreBorders bs → IsWalkAt bs es i w → ((p : ℕ) → out p ≡ true → p < part_count bs) → LosesHeard w out → AreBorneOut es (suc i) → ⊥
 lost_not_borne bs es i out w rules borders h within lost b =
     let p = lost.0 in
     let there = key_of_part bs p borders (within p lost.1) in
@@ -327,7 +327,7 @@ lost_not_borne bs es i out w rules borders h within lost b =
     false≢true (sym out_now ∙ b.openness u heard)
 
 -- no UID heard before is ruled out, so it is open still
-pub heard_still_open : (bs : List ℕ) (es : List Entry) (i u : ℕ) (out : ℕ → Bool) (w : Walk) → RulesOut bs es i out → AreBorders bs → IsWalkAt bs es i w → (LosesHeard w out → ⊥) → AreBorneOut es i → was_heard es i u ≡ true → is_open (slots_before es (suc i)) u ≡ true
+pub heard_still_open : (bs : List ℕ) (es : List Entry) (i u : ℕ) (out : ℕ → Bool) (w : WalkState) → RulesOut bs es i out → AreBorders bs → IsWalkAt bs es i w → (LosesHeard w out → ⊥) → AreBorneOut es i → was_heard es i u ≡ true → is_open (slots_before es (suc i)) u ≡ true
 heard_still_open bs es i u out w rules borders h none b heard =
     let o = b.openness u heard in
     let is : IsUid u = IsUid-from u (and_parts _ _ o).0 in
@@ -338,7 +338,7 @@ heard_still_open bs es i u out w rules borders h none b heard =
     none (p, both.0, h.states.ready u p is part.1 ∙ and_from _ _ o both.1, h.heard u p is part.1 ∙ heard)) in
     rules.openness u p is part.1 ∙ rw (o, kept) refl
 
-pub borne_silent : (bs : List ℕ) (es : List Entry) (i : ℕ) (s : Span) (w : Walk) (lost : Bool) → slice_get es i ≡ Some Silent → IsSpanAt bs es i s → s.to ≤ part_count bs → AreBorders bs → IsWalkAt bs es i w → (lost ≡ true) ↔ LosesHeard w (is_within s) → AreBorneOut es i → (not lost ≡ true) ↔ AreBorneOut es (i + 1)
+pub borne_silent : (bs : List ℕ) (es : List Entry) (i : ℕ) (s : Span) (w : WalkState) (lost : Bool) → slice_get es i ≡ Some Silent → IsSpanAt bs es i s → s.to ≤ part_count bs → AreBorders bs → IsWalkAt bs es i w → (lost ≡ true) ↔ LosesHeard w (is_within s) → AreBorneOut es i → (not lost ≡ true) ↔ AreBorneOut es (i + 1)
 borne_silent bs es i s w lost k span within borders h iff b =
     let rules = silent_rules_out bs es i s k span in
     rw add-one (
@@ -361,7 +361,7 @@ within_count : (bs : List ℕ) (s : Span) (p : ℕ) → s.to ≤ part_count bs �
 within_count bs s p within in_span = omega (arith, ltb-true p s.to (and_parts _ _ in_span).1)
 
 -- a UID was read, and the parts for which the test holds are ruled out, of which its own is none
-borne_reply : (bs : List ℕ) (es : List Entry) (i v own : ℕ) (s : Span) (out : ℕ → Bool) (w : Walk) (fine : Bool) → HearsOnly (slice_get es i) v → RulesOut bs es i out → out own ≡ false → ((p : ℕ) → out p ≡ true → is_within s p ≡ true) → IsUid v → IsPartOf bs (mirror v) own → IsSpanAt bs es i s → s.to ≤ part_count bs → AreBorders bs → IsWalkAt bs es i w → (fine ≡ true) ↔ ((is_within s own ≡ true) × (is_marked w.open.ready own ≡ true) × (LosesHeard w out → ⊥)) → AreBorneOut es i → (fine ≡ true) ↔ AreBorneOut es (i + 1)
+borne_reply : (bs : List ℕ) (es : List Entry) (i v own : ℕ) (s : Span) (out : ℕ → Bool) (w : WalkState) (fine : Bool) → HearsOnly (slice_get es i) v → RulesOut bs es i out → out own ≡ false → ((p : ℕ) → out p ≡ true → is_within s p ≡ true) → IsUid v → IsPartOf bs (mirror v) own → IsSpanAt bs es i s → s.to ≤ part_count bs → AreBorders bs → IsWalkAt bs es i w → (fine ≡ true) ↔ ((is_within s own ≡ true) × (is_marked w.open.ready own ≡ true) × (LosesHeard w out → ⊥)) → AreBorneOut es i → (fine ≡ true) ↔ AreBorneOut es (i + 1)
 borne_reply bs es i v own s out w fine only rules mine inside is at span within borders h iff b =
     let known = h.states.ready v own is at in
     let lies = span v own is at in
@@ -396,10 +396,10 @@ borne_reply bs es i v own s out w fine only rules mine inside is at span within 
           )),
     )
 
-pub borne_heard : (bs : List ℕ) (es : List Entry) (i own : ℕ) (r : Reply) (s : Span) (w : Walk) (fine : Bool) → slice_get es i ≡ Some (Heard r) → IsUid r.uid → IsPartOf bs (mirror r.uid) own → IsSpanAt bs es i s → s.to ≤ part_count bs → AreBorders bs → AreCut bs es → IsWalkAt bs es i w → (fine ≡ true) ↔ ((is_within s own ≡ true) × (is_marked w.open.ready own ≡ true) × (LosesHeard w (is_other s own) → ⊥)) → AreBorneOut es i → (fine ≡ true) ↔ AreBorneOut es (i + 1)
+pub borne_heard : (bs : List ℕ) (es : List Entry) (i own : ℕ) (r : Reply) (s : Span) (w : WalkState) (fine : Bool) → slice_get es i ≡ Some (Heard r) → IsUid r.uid → IsPartOf bs (mirror r.uid) own → IsSpanAt bs es i s → s.to ≤ part_count bs → AreBorders bs → AreCut bs es → IsWalkAt bs es i w → (fine ≡ true) ↔ ((is_within s own ≡ true) × (is_marked w.open.ready own ≡ true) × (LosesHeard w (is_other s own) → ⊥)) → AreBorneOut es i → (fine ≡ true) ↔ AreBorneOut es (i + 1)
 borne_heard bs es i own r s w fine k is at span within borders cut h iff b =
     borne_reply bs es i r.uid own s (is_other s own) w fine (heard_only es i r k) (heard_rules_out bs es i own r s k is at borders cut span) (not_own s own) (λ p other. (and_parts _ _ other).0) is at span within borders h iff b
 
-pub borne_captured : (bs : List ℕ) (es : List Entry) (i own : ℕ) (r : Reply) (s : Span) (w : Walk) (fine : Bool) → slice_get es i ≡ Some (Captured r) → IsUid r.uid → IsPartOf bs (mirror r.uid) own → IsSpanAt bs es i s → s.to ≤ part_count bs → AreBorders bs → IsWalkAt bs es i w → (fine ≡ true) ↔ ((is_within s own ≡ true) × (is_marked w.open.ready own ≡ true)) → AreBorneOut es i → (fine ≡ true) ↔ AreBorneOut es (i + 1)
+pub borne_captured : (bs : List ℕ) (es : List Entry) (i own : ℕ) (r : Reply) (s : Span) (w : WalkState) (fine : Bool) → slice_get es i ≡ Some (Captured r) → IsUid r.uid → IsPartOf bs (mirror r.uid) own → IsSpanAt bs es i s → s.to ≤ part_count bs → AreBorders bs → IsWalkAt bs es i w → (fine ≡ true) ↔ ((is_within s own ≡ true) × (is_marked w.open.ready own ≡ true)) → AreBorneOut es i → (fine ≡ true) ↔ AreBorneOut es (i + 1)
 borne_captured bs es i own r s w fine k is at span within borders h iff b =
     borne_reply bs es i r.uid own s (λ p. false) w fine (captured_only es i r k) (captured_rules_out bs es i r k) refl (λ p gone. absurd (false≢true gone)) is at span within borders h ((λ it. let f = iff.0 it in (f.0, f.1, λ lost. false≢true lost.1)), (λ f. iff.1 (f.0, f.1))) b

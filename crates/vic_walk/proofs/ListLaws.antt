@@ -3,7 +3,7 @@ use Rattle.vic_walk.proofs.Words.{◌≡◌, ℕ, zero, suc, ◌+◌, ◌<◌, �
 use Rattle.std.proofs.lemmas.Option.{slice_get-get_or}
 use Rattle.vic_log.specs.Order.{IsInOrder}
 use Rattle.vic_log.specs.Rounds.{ends_round, opener}
-use Rattle.vic_walk.specs.declared.walk.Walk.{Walk}
+use Rattle.vic_walk.specs.declared.walk_state.WalkState.{WalkState}
 use Rattle.vic_walk.specs.Answers.{is_unread}
 use Rattle.vic_walk.specs.Met.{IsMetAt}
 use Rattle.vic_walk.specs.Needs.{needs_at, needs_of}
@@ -67,7 +67,7 @@ needs_past es n i list from = list_only (λ o. needs_of o ≡ 0) es n i refl (λ
 pub met_past : (es : List Entry) (m n i : ℕ) → IsListFrom es n → n ≤ i → IsMetAt es m i
 met_past es m n i list from = record { uids = []; different = tt; answer = λ u it. absurd (false≢true it); enough = rw (needs_past es n i list from) (omega arith) }
 
-walk_list : (bs : List ℕ) (es : List Entry) (n d : ℕ) (w : Walk) → IsListFrom es n → n + d ≤ length es → IsWalkAt bs es n w → AreBorneOut es n → IsWalkAt bs es (n + d) w × AreBorneOut es (n + d)
+walk_list : (bs : List ℕ) (es : List Entry) (n d : ℕ) (w : WalkState) → IsListFrom es n → n + d ≤ length es → IsWalkAt bs es n w → AreBorneOut es n → IsWalkAt bs es (n + d) w × AreBorneOut es (n + d)
 walk_list bs es n zero w list within h b = let same : n + 0 ≡ n = omega arith in rw same (h, b)
 walk_list bs es n (suc d) w list within h b =
     let before = walk_list bs es n d w list (omega (arith, within)) h b in
@@ -78,7 +78,7 @@ walk_list bs es n (suc d) w list within h b =
     rw next (walk_idle bs es (n + d) _ w here nothing before.0, borne_idle es (n + d) _ here nothing.reads before.1)
 
 -- where the list begins the walk is as at its end
-pub walk_at_list : (bs : List ℕ) (es : List Entry) (n : ℕ) (w : Walk) → IsListFrom es n → n ≤ length es → IsWalkAt bs es n w → AreBorneOut es n → IsWalkAt bs es (length es) w × AreBorneOut es (length es)
+pub walk_at_list : (bs : List ℕ) (es : List Entry) (n : ℕ) (w : WalkState) → IsListFrom es n → n ≤ length es → IsWalkAt bs es n w → AreBorneOut es n → IsWalkAt bs es (length es) w × AreBorneOut es (length es)
 walk_at_list bs es n w list within h b =
     let end : n + (length es - n) ≡ length es = omega (arith, within) in
     rw end at (walk_list bs es n (length es - n) w list (omega (arith, within)) h b)

@@ -11,23 +11,23 @@ use Rattle.vic_walk.specs.Marked.{is_marked}
 use Rattle.vic_walk.specs.inner.Bits.{AreMarks, AreNoted, IsNext, IsWith, IsWithout, is_set, marked_in}
 
 -- the numbers of the set by its bits
-marked_is : (count k : ℕ) (places : List ℕ) → ((j : ℕ) → is_set places j ≡ true → j < count) → is_marked (marked_in count places) k ≡ is_set places k
-marked_is count k places below = ⊎_elim
-    (λ (inside : k < count). get_or-map-range_with_len (is_set places) 0 count k k false inside (omega arith))
-    (λ (past : count ≤ k). let size = length-map-range_with_len (is_set places) 0 count in get_or_past (marked_in count places) k false (omega (arith, size, past)) ∙ sym (false_from_ne_true _ (λ is. let lt = below k is in absurd (omega (arith, lt, past)))))
+marked_is : (count k : ℕ) (bits : List ℕ) → ((j : ℕ) → is_set bits j ≡ true → j < count) → is_marked (marked_in count bits) k ≡ is_set bits k
+marked_is count k bits below = ⊎_elim
+    (λ (inside : k < count). get_or-map-range_with_len (is_set bits) 0 count k k false inside (omega arith))
+    (λ (past : count ≤ k). let size = length-map-range_with_len (is_set bits) 0 count in get_or_past (marked_in count bits) k false (omega (arith, size, past)) ∙ sym (false_from_ne_true _ (λ is. let lt = below k is in absurd (omega (arith, lt, past)))))
     (cases_lt k count)
 
 -- what is said of the bits holds of the set
-pub same_marks : (count k : ℕ) (places : List ℕ) (marks : List Bool) → ((j : ℕ) → is_set places j ≡ true → j < count) → marked_in count places ≡ marks → is_marked marks k ≡ is_set places k
-same_marks count k places marks below is = ap (λ m. is_marked m k) (sym is) ∙ marked_is count k places below
+pub same_marks : (count k : ℕ) (bits : List ℕ) (marks : List Bool) → ((j : ℕ) → is_set bits j ≡ true → j < count) → marked_in count bits ≡ marks → is_marked marks k ≡ is_set bits k
+same_marks count k bits marks below is = ap (λ m. is_marked m k) (sym is) ∙ marked_is count k bits below
 
-pub next_marked : (count from : ℕ) (next : Option ℕ) (places : List ℕ) (marks : List Bool) → ((j : ℕ) → is_set places j ≡ true → j < count) → marked_in count places ≡ marks → IsNext (is_set places) from next → IsNext (is_marked marks) from next
-next_marked count from (Some p) places marks below is first = record {
+pub next_marked : (count from : ℕ) (next : Option ℕ) (bits : List ℕ) (marks : List Bool) → ((j : ℕ) → is_set bits j ≡ true → j < count) → marked_in count bits ≡ marks → IsNext (is_set bits) from next → IsNext (is_marked marks) from next
+next_marked count from (Some p) bits marks below is first = record {
   from = first.from;
-  passes = same_marks count p places marks below is ∙ first.passes;
-  before = λ k le lt. same_marks count k places marks below is ∙ first.before k le lt;
+  passes = same_marks count p bits marks below is ∙ first.passes;
+  before = λ k le lt. same_marks count k bits marks below is ∙ first.before k le lt;
 }
-next_marked count from None places marks below is none = λ k le. same_marks count k places marks below is ∙ none k le
+next_marked count from None bits marks below is none = λ k le. same_marks count k bits marks below is ∙ none k le
 
 -- ---- one number written
 
@@ -47,25 +47,25 @@ pub marked_without : (count p : ℕ) (old new : List ℕ) → p < count → IsWi
 marked_without count p old new within less = marked_set count p false old new within (λ k. grind (arith, nat_tests, less k))
 
 -- a number of the set is below its count
-pub below_count : (count p : ℕ) (places : List ℕ) (marks : List Bool) → marked_in count places ≡ marks → p < length marks → p < count
-below_count count p places marks is lt = subst (λ n. p < n) (ap length (sym is) ∙ length-map-range_with_len (is_set places) 0 count) lt
+pub below_count : (count p : ℕ) (bits : List ℕ) (marks : List Bool) → marked_in count bits ≡ marks → p < length marks → p < count
+below_count count p bits marks is lt = subst (λ n. p < n) (ap length (sym is) ∙ length-map-range_with_len (is_set bits) 0 count) lt
 
--- ---- places, and words that aren't 0
+-- ---- bits, and words that aren't 0
 
-pub marks_with : (count p : ℕ) (places words ps ws : List ℕ) → p < count → IsWith p places ps → IsWith (p / 64) words ws → length ps ≡ length places → length ws ≡ length words → AreMarks count places words → AreMarks count ps ws
-marks_with count p places words ps ws within more more_words size word_size i = record {
+pub marks_with : (count p : ℕ) (bits words ps ws : List ℕ) → p < count → IsWith p bits ps → IsWith (p / 64) words ws → length ps ≡ length bits → length ws ≡ length words → AreMarks count bits words → AreMarks count ps ws
+marks_with count p bits words ps ws within more more_words size word_size i = record {
   fits = i.fits;
   below = λ k is. ⊎_elim
       (λ (here : nat_eq k p ≡ true). subst (λ n. n < count) (sym (eqb-true k p here)) within)
-      (λ (old : is_set places k ≡ true). i.below k old)
+      (λ (old : is_set bits k ≡ true). i.below k old)
       (or_cases _ _ (sym (more k) ∙ is));
-  noted = noted_with p places ps words ws more more_words size word_size i.noted;
+  noted = noted_with p bits ps words ws more more_words size word_size i.noted;
   room = size ∙ i.room;
 }
 
 -- one bit fewer, of which no more is known than that the words are noted
-pub marks_without : (count p : ℕ) (places words ps ws : List ℕ) → IsWithout p places ps → AreNoted ps ws → length ps ≡ length places → AreMarks count places words → AreMarks count ps ws
-marks_without count p places words ps ws less noted size i = record {
+pub marks_without : (count p : ℕ) (bits words ps ws : List ℕ) → IsWithout p bits ps → AreNoted ps ws → length ps ≡ length bits → AreMarks count bits words → AreMarks count ps ws
+marks_without count p bits words ps ws less noted size i = record {
   fits = i.fits;
   below = λ k is. i.below k (and_parts _ _ (sym (less k) ∙ is)).1;
   noted = noted;
@@ -74,26 +74,26 @@ marks_without count p places words ps ws less noted size i = record {
 
 -- ---- none, and all
 
-pub none_marked : (count : ℕ) (places : List ℕ) → ((k : ℕ) → is_set places k ≡ false) → marked_in count places ≡ replicate count false
-none_marked count places none = sym (fill_by_all (is_set places) (replicate count false) count false (length-replicate count false) (λ k lt. get_or-replicate count k false false lt ∙ sym (none k)))
+pub none_marked : (count : ℕ) (bits : List ℕ) → ((k : ℕ) → is_set bits k ≡ false) → marked_in count bits ≡ replicate count false
+none_marked count bits none = sym (fill_by_all (is_set bits) (replicate count false) count false (length-replicate count false) (λ k lt. get_or-replicate count k false false lt ∙ sym (none k)))
 
-pub blank_marks : (count : ℕ) (places words : List ℕ) → count < 2 ^ 64 → ((k : ℕ) → is_set places k ≡ false) → ((k : ℕ) → is_set words k ≡ false) → length places ≡ count / 64 + 1 → length words ≡ count / 64 / 64 + 1 → AreMarks count places words
-blank_marks count places words fits none no_words size word_size = record {
+pub blank_marks : (count : ℕ) (bits words : List ℕ) → count < 2 ^ 64 → ((k : ℕ) → is_set bits k ≡ false) → ((k : ℕ) → is_set words k ≡ false) → length bits ≡ count / 64 + 1 → length words ≡ count / 64 / 64 + 1 → AreMarks count bits words
+blank_marks count bits words fits none no_words size word_size = record {
   fits = fits;
   below = λ k is. absurd (both_ways _ (none k) is);
-  noted = blank_noted places words none no_words (omega (arith, size, word_size));
+  noted = blank_noted bits words none no_words (omega (arith, size, word_size));
   room = size;
 }
 
-pub marked_below : (count : ℕ) (places : List ℕ) → ((k : ℕ) → is_set places k ≡ nat_lt k count) → marked_in count places ≡ replicate count true
-marked_below count places all = sym (fill_by_all (is_set places) (replicate count true) count false (length-replicate count true) (λ k lt. get_or-replicate count k true false lt ∙ sym (all k ∙ lt-ltb k count lt)))
+pub marked_below : (count : ℕ) (bits : List ℕ) → ((k : ℕ) → is_set bits k ≡ nat_lt k count) → marked_in count bits ≡ replicate count true
+marked_below count bits all = sym (fill_by_all (is_set bits) (replicate count true) count false (length-replicate count true) (λ k lt. get_or-replicate count k true false lt ∙ sym (all k ∙ lt-ltb k count lt)))
 
-pub all_below : (count : ℕ) (places words : List ℕ) → count < 2 ^ 64 → ((k : ℕ) → is_set places k ≡ nat_lt k count) → ((k : ℕ) → is_set words k ≡ nat_lt k (div_ceil count 64)) → length places ≡ count / 64 + 1 → length words ≡ div_ceil count 64 / 64 + 1 → AreMarks count places words
-all_below count places words fits all all_words size word_size =
+pub all_below : (count : ℕ) (bits words : List ℕ) → count < 2 ^ 64 → ((k : ℕ) → is_set bits k ≡ nat_lt k count) → ((k : ℕ) → is_set words k ≡ nat_lt k (div_ceil count 64)) → length bits ≡ count / 64 + 1 → length words ≡ div_ceil count 64 / 64 + 1 → AreMarks count bits words
+all_below count bits words fits all all_words size word_size =
     let up = div_ceil_times count 64 (omega arith) in
     record {
       fits = fits;
       below = λ k is. ltb-true k count (sym (all k) ∙ is);
-      noted = first_noted places words count all all_words (omega (arith, size, word_size, up.0));
+      noted = first_noted bits words count all all_words (omega (arith, size, word_size, up.0));
       room = size;
     }

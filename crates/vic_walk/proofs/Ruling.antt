@@ -1,7 +1,7 @@
 -- The parts of a span are ruled out one after another.
 use Rattle.vic_walk.proofs.Words.{◌≡◌, ◌↔◌, refl, false≢true, ℕ, ◌+◌, ◌<◌, ◌≤◌, Bool, true, false, not, ◌&&◌, ◌||◌, List, arith, nat_tests, length, nat_lt, if◌then◌else◌, cases_lt, cases_eq, or_cases, or_left, or_right, and_parts, and_from, inl, inr, slice_index, slice_set, sym, ◌∙◌, ◌≢◌, and-false, get_or-set_same, get_or-set_other, length-set, IsFirst, NoneBetween, is_marked}
 use Rattle.vic_walk.specs.declared.steps.Span.{Span}
-use Rattle.vic_walk.specs.declared.walk.Walk.{Walk}
+use Rattle.vic_walk.specs.declared.walk_state.WalkState.{WalkState}
 use Rattle.vic_walk.specs.Steps.{is_within}
 use Rattle.vic_walk.specs.inner.Ruled.{LosesHeard, IsRuledOut}
 
@@ -10,11 +10,11 @@ abbrev pub is_before : Span → ℕ → ℕ → Bool
 is_before s from p = is_within s p && nat_lt p from
 
 -- one of them lasted, and was heard
-abbrev pub HasLostBefore : Walk → Span → ℕ → Type 0
+abbrev pub HasLostBefore : WalkState → Span → ℕ → Type 0
 HasLostBefore old s from = (p : ℕ) × (is_before s from p ≡ true) × (is_marked old.open.ready p ≡ true) × (is_marked old.heard p ≡ true)
 
 -- those that lasted are ruled out
-pub record IsRuledOutTo (old now : Walk) (s : Span) (from end : ℕ) (lost : Bool) : Type 0 where
+pub record IsRuledOutTo (old now : WalkState) (s : Span) (from end : ℕ) (lost : Bool) : Type 0 where
   pub low : s.from ≤ from
   pub ready : (p : ℕ) → is_marked now.open.ready p ≡ (is_marked old.open.ready p && not (is_before s from p))
   pub ends : (p : ℕ) → slice_index now.ends.items p ≡ (if is_marked old.open.ready p && is_before s from p then end else slice_index old.ends.items p)
@@ -26,7 +26,7 @@ pub record IsRuledOutTo (old now : Walk) (s : Span) (from end : ℕ) (lost : Boo
 none_before : (s : Span) (p : ℕ) → is_before s s.from p ≡ false
 none_before s p = grind (arith, nat_tests)
 
-pub none_ruled_out : (old : Walk) (s : Span) (end : ℕ) → IsRuledOutTo old old s s.from end false
+pub none_ruled_out : (old : WalkState) (s : Span) (end : ℕ) → IsRuledOutTo old old s s.from end false
 none_ruled_out old s end = record {
   low = omega arith;
   ready = λ p. rw (none_before s p) (grind (arith, nat_tests));
@@ -55,7 +55,7 @@ ruled_end old now s from p here none low = elim (cases_lt p from) [
   ]
 ]
 
-pub all_ruled_out : (old now : Walk) (s : Span) (from end : ℕ) (lost : Bool) → NoneBetween (is_marked now.open.ready) from s.to → IsRuledOutTo old now s from end lost → IsRuledOut old now (is_within s) end
+pub all_ruled_out : (old now : WalkState) (s : Span) (from end : ℕ) (lost : Bool) → NoneBetween (is_marked now.open.ready) from s.to → IsRuledOutTo old now s from end lost → IsRuledOut old now (is_within s) end
 all_ruled_out old now s from end lost none h = record {
   ready = λ p. marked_end old.open.ready now.open.ready s from p (h.ready p) none h.low;
   ends = λ p. rw (← ruled_end old.open.ready now.open.ready s from p (h.ready p) none h.low) (h.ends p);
@@ -63,7 +63,7 @@ all_ruled_out old now s from end lost none h = record {
   quiet = h.quiet;
 }
 
-pub all_lost : (old now : Walk) (s : Span) (from end : ℕ) (lost : Bool) → NoneBetween (is_marked now.open.ready) from s.to → IsRuledOutTo old now s from end lost → (lost ≡ true) ↔ LosesHeard old (is_within s)
+pub all_lost : (old now : WalkState) (s : Span) (from end : ℕ) (lost : Bool) → NoneBetween (is_marked now.open.ready) from s.to → IsRuledOutTo old now s from end lost → (lost ≡ true) ↔ LosesHeard old (is_within s)
 all_lost old now s from end lost none h = (
   (λ yes. let w = h.loses.0 yes in (w.0, (and_parts _ _ w.1).0, w.2, w.3)),
   (λ w.
@@ -96,7 +96,7 @@ found_old old now s from part first within low here =
     let yes = first.passes in let a = first.from in (grind (arith, nat_tests, and_parts), grind (arith, nat_tests, and_from))
 
 -- the first part from `from` on that is marked is ruled out too
-pub ruled_out_next : (old now new : Walk) (s : Span) (from end part : ℕ) (lost : Bool) → IsFirst (is_marked now.open.ready) from part → part < s.to → part < length now.open.ready → new.open.ready ≡ slice_set now.open.ready part false → new.ends.items ≡ slice_set now.ends.items part end → new.open.quiet.items ≡ now.open.quiet.items → new.heard ≡ now.heard → IsRuledOutTo old now s from end lost → IsRuledOutTo old new s (part + 1) end (lost || is_marked now.heard part)
+pub ruled_out_next : (old now new : WalkState) (s : Span) (from end part : ℕ) (lost : Bool) → IsFirst (is_marked now.open.ready) from part → part < s.to → part < length now.open.ready → new.open.ready ≡ slice_set now.open.ready part false → new.ends.items ≡ slice_set now.ends.items part end → new.open.quiet.items ≡ now.open.quiet.items → new.heard ≡ now.heard → IsRuledOutTo old now s from end lost → IsRuledOutTo old new s (part + 1) end (lost || is_marked now.heard part)
 ruled_out_next old now new s from end part lost first within room ready ends quiet heard h =
     let mine = found_old old.open.ready now.open.ready s from part first within h.low (h.ready part) in
     let others : (p : ℕ) → p ≢ part → _ = λ p other. skipped old.open.ready now.open.ready s from part p first within h.low other (h.ready p) in

@@ -29,4 +29,4 @@ pub use Rattle.vic_walk.specs.Borders.{AreBorders, IsPartOf, part_count}
 pub use Rattle.vic_walk.specs.Cuts.{AreAlikeAt, AreCut, AreTogether, names}
 pub use Rattle.vic_walk.specs.Marked.{IsFirst, NoneBetween, is_marked}
 pub use Rattle.vic_walk.specs.Walk.{AreBorneOut, AreStatesAt, IsEnd, was_heard}
-pub use Rattle.vic_walk.specs.inner.Walk.{IsWalkAt}
+pub use Rattle.vic_walk.specs.inner.WalkState.{IsWalkAt}

@@ -58,5 +58,5 @@ IsEndOfWalk bs es w (Some i) =
 
 -- the parts are cut for the entries, and the walk over these ends where it says
 pub record IsLogWalk (es : List Entry) (w : LogWalk) : Type 0 where
-  pub cut : AreLogParts es w.cut
-  pub walk : IsEndOfWalk w.cut.parts es w w.broken
+  pub parts : AreLogParts es w.log_parts
+  pub walk : IsEndOfWalk w.log_parts.parts es w w.broken

@@ -3,7 +3,7 @@ pub mod Bits
 pub mod Gathered
 pub mod Searching
 pub mod Ruled
-pub mod Walk
+pub mod WalkState
 pub mod PartUids
 pub mod RangesTo
 pub mod Ends

@@ -38,31 +38,31 @@ pub struct Answering {
 /// Moves open parts past an entry; first notes which open UIDs answer there, if it is an unread
 /// slot.
 fn pass_and_note(
-    open: &mut PartStates,
+    open_parts: &mut PartStates,
     found: &mut Vec<Answering>,
     parts: &Parts,
     step: Step,
     at: usize,
     entry: &Entry,
 ) -> Result<(), AllocError>
-    requires open { part_count parts.now ≡ length open.old.ready }
+    requires open { part_count parts.now ≡ length open_parts.old.ready }
     requires step { IsStepBelow (part_count parts.now) step }
-    ensures room { length open.new.ready ≡ length open.old.ready }
+    ensures room { length open_parts.new.ready ≡ length open_parts.old.ready }
     ensures states { OnOk result ((es : List EntryValue) (set : ℕ → Bool)
         → IsEntryAt parts.now es at entry.now step
-        → AreStatesAt parts.now es set at open.old
-        → AreStatesAt parts.now es set (at + 1) open.new) }
+        → AreStatesAt parts.now es set at open_parts.old
+        → AreStatesAt parts.now es set (at + 1) open_parts.new) }
     ensures found { OnOk result ((es : List EntryValue)
         → IsEntryAt parts.now es at entry.now step
-        → AreStatesAt parts.now es (is_open (slots_of es)) at open.old
+        → AreStatesAt parts.now es (is_open (slots_of es)) at open_parts.old
         → AreAnswering es at found.old.items → AreAnswering es (at + 1) found.new.items) }
 {
     let need = needs(entry);
     if need > 0 {
-        let uids = up_to_three(parts, &open.ready, step.span());
+        let uids = up_to_three(parts, &open_parts.ready, step.span());
         found.push(Answering { at, need, uids })?;
     }
-    open.pass(step, entry)?;
+    open_parts.pass(step, entry)?;
     Ok(())
 }
 
@@ -85,31 +85,31 @@ fn after_unread(lines: &LogLines, list: usize) -> usize
     0
 }
 
-/// For each unread slot of a log, in the order of the log, the open UIDs that answer there. `open`
-/// is what is known at the end of the log.
+/// For each unread slot of a log, in the order of the log, the open UIDs that answer there.
+/// `open_parts` is what is known at the end of the log.
 pub fn open_answers(
     alloc: Global,
     lines: &LogLines,
-    cut: &LogParts,
-    open: PartStates,
+    log_parts: &LogParts,
+    open_parts: PartStates,
 ) -> Result<Vec<Answering>, AllocError>
-    requires cut { AreLogParts (entries lines.now) cut.now }
-    requires open { AreStatesAt cut.now.parts (entries lines.now)
-        (is_open (slots_of (entries lines.now))) (length (entries lines.now)) «open» }
+    requires parts { AreLogParts (entries lines.now) log_parts.now }
+    requires open { AreStatesAt log_parts.now.parts (entries lines.now)
+        (is_open (slots_of (entries lines.now))) (length (entries lines.now)) open_parts }
     ensures { IfOk result (λ found.
         AreAnswering (entries lines.now) (length (entries lines.now)) found.items) }
 {
-    let mut open = open;
+    let mut open = open_parts;
     // before the first entry no part is Quiet
     open.wake();
     let mut found = Vec::new(alloc);
-    for index in 0..after_unread(lines, cut.steps.len()) {
+    for index in 0..after_unread(lines, log_parts.steps.len()) {
         let entry = lines.entry(index);
         pass_and_note(
             &mut open,
             &mut found,
-            &cut.parts,
-            cut.steps[index],
+            &log_parts.parts,
+            log_parts.steps[index],
             index,
             &entry,
         )?;

@@ -152,23 +152,23 @@ impl<'a> Reach<'a> {
 pub fn first_lack(
     alloc: Global,
     lines: &LogLines,
-    cut: &LogParts,
+    log_parts: &LogParts,
     ends: &[u32],
     upto: usize,
 ) -> Result<usize, AllocError>
-    requires cut { AreLogParts (entries lines.now) cut.now }
-    requires ends { AreEndsPast cut.now.parts (entries lines.now) upto ends.now }
+    requires parts { AreLogParts (entries lines.now) log_parts.now }
+    requires ends { AreEndsPast log_parts.now.parts (entries lines.now) upto ends.now }
     ensures upto { IfOk result (λ m. m ≤ upto) }
     ensures met { IfOk result (λ m. AreMetBefore (entries lines.now) m) }
     ensures lack { IfOk result (λ m. m < upto → AreMetBefore (entries lines.now) (m + 1) → ⊥) }
 {
-    let mut reach = Reach::start(alloc, &cut.parts, ends, upto)?;
-    for index in 0..cut.steps.len() {
+    let mut reach = Reach::start(alloc, &log_parts.parts, ends, upto)?;
+    for index in 0..log_parts.steps.len() {
         if reach.upto <= index {
             return Ok(reach.upto);
         }
         let entry = lines.entry(index);
-        reach.pass(cut.steps[index], index, &entry)?;
+        reach.pass(log_parts.steps[index], index, &entry)?;
     }
     Ok(reach.upto)
 }

@@ -15,13 +15,14 @@ mod log_parts;
 mod log_walk;
 mod marks;
 mod needs;
+mod ordering;
 mod part_keys;
 mod part_states;
 mod parts;
 mod ranked;
 mod steps;
 mod three;
-mod walk;
+mod walk_state;
 
 pub use answers::{Answering, open_answers};
 pub use lacking::first_lack;

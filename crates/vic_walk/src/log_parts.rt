@@ -7,8 +7,8 @@ ghost use Rattle.vic_walk.specs.Steps.{AreLogParts};
 ghost use Rattle.vic_walk.specs.inner.Gathered.{AreMoved, ArePlaced};
 
 use crate::cutting::gather;
-use crate::gathered::rank_of;
 use crate::lines::LogLines;
+use crate::ordering::{in_order, rank_of};
 use crate::parts::Parts;
 use crate::steps::Step;
 use std::alloc::{AllocError, Global};
@@ -30,7 +30,7 @@ impl LogParts {
         ensures { IfOk result (AreLogParts (entries lines.now)) }
     {
         let (borders, mut steps) = gather(alloc, lines)?;
-        let (parts, ranks) = borders.in_order(alloc)?;
+        let (parts, ranks) = in_order(alloc, borders)?;
         move_steps(&mut steps, &ranks);
         Ok(LogParts { parts, steps })
     }

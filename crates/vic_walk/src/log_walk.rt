@@ -7,14 +7,14 @@ ghost use Rattle.vic_walk.specs.Walk.{IsLogWalk};
 use crate::lines::LogLines;
 use crate::log_parts::LogParts;
 use crate::part_states::PartStates;
-use crate::walk::Walk;
+use crate::walk_state::WalkState;
 use std::alloc::{AllocError, Global};
 
 /// The parts of a log, and what is known of them where the walk over it ended.
 #[derive(Drop)]
 pub struct LogWalk {
-    /// The parts, cut for the log, and its steps.
-    pub cut: LogParts,
+    /// The parts of the log, and its steps.
+    pub log_parts: LogParts,
     /// The parts that are open.
     pub open: PartStates,
     /// For each part its end: 0 while it is open; else one more than the position of the entry that
@@ -32,24 +32,24 @@ pub struct LogWalk {
 pub fn walk_log(alloc: Global, lines: &LogLines) -> Result<LogWalk, AllocError>
     ensures { IfOk result (IsLogWalk (entries lines.now)) }
 {
-    let cut = LogParts::of(alloc, lines)?;
-    let mut walk = Walk::start(alloc, cut.parts.count())?;
-    for index in 0..cut.steps.len() {
+    let log_parts = LogParts::of(alloc, lines)?;
+    let mut walk = WalkState::start(alloc, log_parts.parts.count())?;
+    for index in 0..log_parts.steps.len() {
         let entry = lines.entry(index);
         // a position is less than 2^32
-        if !walk.pass(cut.steps[index], (index + 1) as u32, &entry)? {
-            let Walk { open, ends, .. } = walk;
+        if !walk.pass(log_parts.steps[index], (index + 1) as u32, &entry)? {
+            let WalkState { open, ends, .. } = walk;
             return Ok(LogWalk {
-                cut,
+                log_parts,
                 open,
                 ends,
                 broken: Some(index),
             });
         }
     }
-    let Walk { open, ends, .. } = walk;
+    let WalkState { open, ends, .. } = walk;
     Ok(LogWalk {
-        cut,
+        log_parts,
         open,
         ends,
         broken: None,

@@ -51,11 +51,11 @@ impl Bits {
 
     /// A word, 0 past the end. Clause `counted`, here and below, tells a proof what is so of any
     /// `Bits`.
-    fn word(&self, number: usize) -> u64
-        ensures word { result ≡ slice_index self.now number }
+    fn word(&self, at: usize) -> u64
+        ensures word { result ≡ slice_index self.now at }
         ensures counted { AreCounted self.now }
     {
-        match self.words.get(number) {
+        match self.words.get(at) {
             Some(word) => *word,
             None => 0,
         }
@@ -112,8 +112,8 @@ impl Bits {
         if let Some(bit) = self.first_in_word(from) {
             return Some(bit);
         }
-        for number in from / WORD + 1..self.words.len() {
-            if let Some(bit) = self.first_in_word(number * WORD) {
+        for at in from / WORD + 1..self.words.len() {
+            if let Some(bit) = self.first_in_word(at * WORD) {
                 return Some(bit);
             }
         }
@@ -169,8 +169,8 @@ impl NotedBits {
         if let Some(bit) = self.bits.first_in_word(from) {
             return Some(bit);
         }
-        let number = self.notes.first(from / WORD + 1)?;
-        self.bits.first_in_word(number * WORD)
+        let at = self.notes.first(from / WORD + 1)?;
+        self.bits.first_in_word(at * WORD)
     }
 }
 
@@ -179,9 +179,9 @@ impl NotedBits {
 pub struct Marks {
     count: usize,
     /// A bit for each number, set if it is marked.
-    places: Bits,
-    /// A bit for each word of `places`, set if that word isn't 0.
-    words: NotedBits,
+    bits: Bits,
+    /// A bit for each word of `bits`, set if that word isn't 0.
+    notes: NotedBits,
 }
 
 impl Model for Marks {
@@ -190,9 +190,9 @@ impl Model for Marks {
 
     ghost Value = { List Bool };
 
-    ghost view = { λ m. marked_in m.count m.places };
+    ghost view = { λ m. marked_in m.count m.bits };
 
-    ghost invariant = { λ m. AreMarks m.count m.places m.words };
+    ghost invariant = { λ m. AreMarks m.count m.bits m.notes };
 }
 
 impl Marks {
@@ -202,8 +202,8 @@ impl Marks {
     {
         Ok(Marks {
             count,
-            places: Bits::none(alloc, count)?,
-            words: NotedBits {
+            bits: Bits::none(alloc, count)?,
+            notes: NotedBits {
                 bits: Bits::none(alloc, count / WORD)?,
                 notes: Bits::none(alloc, count / WORD / WORD)?,
             },
@@ -217,8 +217,8 @@ impl Marks {
         let words = count.div_ceil(WORD);
         Ok(Marks {
             count,
-            places: Bits::below(alloc, count)?,
-            words: NotedBits {
+            bits: Bits::below(alloc, count)?,
+            notes: NotedBits {
                 bits: Bits::below(alloc, words)?,
                 notes: Bits::below(alloc, words.div_ceil(WORD))?,
             },
@@ -226,28 +226,28 @@ impl Marks {
     }
 
     /// Whether a number is marked.
-    pub fn has(&self, place: usize) -> bool
-        ensures { result ≡ is_marked self.now place }
+    pub fn has(&self, number: usize) -> bool
+        ensures { result ≡ is_marked self.now number }
     {
-        self.places.has(place)
+        self.bits.has(number)
     }
 
     /// Marks a number.
-    pub fn put(&mut self, place: usize)
-        requires { place < length self.old }
-        ensures { self.new ≡ slice_set self.old place true }
+    pub fn put(&mut self, number: usize)
+        requires { number < length self.old }
+        ensures { self.new ≡ slice_set self.old number true }
     {
-        self.places.set(place);
-        self.words.set(place / WORD);
+        self.bits.set(number);
+        self.notes.set(number / WORD);
     }
 
     /// Removes the mark of a number.
-    pub fn take(&mut self, place: usize)
-        requires { place < length self.old }
-        ensures { self.new ≡ slice_set self.old place false }
+    pub fn take(&mut self, number: usize)
+        requires { number < length self.old }
+        ensures { self.new ≡ slice_set self.old number false }
     {
-        if self.places.clear(place) {
-            self.words.clear(place / WORD);
+        if self.bits.clear(number) {
+            self.notes.clear(number / WORD);
         }
     }
 
@@ -260,18 +260,18 @@ impl Marks {
         if to <= from {
             return None;
         }
-        let place = self.next(from)?;
-        if place < to { Some(place) } else { None }
+        let number = self.next(from)?;
+        if number < to { Some(number) } else { None }
     }
 
     /// The first marked number, from a number on.
     fn next(&self, from: usize) -> Option<usize>
         ensures { IsNext (is_marked self.now) from result }
     {
-        if let Some(place) = self.places.first_in_word(from) {
-            return Some(place);
+        if let Some(number) = self.bits.first_in_word(from) {
+            return Some(number);
         }
-        let number = self.words.first(from / WORD + 1)?;
-        self.places.first_in_word(number * WORD)
+        let at = self.notes.first(from / WORD + 1)?;
+        self.bits.first_in_word(at * WORD)
     }
 }

@@ -42,11 +42,11 @@ pub record AreNoted (ws notes : List ℕ) : Type 0 where
 
 -- which of the first numbers are marked
 abbrev pub marked_in : ℕ → List ℕ → List Bool
-marked_in count places = map (is_set places) (range_with_len 0 count)
+marked_in count bits = map (is_set bits) (range_with_len 0 count)
 
--- the bits of a set of numbers below a count, and of the words that aren't 0
-pub record AreMarks (count : ℕ) (places words : List ℕ) : Type 0 where
+-- the bits of a set of numbers below a count, and those that note which words aren't 0
+pub record AreMarks (count : ℕ) (bits notes : List ℕ) : Type 0 where
   pub fits : count < 2 ^ 64
-  pub below : (k : ℕ) → is_set places k ≡ true → k < count
-  pub noted : AreNoted places words
-  pub room : length places ≡ count / WORD + 1
+  pub below : (k : ℕ) → is_set bits k ≡ true → k < count
+  pub noted : AreNoted bits notes
+  pub room : length bits ≡ count / WORD + 1

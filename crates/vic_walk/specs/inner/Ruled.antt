@@ -1,7 +1,7 @@
 -- Ruling out the parts for which a test holds, those that are open and Ready.
 use Rattle.std.specs.Prelude.{◌≡◌, ◌==◌, ℕ, Bool, true, not, ◌&&◌, length, slice_index, if◌then◌else◌}
 use Rattle.vic_walk.specs.declared.steps.Span.{Span}
-use Rattle.vic_walk.specs.declared.walk.Walk.{Walk}
+use Rattle.vic_walk.specs.declared.walk_state.WalkState.{WalkState}
 use Rattle.vic_walk.specs.Marked.{is_marked}
 use Rattle.vic_walk.specs.Steps.{is_within}
 
@@ -10,7 +10,7 @@ abbrev pub is_other : Span → ℕ → ℕ → Bool
 is_other s own p = is_within s p && not (p == own)
 
 -- of the parts for which a test holds, those that are open and Ready are ruled out, with this end
-pub record IsRuledOut (old new : Walk) (out : ℕ → Bool) (end : ℕ) : Type 0 where
+pub record IsRuledOut (old new : WalkState) (out : ℕ → Bool) (end : ℕ) : Type 0 where
   pub ready : (p : ℕ) → is_marked new.open.ready p
       ≡ (is_marked old.open.ready p && not (out p))
   pub ends : (p : ℕ) → slice_index new.ends.items p
@@ -19,7 +19,7 @@ pub record IsRuledOut (old new : Walk) (out : ℕ → Bool) (end : ℕ) : Type 0
   pub quiet : new.open.quiet.items ≡ old.open.quiet.items
 
 -- one of the parts that are ruled out was heard
-abbrev pub LosesHeard : Walk → (ℕ → Bool) → Type 0
+abbrev pub LosesHeard : WalkState → (ℕ → Bool) → Type 0
 LosesHeard old out =
     (p : ℕ) × (out p ≡ true) × (is_marked old.open.ready p ≡ true)
     × (is_marked old.heard p ≡ true)

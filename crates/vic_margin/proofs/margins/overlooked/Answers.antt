@@ -5,7 +5,7 @@ use Rattle.vic_margin.proofs.Places.{map_taken}
 use Rattle.vic_margin.proofs.margins.overlooked.Goals as goal
 
 pub part_margins-requires : goal.part_margins-requires
-part_margins-requires c = rw c.of.ensures.value at c.in_ok-cut.ensures
+part_margins-requires c = rw c.of.ensures.value at c.in_ok-log_parts.ensures
 
 pub loop-uid-preserved : goal.loop-uid-preserved
 loop-uid-preserved c =

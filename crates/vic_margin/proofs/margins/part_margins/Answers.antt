@@ -12,8 +12,8 @@ pub loop-index-preserved : goal.loop-index-preserved
 loop-index-preserved c =
     let es = entries c.of-lines.result in
     let l = c.loop-index in
-    let cut : AreLogParts es c.args.cut = rw c.of-lines.ensures.value c.requires in
-    c.pass.ensures _ es l.index (place_at es c.args.cut l.index _ c.index.result.now cut c.entry-entry.ensures.here (omega (arith, c.loop-index-test.true, c.len-index-end.ensures)) c.index.ensures) l.invariant
+    let cut : AreLogParts es c.args.log_parts = rw c.of-lines.ensures.value c.requires in
+    c.pass.ensures _ es l.index (place_at es c.args.log_parts l.index _ c.index.result.now cut c.entry-entry.ensures.here (omega (arith, c.loop-index-test.true, c.len-index-end.ensures)) c.index.ensures) l.invariant
 
 pub pass-requires-clause-few : goal.pass-requires-clause-few
 pass-requires-clause-few c =
@@ -24,14 +24,14 @@ pub pass-requires-clause-step : goal.pass-requires-clause-step
 pass-requires-clause-step c =
     let es = entries c.of-lines.result in
     let l = c.loop-index in
-    let cut : AreLogParts es c.args.cut = rw c.of-lines.ensures.value c.requires in
-    rw l.invariant.room ((place_at es c.args.cut l.index _ c.index.result.now cut c.entry-entry.ensures.here (omega (arith, c.loop-index-test.true, c.len-index-end.ensures)) c.index.ensures).step.below)
+    let cut : AreLogParts es c.args.log_parts = rw c.of-lines.ensures.value c.requires in
+    rw l.invariant.room ((place_at es c.args.log_parts l.index _ c.index.result.now cut c.entry-entry.ensures.here (omega (arith, c.loop-index-test.true, c.len-index-end.ensures)) c.index.ensures).step.below)
 
 pub invariant_of-result : goal.invariant_of-result
 invariant_of-result c =
     let es = entries c.of-lines.result in
-    let n = length c.args.cut.steps.items in
-    let cut : AreLogParts es c.args.cut = rw c.of-lines.ensures.value c.requires in
+    let n = length c.args.log_parts.steps.items in
+    let cut : AreLogParts es c.args.log_parts = rw c.of-lines.ensures.value c.requires in
     let within = cut.within in
     let end : c.loop-index.index ≡ n = omega (arith, c.len-index-end.ensures, c.loop-index-test.false, c.loop-index.auto.index-end) in
     let past = tally_past _ es n (length es - n) _ cut.list (omega (arith, within)) (rw end at c.loop-index.invariant) in

@@ -5,18 +5,18 @@ use Rattle.vic_verdict.proofs.facts.is_possible.Goals as goal
 pub returns-then-is_some : goal.returns-then-is_some
 returns-then-is_some c =
     let es = entries c.args.lines.now in
-    let walk = c.in_ok-cut.field-0 in
+    let walk = c.in_ok-log_parts.field-0 in
     let some = sym c.is_some.ensures ∙ c.if-is_some.true in (
       (λ no. absurd (false≢true no)),
-      (λ possible. absurd (broken_log walk.cut.parts es walk walk.broken c.in_ok-cut.ensures.walk some possible)),
+      (λ possible. absurd (broken_log walk.log_parts.parts es walk walk.broken c.in_ok-log_parts.ensures.walk some possible)),
     )
 
 pub returns : goal.returns
 returns c =
     let es = entries c.args.lines.now in
-    let walk = c.in_ok-cut.field-0 in
+    let walk = c.in_ok-log_parts.field-0 in
     let none = sym c.is_some.ensures ∙ c.if-is_some.false in
-    let end = unbroken walk.cut.parts es walk walk.broken c.in_ok-cut.ensures.walk none in
+    let end = unbroken walk.log_parts.parts es walk walk.broken c.in_ok-log_parts.ensures.walk none in
     let unread = c.in_ok-unread.unread.items in
     let iff = rw c.deref.ensures.value at c.are_met.ensures in (
       (λ met. possible_met es end.2 (found_met es unread c.in_ok-unread.ensures (iff.0 met))),
@@ -25,5 +25,5 @@ returns c =
 
 pub open_answers-requires-clause-open : goal.open_answers-requires-clause-open
 open_answers-requires-clause-open c =
-    let walk = c.in_ok-cut.field-0 in
-    (unbroken walk.cut.parts (entries c.args.lines.now) walk walk.broken c.in_ok-cut.ensures.walk (sym c.is_some.ensures ∙ c.if-is_some.false)).0
+    let walk = c.in_ok-log_parts.field-0 in
+    (unbroken walk.log_parts.parts (entries c.args.lines.now) walk walk.broken c.in_ok-log_parts.ensures.walk (sym c.is_some.ensures ∙ c.if-is_some.false)).0

@@ -17,7 +17,7 @@ loop-index-init c =
     let w = c.requires.ends in
     let ends = c.args.ends.now in
     let r = c.in_ok-reach.ensures in
-    let known : AreEndsUpTo c.args.cut.now.parts es c.args.upto ends = λ u p i is at le. open_to_end es w.position u (slice_index ends p) i (w.known.each u p is at) (let far = w.far in omega (arith, le, far)) in
+    let known : AreEndsUpTo c.args.log_parts.now.parts es c.args.upto ends = λ u p i is at le. open_to_end es w.position u (slice_index ends p) i (w.known.each u p is at) (let far = w.far in omega (arith, le, far)) in
     record {
       parts = r.parts;
       reach = r.reach es known;
@@ -30,7 +30,7 @@ pub loop-index-preserved : goal.loop-index-preserved
 loop-index-preserved c =
     let es = entries c.args.lines.now in
     let l = c.loop-index in
-    let place : IsEntryAt l.reach.parts.now es l.index c.entry-entry.result c.index.result.now = rw l.invariant.parts (place_at es c.args.cut.now l.index _ c.index.result.now c.requires.cut c.entry-entry.ensures.here (omega (arith, c.loop-index-test.true, c.len-index-end.ensures)) c.index.ensures) in
+    let place : IsEntryAt l.reach.parts.now es l.index c.entry-entry.result c.index.result.now = rw l.invariant.parts (place_at es c.args.log_parts.now l.index _ c.index.result.now c.requires.parts c.entry-entry.ensures.here (omega (arith, c.loop-index-test.true, c.len-index-end.ensures)) c.index.ensures) in
     let back : IsBackTo es l.index l.reach.upto c.pass.new.self.upto = c.in_ok-pass.ensures.back es place l.invariant.reach in
     record {
       parts = c.pass.ensures.parts ∙ l.invariant.parts;
@@ -46,10 +46,10 @@ returns-then-reach-index-clause-met c j below = c.loop-index.invariant.met j (om
 pub returns-clause-met : goal.returns-clause-met
 returns-clause-met c j below = elim (cases_lt j c.loop-index.index) [
   | inl before ↦ c.loop-index.invariant.met j before below
-  | inr past ↦ met_past (entries c.args.lines.now) _ (length c.args.cut.now.steps.items) j c.requires.cut.list (omega (arith, past, c.loop-index-test.false, c.len-index-end.ensures))
+  | inr past ↦ met_past (entries c.args.lines.now) _ (length c.args.log_parts.now.steps.items) j c.requires.parts.list (omega (arith, past, c.loop-index-test.false, c.len-index-end.ensures))
 ]
 
 pub pass-requires : goal.pass-requires
 pass-requires c =
     let l = c.loop-index in
-    rw l.invariant.parts ((place_at (entries c.args.lines.now) c.args.cut.now l.index _ c.index.result.now c.requires.cut c.entry-entry.ensures.here (omega (arith, c.loop-index-test.true, c.len-index-end.ensures)) c.index.ensures).step.below)
+    rw l.invariant.parts ((place_at (entries c.args.lines.now) c.args.log_parts.now l.index _ c.index.result.now c.requires.parts c.entry-entry.ensures.here (omega (arith, c.loop-index-test.true, c.len-index-end.ensures)) c.index.ensures).step.below)

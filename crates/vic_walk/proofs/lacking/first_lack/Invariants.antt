@@ -6,7 +6,7 @@ use Rattle.vic_walk.proofs.lacking.first_lack.Given as goal
 
 abbrev pub invariant-loop-index : goal.invariant-loop-index
 invariant-loop-index l = record {
-  parts : l.reach.parts.now ≡ l.cut.parts;
+  parts : l.reach.parts.now ≡ l.log_parts.parts;
   reach : IsReachAt (entries l.lines) l.index l.reach;
   back : l.reach.upto ≤ l.upto;
   met : (j : ℕ) → j < l.index → j < l.reach.upto → IsMetAt (entries l.lines) l.reach.upto j;

@@ -5,7 +5,7 @@ use Rattle.vic_walk.proofs.log_walk.walk_log.Given as goal
 
 abbrev pub invariant-loop-index : goal.invariant-loop-index
 invariant-loop-index l = record {
-  cut : AreLogParts (entries l.lines) l.cut;
-  walk : IsWalkAt l.cut.parts (entries l.lines) l.index l.walk;
+  parts : AreLogParts (entries l.lines) l.log_parts;
+  walk : IsWalkAt l.log_parts.parts (entries l.lines) l.index l.walk;
   borne : AreBorneOut (entries l.lines) l.index;
 }

@@ -3,5 +3,5 @@ use Rattle.vic_walk.specs.inner.Bits.{is_set}
 use Rattle.std.proofs.Common.{◌*◌}
 use Rattle.vic_walk.proofs.marks.Bits.first.Given as goal
 
-abbrev pub invariant-loop-number : goal.invariant-loop-number
-invariant-loop-number l = NoneBetween (is_set l.self) l.from (l.number * 64)
+abbrev pub invariant-loop-at : goal.invariant-loop-at
+invariant-loop-at l = NoneBetween (is_set l.self) l.from (l.at * 64)

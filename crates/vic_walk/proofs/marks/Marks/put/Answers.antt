@@ -12,4 +12,4 @@ pub invariant_of-self : goal.invariant_of-self
 invariant_of-self c = marks_with _ _ _ _ _ _ (below_count _ _ _ _ c.self.view_is c.requires) c.set.ensures.set c.set-2.ensures.set c.set.ensures.size c.set-2.ensures.size c.self.invariant
 
 pub returns : goal.returns
-returns c = marked_with _ _ _ _ (below_count _ _ _ _ c.self.view_is c.requires) c.set.ensures.set ∙ ap (λ m. set m c.args.place true) c.self.view_is
+returns c = marked_with _ _ _ _ (below_count _ _ _ _ c.self.view_is c.requires) c.set.ensures.set ∙ ap (λ m. set m c.args.number true) c.self.view_is

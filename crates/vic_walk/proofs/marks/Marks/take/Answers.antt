@@ -11,17 +11,17 @@ clear-requires-then-clear c = let lt = below_count _ _ _ _ c.self.view_is c.requ
 
 pub invariant_of-self : goal.invariant_of-self
 invariant_of-self c =
-    let places = c.clear.ensures in
-    let words = c.clear-then-clear.ensures in
-    marks_without _ _ _ _ _ _ places.cleared (noted_emptied _ _ _ _ _ places.cleared (c.if-clear.ensures.empty refl) words.cleared places.size words.size c.self.invariant.noted) places.size c.self.invariant
+    let bits = c.clear.ensures in
+    let notes = c.clear-then-clear.ensures in
+    marks_without _ _ _ _ _ _ bits.cleared (noted_emptied _ _ _ _ _ bits.cleared (c.if-clear.ensures.empty refl) notes.cleared bits.size notes.size c.self.invariant.noted) bits.size c.self.invariant
 
 pub invariant_of-self-else-clear : goal.invariant_of-self-else-clear
 invariant_of-self-else-clear c =
-    let places = c.clear.ensures in
-    marks_without _ _ _ _ _ _ places.cleared (noted_left _ _ _ _ places.cleared (c.if-clear.ensures.left refl) places.size c.self.invariant.noted) places.size c.self.invariant
+    let bits = c.clear.ensures in
+    marks_without _ _ _ _ _ _ bits.cleared (noted_left _ _ _ _ bits.cleared (c.if-clear.ensures.left refl) bits.size c.self.invariant.noted) bits.size c.self.invariant
 
 pub returns-then-clear : goal.returns-then-clear
-returns-then-clear c = marked_without _ _ _ _ (below_count _ _ _ _ c.self.view_is c.requires) c.clear.ensures.cleared ∙ ap (λ m. set m c.args.place false) c.self.view_is
+returns-then-clear c = marked_without _ _ _ _ (below_count _ _ _ _ c.self.view_is c.requires) c.clear.ensures.cleared ∙ ap (λ m. set m c.args.number false) c.self.view_is
 
 pub returns-else-clear : goal.returns-else-clear
-returns-else-clear c = marked_without _ _ _ _ (below_count _ _ _ _ c.self.view_is c.requires) c.clear.ensures.cleared ∙ ap (λ m. set m c.args.place false) c.self.view_is
+returns-else-clear c = marked_without _ _ _ _ (below_count _ _ _ _ c.self.view_is c.requires) c.clear.ensures.cleared ∙ ap (λ m. set m c.args.number false) c.self.view_is

@@ -1,7 +1,7 @@
 use Rattle.std.proofs.Common.{arith, inl, inr, length-append, ◌≡◌, ◌∷◌, []}
 use Rattle.std.proofs.lemmas.Bool.{cases_lt}
 use Rattle.std.proofs.lemmas.List.{get_or_append_left, get_or_push}
-use Rattle.vic_walk.proofs.gathered.ranks_in.Goals as goal
+use Rattle.vic_walk.proofs.ordering.ranks_in.Goals as goal
 
 pub loop-border-preserved : goal.loop-border-preserved
 loop-border-preserved c =

@@ -1,6 +1,6 @@
 use Rattle.std.proofs.Common.{◌≡◌, ◌<◌, ℕ, length, slice_index}
 use Rattle.vic_walk.specs.inner.Gathered.{StandsAt}
-use Rattle.vic_walk.proofs.gathered.ranks_in.Given as goal
+use Rattle.vic_walk.proofs.ordering.ranks_in.Given as goal
 
 abbrev pub invariant-loop-border : goal.invariant-loop-border
 invariant-loop-border l = record {

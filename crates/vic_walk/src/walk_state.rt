@@ -14,7 +14,7 @@ use vic_log::Entry;
 
 /// What a walk over the first entries of a log knows of its parts.
 #[derive(Drop)]
-pub(crate) struct Walk {
+pub(crate) struct WalkState {
     /// The parts that are open: those that are Ready, and those that are Quiet.
     pub(crate) open: PartStates,
     /// For each part its end: 0 while it is open; else one more than the position of the entry that
@@ -26,17 +26,17 @@ pub(crate) struct Walk {
     ghost heard_room: { length heard ≡ length open.ready },
 }
 
-impl Walk {
+impl WalkState {
     ghost use Rattle.vic_walk.specs.Walk.{AreBorneOut};
     ghost use Rattle.vic_walk.specs.inner.Ruled.{is_other, LosesHeard, IsRuledOut};
-    ghost use Rattle.vic_walk.specs.inner.Walk.{IsWalkAt};
+    ghost use Rattle.vic_walk.specs.inner.WalkState.{IsWalkAt};
 
     /// The walk before the first entry: that many parts, all open and Ready.
-    pub(crate) fn start(alloc: Global, count: usize) -> Result<Walk, AllocError>
+    pub(crate) fn start(alloc: Global, count: usize) -> Result<WalkState, AllocError>
         ensures { IfOk result (λ w. (bs : List ℕ) (es : List EntryValue) → part_count bs ≡ count
             → IsWalkAt bs es 0 w) }
     {
-        Ok(Walk {
+        Ok(WalkState {
             open: PartStates::all_ready(alloc, Marks::all(alloc, count)?),
             ends: vec![in alloc; 0; count]?,
             heard: Marks::none(alloc, count)?,

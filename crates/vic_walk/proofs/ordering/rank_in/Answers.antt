@@ -1,6 +1,6 @@
 use Rattle.std.proofs.Common.{arith}
 use Rattle.vic_walk.proofs.PartLaws.{border_at, last_border}
-use Rattle.vic_walk.proofs.gathered.rank_in.Goals as goal
+use Rattle.vic_walk.proofs.ordering.rank_in.Goals as goal
 
 pub returns-then-border : goal.returns-then-border
 returns-then-border c = border_at _ _ _ c.count-count.ensures.borders c.requires (rw c.new.ensures at c.at.ensures)

@@ -1,6 +1,6 @@
 use Rattle.vic_walk.proofs.Words.{◌-◌}
 use Rattle.vic_walk.proofs.Ruling.{IsRuledOutTo}
-use Rattle.vic_walk.proofs.walk.Walk.rule_out.Given as goal
+use Rattle.vic_walk.proofs.walk_state.WalkState.rule_out.Given as goal
 
 abbrev pub invariant-loop-part : goal.invariant-loop-part
 invariant-loop-part l = IsRuledOutTo l.fn.self l.self l.span l.from l.end l.lost

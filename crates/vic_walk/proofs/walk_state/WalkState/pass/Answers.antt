@@ -2,8 +2,8 @@ use Rattle.vic_walk.proofs.Words.{◌+◌, inl, inr, IsPartOf, mirror, refl}
 use Rattle.vic_walk.proofs.CutLaws.{captured_own, heard_own}
 use Rattle.vic_walk.proofs.Effects.{ReadsNone, borne_captured, borne_heard, borne_idle, borne_silent, captured_only, captured_rules_out, heard_only, heard_part, heard_rules_out, nothing_ruled_out, nothing_unknown, nothing_collision, nothing_garbled, nothing_listed, silent_rules_out, cycle_none, sent_none, walk_read, walk_unread}
 use Rattle.vic_walk.specs.Steps.{IsSpanAt}
-use Rattle.vic_walk.proofs.walk.Walk.pass.Goals as goal
-use Rattle.vic_walk.proofs.walk.Walk.pass.Goals.{In-Sent}
+use Rattle.vic_walk.proofs.walk_state.WalkState.pass.Goals as goal
+use Rattle.vic_walk.proofs.walk_state.WalkState.pass.Goals.{In-Sent}
 
 pub returns-in-Silent-clause-walk : goal.returns-in-Silent-clause-walk
 returns-in-Silent-clause-walk c bs es i e place h =

@@ -1,6 +1,6 @@
 use Rattle.std.proofs.Common.{arith, inl, inr, ◌≡◌}
 use Rattle.std.proofs.lemmas.Bool.{cases_lt}
-use Rattle.vic_walk.proofs.gathered.have_ranks.Goals as goal
+use Rattle.vic_walk.proofs.ordering.have_ranks.Goals as goal
 
 pub loop-index-preserved : goal.loop-index-preserved
 loop-index-preserved c k lt = elim (cases_lt k c.loop-index.index) [

@@ -1,6 +1,6 @@
 use Rattle.vic_walk.proofs.Words.{arith, refl}
 use Rattle.vic_walk.proofs.Ruling.{ruled_out_next}
-use Rattle.vic_walk.proofs.walk.Walk.rule_out.Goals as goal
+use Rattle.vic_walk.proofs.walk_state.WalkState.rule_out.Goals as goal
 
 pub loop-part-preserved : goal.loop-part-preserved
 loop-part-preserved c =
