@@ -26,9 +26,8 @@ pub(crate) fn lines_of_absent(
     ensures uids { IfOk result (λ v. uids_of v.items ≡ absent.now) }
     ensures shown { IfOk result (λ v. All (IsRuledOut log.now.lines) v.items) }
 {
-    let mut shown = Vec::new(alloc);
     if absent.is_empty() {
-        return Ok(shown);
+        return Ok(Vec::new(alloc));
     }
     let lines = log.lines();
     let LogWalk {
@@ -37,6 +36,7 @@ pub(crate) fn lines_of_absent(
         ..
     } = walk_log(alloc, &LogLines::of(log))?;
     let indexed = log_parts.parts.indexed(alloc)?;
+    let mut shown = Vec::with_capacity(alloc, absent.len())?;
     for uid in absent {
         // not 0, since the UID isn't open
         let end = ends[indexed.at(key(*uid))] as usize;

@@ -37,13 +37,13 @@ pub fn lines_of_certain(
     ensures uids { IfOk result (λ v. uids_of v.items ≡ certain.now) }
     ensures shown { IfOk result (λ v. All (IsShownCertain lines.now) v.items) }
 {
-    let mut shown = Vec::new(alloc);
     if certain.is_empty() {
-        return Ok(shown);
+        return Ok(Vec::new(alloc));
     }
     let mut noted = BTreeMap::new(alloc);
     note_replies(&mut noted, lines)?;
     note_unread(&mut noted, lines, &met.unread)?;
+    let mut shown = Vec::with_capacity(alloc, certain.len())?;
     for uid in certain {
         let Some(line) = noted.get(uid) else {
             unreachable!()
