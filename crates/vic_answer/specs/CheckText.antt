@@ -70,7 +70,7 @@ pub record BeginsAsCheck (text answer : List ℕ) (status : Status) : Type 0 whe
 
 -- the text has a log whose list is complete, with `count` UIDs: some population could have produced
 -- the log, and each that could has exactly the UIDs that it lists; and the same in the words of
--- version 3, and of version 2 if it has no line of version 3
+-- version 2, if it has no line of version 3, and in those of version 3
 pub record HasCompleteList (text : List ℕ) (count : ℕ) : Type 0 where
   pub log : LogValue
   pub is_log : IsLogOf (lines_of_text text) log

@@ -11,12 +11,12 @@ use Rattle.vic_answer.specs.declared.answered.Answered.{Answered}
 use Rattle.vic_answer.specs.declared.answered.Answered.TheVariants.{Found, RefusedAt}
 use Rattle.vic_answer.specs.declared.status.Status.{Status}
 
--- its population, if it has one
+-- the population of an answer, if it has one
 abbrev pub population_of : Answered Explanation → Option (List ℕ)
 population_of (Found x) = option_map (λ v. v.items) x.population
 population_of (RefusedAt n fault) = None
 
--- the UIDs of its population, none if it has no population
+-- the UIDs of this population, none if there is none
 abbrev pub uids_of : Answered Explanation → List ℕ
 uids_of explained = unwrap_or (population_of explained) []
 

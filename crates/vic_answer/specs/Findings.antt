@@ -10,7 +10,7 @@ use Rattle.vic_answer.specs.declared.findings.Finding.TheVariants.{Absent, Unlis
 abbrev pub more_findings : Bool → List Finding
 more_findings more = if more then MoreOpenMasks ∷ [] else []
 
--- the line that silenced the tag whose reply is the last line of a conflict
+-- the line that silenced the tag whose reply is a conflict by itself
 abbrev pub silenced_findings : Option ℕ → List Finding
 silenced_findings None = []
 silenced_findings (Some n) = SilencedBy n ∷ []

@@ -1,12 +1,13 @@
 -- An answer in numbers, with its line.
 use Rattle.std.specs.Prelude.{◌≡◌, ℕ, ◌-◌, List, ◌++◌, length, replicate}
+use Rattle.vic_log.specs.Names.{line_fault_name}
 use Rattle.vic_verdict.specs.declared.judging.Verdict.{Verdict}
 use Rattle.vic_verdict.specs.declared.judging.Verdict.TheVariants.{Impossible, Absent, Unlisted, Unsettled, Doubtful, Complete}
 use Rattle.vic_answer.specs.declared.answered.Answered.{Answered}
 use Rattle.vic_answer.specs.declared.answered.Answered.TheVariants.{Found, RefusedAt}
 use Rattle.vic_answer.specs.declared.text.TheConstants.{ANSWER_ROOM}
 use Rattle.vic_answer.specs.declared.numbers.VicinityAnswer.{VicinityAnswer}
-use Rattle.vic_answer.specs.CheckText.{IsAnswer, answer_line, answer_status}
+use Rattle.vic_answer.specs.CheckText.{IsAnswer, verdict_line, verdict_status}
 use Rattle.vic_answer.specs.FaultNumbers.{fault_number}
 use Rattle.vic_answer.specs.Refusals.{refused_at}
 use Rattle.vic_answer.specs.Status.{status_code}
@@ -40,23 +41,23 @@ refusal_numbers line fault name = record no_answer {
   text = padded (refused_at line name);
 }
 
--- the fields of an answer, except status and text
-abbrev pub fields_of : Answered Verdict → VicinityAnswer
-fields_of (Found (Complete n)) = record no_answer { kind = 1; count = n }
-fields_of (Found (Absent u)) = record no_answer { kind = 2; uid = u }
-fields_of (Found (Unlisted u)) = record no_answer { kind = 3; uid = u }
-fields_of (Found (Unsettled m)) =
+-- the fields of a verdict, except status and text
+abbrev pub verdict_fields : Verdict → VicinityAnswer
+verdict_fields (Complete n) = record no_answer { kind = 1; count = n }
+verdict_fields (Absent u) = record no_answer { kind = 2; uid = u }
+verdict_fields (Unlisted u) = record no_answer { kind = 3; uid = u }
+verdict_fields (Unsettled m) =
     record no_answer { kind = 4; mask_len = m.len; mask_value = m.value }
-fields_of (Found (Doubtful u)) = record no_answer { kind = 5; uid = u }
-fields_of (Found (Impossible n)) = record no_answer { kind = 6; line = n }
-fields_of (RefusedAt n f) = record no_answer { kind = 7; line = n; fault = fault_number f }
+verdict_fields (Doubtful u) = record no_answer { kind = 5; uid = u }
+verdict_fields (Impossible n) = record no_answer { kind = 6; line = n }
 
 -- the fields of an answer, with the exit status and the line of the program
 abbrev pub numbers_of : Answered Verdict → VicinityAnswer
-numbers_of a = record (fields_of a) {
-  status = status_code (answer_status a);
-  text = padded (answer_line a);
+numbers_of (Found v) = record (verdict_fields v) {
+  status = status_code (verdict_status v);
+  text = padded (verdict_line v);
 }
+numbers_of (RefusedAt n f) = refusal_numbers n (fault_number f) (line_fault_name f)
 
 -- these are the numbers of the answer to a text
 pub record AreNumbersFor (text : List ℕ) (numbers : VicinityAnswer) : Type 0 where

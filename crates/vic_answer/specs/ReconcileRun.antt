@@ -76,7 +76,7 @@ Reconciles returned ended has_failed list list' logs logs' answer =
     (λ text texts. IsReconciled text texts answer
     × (length texts ≡ logs_for answer (length logs)))
 
--- ---- where a run without an answer stops
+-- ---- where a run that returns a fault stops
 
 -- the last source that was read, by the fault of the run: it has failed, before an early fault of
 -- its text, if and only if the fault is `Read`
@@ -85,7 +85,7 @@ IsLast returned has_failed Read old new =
     (has_failed new ≡ true) × GivesNoEarlyFault (Grows (returned old) (returned new))
 IsLast returned has_failed fault old new = has_failed new ≡ false
 
--- where a run stopped that answers a fault: of some sources, in their order, one is the last that
+-- where a run stopped that returns a fault: of some sources, in their order, one is the last that
 -- was read; those before it were read to their ends and work, and their texts let the run go on;
 -- those after it are untouched
 pub record StopsBy {R : Type 0} (returned : R → List ℕ) (ended has_failed : R → Bool)

@@ -1,17 +1,15 @@
 -- What a list of what is expected and logs say together, by their texts.
 use Rattle.std.specs.Prelude.{◌≡◌, ℕ, ⊤, [], ◌∷◌, List, ◌++◌, Some, codes, decimal, length, map, slice_get, take}
 use Rattle.std.specs.List.{All, AllZip}
-use Rattle.vic_log.specs.Lines.{lines_of_text}
 use Rattle.vic_log.specs.Log.{LogValue}
 use Rattle.vic_log.specs.Order.{entries, listed}
-use Rattle.vic_log.specs.Text.{IsFirstFault}
 use Rattle.vic_log.specs.declared.entry.LogLine.{LogLine}
 use Rattle.vic_verdict.specs.Possible.{IsPossible}
 use Rattle.vic_verdict.specs.Verdict.{IsVerdict}
 use Rattle.vic_verdict.specs.declared.judging.Verdict.TheVariants.{Impossible}
 use Rattle.vic_reconcile.specs.Families.{ArePossible}
 use Rattle.vic_reconcile.specs.Findings.{AreFindings, AreNone, IsFirstNotListed, IsList, IsWhole}
-use Rattle.vic_answer.specs.Answered.{HasLog}
+use Rattle.vic_answer.specs.Answered.{HasLog, IsRefusedAt}
 use Rattle.vic_answer.specs.declared.ending.Ending.{Ending}
 use Rattle.vic_answer.specs.declared.ending.Ending.TheVariants.{ListRefusedAt, NotListedAt, RefusedAt, ImpossibleAt}
 use Rattle.vic_answer.specs.declared.reconcile.Reconciled.{Reconciled}
@@ -35,13 +33,12 @@ GoOn (list ∷ texts) = HasList list × All HasPossibleLog texts
 
 -- where reading them ends: no text before is refused or impossible
 abbrev pub EndsAt : List ℕ → List (List ℕ) → Ending → Type 0
-EndsAt list texts (ListRefusedAt n fault) = IsFirstFault (lines_of_text list) n fault
+EndsAt list texts (ListRefusedAt n fault) = IsRefusedAt list n fault
 EndsAt list texts (NotListedAt n) =
     (log : LogValue) × HasLog list log × IsFirstNotListed log.lines n
 EndsAt list texts (RefusedAt k n fault) =
     GoOn (list ∷ take k texts)
-    × ((text : List ℕ) × (slice_get texts k ≡ Some text)
-    × IsFirstFault (lines_of_text text) n fault)
+    × ((text : List ℕ) × (slice_get texts k ≡ Some text) × IsRefusedAt text n fault)
 EndsAt list texts (ImpossibleAt k n) =
     GoOn (list ∷ take k texts)
     × ((text : List ℕ) × (log : LogValue) × (slice_get texts k ≡ Some text)
@@ -66,8 +63,8 @@ IsReconciled list texts (NotWhole f) =
     ArePossible logs × AreFindings expected logs f × (AreNone f → ⊥))
 IsReconciled list texts (Ended e) = EndsAt list texts e
 
--- everything that is expected is somewhere, and nothing else, and these are the digits of how many
--- UIDs are expected, and LF
+-- everything that is expected is somewhere, and nothing else; and `rest`, which is written after
+-- `complete `, is how many UIDs are expected in digits, and LF
 abbrev pub AreComplete : List ℕ → List (List ℕ) → List ℕ → Type 0
 AreComplete list texts rest =
     HaveLogs list texts (λ expected logs. IsWhole expected logs

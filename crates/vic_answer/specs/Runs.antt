@@ -43,8 +43,9 @@ pub record GivesNoEarlyFault (HasRead : List ℕ → Type 0) : Type 0 where
   pub none : HasEarlyFault text → ⊥
 
 -- what a run read and wrote, by its result: the answer was written, or a prefix of it if the sink
--- failed; if the source failed, there was no answer yet. What it means that bytes were read, even
--- if the source has failed, and that no more follow, is said below in two ways
+-- failed; if the source failed, there was no answer yet. It is said below in two ways what it means
+-- that bytes were read (HasRead), the same of a source that has failed, which may no longer reveal
+-- what is left (HasHandedOut), and that no more follow (IsOver)
 abbrev pub RunsWhere : (List ℕ → List ℕ → Status → Type 0)
     → (List ℕ → Type 0) → (List ℕ → Type 0) → Type 0
     → Option (List ℕ) → Option (List ℕ) → Result Status RunFault → Type 0

@@ -49,7 +49,7 @@ number_up_to most w =
 abbrev pub number_ending : List ℕ → ℕ
 number_ending bytes = from_be_bytes w64 (replicate (8 - length bytes) 0 ++ bytes)
 
--- the number of decoded bytes, if the word spells it in upper-case hex digits
+-- the number that decoded bytes spell, if the word spells it in upper-case hex digits
 abbrev pub hex_decoded : ℕ → List ℕ → Result (List ℕ) FromHexError → Result ℕ SpellFault
 hex_decoded count w (Ok bytes) =
     let n = number_ending bytes in if bytes_eq (hex_bytes count n) w then Ok n else Err Words
@@ -87,7 +87,7 @@ inventory_in link slots len value =
     and_then (number_up_to (longest_mask sixteen) len) (λ len. and_then (mask_in len value) (λ m.
     Ok (Inventory link sixteen m)))))
 
--- a Stay Quiet request from its words
+-- a Stay Quiet request from its words; it may name any number of 64 bits, also one that is no UID
 abbrev pub stay_quiet_in : (link uid : List ℕ) → Result Request SpellFault
 stay_quiet_in link uid =
     and_then (number_up_to MAX_LINK link) (λ link. and_then (hex_number_in 8 uid) (λ uid.

@@ -30,7 +30,8 @@ IsAnswerWith P text (Found v) xs =
     (log : LogValue) × HasLog text log × IsVerdict log.lines v × P log.lines xs
 IsAnswerWith P text (RefusedAt n fault) xs = IsRefusedAt text n fault × (xs ≡ [])
 
--- these are the items that P has of the log behind a survey
+-- these are the items that P has of the log behind a survey. A survey doesn't carry its text, so
+-- this speaks of each text whose survey it is
 abbrev pub AreItemsBehind : {T : Type 0} → (List LogLine → List T → Type 0) → Answered Survey
     → List T → Type 0
 AreItemsBehind P surveyed xs =

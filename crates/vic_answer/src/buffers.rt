@@ -19,6 +19,7 @@ pub fn copy_list<T: Copy>(list: &[T], room: &mut [T]) -> usize
 /// returns how many there are.
 pub fn copy_each<T: Copy, V: Copy, F: Fn(T) -> V>(items: &[T], room: &mut [V], value_of: F) -> usize
     requires { F.IsAlwaysCallable value_of }
+    // `told` is any function whose values `value_of` returns
     ensures { (told : T → V) → ((x : T) (v : _) → F.post value_of x v → v ≡ told x)
         → IsReturned (map told items.now) room.old room.new result }
 {

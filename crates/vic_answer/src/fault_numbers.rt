@@ -1,6 +1,6 @@
 //! The numbers of faults.
 
-ghost use Rattle.std.specs.Prelude.{◌≡◌};
+ghost use Rattle.std.specs.Prelude.{◌≡◌, ◌<◌};
 ghost use Rattle.vic_answer.specs.FaultNumbers as spec;
 
 use vic_frame::FrameFault;
@@ -9,9 +9,10 @@ use vic_log::LineFault;
 /// The number of the fault of a line that lists no UID, where a list is expected.
 pub(crate) const NOT_LISTED: u32 = 11;
 
-/// The number of a frame's fault, above 100.
+/// The number of a frame's fault.
 pub fn frame_fault_number(fault: &FrameFault) -> u32
-    ensures { result ≡ spec.frame_fault_number fault.now }
+    ensures number { result ≡ spec.frame_fault_number fault.now }
+    ensures above { 100 < result }
 {
     match fault {
         FrameFault::Short => 101,
@@ -32,9 +33,10 @@ pub fn frame_fault_number(fault: &FrameFault) -> u32
     }
 }
 
-/// The number of a line's fault, which is never 0.
+/// The number of a line's fault.
 pub fn fault_number(fault: &LineFault) -> u32
-    ensures { result ≡ spec.fault_number fault.now }
+    ensures number { result ≡ spec.fault_number fault.now }
+    ensures nonzero { 0 < result }
 {
     match fault {
         LineFault::TooManyLines => 1,

@@ -37,7 +37,7 @@ pub fn answer_status(answer: &Answer) -> Status
 }
 
 /// The status of a verdict.
-fn verdict_status(verdict: &Verdict) -> Status
+pub(crate) fn verdict_status(verdict: &Verdict) -> Status
     ensures { result ≡ spec.verdict_status verdict.now }
 {
     match verdict {

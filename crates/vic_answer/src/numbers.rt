@@ -7,7 +7,7 @@ ghost use Rattle.vic_answer.specs.declared.answered.Answered.TheVariants.{Found}
 
 use crate::answered::Answer;
 use crate::fault_numbers::fault_number;
-use crate::lines::{MAX_NAME_LEN, answer_line, answer_status, refused_at};
+use crate::lines::{MAX_NAME_LEN, refused_at, verdict_line, verdict_status};
 use crate::status::Status;
 use crate::text::ANSWER_ROOM;
 use vic_verdict::Verdict;
@@ -78,34 +78,25 @@ pub const NO_ANSWER: VicinityAnswer = VicinityAnswer {
 #[tactic(auto, using(crate::proofs::Numbered::kind_complete, crate::proofs::Numbered::kind_some))]
 pub fn numbers_of(answer: &Answer) -> VicinityAnswer
     ensures numbers { result ≡ spec.numbers_of answer.now }
+    // what callers from C rely on
     ensures complete { result.kind ≡ 1 → answer.now ≡ Found (Complete result.count) }
     ensures nonzero { result.kind ≢ 0 }
 {
-    VicinityAnswer {
-        status: u32::from(answer_status(answer).code()),
-        text: padded(answer_line(answer).as_slice()),
-        ..fields_of(answer)
-    }
-}
-
-/// The fields of an answer, except status and text.
-fn fields_of(answer: &Answer) -> VicinityAnswer
-    ensures { result ≡ spec.fields_of answer.now }
-{
     match *answer {
-        Answer::Found(verdict) => verdict_fields(&verdict),
-        Answer::RefusedAt { line, fault } => VicinityAnswer {
-            kind: Kind::Refused as u32,
-            line,
-            fault: fault_number(&fault),
-            ..NO_ANSWER
+        Answer::Found(verdict) => VicinityAnswer {
+            status: u32::from(verdict_status(&verdict).code()),
+            text: padded(verdict_line(&verdict).as_slice()),
+            ..verdict_fields(&verdict)
         },
+        Answer::RefusedAt { line, fault } => {
+            refusal_numbers(line, fault_number(&fault), fault.name())
+        }
     }
 }
 
-/// The fields of a verdict.
+/// The fields of a verdict, except status and text.
 fn verdict_fields(verdict: &Verdict) -> VicinityAnswer
-    ensures { result ≡ spec.fields_of (Found verdict.now) }
+    ensures { result ≡ spec.verdict_fields verdict.now }
 {
     match *verdict {
         Verdict::Complete { count } => VicinityAnswer {

@@ -25,6 +25,7 @@ pub(crate) fn put_text<W: Sink>(
         }
         piece.clear();
     }
+    // there is room for any text among no others
     let Ok(()) = piece.try_extend_from_slice(text.as_slice()) else {
         unreachable!()
     };

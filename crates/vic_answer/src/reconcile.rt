@@ -117,6 +117,7 @@ fn join(joined: Reconciliation, reading: Reading) -> Result<Progress, AllocError
 pub(crate) fn reconciled_answer(progress: &Progress) -> Result<Reconciled, AllocError>
     ensures answer { IfOk result (λ r. (list : List ℕ) (texts : List (List ℕ))
         → IsProgress list texts progress.now → IsReconciled list texts r) }
+    // so an answer tells how many logs were read
     ensures ended { IfOk result (λ r. (e : EndingValue)
         → (progress.now ≡ Progress.Ended e) ↔ (r ≡ Reconciled.Ended e)) }
 {

@@ -24,10 +24,11 @@ const MAX_LINK: u8 = 3;
 /// Why words don't spell a frame.
 #[derive(Clone, Copy, Debug, Drop, PartialEq, Eq)]
 enum SpellFault {
-    /// The first word that doesn't fit is none that `frame` writes there, or some lack or are left.
+    /// The words, but for the values, aren't those of `frame`, or their number isn't; or the first
+    /// value that doesn't fit is none that `frame` writes there.
     Words,
-    /// It is a link above 3, the length of a mask longer than its request allows, or the value of a
-    /// mask with bits above it.
+    /// That value is a number below 2^64, but a link above 3, the length of a mask longer than its
+    /// request allows, or the value of a mask with bits above its length.
     Range,
 }
 
