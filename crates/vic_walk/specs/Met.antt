@@ -22,7 +22,8 @@ pub record IsMetAt (es : List Entry) (n j : ℕ) : Type 0 where
 abbrev pub AreMetBefore : List Entry → ℕ → Type 0
 AreMetBefore es n = (j : ℕ) → j < n → IsMetAt es n j
 
--- these are the ends of the parts before some position from n on
+-- these are the ends of the parts before some position, which is n or later: a walk that broke at n
+-- ends one later
 pub record AreEndsPast (bs : List ℕ) (es : List Entry) (n : ℕ) (ends : List ℕ) : Type 0 where
   pub position : ℕ
   pub far : n ≤ position

@@ -26,13 +26,14 @@ IsSpanAt bs es i s =
 abbrev pub span_of : Step → Span
 span_of s = record { from = s.from; to = s.to }
 
--- the step is one among so many parts
+-- the numbers of the step are among so many parts
 pub record IsStepBelow (count : ℕ) (s : Step) : Type 0 where
   pub to : s.to ≤ count
   pub own : s.own < count
 
 -- the step concerns the parts that the entry at position i does: if it is a slot line, those whose
--- UIDs lie in its mask; and if it names a UID, the part of that. What it hears is a UID
+-- UIDs lie in its mask; and if it names a UID, the part of that. Clause `heard` is of the entry
+-- alone, whose reply might have any number: what it hears is a UID
 pub record IsStepAt (bs : List ℕ) (es : List Entry) (i : ℕ) (s : Step) : Type 0 where
   pub below : IsStepBelow (part_count bs) s
   pub slot : (e : Entry) → slice_get es i ≡ Some e → is_slot e ≡ true

@@ -48,7 +48,7 @@ fn push_mask(
     entry: &Entry,
 ) -> Result<(u32, u32), AllocError>
     ensures more { OnOk result (HasAll borders.old borders.new) }
-    ensures end { IfOk result (λ r. r.1 < length borders.new) }
+    ensures to { IfOk result (λ r. r.1 < length borders.new) }
     ensures mask { IfOk result (λ r. (es : List EntryValue) (i : ℕ) → AreValid es
         → IsCursorAt es i cursor.now → is_slot entry.now ≡ true
         → HasMaskAt es i borders.new r.0 r.1) }
@@ -71,6 +71,7 @@ fn push_named(borders: &mut Gathered, entry: &Entry) -> Result<u32, AllocError>
     ensures key { IfOk result (HasKeyAt borders.new) }
     ensures named { IfOk result (λ place. (u : ℕ) → IsUid u → names (Some entry.now) u ≡ true
         → HasUidAt borders.new u place) }
+    // as the type `Response` has it
     ensures heard { (u : ℕ) → hears (Some entry.now) u ≡ true → IsUid u }
 {
     match *entry {
@@ -96,7 +97,7 @@ fn push_named(borders: &mut Gathered, entry: &Entry) -> Result<u32, AllocError>
 /// UID is there, both are where the least border stands, with no part between them.
 fn push_block(borders: &mut Gathered, block: Option<KeyBlock>) -> Result<(u32, u32), AllocError>
     ensures more { OnOk result (HasAll borders.old borders.new) }
-    ensures end { IfOk result (λ r. r.1 < length borders.new) }
+    ensures to { IfOk result (λ r. r.1 < length borders.new) }
     ensures block { IfOk result (λ r. HasBlockAt borders.new block r.0 r.1) }
 {
     match block {

@@ -10,7 +10,7 @@ use vic_frame::UID_BITS;
 /// How many cells an index has at most, as a power of two: they take 4 MiB.
 const MOST_BITS: u32 = 20;
 
-/// How many borders at either end have no say in how wide the cells are, if there are many. Of
+/// How many borders at either end have no say in how wide the cells are: so many, or an eighth. Of
 /// nested masks around many UIDs some are far from all others: with a say, they would leave all
 /// others to a few cells.
 const FAR: usize = 128;
@@ -64,6 +64,7 @@ impl Index {
         let cell = self.cell(key);
         match (self.below.get(cell), self.below.get(cell.saturating_add(1))) {
             (Some(from), Some(to)) => {
+                // the last border of an earlier cell, and the first of a later one, if there is one
                 let last = self.below.last().copied().unwrap_or(0) as usize;
                 let to = (*to as usize).min(last.saturating_sub(1));
                 ((*from as usize).saturating_sub(1), to)
@@ -85,8 +86,8 @@ pub(crate) fn up_to(borders: &[u64], from: usize, key: u64) -> usize {
     }
 }
 
-/// Where the first cell begins, and how wide `2^bits` cells are, as a power of two, that cover most
-/// of some borders in rising order.
+/// The base and the shift of an index of `2^bits` cells that cover most of some borders in rising
+/// order.
 fn base_and_shift(borders: &[u64], bits: u32) -> (u64, u32)
     ensures { result.1 ≤ UID_BITS }
 {

@@ -123,6 +123,7 @@ impl<'a> Reach<'a> {
             → IsReachAt es i self.old → IsReachAt es i self.new) }
     {
         self.put_in_order();
+        // no end is above `upto`; those that equal it are of the entry before `upto`
         let left = count_below(&self.ruled, self.ends, self.upto);
         self.kept.add(&self.all.ready, &self.ruled[left..])?;
         self.ruled.truncate(left);
@@ -130,7 +131,8 @@ impl<'a> Reach<'a> {
         Ok(())
     }
 
-    /// Puts the parts that aren't open in the order of their ends, before it first goes back.
+    /// Puts the parts that aren't open in the order of their ends, before `upto` first goes back.
+    /// Which parts these are, clause `ruled_out` of the type says.
     fn put_in_order(&mut self)
         ensures ordered { self.new.ordered ≡ true }
         ensures parts { self.new.parts.now ≡ self.old.parts.now }
@@ -148,7 +150,9 @@ impl<'a> Reach<'a> {
 }
 
 /// The greatest position up to `upto` such that all unread slots before it are met by the UIDs that
-/// are open before it. If it isn't `upto`, its entry is the first impossible one.
+/// are open before it. If it isn't `upto`, its entry is the first impossible one, where the replies
+/// before it are borne out. `ends` are those before `upto`, or later, as where a walk ended that
+/// broke at `upto`.
 pub fn first_lack(
     alloc: Global,
     lines: &LogLines,
@@ -209,8 +213,7 @@ fn end_of(ends: &[u32], part: usize) -> u32
     }
 }
 
-/// How many of some parts, in the order of their ends, have an end below a position. (An end is one
-/// more than the position of its entry.)
+/// How many of some parts, in the order of their ends, have an end below a position.
 fn count_below(parts: &[usize], ends: &[u32], position: usize) -> usize
     requires order { IsNonDecreasingBy (λ p. slice_index ends.now p) parts.now }
     ensures within { result ≤ length parts.now }

@@ -43,6 +43,6 @@ fn is_listing(entry: &Entry) -> bool
         | Entry::Garbled
         | Entry::Captured(_)
         | Entry::Unknown
-        | Entry::FieldCycle => { false }
+        | Entry::FieldCycle => false,
     }
 }

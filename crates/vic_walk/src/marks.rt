@@ -214,13 +214,13 @@ impl Marks {
     pub fn all(alloc: Global, count: usize) -> Result<Marks, AllocError>
         ensures { IfOk result (λ m. m ≡ replicate count true) }
     {
-        let words = count.div_ceil(WORD);
+        let filled = count.div_ceil(WORD);
         Ok(Marks {
             count,
             bits: Bits::below(alloc, count)?,
             notes: NotedBits {
-                bits: Bits::below(alloc, words)?,
-                notes: Bits::below(alloc, words.div_ceil(WORD))?,
+                bits: Bits::below(alloc, filled)?,
+                notes: Bits::below(alloc, filled.div_ceil(WORD))?,
             },
         })
     }

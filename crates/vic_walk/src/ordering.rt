@@ -27,7 +27,7 @@ pub(crate) fn in_order(alloc: Global, gathered: Gathered) -> Result<(Parts, Vec<
     if are_borders(&ranked) && have_ranks(&borders, &ranked, &ranks) {
         return Ok((Parts::between(ranked), ranks));
     }
-    // no log has so many borders that `rank` fails; but it promises nothing
+    // no log has so many borders that the ranks are wrong; but nothing is promised of them
     let mut copied = Vec::new(alloc);
     copied.extend_from_slice(&borders)?;
     let parts = Parts::between(sorted(copied));
@@ -102,6 +102,7 @@ fn rank_in(parts: &Parts, border: u64) -> usize
     requires { Contains parts.now border }
     ensures { StandsAt parts.now border result }
 {
+    // by its clause `borders` a proof knows what the parts are
     let count = parts.count();
     if border < 1 << UID_BITS {
         parts.at(UidKey::new(border))

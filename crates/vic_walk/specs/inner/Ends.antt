@@ -24,8 +24,8 @@ pub record AreRuled (ends : List ℕ) (n : ℕ) (ordered : Bool) (ps : List ℕ)
   pub ruled : (p : ℕ) → has ps p
       ≡ (nat_lt p (length ends) && not (is_open_before n (slice_index ends p)))
 
--- m is the greatest position up to n that isn't past j, or before which the slot at j is met by the
--- UIDs that are open before m
+-- m is the greatest position up to n for which m ≤ j, or the UIDs that are open before m meet the
+-- slot at j. (Clause `lack` speaks of m + 1 alone: later positions leave fewer UIDs open)
 pub record IsBackTo (es : List Entry) (j n m : ℕ) : Type 0 where
   pub back : m ≤ n
   pub met : j < m → IsMetAt es m j

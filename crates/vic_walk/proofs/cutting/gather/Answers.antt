@@ -23,7 +23,7 @@ loop-index-preserved c =
     let log = c.entry-entry.ensures.log in
     let pushed = c.in_ok-push.ensures.items in
     let more = more_again _ _ _ masked.more named.more in
-    let placed = placed_here es l.index _ _ _ (record { from = c.in_ok-from.from; to = c.in_ok-from.to; own = c.in_ok-own.own }) here masked.end (masked.mask es l.index log.valid i.cursor) named.more named.key named.named c.push_named.ensures.heard in
+    let placed = placed_here es l.index _ _ _ (record { from = c.in_ok-from.from; to = c.in_ok-from.to; own = c.in_ok-own.own }) here masked.to (masked.mask es l.index log.valid i.cursor) named.more named.key named.named c.push_named.ensures.heard in
     record {
       cursor = c.advance.ensures es l.index log.order here i.cursor;
       count = rw pushed (omega (arith, length-append c.loop-index.steps.items (record { from = c.in_ok-from.from; to = c.in_ok-from.to; own = c.in_ok-own.own } ∷ []), i.count));
