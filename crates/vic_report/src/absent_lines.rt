@@ -30,6 +30,7 @@ pub(crate) fn lines_of_absent(
         return Ok(Vec::new(alloc));
     }
     let lines = log.lines();
+    // to its end, since the log is possible
     let LogWalk {
         log_parts,
         ends,

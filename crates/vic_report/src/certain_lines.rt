@@ -46,6 +46,7 @@ pub fn lines_of_certain(
     let mut shown = Vec::with_capacity(alloc, certain.len())?;
     for uid in certain {
         let Some(line) = noted.get(uid) else {
+            // each was heard, or an unread slot requires it
             unreachable!()
         };
         shown.push(ShownUid {

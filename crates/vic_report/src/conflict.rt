@@ -38,7 +38,7 @@ pub(crate) fn find_conflict(alloc: Global, log: &Log, line: u32) -> Result<Confl
     ensures { IfOk result (IsConflict log.now.lines) }
 {
     let silenced_by = silencer_of_line(log, line);
-    let numbers = match silenced_by {
+    let lines = match silenced_by {
         // no population fits a reply of a Quiet tag: that line alone is the conflict
         Some(_) => vec![in alloc; line]?,
         None => match guessed_numbers(alloc, log, line)? {
@@ -48,13 +48,13 @@ pub(crate) fn find_conflict(alloc: Global, log: &Log, line: u32) -> Result<Confl
     };
     Ok(Conflict {
         line,
-        lines: numbers,
+        lines,
         silenced_by,
     })
 }
 
 /// The numbers that `vic_guess` guesses; `None` if they aren't those of a conflict: one isn't that
-/// of a slot line, the last isn't `last`, or the log that keeps only these lines is possible.
+/// of a slot line that tells something, the last isn't `last`, or the log that keeps only these lines is possible.
 fn guessed_numbers(alloc: Global, log: &Log, last: u32) -> Result<Option<LineNumbers>, AllocError>
     ensures { IfOk result (λ guess. IfSome guess (IsConflictAt log.now.lines last)) }
 {
@@ -66,8 +66,7 @@ fn guessed_numbers(alloc: Global, log: &Log, last: u32) -> Result<Option<LineNum
         return Ok(None);
     }
     let kept = KeptLog::of(alloc, log, &numbers)?;
-    let possible = is_possible(alloc, &kept.lines())?;
-    if possible {
+    if is_possible(alloc, &kept.lines())? {
         return Ok(None);
     }
     Ok(Some(numbers))

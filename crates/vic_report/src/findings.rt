@@ -1,6 +1,6 @@
 //! All findings of a possible log.
 
-ghost use Rattle.std.specs.Prelude.{◌≡◌, ◌↔◌, IfOk, IsTrue};
+ghost use Rattle.std.specs.Prelude.{◌≡◌, ◌↔◌, IfOk, true};
 ghost use Rattle.std.specs.Option.{option_map};
 ghost use Rattle.vic_tree.specs.Ranges.{is_open_in};
 ghost use Rattle.vic_log.specs.Order.{entries};
@@ -45,7 +45,7 @@ pub struct Unsettled {
 impl Findings {
     /// Whether there are none.
     pub fn is_empty(&self) -> bool
-        ensures { IsTrue result ↔ AreNone self.now }
+        ensures { (result ≡ true) ↔ AreNone self.now }
     {
         self.absent.is_empty()
             && self.unlisted.is_empty()

@@ -22,7 +22,7 @@ const LINK: u8 = 2;
 
 /// Entries of a log that lists nothing, on lines that are numbered from 1. Each slot line has a
 /// request of its own that asks for its mask, so there may be up to twice as many lines as a text
-/// can have.
+/// can have, and their numbers fit 32 bits.
 #[derive(Drop)]
 pub(crate) struct KeptLog {
     lines: Vec<PackedLine>,

@@ -15,7 +15,7 @@ ghost use Rattle.vic_report.specs.declared.reporting.LogReport.TheVariants as re
 pub fn first_finding_is_the_verdict()
     ensures first { (lines : List LogLine) (r : LogReport) → IsReport lines r
         → IsVerdict lines (verdict_of r) }
-    ensures none { (lines : List LogLine) (r : LogReport) (count : ℕ) → IsReport lines r
+    ensures complete { (lines : List LogLine) (r : LogReport) (count : ℕ) → IsReport lines r
         → verdict_of r ≡ Complete count → r ≡ reported.Complete count }
 {}
 

@@ -11,6 +11,8 @@ use Rattle.vic_verdict.specs.Possible.{IsPossibleUid, IsCertainUid}
 use Rattle.vic_verdict.specs.Rising.{IsFailing, IsListOf}
 use Rattle.vic_verdict.specs.declared.differences.Differences.{Differences}
 
+-- ---- for reports, in which a UID has one finding at most (`AreFindings` of `vic_report`)
+
 -- a UID that may be there and may be missing: possible, and not certain
 abbrev pub IsUndecided : List Entry → ℕ → Type 0
 IsUndecided es u = IsPossibleUid es u × (IsCertainUid es u → ⊥)

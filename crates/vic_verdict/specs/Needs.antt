@@ -23,7 +23,7 @@ pub record IsMet (es : List Entry) (m : Met) : Type 0 where
   pub unread : AreAnswering es (length es) m.unread.items
   pub enough : All HasEnough m.unread.items
 
--- exactly as many UIDs as the slot requires, this one among them
+-- exactly as many UIDs as the slot requires, so all that answer there, this one among them
 abbrev pub ForcesThere : Answering → ℕ → Type 0
 ForcesThere a u = (length a.uids.items ≡ a.need) × (has a.uids.items u ≡ true)
 

@@ -36,12 +36,12 @@ pub fn compare<S: OpenSet>(
     ensures { IfOk result (AreDifferences (S.is_open set) certain.now listed.now) }
 {
     let unlisted = missing_from(alloc, certain, listed)?;
-    let avoided_keys = keys_of_both(alloc, listed, &unlisted)?;
-    // For one log the set has all certain UIDs; the union that `vic_reconcile` makes needn't, hence
-    // the second test. Those unlisted are certain, so only listed ones can be absent.
-    let outside = uids_outside(alloc, &set, &avoided_keys)?;
+    let listed_or_certain = keys_of_both(alloc, listed, &unlisted)?;
+    let outside = uids_outside(alloc, &set, &listed_or_certain)?;
+    // for one log the set has all certain UIDs; the sets that `vic_reconcile` makes may lack some,
+    // which aren't absent
     let absent = missing_from(alloc, &outside, certain)?;
-    let unsettled = set.widest_besides(&avoided_keys)?;
+    let unsettled = set.widest_besides(&listed_or_certain)?;
     let uncertain = missing_from(alloc, listed, certain)?;
     let doubtful = missing_from(alloc, &uncertain, &absent)?;
     Ok(Differences {

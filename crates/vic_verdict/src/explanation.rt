@@ -67,6 +67,7 @@ fn explain_facts<S: OpenSet>(
         // each population lacks the absent UID, and has the unlisted one
         Verdict::Absent(_) | Verdict::Unlisted(_) => Some(choose(met, &None)?),
         Verdict::Unsettled(mask) => {
+            // any possible UID may be added
             met.heard.push(mask.least_uid())?;
             Some(choose(met, &None)?)
         }
@@ -78,8 +79,8 @@ fn explain_facts<S: OpenSet>(
     })
 }
 
-/// The UIDs heard, and of those that answer in each unread slot as many as it requires, the one to
-/// avoid left out; in rising order.
+/// The UIDs to be there, and of those that answer in each unread slot as many as it requires, the
+/// one to avoid left out; in rising order.
 fn choose(met: Met, avoid: &Option<Uid>) -> Result<Vec<Uid>, AllocError>
     ensures rising { IfOk result (λ v. IsStrictlyIncreasing v.items) }
     ensures members { IfOk result (λ v. SameMembers v.items (chosen_population avoid.now met)) }

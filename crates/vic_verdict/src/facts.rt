@@ -40,7 +40,8 @@ pub struct Facts<S: OpenSet> {
 /// The UIDs that meet the slots of a possible log.
 #[derive(Drop)]
 pub struct Met {
-    /// The UIDs that were heard, as often as they were heard, in any order.
+    /// The UIDs that were heard, or are to be there for another reason, in any order, also several
+    /// times.
     pub heard: Vec<Uid>,
     /// Of each unread slot, open UIDs that answer there: three, or all if there are fewer.
     pub unread: Vec<Answering>,
@@ -57,7 +58,7 @@ pub fn facts_of<S: OpenSet>(alloc: Global, log: &Log) -> Result<Result<Facts<S>,
     Ok(facts_and_parts_of::<S>(alloc, log)?.map(|(facts, _)| facts))
 }
 
-/// `facts_of`, with the parts of the keys that the walk made.
+/// `facts_of`, with the parts of the keys that the walk made; clause `log` as there.
 pub fn facts_and_parts_of<S: OpenSet>(
     alloc: Global,
     log: &Log,
@@ -109,25 +110,26 @@ fn open_and_met<S: OpenSet>(
 {
     let LogWalk {
         log_parts,
-        open,
+        open: open_parts,
         ends,
         broken,
     } = walk_log(alloc, lines)?;
     if let Some(at) = broken {
         // the replies aren't borne out at `at`; but before that line an unread slot may already
-        // lack open UIDs: `first_lack` returns the first position at which one does, or `at`
+        // lack open UIDs: `first_lack` returns the position of the first entry after which one
+        // does, or `at`
         return Ok(Err(first_lack(alloc, lines, &log_parts, &ends, at)?));
     }
     let closed = closed_keys(alloc, &log_parts.parts, &ends)?;
-    let set = S::without(alloc, closed)?;
-    let unread = open_answers(alloc, lines, &log_parts, open)?;
+    let open = S::without(alloc, closed)?;
+    let unread = open_answers(alloc, lines, &log_parts, open_parts)?;
     if !are_met(&unread) {
-        // after all lines an unread slot lacks open UIDs: `first_lack` returns the first position
-        // at which one does
+        // after all lines an unread slot lacks open UIDs: `first_lack` returns the position of the
+        // first entry after which one does
         return Ok(Err(first_lack(alloc, lines, &log_parts, &ends, lines.len())?));
     }
     let heard = heard_uids(alloc, lines)?;
-    Ok(Ok((set, Met { heard, unread }, log_parts)))
+    Ok(Ok((open, Met { heard, unread }, log_parts)))
 }
 
 /// Whether a log is possible: whether some population could have produced it.
@@ -154,7 +156,7 @@ fn are_met(unread: &[Answering]) -> bool
     unread.iter().all(|slot| slot.need <= slot.uids.len())
 }
 
-/// The UIDs heard in a log, one for each reply. None comes after the list starts.
+/// The UIDs heard in a log, one for each reply. No reply comes after the list starts.
 fn heard_uids(alloc: Global, lines: &LogLines) -> Result<Vec<Uid>, AllocError>
     ensures { IfOk result (λ v. (u : ℕ)
         → (has v.items u ≡ true) ↔ IsHeard (entries lines.now) u) }

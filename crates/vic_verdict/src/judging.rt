@@ -91,7 +91,7 @@ fn judge_lines<S: OpenSet>(alloc: Global, log: &Log) -> Result<Verdict, AllocErr
 }
 
 /// The verdict on a possible log. Each kind of finding is looked for only if there is none of those
-/// before.
+/// before; so nothing has to be subtracted, as `compare` does.
 pub fn verdict_of_facts<S: OpenSet>(
     alloc: Global,
     set: S,
@@ -103,7 +103,6 @@ pub fn verdict_of_facts<S: OpenSet>(
 {
     let listed = listed_uids(alloc, log.lines())?;
     let listed_keys = SortedKeys::of(alloc, listed.as_slice())?;
-    // the set has all certain UIDs
     let absent = uids_outside(alloc, &set, &listed_keys)?;
     if let Some(uid) = absent.first() {
         return Ok(Verdict::Absent(uid));
@@ -116,7 +115,6 @@ pub fn verdict_of_facts<S: OpenSet>(
     if let Some(mask) = set.widest_besides(&listed_keys)? {
         return Ok(Verdict::Unsettled(mask));
     }
-    // no listed UID is absent by now
     let doubtful = missing_from(alloc, &listed, certain)?;
     if let Some(uid) = doubtful.first() {
         return Ok(Verdict::Doubtful(uid));

@@ -48,7 +48,8 @@ pub fn one_possible_uid_more()
         → IsPopulation (u ∷ p) × CouldHaveGiven (u ∷ p) es }
 {}
 
-/// Each log has exactly one verdict.
+/// Each log has exactly one verdict. If lines didn't rise, those up to a number needn't be the first
+/// ones, and several could be the first impossible line.
 pub fn exactly_one_verdict()
     ensures some { (lines : List LogLine) → (v : Verdict) × IsVerdict lines v }
     ensures one { (lines : List LogLine) → IsRisingFrom 0 lines → (v w : Verdict)
@@ -81,7 +82,7 @@ pub fn one_headline()
 
 /// Weaker entries are possible if the stronger ones are. If the list of the weaker entries is
 /// complete and the stronger are possible, the list of the stronger is complete.
-pub fn weaker_is_complete()
+pub fn stronger_is_complete()
     ensures possible { (ds es : List Entry) → AreWeaker ds es → IsPossible es → IsPossible ds }
     ensures whole { (ds es : List Entry) → AreWeaker ds es → IsPossible es → IsWhole ds
         → IsWhole es }

@@ -31,9 +31,9 @@ one_slot m = Sent (Inventory LINK false m)
 abbrev pub with_slot : List Entry → BitMask → Entry → List Entry
 with_slot es m e = (es ++ one_slot m ∷ []) ++ e ∷ []
 
--- the kept entries before and after position i is passed: the same tags stay Quiet, and a
--- population that could have produced those before could have produced those after, if it fits
--- entry e or e isn't kept
+-- `old` are the kept entries before position i is passed, and `new` those after: the same tags stay
+-- Quiet, and a population that could have produced `old` could have produced `new`, if it fits
+-- entry e at i or e isn't kept
 pub record KeepsLine (es : List Entry) (i : ℕ) (is_kept : Bool) (e : Entry)
     (old new : List Entry) : Type 0 where
   pub quiet : SameQuiet old es i → SameQuiet new es (i + 1)

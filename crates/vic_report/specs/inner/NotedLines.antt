@@ -13,7 +13,8 @@ is_noted noted u = is_some (map.get nat_cmp noted u)
 abbrev pub AreShown : List LogLine → map.BTreeMap ℕ ℕ → Type 0
 AreShown lines noted = (u n : ℕ) → map.get nat_cmp noted u ≡ Some n → ShowsCertain lines n u
 
--- lines were noted: every UID that had a line still has one, and so has every UID for which P holds
+-- lines were noted, which show that their UIDs are there: every UID that had a line still has one,
+-- and so has every UID for which P holds
 pub record HasNoted (lines : List LogLine) (old new : map.BTreeMap ℕ ℕ) (P : ℕ → Type 0)
     : Type 0 where
   pub shown : AreShown lines old → AreShown lines new

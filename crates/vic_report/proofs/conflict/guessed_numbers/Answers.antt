@@ -20,5 +20,5 @@ returns c =
       ends = rw end at c.last.ensures.member;
       upto = rw end at c.last.ensures.above;
       slots = λ m h. let w = place_of _ m m h in subst (IsTellingLine c.args.log.now.lines) w.2 (tell w.0 m w.1);
-      unfit = λ p population fits. false≢true (sym c.if-possible.false ∙ c.in_ok-possible.ensures.1 (subst IsPossible (sym c.lines.ensures) (p, population, c.in_ok-kept.ensures p fits)));
+      unfit = λ p population fits. false≢true (sym c.if-branch.false ∙ c.in_ok-is_possible.ensures.1 (subst IsPossible (sym c.lines.ensures) (p, population, c.in_ok-kept.ensures p fits)));
     }

@@ -66,4 +66,4 @@ returns-clause-facts g c =
     let end = walked w.log_parts.parts es w w.broken c.in_ok-log_parts.ensures.walk (λ i is. c.in_default.not-Some i (cc)) in
     let enough = (rw c.deref-3.ensures.value at c.are_met.ensures).0 c.if-not-are_met.false in
     let met = met_all es (record { heard = c.in_ok-heard.heard; unread = c.in_ok-unread.unread }) end.2 c.in_ok-heard.ensures c.in_ok-unread.ensures enough in
-    (met.0, (λ u i. c.in_ok-set.ensures u i ∙ c.in_ok-closed.ensures.outside es (length es) (rw c.deref-2.ensures.value end.1) u i), met.1)
+    (met.0, (λ u i. c.in_ok-open.ensures u i ∙ c.in_ok-closed.ensures.outside es (length es) (rw c.deref-2.ensures.value end.1) u i), met.1)

@@ -1,6 +1,6 @@
 use Rattle.vic_verdict.proofs.Words.{◌≡◌, subst, true, has, ◌↔◌}
 use Rattle.vic_log.proofs.Weaker.{weaker_given, weaker_listed}
-use Rattle.vic_verdict.proofs.laws.weaker_is_complete.Goals as goal
+use Rattle.vic_verdict.proofs.laws.stronger_is_complete.Goals as goal
 
 pub returns-clause-possible : goal.returns-clause-possible
 returns-clause-possible c ds es w possible = (possible.0, possible.1, weaker_given ds es w possible.0 possible.2)
