@@ -23,7 +23,7 @@ use Rattle.vic_verdict.specs.Differences.{IsUndecided, IsLeftOpen, MayBeMissing}
 use Rattle.vic_verdict.specs.Rising.{IsListOf}
 use Rattle.vic_verdict.specs.Verdict.{IsAbsent, IsUnlisted, IsFirstMask, IsVerdict, NoSuch}
 
--- the first open masks of the UIDs, listed or not, that may be there or not, which are in `set`, and
+-- the first open masks of the UIDs, listed or not, that may be there or not, which `set` has, and
 -- whether there are more
 pub record AreOpenMasks (es : List Entry) (o : OpenMasks) : Type 0 where
   pub set : ℕ → Bool

@@ -54,7 +54,8 @@ pub(crate) fn find_conflict(alloc: Global, log: &Log, line: u32) -> Result<Confl
 }
 
 /// The numbers that `vic_guess` guesses; `None` if they aren't those of a conflict: one isn't that
-/// of a slot line that tells something, the last isn't `last`, or the log that keeps only these lines is possible.
+/// of a slot line that tells something, the last isn't `last`, or the log that keeps only these
+/// lines is possible.
 fn guessed_numbers(alloc: Global, log: &Log, last: u32) -> Result<Option<LineNumbers>, AllocError>
     ensures { IfOk result (λ guess. IfSome guess (IsConflictAt log.now.lines last)) }
 {

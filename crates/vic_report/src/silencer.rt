@@ -37,8 +37,8 @@ fn silencer_at(lines: &[PackedLine], place: usize) -> Option<u32>
     silencer
 }
 
-/// The number of the line that keeps a tag Quiet after a line, if `silencer` is that of the one that
-/// does before it; `None` if the tag is Ready.
+/// The number of the line that keeps a tag Quiet after a line, if `silencer` is that of the one
+/// that does before it; `None` if the tag is Ready.
 fn next_silencer(silencer: Option<u32>, line: &PackedLine, uid: Uid) -> Option<u32>
     ensures { (lines : List LogLineValue) (i : ℕ) → slice_get lines i ≡ Some line.now
         → MatchOption silencer (is_quiet (entries lines) i uid ≡ false)

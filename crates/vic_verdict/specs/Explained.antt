@@ -18,8 +18,8 @@ use Rattle.vic_verdict.specs.Verdict.{IsVerdict, IsHeard}
 abbrev pub HasAllHeard : List Entry → List ℕ → Type 0
 HasAllHeard es heard = (u : ℕ) → IsHeard es u → has heard u ≡ true
 
--- at most the UIDs heard, each counted once, plus two for each collision, one for each garbled slot,
--- and one: so for any list that has those heard
+-- at most the UIDs heard, each counted once, plus two for each collision, one for each garbled
+-- slot, and one: so for any list that has those heard
 abbrev pub AreFew : List Entry → List ℕ → Type 0
 AreFew es us =
     (heard : List ℕ) → HasAllHeard es heard → length us ≤ length heard + all_needs es + 1

@@ -48,8 +48,8 @@ pub fn one_possible_uid_more()
         → IsPopulation (u ∷ p) × CouldHaveGiven (u ∷ p) es }
 {}
 
-/// Each log has exactly one verdict. If lines didn't rise, those up to a number needn't be the first
-/// ones, and several could be the first impossible line.
+/// Each log has exactly one verdict. If lines didn't rise, those up to a number needn't be the
+/// first ones, and several could be the first impossible line.
 pub fn exactly_one_verdict()
     ensures some { (lines : List LogLine) → (v : Verdict) × IsVerdict lines v }
     ensures one { (lines : List LogLine) → IsRisingFrom 0 lines → (v w : Verdict)

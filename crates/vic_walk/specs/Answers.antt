@@ -8,7 +8,8 @@ use Rattle.vic_log.specs.Slots.{slots_of, is_open}
 use Rattle.vic_walk.specs.Needs.{needs_at, needs_of}
 use Rattle.vic_walk.specs.declared.answers.Answering.{Answering}
 
--- the entry is a slot line in which tags answered that it doesn't name: a collision or a garbled slot
+-- the entry is a slot line in which tags answered that it doesn't name: a collision or a garbled
+-- slot
 abbrev pub is_unread : Option Entry → Bool
 is_unread o = nat_lt 0 (needs_of o)
 

@@ -43,7 +43,8 @@ pub fn other_keys(
     ensures borders { AreBorders parts.now }
 {
     let mut others = Vec::new(alloc);
-    // the keys from this one up to the part looked at have another value, and aren't in `others` yet
+    // the keys from this one up to the part looked at have another value, and aren't in `others`
+    // yet
     let mut from = 0;
     for part in 0..parts.count() {
         if values[part] == value {

@@ -66,7 +66,8 @@ impl PartStates {
     }
 
     /// Goes past an entry: makes the part of a UID Quiet that a Stay Quiet request silences, if it
-    /// is Ready, and all parts Ready at a field cycle. So the parts of any set of UIDs stay its parts.
+    /// is Ready, and all parts Ready at a field cycle. So the parts of any set of UIDs stay its
+    /// parts.
     #[inline(always)]
     pub(crate) fn pass(&mut self, step: Step, entry: &Entry) -> Result<(), AllocError>
         requires { IsStepBelow (length self.old.ready) step }

@@ -44,8 +44,8 @@ pub record AreNoted (ws notes : List ℕ) : Type 0 where
 abbrev pub marked_in : ℕ → List ℕ → List Bool
 marked_in count bits = map (is_set bits) (range_with_len 0 count)
 
--- the bits of a set of numbers below a count, with the word of the count itself, and those that note
--- which words aren't 0
+-- the bits of a set of numbers below a count, with the word of the count itself, and those that
+-- note which words aren't 0
 pub record AreMarks (count : ℕ) (bits notes : List ℕ) : Type 0 where
   pub fits : count < 2 ^ 64
   pub below : (k : ℕ) → is_set bits k ≡ true → k < count
