@@ -37,8 +37,8 @@ pub record BeginWith (AreSo : List ℕ → Type 0) (bytes : List ℕ) : Type 0 w
   pub right : AreSo front
   pub are : bytes ≡ front ++ more
 
--- of a run that may write more lines after `complete`: what it wrote next begins with the number and
--- LF
+-- of a run that may write more lines after `complete`: what it wrote next begins with the number
+-- and LF
 abbrev pub IsCompleteWhereWrittenFirst : {A E : Type 0} → List ℕ → List ℕ → Bool
     → List ℕ → List ℕ → Result A E → Type 0
 IsCompleteWhereWrittenFirst returned returned' ended written written' result =
