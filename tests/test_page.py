@@ -1429,6 +1429,16 @@ def test_a_file_that_is_too_large_replaces_the_answer_before(page):
     page.until(".error", "large.log: no answer (it has more than 256 MB).")
 
 
+@pytest.mark.parametrize("name", ["one.txt.crdownload", "one.log.part", "one.PARTIAL", "one.tmp"])
+def test_a_file_that_is_not_complete_yet_has_no_answer(page, name):
+    """Its beginning may be a log that is complete, or a catalogue with fewer rows."""
+    whole = log_of("I1 RA QA I1 S UA")
+    page.drop_files({name: whole})
+    page.until("#told .error", f"{name}: no answer (its name says that it isn't complete yet;")
+    page.drop_files({name: whole, "two.log": whole, "all.csv": b"uid\nE0040100000000A1\n"})
+    page.until("#told .error", f"all.csv: no answer ({name}: its name says that it isn't complete")
+
+
 def test_a_text_that_is_dropped(page):
     """Nothing is silently ignored. What is dropped into the field is typed there."""
     page.drop(log=log_of("I1 RA UA"))
@@ -1563,18 +1573,26 @@ return document.querySelector(into).dispatchEvent(new ClipboardEvent("paste", ho
 
 
 def test_what_is_pasted_beside_the_field(page):
-    """It is silently ignored nowhere. A picture that comes with a text isn't a file."""
-    log = log_of("I1 RA UA").decode()
-    assert not page.run(PASTES, [], log, "body")
-    page.until(".banner", "pasted text · complete 1")
+    """It is silently ignored nowhere: else the answer to the text before would be taken for its
+    own. A picture that comes with a text isn't a file."""
+    for names, answer in ("I1 S UA", "absent"), ("I1 RA UA", "complete 1"), ("I1 C", "unsettled"):
+        assert not page.run(PASTES, [["image.png", ""]], log_of(names).decode(), "body")
+        page.until(".banner", f"pasted text · {answer}")
     # beside the name of a file some systems have a text, where it is
     for into, path in ("#text", ""), ("body", "/home/emma/one.log"):
         assert not page.run(PASTES, [["one.log", log_of("I1 S UA").decode()]], path, into)
         page.until(".banner", "one.log · absent")
-    for into in "body", "#text":
-        assert page.run(PASTES, [["image.png", ""]], "vicinity-log 1", into)
+    assert page.run(PASTES, [["image.png", ""]], "vicinity-log 1", "#text")
     assert page.run(PASTES, [], "", "body") and page.texts(".banner code") == [
         "absent E0040100000000A1"]
+
+
+def test_a_catalogue_is_pasted_beside_the_logs_that_are_here(page):
+    page.drop_files({"one.log": log_of("I1 RA QA I1 S UA"), "two.log": log_of("I1 S")})
+    page.until("#logs", "two.log")
+    page.run(PASTES, [], "uid,title\nE0040100000000A1,Emma\nE0040100000000B2,Kim\n", "body")
+    page.until(".banner", "pasted text · 2 logs")
+    assert "Kim" in page.said()
 
 
 def test_what_is_judged_of_another_log_is_ended(page):

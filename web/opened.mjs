@@ -12,6 +12,9 @@ import { STOPPED } from "./work.mjs";
 /** Larger files are no logs, and no text for each browser. */
 const MOST_BYTES = 256_000_000, TOO_LARGE = "it has more than 256 MB";
 const NO_FILE = "it can't be read; open it again, or the files in it if it is a folder";
+/** How the name of a file ends while it is downloaded, or written. */
+const UNFINISHED = /\.(crdownload|opdownload|download|part|partial|filepart|tmp)$/i;
+const NOT_WHOLE = "its name says that it isn't complete yet; wait for the complete file, or copy it again";
 
 /** @param {Entry} entry */
 export const isUnanswered = ({ told, collection, error }) => !told && !collection && !error;
@@ -23,13 +26,14 @@ export const isUnanswered = ({ told, collection, error }) => !told && !collectio
 export const isLacking = ({ error, text }) => error && (error !== STOPPED || !text.length);
 
 /**
- * A file that can't be read, as a folder, has no answer.
+ * A file that can't be read, as a folder, or not to its end, has no answer.
  * @param {File} file
  * @param {AbortSignal} signal ends the reading
  * @returns {Promise<Entry>}
  */
 export async function read(file, signal) {
   const { name } = file, text = new Uint8Array();
+  if (UNFINISHED.test(name)) return { name, text, error: NOT_WHOLE };
   if (file.size > MOST_BYTES) return { name, text, error: TOO_LARGE };
   try {
     const stopped = new Promise((_, no) => signal.addEventListener("abort", no));

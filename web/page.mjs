@@ -214,10 +214,12 @@ at("example").addEventListener("click", () => {
   open([new File([at("sample").textContent ?? ""], "example.log")]);
 });
 /**
- * Whether a text is dragged into the field, where it is typed.
- * @param {DragEvent} event
+ * Whether a text gets into the field, where it is typed.
+ * @param {Event} event
  */
-const isTyped = ({ target, dataTransfer }) => target === field && !field.readOnly && !dataTransfer?.types.includes("Files");
+const isInField = ({ target }) => target === field && !field.readOnly;
+/** @param {DragEvent} event */
+const isTyped = (event) => isInField(event) && !event.dataTransfer?.types.includes("Files");
 document.addEventListener("dragover", (event) => { if (!isTyped(event)) event.preventDefault(); });
 document.addEventListener("drop", (event) => {
   if (isTyped(event)) return;
@@ -226,11 +228,11 @@ document.addEventListener("drop", (event) => {
   open(dropped);
   if (!dropped.length) status.textContent = NO_DROP;
 });
-/** Files are pasted anywhere; a text also beside the field, as long as nothing is shown. Cells of a spreadsheet come with a picture. */
+/** Files are pasted anywhere; a text beside the field is opened as one. Cells of a spreadsheet come with a picture. */
 document.addEventListener("paste", (event) => {
   const pasted = [...event.clipboardData?.files ?? []].filter(({ type }) => !type.startsWith("image/"));
   const text = event.clipboardData?.getData("text/plain");
-  if (!pasted.length && (!text || entries.length || event.target === field)) return;
+  if (!pasted.length && (!text || isInField(event))) return;
   event.preventDefault();
   open(pasted.length ? pasted : [new File([text ?? ""], PASTED)]);
 });
