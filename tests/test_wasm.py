@@ -20,8 +20,8 @@ const it = new WebAssembly.Module(require("fs").readFileSync(process.argv[1]));
 const exported = WebAssembly.Module.exports(it).map((one) => one.name);
 console.log(JSON.stringify([WebAssembly.Module.imports(it), exported]));
 """
-# Lists beside a log of silence, and masks beside a tag that is certain: what is said of each, and
-# that the module is as it was.
+# Lists beside a log of silence, masks beside a tag that is certain, what is expected by texts that
+# are no lists, and requests: what is said of each, and that the module is as it was.
 BESIDE = """
 import { readFileSync } from "node:fs";
 import { Library } from "./web/library.mjs";
@@ -37,14 +37,22 @@ const said = (call) => {
   }
 };
 const listed = (text, uids) => said(() => library.marginListed(text, uids));
+const sent = BigUint64Array.of(uid), request = { slots: 16, maskLen: 4, maskValue: 1n };
+structuredClone(sent, { transfer: [sent.buffer] });
 console.log(JSON.stringify([
   [silent, silent + "\\n", silent + "\\n# end"].map((text) => listed(text, [uid])),
-  [[], [uid + 2n ** 64n], [uid - 2n ** 64n], ["E0"], [,], ...none]
+  [[], [uid + 2n ** 64n], [uid - 2n ** 64n], ["E0"], [,], sent, ...none]
     .map((uids) => listed(silent, uids)),
   [wide, [...silent], new DataView(wide.buffer), wide.buffer].map((text) => listed(text, [])),
   [[mask], [{ ...mask, value: value + 2n ** 64n }], [{ ...mask, value: value - 2n ** 64n }],
-    [{ ...mask, len: 56 + 2 ** 32 }], [{ ...mask, len: 56.5 }], ["56 A1"], [,], ...none]
-    .map((masks) => said(() => library.reconcile([uid], [uid], masks))),
+    [{ ...mask, len: 56 + 2 ** 32 }], [{ ...mask, len: 56.5 }], [{ ...mask, value: "A1" }],
+    ["56 A1"], [,], ...none].map((masks) => said(() => library.reconcile([uid], [uid], masks))),
+  [silent, "vicinity-log 1\\nU E00401000000A1\\n", ""]
+    .map((text) => said(() => library.reconcile(library.listed(text).list, [], []))),
+  [[1, undefined, 0n], [1, 2 ** 32, 0n], [1, 4, 2n ** 64n], [1, 4, 1], [1, 4, "E"], ["1", 4, 1n]]
+    .map((words) => said(() => library.writeInventory(...words))),
+  [[request, undefined], [request, 1.5], [{ ...request, maskValue: 1n + 2n ** 64n }, 3]]
+    .map((words) => said(() => library.slotMask(...words))),
   library.check(silent).text]));
 """
 # A module whose stack is too small, as Firefox says it, and what is said of it next.
@@ -101,11 +109,12 @@ def test_what_belongs_to_one_system_is_refused(wasm_module, tmp_path, old, new, 
 
 def test_a_list_is_taken_whole_or_not_at_all(wasm_module):
     """Also behind a last line that doesn't end; and so are masks."""
-    ended, lists, texts, masked, after = json.loads(
+    ended, lists, texts, masked, refused, written, asked, after = json.loads(
         told("node", "--input-type=module", "-e", BESIDE, wasm_module, cwd=TOP))
     assert ended == [f"absent {UID_A:X}"] * 3
-    assert lists == ["complete 0", *["TypeError"] * 8] and texts == ["TypeError"] * 4
-    assert masked == ["complete 1", *["TypeError"] * 10]
+    assert lists == ["complete 0", *["TypeError"] * 9] and texts == ["TypeError"] * 4
+    assert masked == ["complete 1", *["TypeError"] * 11] and refused == ["TypeError"] * 3
+    assert written == ["TypeError"] * 6 and asked == ["TypeError"] * 3
     assert after == "complete 0\n"
 
 

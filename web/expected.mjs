@@ -49,7 +49,7 @@ export function readCatalogue(library, file) {
  */
 function listedIn(library, { name, text }) {
   const { answer, list } = library.listed(text);
-  if (answer.status) throw new Wrong(`${name}, line ${answer.line}: refused (${library.nameOf("fault", answer.fault)}). ${OF_A_LIST}`);
+  if (!list) throw new Wrong(`${name}, line ${answer.line}: refused (${library.nameOf("fault", answer.fault)}). ${OF_A_LIST}`);
   if (!list.length) throw new Wrong(`${name}: no line lists a UID. ${OF_A_LIST}`);
   return list;
 }

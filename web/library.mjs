@@ -140,10 +140,8 @@ export class Library {
   #putUids(take, uids) {
     if (!Array.isArray(uids) && uids.BYTES_PER_ELEMENT !== UID) throw new TypeError("UIDs are an array of BigInt");
     const at = take(UID * uids.length), view = this.#view;
-    for (let i = 0; i < uids.length; i++) {
-      if (typeof uids[i] !== "bigint" || BigInt.asUintN(64, uids[i]) !== uids[i]) throw new TypeError(`no UID: ${uids[i]}`);
-      view.setBigUint64(at + UID * i, uids[i], true);
-    }
+    // these throw if an array was transferred, as to a worker, which has left it without any element
+    for (const [i, uid] of uids.entries()) view.setBigUint64(at + UID * i, long(uid), true);
     return [at, uids.length];
   }
 
@@ -224,10 +222,14 @@ export class Library {
   }
 
   /**
-   * The UIDs of a text that has U lines alone. Any other is refused.
+   * The UIDs of a text that has U lines alone. Any other is refused: it has no list, so that it isn't taken for an empty one.
    * @param {Uint8Array | string} text
+   * @returns {{answer: Answer, list: bigint[] | null}}
    */
-  listed(text) { return this.#listed("listed", (take) => this.#put(take, text), UID, uidAt, roomFor(text)); }
+  listed(text) {
+    const told = this.#listed("listed", (take) => this.#put(take, text), UID, uidAt, roomFor(text));
+    return told.answer.status ? { ...told, list: null } : told;
+  }
 
   /** @param {Uint8Array | string} text */
   certain(text) { return this.#listed("certain", (take) => this.#put(take, text), UID, uidAt, roomFor(text)); }
@@ -323,10 +325,9 @@ export class Library {
       if (!Array.isArray(masks)) throw new TypeError("masks are an array");
       const at = take(MASK * masks.length), view = this.#view;
       for (const [i, { fault, len, value }] of masks.entries()) {
-        if (len >>> 0 !== len || BigInt.asUintN(64, value) !== value) throw new TypeError(`no mask: ${len} ${value}`);
         view.setUint32(at + MASK * i, fault, true);
-        view.setUint32(at + MASK * i + 4, len, true);
-        view.setBigUint64(at + MASK * i + 8, value, true);
+        view.setUint32(at + MASK * i + 4, word(len), true);
+        view.setBigUint64(at + MASK * i + 8, long(value), true);
       }
       return [...given, at, masks.length];
     }, FINDING, findingAt);
@@ -390,7 +391,7 @@ export class Library {
   writeInventory(slots, maskLen, maskValue, link = 2) {
     return this.#within((take) => {
       const at = take(FRAME);
-      this.#calls.vicinity_write_inventory(link, slots, maskLen, maskValue, BigInt(at));
+      this.#calls.vicinity_write_inventory(word(link), word(slots), word(maskLen), long(maskValue), BigInt(at));
       return this.#bytes.slice(at + 8, at + 8 + this.#view.getUint32(at + 4, true));
     });
   }
@@ -404,7 +405,8 @@ export class Library {
   slotMask(request, slot) {
     return this.#within((take) => {
       const at = take(MASK);
-      this.#calls.vicinity_slot_mask(request.slots, request.maskLen, request.maskValue, slot, BigInt(at));
+      const { slots, maskLen, maskValue } = request;
+      this.#calls.vicinity_slot_mask(word(slots), word(maskLen), long(maskValue), word(slot), BigInt(at));
       return maskAt(this.#view, at);
     });
   }
@@ -421,6 +423,24 @@ export class Library {
       return DECODER.decode(this.#bytes.slice(at + 4, at + 4 + length));
     });
   }
+}
+
+/**
+ * A number of 32 bits: another would be cut.
+ * @param {number} number
+ */
+function word(number) {
+  if (number >>> 0 !== number) throw new TypeError(`no number of 32 bits: ${number}`);
+  return number;
+}
+
+/**
+ * A number of 64 bits.
+ * @param {bigint} number
+ */
+function long(number) {
+  if (typeof number !== "bigint" || BigInt.asUintN(64, number) !== number) throw new TypeError(`no BigInt of 64 bits: ${number}`);
+  return number;
 }
 
 /** @type {(view: DataView, at: number) => bigint} */
