@@ -14,7 +14,7 @@ const MOST_BYTES = 256_000_000, TOO_LARGE = "it has more than 256 MB";
 const NO_FILE = "it can't be read; open it again, or the files in it if it is a folder";
 /** How the name of a file ends while it is downloaded, or written. */
 const UNFINISHED = /\.(crdownload|opdownload|download|part|partial|filepart|tmp)$/i;
-const NOT_WHOLE = "its name says that it isn't complete yet; wait for the complete file, or copy it again";
+const NOT_WHOLE = "by its name it is still being downloaded or written: wait for that, or copy it again";
 
 /** @param {Entry} entry */
 export const isUnanswered = ({ told, collection, error }) => !told && !collection && !error;
