@@ -1434,7 +1434,7 @@ def test_a_file_that_is_not_complete_yet_has_no_answer(page, name):
     """Its beginning may be a log that is complete, or a catalogue with fewer rows."""
     whole = log_of("I1 RA QA I1 S UA")
     page.drop_files({name: whole})
-    page.until("#told .error", f"{name}: no answer (by its name it is still being downloaded or written:")
+    page.until("#told .error", f"{name}: no answer (by its name it is still being downloaded")
     page.drop_files({name: whole, "two.log": whole, "all.csv": b"uid\nE0040100000000A1\n"})
     page.until("#told .error", f"all.csv: no answer ({name}: by its name it is still being")
 
