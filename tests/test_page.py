@@ -1587,6 +1587,13 @@ def test_what_is_pasted_beside_the_field(page):
         "absent E0040100000000A1"]
 
 
+def test_what_is_pasted_where_a_log_is_too_long_to_be_edited(page):
+    page.drop_files({"long.log": b"vicinity-log 1\n" + b"#\n" * 600_000})
+    page.until(".banner", "long.log")
+    assert not page.run(PASTES, [], log_of("I1 RA UA").decode(), "#text")
+    page.until(".banner", "pasted text · complete 1")
+
+
 def test_a_catalogue_is_pasted_beside_the_logs_that_are_here(page):
     page.drop_files({"one.log": log_of("I1 RA QA I1 S UA"), "two.log": log_of("I1 S")})
     page.until("#logs", "two.log")
