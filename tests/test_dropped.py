@@ -231,12 +231,14 @@ def test_no_item_is_lost_behind_the_names_of_the_columns(drop):
 
 
 @pytest.mark.parametrize(("row", "cells"), [
-    (f"Emma{UID_B}", 1), (",Emma e0:04:01:00:00:00:00:b2", 2), (f"x'{UID_B},Emma", 2)])
+    (f"Emma{UID_B}", "1 cell"), (",Emma e0:04:01:00:00:00:00:b2", "2 cells"),
+    (f"x'{UID_B},Emma", "2 cells")])
 def test_no_item_is_lost_where_a_separator_is(drop, row, cells):
     """It would be one without a tag, and what was asked for in vain a complete collection."""
     table = f"note,title,uid\n,Kim,{UID_A}\n"
     said = drop({"books.csv": f"{table}{row}\n", "shelf.log": SHELF})
-    assert said["error"] == f"books.csv, row 3: it has {cells} cells, and row 1 has 3"
+    assert said["error"] == (f"books.csv, row 3: it has {cells}, and row 1, with the names of the "
+                             "columns, 3: perhaps a separator is missing")
     said = drop({"books.csv": f"{table}was {UID_B},Emma,\n", "shelf.log": SHELF})
     assert (said["kind"], said["counts"]["no tag"]) == ("complete", 1)
     said = drop({"books.csv": f"uid,note,shelf\n{UID_A},was {UID_B}\n", "shelf.log": SHELF})
@@ -246,7 +248,8 @@ def test_no_item_is_lost_where_a_separator_is(drop, row, cells):
 def test_no_item_is_lost_where_a_line_end_is(drop):
     """Where both rows have a UID alone, no text stands behind the last column."""
     said = drop({"books.csv": f"uid,title\n{UID_A},{UID_B},\n", "shelf.log": SHELF})
-    assert said["error"] == "books.csv, row 2: it has 3 cells, and row 1 has 2"
+    assert said["error"] == ("books.csv, row 2: it has 3 cells, and row 1, with the names of the "
+                             "columns, 2: perhaps a quote or a line end is missing")
     for row in f"{UID_A},{UID_B}", f"{UID_A},/{UID_A.lower()}, ,":
         assert drop({"books.csv": f"uid,title\n{row}\n", "shelf.log": SHELF})["status"] == 0
 
@@ -379,7 +382,25 @@ def test_a_separator_is_named_before_any_line_end(drop, end):
     assert drop({"books": end.join(rows[1:]), "shelf.log": SHELF})["kind"] == "complete"
 
 
-@pytest.mark.parametrize("head", ['12" ruler;"uid"', '"title, author";"uid"'])
+@pytest.mark.parametrize("end", ["\r", "\n", "\r\n \n"])
+def test_a_uid_may_have_a_line_end(drop, end):
+    """As a scanner may write it."""
+    said = drop({"books.csv": f'uid,title\n"{UID_A}{end}",Emma\n', "shelf.log": SHELF})
+    assert said["kind"] == "complete"
+
+
+@pytest.mark.parametrize(("cell", "why"), [
+    ("A1000000000104E0", "; its bytes seem to be in the opposite order"),
+    (f"{UID_A}\u200b", ""), ("x\u202ey", "")])
+def test_what_is_no_uid_is_shown(drop, cell, why):
+    shown = cell.replace("\u200b", "\u2039200B\u203a").replace("\u202e", "\u2039202E\u203a")
+    said = drop({"books.csv": f"uid,title\n{cell},Emma\n", "shelf.log": SHELF})
+    assert said["error"] == (
+        f"books.csv, row 2: {shown} isn't a UID: 16 hex digits that begin with E0{why}")
+
+
+@pytest.mark.parametrize("head", ['12" ruler;"uid"', '"title, author";"uid"',
+                                  '"Sieb, Fach\n(OP, 2)";uid'])
 def test_a_separator_is_outside_of_quotes(drop, head):
     said = drop({"books": f'{head}\n"x";"{UID_A}"\n', "shelf.log": SHELF})
     assert said["kind"] == "complete"

@@ -1,5 +1,5 @@
 /** Which of several files is the catalogue, which one says the places of logs, and which are logs. */
-import { LINE_END, SAYS_SEPARATOR, TABLE } from "./tables.mjs";
+import { IN_QUOTES, LINE_END, SAYS_SEPARATOR, TABLE } from "./tables.mjs";
 
 /** @typedef {{name: string, text: Uint8Array}} Given a file */
 
@@ -33,7 +33,8 @@ export const startOf = (file) => new TextDecoder().decode(file.text.subarray(0, 
 
 /** @param {Given} file */
 function headsOf(file) {
-  const [first] = startOf(file).replace(/[\0\uFFFD]/g, "").replace(SAYS_SEPARATOR, "").split(LINE_END, 1);
+  const start = startOf(file).replace(/[\0\uFFFD]/g, "").replace(SAYS_SEPARATOR, "");
+  const [first] = start.replace(IN_QUOTES, (it) => it.replace(/[\r\n]/g, " ")).split(LINE_END, 1);
   return { heads: first.replace(/"/g, "").split(/[,;\t|]/).map((head) => head.trim().toLowerCase()) };
 }
 

@@ -12,6 +12,8 @@ const OF_A_LIST = "A list has the header 'vicinity-log 1', and then for each UID
   "cut off, copy it again";
 const GLUED = "perhaps a line end is missing behind the names of the columns";
 const MOVED = "perhaps cells are missing, or too many";
+/** The digits of a UID from the last byte to the first. */
+const TURNED = /^[0-9A-F]{14}E0$/;
 /** How many columns are named, where none has the UIDs, by how many characters at most. */
 const MOST_HEADS = 12, MOST_HEAD = 80;
 /** The columns that `reconcile --csv` has added, what stands behind such a name once more than behind the catalogue's own, and the state of
@@ -112,9 +114,10 @@ function lastAdded(heads, name) {
  */
 function uidOfRow(name, row, cells, at) {
   const cell = cells[at], moved = cell.trim() ? undefined : cells.find(isUid);
-  if (moved !== undefined) throw new Wrong(`${name}, row ${row}: ${moved} isn't in the column uid, which is blank: ${MOVED}`);
+  if (moved !== undefined) throw new Wrong(`${name}, row ${row}: ${printable(moved)} isn't in the column uid, which is blank: ${MOVED}`);
   if (!cell.trim()) return null;
-  if (!isUid(cell)) throw new Wrong(`${name}, row ${row}: ${cell} isn't a UID: 16 hex digits that begin with E0`);
+  const turned = TURNED.test(digitsOf(cell)) ? "; its bytes seem to be in the opposite order" : "";
+  if (!isUid(cell)) throw new Wrong(`${name}, row ${row}: ${printable(cell)} isn't a UID: 16 hex digits that begin with E0${turned}`);
   return BigInt(`0x${digitsOf(cell)}`);
 }
 
@@ -124,7 +127,7 @@ function uidOfRow(name, row, cells, at) {
  */
 function refuseSwallowed(table) {
   for (const { row, cells } of [{ row: 1, cells: table.heads }, ...table.rows]) {
-    const lines = cells.map((cell) => cell.split(/[\r\n]+/)).filter((it) => it.length > 1).flat();
+    const lines = cells.map((cell) => cell.trimEnd().split(/[\r\n]+/)).filter((it) => it.length > 1).flat();
     if (lines.flatMap((line) => line.split(table.separator)).some(isUid)) {
       throw new Wrong(`${table.name}, row ${row}: a cell in quotes has a UID and a line end in it: perhaps a quote is missing`);
     }

@@ -1,4 +1,5 @@
 /** Tables (CSV) as spreadsheets and library systems save them. */
+import { count } from "./words.mjs";
 
 /** @typedef {{row: number, cells: string[]}} Row counted from 1, with that of the heads */
 /** @typedef {{name: string, separator: string, heads: string[], rows: Row[]}} Table */
@@ -8,8 +9,9 @@ const SEPARATORS = [",", ";", "\t", "|"];
 /** A first line for spreadsheets, which names the separator. */
 export const SAYS_SEPARATOR = /^"?sep=([^"\r\n])"?[ \t]*(?:\r\n?|\n)/i;
 export const LINE_END = /\r\n?|\n/;
-/** A cell in quotes; and cells in quotes wherever one may begin. */
-const QUOTED = /"((?:[^"]|"")*)"/y, IN_QUOTES = /(^|[,;\t|])"(?:[^"]|"")*"/g;
+/** Cells in quotes wherever one may begin; a cell in quotes; how many characters the first row has at most. */
+export const IN_QUOTES = /(^|[,;\t|])"[^"]*(?:""[^"]*)*"/g;
+const QUOTED = /"((?:[^"]|"")*)"/y, MOST_HEADS = 100_000;
 /** A UID, what may be among its digits, and before them. */
 const ANY_UID = /E0[0-9A-F]{14}/g, A_UID = /^E0[0-9A-F]{14}$/;
 const BETWEEN = /[\s:\-\u2010-\u2013]/g, BEFORE = /^'?(0x)?/i;
@@ -60,7 +62,9 @@ function decoded(name, bytes) {
  */
 export function readTable(name, bytes) {
   const whole = decoded(name, bytes), says = whole.match(SAYS_SEPARATOR), text = says ? whole.slice(says[0].length) : whole;
-  const [first] = text.split(LINE_END, 1), many = (/** @type {string} */ it) => first.replace(IN_QUOTES, "$1").split(it).length;
+  // a cell in quotes may have line ends, too
+  const [first] = text.slice(0, MOST_HEADS).replace(IN_QUOTES, "$1").split(LINE_END, 1);
+  const many = (/** @type {string} */ it) => first.split(it).length;
   const separator = says ? says[1] : SEPARATORS.reduce((best, it) => many(it) > many(best) ? it : best);
   const [heads = [], ...rows] = cellsIn(name, text, separator), names = heads.map((head) => head.trim());
   const twice = names.find((head, at) => head && names.indexOf(head) < at);
@@ -133,7 +137,9 @@ function fitting(name, columns, row, cells) {
   const uids = cells.length === columns ? 0 : new Set(cells.flatMap(uidsWithin)).size;
   const isJoined = cells.length < columns ? uids > 0 && !cells.some(isUid) : uids > 1;
   if (isJoined || cells.slice(columns).some((cell) => cell.trim())) {
-    throw new Wrong(`${name}, row ${row}: it has ${cells.length} cells, and row 1 has ${columns}`);
+    const lacks = cells.length < columns ? "a separator" : "a quote or a line end";
+    throw new Wrong(`${name}, row ${row}: it has ${count(cells.length, "cell")}, and row 1, with the names of the columns, ${columns}: ` +
+      `perhaps ${lacks} is missing`);
   }
   return [...cells, ...Array(Math.max(0, columns - cells.length)).fill("")].slice(0, columns);
 }

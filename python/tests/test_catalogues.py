@@ -26,8 +26,11 @@ class Catalogues(Command):
                             (b"U 010401000000A1E0\n", "refused at line 2 of {}: NotVicinity"),
                             (ALL + LIST_A, "refused at line 2 of {}: NotListed"),
                             (b"#\nX\n", "refused at line 3 of {}: UnknownEntry"),
-                            (b"F\n", "refused at line 2 of {}: UnknownEntry")):
-            listed = self.write("listed", log(lines))
+                            (b"F\n", "refused at line 2 of {}: UnknownEntry"),
+                            (b"", "refused at line 1 of {}: Header")):
+            # a list is one also if it begins with a byte order mark, which no log may have
+            mark = b"\xef\xbb\xbf" * text.endswith("Header")
+            listed = self.write("listed", mark + log(lines))
             status = 3 if text.startswith("refused") else int(not text.startswith("complete"))
             self.assertEqual(here("lines", listed, self.names[0]),
                              (f"{text.format(listed)}\n", "", status))
@@ -102,6 +105,19 @@ class Catalogues(Command):
         for head in ('"uid";"title, author"', '"uid";12" ruler'):
             name = self.catalogue(f'{head}\n"E0040100000000A1";"x"\n')
             self.assertEqual(here("lines", name, self.names[1]), ("complete 1\n", "", 0), head)
+
+    def test_names_of_columns_on_several_lines(self):
+        """As those of cells in which a line was broken: rows have another end."""
+        head, row = '"Sieb, Fach\n(OP 2)";uid', "3, 4;E0040100000000A1"
+        name = self.catalogue(f"{head}\r\n{row}\r\n")
+        self.assertEqual(here("csv", name, self.names[1]), (
+            f"{head};state;certain in;may be in\r\n{row};there;{self.names[1]};\r\n", "", 0))
+
+    def test_a_uid_with_a_line_end(self):
+        """As a scanner may write it."""
+        for end in "\r", "\n", "\r\n \n":
+            name = self.catalogue(f'uid,title\n"E0040100000000A1{end}",Emma\n')
+            self.assertEqual(here("lines", name, self.names[1]), ("complete 1\n", "", 0))
 
     def test_a_file_that_is_longer_than_any_log(self):
         """A log is read no further, but of a catalogue every row counts."""
@@ -246,10 +262,12 @@ class Catalogues(Command):
     def test_a_separator_that_was_lost(self):
         """The item would be one without a tag."""
         head = "note,title,uid\n,Kim,E0040100000000A1\n"
-        for row, cells in (("EmmaE0040100000000B2", 1), (",Emma e0:04:01:00:00:00:00:b2", 2)):
+        for row, cells in (("EmmaE0040100000000B2", "1 cell"),
+                           (",Emma e0:04:01:00:00:00:00:b2", "2 cells")):
             name = self.catalogue(f"{head}{row}\n")
             self.assertEqual(here("lines", name, self.names[1]),
-                             ("", f"{name}, row 3: it has {cells} cells, and row 1 has 3", 3))
+                             ("", f"{name}, row 3: it has {cells}, and row 1, with the names of "
+                              "the columns, 3: perhaps a separator is missing", 3))
         name = self.catalogue(f"{head}was E0040100000000B2,Emma,\n")
         self.assertEqual(here("lines", name, self.names[1]),
                          ("no tag in row 3\ncomplete 1\n", "", 0))
@@ -467,16 +485,20 @@ class Catalogues(Command):
                 (first + "\"x\ny\",b\ne0040100000000a1,c\n", None, 3, r"'x\\ny' isn't a UID"),
                 (first + "e0:04:01:00:00:00:00:a1,b\n", None, 3,
                  "E0040100000000A1 is also in row 2"),
-                (first + "E0040100000000B2,b,c\n", None, 3, "it has 3 cells"),
+                (first + "E0040100000000B2,b,c\n", None, 3, "it has 3 cells, and row 1, with the "
+                 "names of the columns, 2: perhaps a quote or a line end is missing"),
+                ("Books\n" + first, None, 2, "it has 2 cells, and row 1, with the names"),
                 *((f"uid,x,y\nE0040100000000A1,,{cell}E0040100000000B2,,\n", None, 2,
-                   "it has 5 cells, and row 1 has 3")
+                   "it has 5 cells, and row 1, with the names of the columns, 3")
                   for cell in ("", "North ", "http://x/E0040100000000A1")),
                 (first, "shelf", 1, "no column is named shelf"),
                 (first, "tag", 1, "no column is named tag; the columns are: uid, title;"),
                 ("tag,title\nE0040100000000A1,a\n", None, 1,
                  "no column is named uid; the columns are: tag, title; "
                  "name the one with the UIDs uid, or say by --column NAME which it is"),
-                ("", None, 1, "the columns are: none"),
+                *((blank, None, 1, "the columns are: none") for blank in ("", ";;\n")),
+                ('Title\tUID\n"Emma"\tE0040100000000A1\n"E" and\tE0040100000000B2\n', None, 3,
+                 "text follows a cell in quotes: perhaps a quote is missing"),
                 ("uid,title" + first.replace("uid,title\n", "") + "E0040100000000B2,b\n", None, 1,
                  "titleE0040100000000A1 names a column: perhaps a line end is missing"),
                 ("uid,e0:04:01:00:00:00:00:a1,a\n", None, 1, "a1 names a column"),
@@ -489,11 +511,11 @@ class Catalogues(Command):
                 (first.encode("utf-16-le"), None, 1, "utf-16-le is UTF-16"),
                 (b"uid,\xff\n", None, 1, "it isn't UTF-8"),
                 (first + "E0040100000000B2,\"b\nE0040100000000B3,c\n", None, 3,
-                 "unexpected end of data"),
-                (first + "E0040100000000B2,\"b\"c\n", None, 3, "expected after"),
+                 "a quote isn't closed"),
+                (first + "E0040100000000B2,\"b\"c\n", None, 3, "text follows a cell in quotes"),
                 (first + "E0040100000000B2," + "b" * 200_000, None, 3,
-                 "field larger than field limit"),
-                ("u" * 200_000 + "\n", None, 1, "field larger than field limit")):
+                 "a cell is too long: perhaps line ends are missing"),
+                ("u" * 200_000 + "\n", None, 1, "a cell is too long")):
             with self.assertRaisesRegex(Wrong, rf"\Aa\.csv, row {row}: .*{why}.*\Z", msg=content):
                 text = content if isinstance(content, bytes) else content.encode()
                 catalogue("a.csv", text, How(column))

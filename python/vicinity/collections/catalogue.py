@@ -2,6 +2,7 @@
 or a CSV file with a column of UIDs, or of something by which another file has the UIDs."""
 from __future__ import annotations
 
+import codecs
 from typing import Callable, Collection, NamedTuple, Optional, Sequence
 
 from .._answers import ListFault
@@ -78,7 +79,7 @@ class Catalogue(NamedTuple):
 
 def catalogue(name: str, text: bytes, how: How = How()) -> Catalogue:
     """The catalogue in a file. Raises Wrong."""
-    if text.startswith(b"vicinity-log"):
+    if text.removeprefix(codecs.BOM_UTF8).startswith(b"vicinity-log"):
         if how._replace(encoding=None) != How():
             raise Wrong(f"{shown(name)} is a list, which has no columns")
         try:

@@ -15,8 +15,8 @@ from ..frames import BETWEEN_DIGITS, parse_uid
 
 #: Of these the one that makes the most columns of the first row separates the cells.
 SEPARATORS = ",;\t|"
-#: Cells in quotes, wherever one may begin.
-IN_QUOTES = re.compile('(^|[,;\t|])"(?:[^"]|"")*"')
+#: Cells in quotes, wherever one may begin; how many characters the first row has at most.
+IN_QUOTES, MOST_HEADS = re.compile('(^|[,;\t|])"[^"]*(?:""[^"]*)*"'), 100_000
 UID = re.compile("E0[0-9A-F]{14}")
 #: Zero bytes; and line ends of another encoding in UTF-16, which are no characters.
 DAMAGED = re.compile("[\0\u0a00\u0a0d]")
@@ -29,6 +29,10 @@ WITHOUT_MARK = {"utf-8-sig": "utf-8", "utf-16": "utf-16-le", "utf-32": "utf-32-l
 SPREADSHEETS = b"PK\x03\x04", b"\xd0\xcf\x11\xe0"
 #: A first line for spreadsheets, which names the separator.
 SAYS_SEPARATOR = re.compile('"?sep=([^"\r\n])"?[ \t]*(\r\n?|\n)', re.IGNORECASE)
+#: What csv says of a row that it can't read, and what is told.
+UNREADABLE = {"expected after": "text follows a cell in quotes: perhaps a quote is missing",
+              "unexpected end": "a quote isn't closed",
+              "field larger": "a cell is too long: perhaps line ends are missing"}
 OTHER_ENCODINGS = ("as --encoding names it: windows-1252 is what many spreadsheets save, "
                    "utf-16-le is UTF-16 without its first two bytes")
 
@@ -81,7 +85,7 @@ class Table(NamedTuple):
     def within(self, cell: str) -> list[str]:
         """The cells of the lines in a cell, if it has several: those of rows that were swallowed,
         where a quote isn't closed."""
-        lines = cell.splitlines()
+        lines = cell.rstrip().splitlines()
         return [it.strip() for line in lines for it in line.split(self.form.separator)
                 if len(lines) > 1]
 
@@ -94,7 +98,7 @@ class Table(NamedTuple):
                   if head.casefold() == name.strip().casefold()]
         if len(places) != 1:
             number = "no column is" if not places else "two columns are"
-            heads = ", ".join(map(shown, self.heads)) or "none"
+            heads = ", ".join(map(shown, filter(None, self.heads))) or "none"
             self.wrong(1, f"{number} named {shown(name)}; the columns are: {heads}; {what}")
         return places[0]
 
@@ -107,16 +111,16 @@ def read_table(name: str, text: bytes, encoding: Optional[str]) -> Table:
     says = SAYS_SEPARATOR.match(content)
     first = says.group() if says else ""
     content = content[len(first):]
-    ended = _lines(content).readline()
+    # a cell in quotes may have line ends, too
+    ended = _lines(IN_QUOTES.sub(r"\1", content[:MOST_HEADS])).readline()
     line = ended.rstrip("\r\n")
-    separator = says.group(1) if says else max(SEPARATORS, key=IN_QUOTES.sub(r"\1", line).count)
-    is_quoted = line == separator.join('"{}"'.format(cell.replace('"', '""'))
-                                       for cell in _cells(line, separator))
-    form = form._replace(first=first, separator=separator, line_end=ended[len(line):] or "\n",
-                         quoting=csv.QUOTE_ALL if is_quoted else csv.QUOTE_MINIMAL)
-    table = Table(name, form, [], [], set())
-    rows = _rows(table, content)
-    table.heads.extend(head.strip() for head in next(rows, []))
+    separator = says.group(1) if says else max(SEPARATORS, key=line.count)
+    form = form._replace(first=first, separator=separator, line_end=ended[len(line):] or "\n")
+    rows = _rows(name, separator, content)
+    heads: list[str] = next(rows, [])
+    if content.startswith(separator.join('"{}"'.format(it.replace('"', '""')) for it in heads)):
+        form = form._replace(quoting=csv.QUOTE_ALL)
+    table = Table(name, form, [head.strip() for head in heads], [], set())
     twice = [it for it, times in Counter(table.heads).items() if it and times > 1]
     if twice:
         table.wrong(1, f"two columns are named {shown(twice[0])}")
@@ -127,7 +131,9 @@ def read_table(name: str, text: bytes, encoding: Optional[str]) -> Table:
         uids = set() if len(row) == width else uids_in(*row)
         is_joined = len(uids) > 1 if row[width:] else bool(uids) and not any(map(is_uid, row))
         if is_joined or any(map(str.strip, row[width:])):
-            table.wrong(number, f"it has {len(row)} cells, and row 1 has {width}")
+            lacks = "a separator" if len(row) < width else "a quote or a line end"
+            table.wrong(number, f"it has {len(row)} cell{'s' * (len(row) != 1)}, and row 1, with "
+                        f"the names of the columns, {width}: perhaps {lacks} is missing")
         if any(cell.strip() for cell in row):
             table.rows.append((number, (row + [""] * width)[:width]))
             lengths[number] = len(row)
@@ -182,18 +188,11 @@ def _lines(content: str) -> io.StringIO:
     return io.StringIO(content, newline="")
 
 
-def _cells(line: str, separator: str) -> list[str]:
-    """The cells of a first line; none if it isn't one, which its row says."""
-    with suppress(csv.Error):
-        return next(csv.reader([line], delimiter=separator), [])
-    return []
-
-
-def _rows(table: Table, content: str) -> Iterator[list[str]]:
-    number = 0
+def _rows(name: str, separator: str, content: str) -> Iterator[list[str]]:
+    rows, number = csv.reader(_lines(content), delimiter=separator, strict=True), 0
     try:
-        for number, row in enumerate(csv.reader(_lines(content), delimiter=table.form.separator,
-                                                strict=True), 1):
+        for number, row in enumerate(rows, 1):
             yield row
     except csv.Error as error:
-        table.wrong(number + 1, str(error))
+        why = next((it for said, it in UNREADABLE.items() if said in str(error)), str(error))
+        raise Wrong(f"{shown(name)}, row {number + 1}: {why}") from None
