@@ -148,6 +148,15 @@ def test_a_result_of_which_a_state_is_not_its_own_is_refused(drop, state):
     assert said["error"].startswith("found.csv, row 3: of the columns state, certain in and may")
 
 
+@pytest.mark.parametrize("heads", ["Status,sicher in,vielleicht in", "Status"])
+def test_a_result_of_which_columns_were_renamed_is_refused(drop, heads):
+    """As tidied, or put into another language: what was unexpected would be expected."""
+    more = ",both.log," * (heads != "Status")
+    table = f"uid,{heads}\n{UID_A},there{more}\n{UID_B},unexpected{more}\n"
+    said = drop({"both.log": BOTH, "found.csv": table})
+    assert said["error"].startswith("found.csv: of the columns state, certain in and may be in")
+
+
 def test_a_result_of_which_cells_were_moved_is_refused(drop):
     """What was unexpected would be expected."""
     table = f"uid,title,state,certain in,may be in\n{UID_A},,there,a,\n{UID_B},unexpected,a,\n"

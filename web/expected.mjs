@@ -67,14 +67,15 @@ function found(heads) {
 }
 
 /**
- * A table without what an earlier run has added. One that lacks a part of that is refused: its unexpected tags would be expected.
+ * A table without what an earlier run has added. One that lacks a part of that, or has it under another name, is refused: its unexpected
+ * tags would be expected.
  * @param {import("./tables.mjs").Table} table
  */
 function withoutAdded(table) {
   const added = ADDED.map((name) => lastAdded(table.heads, name)), [state, where] = added;
   if (added.includes(-1)) {
     const isCut = table.heads.some((head) => ADDED.indexOf(head.toLowerCase()) > 0) ||
-      table.rows.some(({ cells }) => cells.some((cell, at) => cell.trim() === UNEXPECTED && isAdded(table.heads[at], ADDED[0])));
+      table.rows.some(({ cells }) => cells.some((cell) => cell.trim() === UNEXPECTED));
     if (isCut) throw new Wrong(`${table.name}: ${CUT}`);
     return table;
   }

@@ -205,6 +205,13 @@ class Catalogues(Command):
             self.assertIn(f"row {3 if left == (2,) else 1}: of the columns state", errors)
         name = self.catalogue("uid,state\nE0040100000000A1,worn\n")
         self.assertEqual(here("lines", name, self.names[1]), ("complete 1\n", "", 0))
+        # as tidied, or put into another language
+        for heads, left in (("Status,in,Rest", 5), ("Status", 3)):
+            renamed = [[*rows[0][:2], *heads.split(",")], *(row[:left] for row in rows[1:])]
+            name = self.catalogue("".join(f"{','.join(row)}\n" for row in renamed))
+            said, errors, status = here("lines", name, self.both())
+            self.assertEqual((said, status), ("", 3), heads)
+            self.assertIn("row 3: of the columns state", errors)
 
     def test_a_result_that_lacks_its_state_beside_the_own_one_is_refused(self):
         """So is one of which a state was changed, as by a spreadsheet, or cells were moved."""

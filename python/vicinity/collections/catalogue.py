@@ -134,13 +134,12 @@ def _without_added(table: Table) -> tuple[Table, bool]:
 
 
 def _refuse_cut(table: Table) -> None:
-    """Refuses what an earlier run has written if not all of its columns are there:
-    its unexpected tags would be expected."""
-    states = [at for at, head in enumerate(table.heads) if twins(head, ADDED[0]) >= 0]
+    """Refuses what an earlier run has written if not all of its columns are there, or are named
+    as they were: its unexpected tags would be expected."""
     if any(head.casefold() in ADDED[1:] for head in table.heads):
         table.wrong(1, CUT)
     for row, cells in table.rows:
-        if any(cells[at].strip() == UNEXPECTED for at in states):
+        if UNEXPECTED in map(str.strip, cells):
             table.wrong(row, CUT)
 
 
