@@ -11,7 +11,7 @@ export const SAYS_SEPARATOR = /^"?sep=([^"\r\n])"?[ \t]*(?:\r\n?|\n)/i;
 export const LINE_END = /\r\n?|\n/;
 /** Cells in quotes wherever one may begin; a cell in quotes; how many characters the first row has at most. */
 export const IN_QUOTES = /(^|[,;\t|])"[^"]*(?:""[^"]*)*"/g;
-const QUOTED = /"((?:[^"]|"")*)"/y, MOST_HEADS = 100_000;
+const QUOTED = /"((?:[^"]|"")*)"/y, MOST_FIRST = 100_000;
 /** A UID, what may be among its digits, and before them. */
 const ANY_UID = /E0[0-9A-F]{14}/g, A_UID = /^E0[0-9A-F]{14}$/;
 const BETWEEN = /[\s:\-\u2010-\u2013]/g, BEFORE = /^'?(0x)?/i;
@@ -63,7 +63,7 @@ function decoded(name, bytes) {
 export function readTable(name, bytes) {
   const whole = decoded(name, bytes), says = whole.match(SAYS_SEPARATOR), text = says ? whole.slice(says[0].length) : whole;
   // a cell in quotes may have line ends, too
-  const [first] = text.slice(0, MOST_HEADS).replace(IN_QUOTES, "$1").split(LINE_END, 1);
+  const [first] = text.slice(0, MOST_FIRST).replace(IN_QUOTES, "$1").split(LINE_END, 1);
   const many = (/** @type {string} */ it) => first.split(it).length;
   const separator = says ? says[1] : SEPARATORS.reduce((best, it) => many(it) > many(best) ? it : best);
   const [heads = [], ...rows] = cellsIn(name, text, separator), names = heads.map((head) => head.trim());

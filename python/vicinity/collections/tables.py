@@ -16,7 +16,7 @@ from ..frames import BETWEEN_DIGITS, parse_uid
 #: Of these the one that makes the most columns of the first row separates the cells.
 SEPARATORS = ",;\t|"
 #: Cells in quotes, wherever one may begin; how many characters the first row has at most.
-IN_QUOTES, MOST_HEADS = re.compile('(^|[,;\t|])"[^"]*(?:""[^"]*)*"'), 100_000
+IN_QUOTES, MOST_FIRST = re.compile('(^|[,;\t|])"[^"]*(?:""[^"]*)*"'), 100_000
 UID = re.compile("E0[0-9A-F]{14}")
 #: Zero bytes; and line ends of another encoding in UTF-16, which are no characters.
 DAMAGED = re.compile("[\0\u0a00\u0a0d]")
@@ -112,7 +112,7 @@ def read_table(name: str, text: bytes, encoding: Optional[str]) -> Table:
     first = says.group() if says else ""
     content = content[len(first):]
     # a cell in quotes may have line ends, too
-    ended = _lines(IN_QUOTES.sub(r"\1", content[:MOST_HEADS])).readline()
+    ended = _lines(IN_QUOTES.sub(r"\1", content[:MOST_FIRST])).readline()
     line = ended.rstrip("\r\n")
     separator = says.group(1) if says else max(SEPARATORS, key=line.count)
     form = form._replace(first=first, separator=separator, line_end=ended[len(line):] or "\n")
