@@ -400,6 +400,7 @@ def test_a_uid_may_have_a_line_end(drop, end):
 
 @pytest.mark.parametrize(("cell", "why"), [
     ("A1000000000104E0", "; its bytes seem to be in the opposite order"),
+    (f"{UID_A}; {UID_B}", "; each tag has a row of its own"),
     (f"{UID_A}\u200b", ""), ("x\u202ey", "")])
 def test_what_is_no_uid_is_shown(drop, cell, why):
     shown = cell.replace("\u200b", "\u2039200B\u203a").replace("\u202e", "\u2039202E\u203a")

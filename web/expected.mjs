@@ -12,6 +12,7 @@ const OF_A_LIST = "A list has the header 'vicinity-log 1', and then for each UID
   "cut off, copy it again";
 const GLUED = "perhaps a line end is missing behind the names of the columns";
 const MOVED = "perhaps cells are missing, or too many";
+const SEVERAL = "; each tag has a row of its own";
 /** The digits of a UID from the last byte to the first. */
 const TURNED = /^[0-9A-F]{14}E0$/;
 /** How many columns are named, where none has the UIDs, by how many characters at most. */
@@ -117,8 +118,8 @@ function uidOfRow(name, row, cells, at) {
   const cell = cells[at], moved = cell.trim() ? undefined : cells.find(isUid);
   if (moved !== undefined) throw new Wrong(`${name}, row ${row}: ${printable(moved)} isn't in the column uid, which is blank: ${MOVED}`);
   if (!cell.trim()) return null;
-  const turned = TURNED.test(digitsOf(cell)) ? "; its bytes seem to be in the opposite order" : "";
-  if (!isUid(cell)) throw new Wrong(`${name}, row ${row}: ${printable(cell)} isn't a UID: 16 hex digits that begin with E0${turned}`);
+  const why = TURNED.test(digitsOf(cell)) ? "; its bytes seem to be in the opposite order" : uidsWithin(cell).length > 1 ? SEVERAL : "";
+  if (!isUid(cell)) throw new Wrong(`${name}, row ${row}: ${printable(cell)} isn't a UID: 16 hex digits that begin with E0${why}`);
   return BigInt(`0x${digitsOf(cell)}`);
 }
 

@@ -487,6 +487,9 @@ class Catalogues(Command):
                 (first + "E00401000000B2,b\n", None, 3, "'E00401000000B2' isn't a UID"),
                 (first + "x\n" * 3, None, 3, "'x' isn't a UID"),
                 (first + "\n\nA1000000000104E0,b\n", None, 5, "the opposite order"),
+                *((first + f"E0040100000000B2{between}E0040100000000C3,b\n", None, 3,
+                   "16 hex digits that begin with E0; each tag has a row of its own")
+                  for between in ("; ", " ", "/")),
                 (first + "E0040100000000AG,b", None, 3, "isn't a UID"),
                 (first + "E0040100000000\ufb00,b", None, 3, "isn't a UID"),
                 (first + "\"x\ny\",b\ne0040100000000a1,c\n", None, 3, r"'x\\ny' isn't a UID"),

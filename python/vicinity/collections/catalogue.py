@@ -28,6 +28,7 @@ SWALLOWED = "a cell in quotes has {} and a line end in it: perhaps a quote is mi
 GLUED = "{} names a column: perhaps a line end is missing behind the names of the columns"
 MOVED = "{} isn't in the column {}, which is blank: perhaps cells are missing, or too many"
 JOINED = "it has more cells than others, and {} is a key of {}: perhaps a line end is missing"
+SEVERAL = "; each tag has a row of its own"
 NAMES_IT = "name the one with the UIDs uid, or say by --column NAME which it is"
 NAMES_KEY = "--column NAME names the one by which --tags has the UIDs"
 
@@ -244,4 +245,4 @@ def _uid(table: Table, row: int, cells: Sequence[str], at: int) -> Optional[int]
     try:
         return parse_uid(cells[at])
     except ValueError as error:
-        table.wrong(row, str(error))
+        table.wrong(row, f"{error}{SEVERAL * (len(uids_in(cells[at])) > 1)}")
