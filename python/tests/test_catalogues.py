@@ -353,6 +353,18 @@ class Catalogues(Command):
             self.assertEqual(here("lines", name, self.names[1], options=["--tags", tags]),
                              ("", f"{name}, row {row}: it has more cells than others, and x18 "
                               f"is a key of {tags}: perhaps a line end is missing", 3))
+        # the separator before x18 is lost, and with it the item
+        for content in "title,barcode\na,x17\nbX18\n", "title,barcode,shelf\na,x17,A\nb x18,A\n":
+            name = self.catalogue(content)
+            said = here("lines", name, self.names[1], options=["--tags", tags])
+            self.assertEqual((said[0], said[2]), ("", 3))
+            self.assertRegex(said[1].casefold(), "row 3: it has fewer cells than others, and x18 "
+                             "is a key of .*: perhaps a separator is missing")
+        for content, rows in (("title,barcode,shelf\nas x17,x18\nb,X17,A\nc\n", [4]),
+                              ("title,barcode,shelf\nas x18,\nb,x17\nc,X18\n", [2])):
+            said = here("lines", self.catalogue(content), self.both(), options=["--tags", tags])
+            self.assertEqual(said, ("".join(f"no tag in row {row}\n" for row in rows)
+                                    + "complete 2\n", "", 0))
         # each row has one more
         name = self.catalogue("barcode,title\nx17,as x18,\nx18,,\n")
         self.assertEqual(here("lines", name, self.both(), options=["--tags", tags]),

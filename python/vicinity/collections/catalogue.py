@@ -27,7 +27,7 @@ SWALLOWED = "a cell in quotes has {} and a line end in it: perhaps a quote is mi
 #: What a UID in the name of a column tells: the first item would be lost.
 GLUED = "{} names a column: perhaps a line end is missing behind the names of the columns"
 MOVED = "{} isn't in the column {}, which is blank: perhaps cells are missing, or too many"
-JOINED = "it has more cells than others, and {} is a key of {}: perhaps a line end is missing"
+JOINED = "it has {} cells than others, and {} is a key of {}: perhaps {} is missing"
 SEVERAL = "; each tag has a row of its own"
 NAMES_IT = "name the one with the UIDs uid, or say by --column NAME which it is"
 NAMES_KEY = "--column NAME names the one by which --tags has the UIDs"
@@ -224,15 +224,20 @@ def _tagged(table: Table, is_ours: bool, how: How, tags: Table) -> Catalogue:
 
 
 def _refuse_joined(table: Table, key_at: int, keys: Collection[str], name: str) -> None:
-    """Refuses a row with too many cells in which another cell than that of its key ends in one:
-    a row that a lost line end has joined to it would be lost."""
-    longest = max(map(len, keys), default=0)
-    for row, cells in (it for it in table.rows if it[0] in table.longer):
+    """Refuses a row in which another cell than that of its key ends in one, if it has too many
+    cells, or too few and no key: a row that a lost line end has joined to it would be lost,
+    or its own key that a lost separator has joined to a cell."""
+    longest, uneven = max(map(len, keys), default=0), table.shorter | table.longer
+    for row, cells in (it for it in table.rows if it[0] in uneven):
+        is_short = row in table.shorter
+        if is_short and cells[key_at].strip().casefold() in keys:
+            continue
         ends = [cell.strip()[-longest:] for cell in cells[:key_at] + cells[key_at + 1:]]
         key = next((end[at:] for end in ends for at in range(len(end))
                     if end[at:].casefold() in keys), None)
         if key is not None:
-            table.wrong(row, JOINED.format(shown(key), shown(name)))
+            amount, lacks = ("fewer", "a separator") if is_short else ("more", "a line end")
+            table.wrong(row, JOINED.format(amount, shown(key), shown(name), lacks))
 
 
 def _uid(table: Table, row: int, cells: Sequence[str], at: int) -> Optional[int]:

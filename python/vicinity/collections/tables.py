@@ -71,12 +71,14 @@ class Form(NamedTuple):
 class Table(NamedTuple):
     """The rows of a file with anything in them, each with its number:
     counted from 1, as in a spreadsheet, where row 1 has the names of the columns;
-    and the numbers of those that have more cells than these, and than the shortest row."""
+    and the numbers of those that have fewer cells than these, and than the longest row,
+    or more than these, and than the shortest."""
 
     name: str
     form: Form
     heads: list[str]
     rows: list[tuple[int, list[str]]]
+    shorter: set[int]
     longer: set[int]
 
     def wrong(self, row: int, why: str) -> NoReturn:
@@ -120,7 +122,7 @@ def read_table(name: str, text: bytes, encoding: Optional[str]) -> Table:
     heads: list[str] = next(rows, [])
     if content.startswith(separator.join('"{}"'.format(it.replace('"', '""')) for it in heads)):
         form = form._replace(quoting=csv.QUOTE_ALL)
-    table = Table(name, form, [head.strip() for head in heads], [], set())
+    table = Table(name, form, [head.strip() for head in heads], [], set(), set())
     twice = [it for it, times in Counter(table.heads).items() if it and times > 1]
     if twice:
         table.wrong(1, f"two columns are named {shown(twice[0])}")
@@ -139,8 +141,12 @@ def read_table(name: str, text: bytes, encoding: Optional[str]) -> Table:
             lengths[number] = len(row)
     if lengths.get(number, width) < width and not content.endswith(("\n", "\r")):
         table.wrong(number, "the file ends within it: perhaps it was cut off")
-    usual = max(width, min(lengths.values(), default=0))
-    table.longer.update(number for number, length in lengths.items() if length > usual)
+    least, most = min(lengths.values(), default=0), max(lengths.values(), default=0)
+    for number, length in lengths.items():
+        if length < min(width, most):
+            table.shorter.add(number)
+        elif length > max(width, least):
+            table.longer.add(number)
     return table
 
 
