@@ -105,9 +105,8 @@ impl Reconciliation {
             → IsJoined expected logs self.old → IsJoined expected logs self.new) }
     {
         let alloc = self.alloc;
-        let certain = facts.certain.as_slice();
-        let told = lines_of_certain(alloc, lines, &facts.met, certain)?;
-        let keys = SortedKeys::of(alloc, certain)?;
+        let told = lines_of_certain(alloc, lines, &facts.met, &facts.certain)?;
+        let keys = SortedKeys::of(alloc, facts.certain.as_slice())?;
         let open = facts.open.besides(alloc, &keys)?;
         let log = self.left.len();
         self.left.push(open)?;

@@ -1,11 +1,11 @@
 -- Lines that are noted for UIDs, one after another.
-use Rattle.vic_report.proofs.Words.{◌≡◌, ℕ, true, List, Some, sym, ap, subst, ◌∙◌, arith, cond, inl, inr, cases_eq, false≢true, nat_cmp, ◌+◌, ◌<◌, ◌≤◌, length, take, get_or, get_or_default, slice_get, eqb-true, has, cases_lt, hears, Answering, Entry, LogLine, entries, ShowsCertain}
-use Rattle.std.proofs.Common.{is_some, nat_eq, ◌⊎◌}
+use Rattle.vic_report.proofs.Words.{◌≡◌, ℕ, true, List, Some, None, sym, ap, subst, ◌∙◌, arith, inl, inr, cases_eq, false≢true, ◌+◌, ◌<◌, ◌≤◌, length, take, get_or, get_or_default, slice_get, eqb-true, has, cases_lt, AllPairs-from_increasing, hears, Answering, Entry, LogLine, entries, ShowsCertain}
+use Rattle.std.proofs.Common.{nat_eq, ◌⊎◌, Option, is_some, set}
+use Rattle.std.proofs.lemmas.List.{get_or-set_other, get_or-set_same}
+use Rattle.std.specs.List.Sorted.{IsStrictlyIncreasing}
 use Rattle.std.proofs.lemmas.Bool.{or_cases}
 use Rattle.std.proofs.lemmas.Option.{slice_get_past}
 use Rattle.std.proofs.lemmas.List.Folds.{list_any_more}
-use Rattle.std.proofs.lemmas.Grind.{common_steps}
-use Rattle.std.specs.BTreeMap as map
 use Rattle.vic_report.specs.inner.NotedLines.{HasNoted, is_noted}
 use Rattle.vic_verdict.specs.Needs.{ForcesThere, IsMet, SomeForces}
 use Rattle.vic_verdict.specs.Possible.{IsCertainUid, IsPossible}
@@ -14,36 +14,48 @@ use Rattle.vic_verdict.proofs.Meeting.{forced_iff}
 use Rattle.vic_verdict.specs.Verdict.{IsHeard}
 use Rattle.vic_verdict.specs.declared.facts.Met.{Met}
 
-pub both_noted : (lines : List LogLine) (a b c : map.BTreeMap ℕ ℕ) (P Q R : ℕ → Type 0) → ((u : ℕ) → R u → P u ⊎ Q u) → HasNoted lines a b P → HasNoted lines b c Q → HasNoted lines a c R
-both_noted lines a b c P Q R split first next = record {
+pub both_noted : (lines : List LogLine) (us : List ℕ) (a b c : List (Option ℕ)) (P Q R : ℕ → Type 0) → ((u : ℕ) → R u → P u ⊎ Q u) → HasNoted lines us a b P → HasNoted lines us b c Q → HasNoted lines us a c R
+both_noted lines us a b c P Q R split first next = record {
   shown = λ h. next.shown (first.shown h);
-  kept = λ u h. next.kept u (first.kept u h);
-  more = λ u h. elim (split u h) [ inl p ↦ next.kept u (first.more u p) | inr q ↦ next.more u q ];
+  kept = λ i h. next.kept i (first.kept i h);
+  more = λ i lt h. elim (split (get_or us i 0) h) [ inl p ↦ next.kept i (first.more i lt p) | inr q ↦ next.more i lt q ];
 }
 
 -- of more than is asked for
-pub noted_as : (lines : List LogLine) (old new : map.BTreeMap ℕ ℕ) (P Q : ℕ → Type 0) → ((u : ℕ) → Q u → P u) → HasNoted lines old new P → HasNoted lines old new Q
-noted_as lines old new P Q less h = record { shown = h.shown; kept = h.kept; more = λ u q. h.more u (less u q) }
+pub noted_as : (lines : List LogLine) (us : List ℕ) (old new : List (Option ℕ)) (P Q : ℕ → Type 0) → ((u : ℕ) → Q u → P u) → HasNoted lines us old new P → HasNoted lines us old new Q
+noted_as lines us old new P Q less h = record { shown = h.shown; kept = h.kept; more = λ i lt q. h.more i lt (less (get_or us i 0) q) }
 
-some_is : {A : Type 0} (x y : A) → Some x ≡ Some y → x ≡ y
-some_is x y e = cc
+-- nothing is noted, where nothing has to be
+pub as_noted : (lines : List LogLine) (us : List ℕ) (noted : List (Option ℕ)) (P : ℕ → Type 0) → ((i : ℕ) → i < length us → P (get_or us i 0) → is_noted noted i ≡ true) → HasNoted lines us noted noted P
+as_noted lines us noted P there = record { shown = λ h. h; kept = λ i h. h; more = there }
 
--- a UID that has no line gets one
-pub noted_next : (lines : List LogLine) (old new : map.BTreeMap ℕ ℕ) (uid line : ℕ) → ShowsCertain lines line uid
-    → ((u : ℕ) → map.get nat_cmp new u ≡ cond (map.is_at (nat_cmp uid) u) (Some line) (map.get nat_cmp old u)) → HasNoted lines old new (λ u. u ≡ uid)
-noted_next lines old new uid line shows is = record {
-  shown = λ h u n e. elim (at u) [
-    | inl w ↦ let same : n ≡ line = some_is n line (sym e ∙ w.1) in subst (λ v. ShowsCertain lines n v) (sym w.0) (subst (λ m. ShowsCertain lines m uid) (sym same) shows)
-    | inr w ↦ h u n (sym w ∙ e)
-  ];
-  kept = λ u h. elim (at u) [ inl w ↦ ap is_some w.1 | inr w ↦ ap is_some w ∙ h ];
-  more = λ u same. elim (at u) [ inl w ↦ ap is_some w.1 | inr w ↦ let here = is u in grind (arith, common_steps, here, same) ];
-} where
-  at : (u : ℕ) → ((u ≡ uid) × (map.get nat_cmp new u ≡ Some line)) ⊎ (map.get nat_cmp new u ≡ map.get nat_cmp old u)
-  at u = elim (cases_eq u uid) [
-    | inl same ↦ let here = is u in inl (same, grind (arith, common_steps, here, same))
-    | inr other ↦ let here = is u in inr (grind (arith, common_steps, here, other))
+-- a UID has one place among rising ones
+pub one_place : (us : List ℕ) (i j u : ℕ) → IsStrictlyIncreasing us → i < length us → j < length us → get_or us i 0 ≡ u → get_or us j 0 ≡ u → j ≡ i
+one_place us i j u up i_lt j_lt at_i at_j = elim (cases_lt i j) [
+  | inl less ↦ let below = AllPairs-from_increasing us up i j 0 less j_lt in absurd (omega (arith, below, at_i, at_j))
+  | inr more ↦ elim (cases_lt j i) [
+    | inl less ↦ let below = AllPairs-from_increasing us up j i 0 less i_lt in absurd (omega (arith, below, at_i, at_j))
+    | inr same ↦ omega (arith, more, same)
   ]
+]
+
+pub noted_at : (lines : List LogLine) (us : List ℕ) (noted : List (Option ℕ)) (i uid line : ℕ) → IsStrictlyIncreasing us → i < length us → length noted ≡ length us → get_or us i 0 ≡ uid → ShowsCertain lines line uid → HasNoted lines us noted (set noted i (Some line)) (λ u. u ≡ uid)
+noted_at lines us noted i uid line up lt size here shows = record {
+  shown = λ h j n e. elim (cases_eq j i) [
+    | inl same ↦
+        let told : Some line ≡ Some n = sym now ∙ subst (λ k. get_or (set noted i (Some line)) k None ≡ Some n) same e in
+        let is : line ≡ n = cc in
+        subst (ShowsCertain lines n) (sym (ap (λ k. get_or us k 0) same ∙ here)) (subst (λ m. ShowsCertain lines m uid) is shows)
+    | inr other ↦ h j n (sym (get_or-set_other noted i j (Some line) None other) ∙ e)
+  ];
+  kept = λ j e. elim (cases_eq j i) [ inl same ↦ noted_here j same | inr other ↦ ap is_some (get_or-set_other noted i j (Some line) None other) ∙ e ];
+  more = λ j below same. noted_here j (one_place us i j uid up lt below here same);
+} where
+  now : get_or (set noted i (Some line)) i None ≡ Some line
+  now = get_or-set_same noted i (Some line) None (omega (arith, lt, size))
+
+  noted_here : (j : ℕ) → j ≡ i → is_noted (set noted i (Some line)) j ≡ true
+  noted_here j same = ap (λ k. is_some (get_or (set noted i (Some line)) k None)) same ∙ ap is_some now
 
 -- ---- for whom a line is noted
 
@@ -87,8 +99,8 @@ member_split us i u own below is h = elim (or_cases _ _ (sym (list_any_more (nat
 
 -- ---- replies, and then unread slots
 
-pub met_noted : (lines : List LogLine) (met : Met) (a b c : map.BTreeMap ℕ ℕ) (u : ℕ) → IsPossible (entries lines) → IsMet (entries lines) met → HasNoted lines a b (IsHeard (entries lines)) → HasNoted lines b c (SomeForces met.unread.items) → IsCertainUid (entries lines) u → is_noted c u ≡ true
-met_noted lines met a b c u possible is replies unread must = elim ((forced_iff (entries lines) met u is).0 ((IsCertainUid-iff (entries lines) u possible).0 must)) [
-  | inl heard ↦ unread.kept u (replies.more u ((is.heard u).0 heard))
-  | inr exact ↦ unread.more u exact
+pub met_noted : (lines : List LogLine) (us : List ℕ) (met : Met) (a b c : List (Option ℕ)) (i : ℕ) → IsPossible (entries lines) → IsMet (entries lines) met → HasNoted lines us a b (IsHeard (entries lines)) → HasNoted lines us b c (SomeForces met.unread.items) → i < length us → IsCertainUid (entries lines) (get_or us i 0) → is_noted c i ≡ true
+met_noted lines us met a b c i possible is replies unread lt must = elim ((forced_iff (entries lines) met (get_or us i 0) is).0 ((IsCertainUid-iff (entries lines) (get_or us i 0) possible).0 must)) [
+  | inl heard ↦ unread.kept i (replies.more i lt ((is.heard (get_or us i 0)).0 heard))
+  | inr exact ↦ unread.more i lt exact
 ]

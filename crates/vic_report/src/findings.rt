@@ -95,7 +95,7 @@ pub(crate) fn find_findings(
     let differences = compare(alloc, open, &certain, &listed)?;
     Ok(Findings {
         absent: lines_of_absent(alloc, log, differences.absent.as_slice())?,
-        unlisted: lines_of_certain(alloc, lines, &met, differences.unlisted.as_slice())?,
+        unlisted: lines_of_certain(alloc, lines, &met, &differences.unlisted)?,
         unsettled: left_to_ask(differences.unsettled, masks),
         doubtful: differences.doubtful.into_vec(),
     })

@@ -1,7 +1,7 @@
-use Rattle.vic_report.proofs.Words.{entries}
+use Rattle.vic_report.proofs.Words.{entries, IsStrictlyIncreasing}
 use Rattle.vic_report.proofs.NotedLines.{IsHeardBefore}
 use Rattle.vic_report.specs.inner.NotedLines.{HasNoted}
 use Rattle.vic_report.proofs.certain_lines.note_replies.Given as goal
 
 abbrev pub invariant-loop-line : goal.invariant-loop-line
-invariant-loop-line l = HasNoted l.lines l.initial.noted l.noted (IsHeardBefore (entries l.lines) l.line-index)
+invariant-loop-line l = IsStrictlyIncreasing l.uids → HasNoted l.lines l.uids l.initial.noted l.noted (IsHeardBefore (entries l.lines) l.line-index)

@@ -15,7 +15,7 @@ lines_of_certain-requires c = record {
   possible = rw c.lines-lines.ensures.value c.requires.told.possible;
   met = rw c.lines-lines.ensures.value c.requires.is_met;
   certain = rw c.lines-lines.ensures.value (λ u h.
-      let w = (c.in_ok-differences.ensures.unlisted.members u).0 (subst (λ xs. has xs u ≡ true) c.as_slice-3.ensures.value h) in
+      let w = (c.in_ok-differences.ensures.unlisted.members u).0 h in
       ((log_facts _ _ _ c.requires.told).must.members u).0 w.0);
 }
 
@@ -40,7 +40,7 @@ returns c =
     record {
       absent = subst (IsListOf (IsAbsent es)) (sym (c.in_ok-lines_of_absent.ensures.uids ∙ c.as_slice-2.ensures.value)) all.absent;
       absent_shown = c.in_ok-lines_of_absent.ensures.shown;
-      unlisted = subst (IsListOf (IsUnlisted es)) (sym (c.in_ok-lines_of_certain.ensures.uids ∙ c.as_slice-3.ensures.value)) all.unlisted;
+      unlisted = subst (IsListOf (IsUnlisted es)) (sym c.in_ok-lines_of_certain.ensures.uids) all.unlisted;
       unlisted_shown = rw c.lines-lines.ensures.value at c.in_ok-lines_of_certain.ensures.shown;
       unsettled = subst (λ o. MatchOption o (NoSuch (IsLeftOpen es)) (IsLeftToAsk es)) (sym c.left_to_ask.ensures) (left_to_ask es d.unsettled c.open_masks_besides-masks.result all.unsettled masks);
       doubtful = rw c.into_vec.ensures.value all.doubtful;

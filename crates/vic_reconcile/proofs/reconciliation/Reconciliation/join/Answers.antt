@@ -4,7 +4,7 @@ use Rattle.vic_reconcile.proofs.reconciliation.Reconciliation.join.Goals as goal
 
 pub lines_of_certain-requires-clause-certain : goal.lines_of_certain-requires-clause-certain
 lines_of_certain-requires-clause-certain c u h =
-    ((log_facts _ _ _ c.requires.told).must.members u).0 (subst (λ us. has us u ≡ true) c.as_slice-certain.ensures.value h)
+    ((log_facts _ _ _ c.requires.told).must.members u).0 h
 
 pub returns-clause-joined : goal.returns-clause-joined
 returns-clause-joined c expected logs j =
@@ -16,10 +16,10 @@ returns-clause-joined c expected logs j =
     joined_more expected logs c.args.lines.now c.args.self.now _ f.open c.in_ok-open.open f.certain c.in_ok-keys.keys told
     c.requires.told.possible
     (log_facts es (is_open_in f.open) f.certain c.requires.told)
-    (c.in_ok-told.ensures.uids ∙ c.as_slice-certain.ensures.value)
+    c.in_ok-told.ensures.uids
     c.in_ok-told.ensures.shown
     (subst (λ n. AreNoted old new n told) (c.len-log.ensures ∙ c.args.self.now.left.ok.0) (subst (AreNoted old new c.len-log.result) c.deref.ensures.value c.in_default.ensures.noted))
-    (subst (AreKeysOf c.in_ok-keys.keys) c.as_slice-certain.ensures.value c.in_ok-keys.ensures)
+    (subst (AreKeysOf c.in_ok-keys.keys) c.as_slice.ensures.value c.in_ok-keys.ensures)
     c.in_ok-open.ensures
     refl
     refl
