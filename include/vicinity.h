@@ -41,8 +41,8 @@ extern "C" {
 #define VICINITY_INTERFACE 1u
 
 /* The version of this header, as text and as a number like that of vicinity_version(). */
-#define VICINITY_VERSION "1.3.6"
-#define VICINITY_VERSION_NUMBER 10306u
+#define VICINITY_VERSION "1.3.7"
+#define VICINITY_VERSION_NUMBER 10307u
 
 /*
  * The kinds of answers. Compare the kind with VICINITY_COMPLETE: complete is 1 as a kind and 0 as a
