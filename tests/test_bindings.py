@@ -196,13 +196,26 @@ def test_a_reader_loop_that_does_not_reach_its_margin(example, language):
     assert re.fullmatch(rb"stopped at the limit of 20000 rounds, with margin 199\d\d\n", err)
 
 
-def broken_off(release, tmp_path, lines):
-    """reader_loop.c, with these lines where its chip would fill the slots of an Inventory."""
+def with_lines(release, tmp_path, lines, before):
+    """reader_loop.c, with these lines before one of its own."""
     source = (TOP / "examples/c/reader_loop.c").read_text()
-    filled = "    for (uint32_t k = 0; k < request.slots; k++) {\n"
-    assert source.count(filled) == 1
-    (tmp_path / "loop.c").write_text(source.replace(filled, lines + filled))
+    assert source.count(before) == 1
+    (tmp_path / "loop.c").write_text(source.replace(before, lines + before))
     return linked(release, tmp_path / "loop", tmp_path / "loop.c")
+
+
+def broken_off(release, tmp_path, lines):
+    """It, with these lines where its chip would fill the slots of an Inventory."""
+    return with_lines(release, tmp_path, lines,
+                      "    for (uint32_t k = 0; k < request.slots; k++) {\n")
+
+
+def test_a_reader_loop_finds_tags_that_an_earlier_session_silenced(release, tmp_path):
+    """All tags are Ready when its log begins."""
+    loop = with_lines(release, tmp_path, "        field[i].quiet = 1,\n",
+                      "        field[i].uid = UINT64_C(0xE0)")
+    out, _, status = loop.run("3")
+    assert (out[:11], status) == (b"complete 3 ", 0)
 
 
 @pytest.mark.parametrize(("rounds", "said"), [

@@ -48,6 +48,14 @@ def test_a_tag_that_is_missing_was_overlooked():
     assert complete > 0 and missing > 0
 
 
+def test_it_finds_tags_that_the_search_before_silenced():
+    """All tags are Ready when a log begins."""
+    for search in searches(Chances(), 20):
+        search.run()
+        again = Search(search.field)
+        assert again.run().answer.is_complete and again.heard == again.field.uids
+
+
 def test_it_asks_until_the_margin_is_reached():
     for search in searches(Chances(capture=0.3), 20):
         answer, weakest = search.run(4)

@@ -2,12 +2,13 @@
  *
  *     reader_loop [TAGS [MARGIN]]
  *
- * A reply is noted as H, since a stronger one may have hidden others, and its tag is silenced. The mask of each slot in
- * which more tags answered, or a reply was damaged, is asked in sixteen slots. At the end all tags are asked in one slot,
- * until none answers. Only then is the checker asked, since each call reads the log from its beginning. At `unsettled` a
- * tag was silenced before it was heard: the field is switched off and on, and the mask of the answer is asked. At
- * `complete` all are asked again until a tag that isn't listed would have had to be missed in MARGIN slots.
- * `transceive` and `cycle` are the one place for a chip: here they simulate a field. */
+ * The field is switched off and on before the log begins, since all tags are Ready at its start. A reply is noted as H,
+ * since a stronger one may have hidden others, and its tag is silenced. The mask of each slot in which more tags
+ * answered, or a reply was damaged, is asked in sixteen slots. At the end all tags are asked in one slot, until none
+ * answers. Only then is the checker asked, since each call reads the log from its beginning. At `unsettled` a tag was
+ * silenced before it was heard: the field is switched off and on, and the mask of the answer is asked. At `complete` all
+ * are asked again until a tag that isn't listed would have had to be missed in MARGIN slots.
+ * `transceive` and `cycle` are the places for a chip: here they simulate a field. */
 #include "vicinity.h"
 
 #include <stdio.h>
@@ -69,6 +70,13 @@ static uint32_t transceive(const struct vicinity_frame *frame, struct slot held[
     return request.slots;
 }
 
+/* Switches the field off and on: all tags are Ready. */
+static void cycle(void)
+{
+    for (size_t i = 0; i < tags; i++)
+        field[i].quiet = 0;
+}
+
 /* Adds one line to the log. */
 static void note(char letter, const struct vicinity_frame *frame)
 {
@@ -77,16 +85,6 @@ static void note(char letter, const struct vicinity_frame *frame)
         abort();
     memcpy(text + len, line.text, line.len);
     len += line.len;
-}
-
-/* Switches the field off and on: all tags are Ready. */
-static void cycle(void)
-{
-    static const struct vicinity_frame none;
-    for (size_t i = 0; i < tags; i++)
-        field[i].quiet = 0;
-    note('F', &none);
-    cycles++;
 }
 
 /* Silences the tag of a reply, which was heard. */
@@ -159,6 +157,7 @@ static void find(const struct vicinity_mask *mask, char letter)
 static size_t find_all(size_t margin, struct vicinity_answer *answer)
 {
     const struct vicinity_mask all = {0};
+    const struct vicinity_frame none = {0};
     struct vicinity_weakest weakest;
     find(&all, 'C');
     for (;;) {
@@ -169,6 +168,8 @@ static size_t find_all(size_t margin, struct vicinity_answer *answer)
         if (answer->kind == VICINITY_UNSETTLED) {
             const struct vicinity_mask named = {0, answer->mask_len, answer->mask_value};
             cycle();
+            cycles++;
+            note('F', &none);
             find(&named, 'C');
         } else if (answer->kind == VICINITY_COMPLETE && weakest.margin < margin) {
             for (size_t lacking = margin - weakest.margin; lacking > 0; lacking--)
@@ -197,6 +198,7 @@ int main(int argc, char **argv)
     }
     for (size_t i = 0; i < tags; i++)
         field[i].uid = UINT64_C(0xE0) << 56 | (i + 1) * UINT64_C(0x9E3779B97F4A7C15) >> 8;
+    cycle();
     if (tags > 0) { /* a tag is silenced before it was heard */
         vicinity_write_stay_quiet(LINK, field[0].uid, &frame);
         transceive(&frame, NULL);

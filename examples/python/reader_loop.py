@@ -3,17 +3,18 @@ list complete.
 
     reader_loop.py [TAGS] [--margin K] [--capture P] [--miss P] [--noise P] [--seed N]
 
-A reply is noted as H, since a stronger one may have hidden others, and its tag is silenced. Where
-more tags answered, or a reply was damaged, the tags of the slot are asked again, by four more bits.
-At the end all are asked in one slot, until none answers. Only then is the checker asked, since each
-call reads the log from its beginning. At `unsettled` a tag was silenced before it was heard: the
-field is switched off and on, and the mask of the answer is asked. At `complete` all are asked again
-until a tag that isn't listed would have had to be missed in K slots.
+The field is switched off and on before a log begins, since all tags are Ready at its start. A reply
+is noted as H, since a stronger one may have hidden others, and its tag is silenced. Where more tags
+answered, or a reply was damaged, the tags of the slot are asked again, by four more bits. At the
+end all are asked in one slot, until none answers. Only then is the checker asked, since each call
+reads the log from its beginning. At `unsettled` a tag was silenced before it was heard: the field
+is switched off and on, and the mask of the answer is asked. At `complete` all are asked again until
+a tag that isn't listed would have had to be missed in K slots.
 
-`transceive` is the one place for a chip: here it simulates a field. --capture is the probability
-that one reply hides the others of its slot, --noise that nothing can be read in a slot, and --miss
-that a request is missed by a weak tag, which one in ten is. Frames, masks of slots and lines come
-from the library."""
+`transceive` and `cycle` are the places for a chip: here they simulate a field. --capture is the
+probability that one reply hides the others of its slot, --noise that nothing can be read in a slot,
+and --miss that a request is missed by a weak tag, which one in ten is. Frames, masks of slots and
+lines come from the library."""
 import argparse
 import random
 import sys
@@ -88,6 +89,7 @@ class Search:
 
     def __init__(self, field: Field) -> None:
         self.field, self.rounds, self.calls = field, 0, 0
+        field.cycle()
         self.heard: set[int] = set()
         self.lines = [vicinity.HEADER_LINE]
 
