@@ -204,7 +204,10 @@ class Sessions(Command):
         self.assertNotIn("never heard", self.noted(ALONE.replace(b"R ", b"H ")))
         self.assertIn("never heard", self.noted(SILENCE_B + ALONE))
 
-    def test_a_round_with_a_slot_of_which_nothing_is_known_did_not_ask_all(self):
+    def test_a_last_round_with_a_slot_of_which_nothing_is_known(self):
+        """It asked all tags, though not all were heard."""
         for last, noted in ((b"N\n", True), (b"S\n", False)):
-            note = "the last round didn't ask all tags: one that no earlier round asked"
-            self.assertEqual(note in self.noted(SIXTEEN + b"S\n" * 15 + last), noted)
+            note = "of a slot of the last round, which asked all tags, nothing is known"
+            said = self.noted(SIXTEEN + b"S\n" * 15 + last)
+            self.assertEqual(note in said, noted)
+            self.assertNotIn("didn't ask all", said)

@@ -145,8 +145,11 @@ class Words(Command):
             said = within("report", self.write("some.log", log(before + last)))[0].decode()
             self.assertIn(f"the last round didn't ask all tags: one that {missed}", said)
         alone = ALL + HEARD_A + SILENCE_A + ALL + b"S\n" + last + LIST_A
-        # in the others no reply can have hidden a tag
-        for lines in (last + ALL + b"S\n", ALL + b"S\n" + last, alone):
+        even, odd = (vicinity.write_line("T", vicinity.write_inventory(2, 1, vicinity.Mask(1, bit)))
+                     for bit in (0, 1))
+        # in the others no reply can have hidden a tag; in the last one two rounds asked all
+        for lines in (last + ALL + b"S\n", ALL + b"S\n" + last, alone,
+                      even + b"S\n" + odd + b"S\n"):
             self.assertNotIn("last round",
                              within("report", self.write("some.log", log(lines)))[0].decode())
 

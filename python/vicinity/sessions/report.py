@@ -74,14 +74,16 @@ def notes(told: Told) -> Iterator[tuple[int, str]]:
     if told.refused_line:
         return
     unheard, cut = list(_unheard(told)), []
-    last, has_asked_all = 0, False
+    # of a complete list every UID was asked
+    last, has_asked_all, is_last_of_all = 0, told.answer.is_complete, False
     for line, text in _rows(told.session, is_quiet=False):
         slots, of = SLOT.findall(text), 1 if int(text[2:4], 16) & ONE_SLOT else 16
         if len(slots) < of:
             cut.append((line, f"this round was cut short after {len(slots)} of "
                               f"{count(of, 'slot')}" if slots else
                               "none of this round's slots is logged"))
-        asked_all = text[6:8] == NO_MASK and len(slots) == of and b"N" not in slots
+        is_last_of_all = text[6:8] == NO_MASK and len(slots) == of
+        asked_all = is_last_of_all and b"N" not in slots
         last, has_asked_all = 0 if asked_all else line, has_asked_all or asked_all
     for found in unheard, cut:
         yield from found[:MOST_NOTES]
@@ -91,7 +93,9 @@ def notes(told: Told) -> Iterator[tuple[int, str]]:
     none_was_hidden = told.weakest_reread or not ALONE.search(told.session.text)
     if last and not (has_asked_all and none_was_hidden):
         missed = "stronger replies hid" if has_asked_all else "no earlier round asked"
-        yield last, f"the last round didn't ask all tags: one that {missed} would go unnoticed"
+        lacks = ("of a slot of the last round, which asked all tags, nothing is known: one there"
+                 if is_last_of_all else f"the last round didn't ask all tags: one that {missed}")
+        yield last, f"{lacks} would go unnoticed"
 
 
 def _unheard(told: Told) -> Iterator[tuple[int, str]]:
