@@ -114,6 +114,20 @@ def test_it_finds_all_tags_if_rounds_break_off():
         assert search.run().answer.is_complete and search.heard == search.field.uids
 
 
+class Damaged(Field):
+    """A reader that also says what it received of replies that it couldn't read."""
+
+    def slot(self, answering):
+        letter, reply = super().slot(answering)
+        return letter, reply or b"\x00" * (letter in "CD")
+
+
+def test_it_takes_no_damaged_reply_for_one():
+    for search in searches(Chances(capture=0.3, noise=0.1), 20):
+        search.field.__class__ = Damaged
+        assert search.run().answer.is_complete and search.heard == search.field.uids
+
+
 def test_without_its_last_rounds_it_is_not_complete():
     for search in searches(Chances(capture=0.3), 100):
         search.ask_on(reader_loop.ALL)

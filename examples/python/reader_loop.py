@@ -105,8 +105,8 @@ class Search:
         it wasn't reached."""
         self.rounds += 1
         held = self.send(vicinity.write_inventory(LINK, slots, mask))
-        for _, reply in held:
-            if reply:
+        for letter, reply in held:
+            if letter in "HR":
                 uid = vicinity.read_response(reply).uid
                 self.send(vicinity.write_stay_quiet(LINK, uid))
                 self.heard.add(uid)
