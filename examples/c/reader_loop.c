@@ -70,7 +70,7 @@ static uint32_t transceive(const struct vicinity_frame *frame, struct slot held[
     return request.slots;
 }
 
-/* Switches the field off and on: all tags are Ready. */
+/* Switches the field off, until no tag has power, and on: all tags are Ready. */
 static void cycle(void)
 {
     for (size_t i = 0; i < tags; i++)

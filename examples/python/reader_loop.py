@@ -54,7 +54,7 @@ class Field:
         self.cycle()
 
     def cycle(self) -> None:
-        """Switches the field off and on: all tags are Ready."""
+        """Switches the field off, until no tag has power, and on: all tags are Ready."""
         self.ready = set(self.uids)
 
     def transceive(self, frame: bytes) -> list[Slot]:
