@@ -218,6 +218,14 @@ def test_a_reader_loop_finds_tags_that_an_earlier_session_silenced(release, tmp_
     assert (out[:11], status) == (b"complete 3 ", 0)
 
 
+def test_a_reader_loop_whose_chip_hears_that_no_other_tag_answered(release, tmp_path):
+    loop = with_lines(release, tmp_path, """    if (held.letter == 'H')
+        held.letter = 'R';
+""", "    return held;\n")
+    out, _, status = loop.run("40")
+    assert (out[:12], status) == (b"complete 40 ", 0)
+
+
 @pytest.mark.parametrize(("rounds", "said"), [
     (1, b"unsettled 5 04"), (2, b"unsettled 56 9E3779B97F4A7C"), (8, b"complete 3")])
 def test_a_reader_loop_whose_chip_stops_hears_no_silence(release, tmp_path, rounds, said):

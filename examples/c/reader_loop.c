@@ -114,19 +114,17 @@ static int is_unread(char letter)
 static char ask(uint32_t slots, const struct vicinity_mask *mask)
 {
     struct vicinity_frame frame;
-    struct slot held[SLOTS];
+    struct slot held[SLOTS] = {0};
     if (vicinity_write_inventory(LINK, slots, mask->len, mask->value, &frame))
         abort();
     const uint32_t reached = transceive(&frame, held);
     if (reached > slots)
         abort();
     note('T', &frame);
+    for (uint32_t k = 0; k < reached; k++)
+        note(held[k].letter, &held[k].reply);
     for (uint32_t k = 0; k < reached; k++) {
-        const struct vicinity_frame none = {0};
-        note(held[k].letter, held[k].letter == 'H' ? &held[k].reply : &none);
-    }
-    for (uint32_t k = 0; k < reached; k++) {
-        if (held[k].letter == 'H')
+        if (strchr("HR", held[k].letter))
             silence(&held[k].reply);
         if (slots == SLOTS && is_unread(held[k].letter) && masks < MOST_TAGS * SLOTS)
             vicinity_slot_mask(slots, mask->len, mask->value, k, &to_ask[masks++]);
