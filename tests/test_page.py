@@ -108,6 +108,7 @@ SAID = (
     ("I16 C16", "16 requests are left, one for each open mask or slot.", "or in one"),
     ("I1 S QA UA", "its reply may have been lost in line 3", "stronger replies"),
     ("I1 S MB S UA", "one that stronger replies hid would go unnoticed", "no earlier round"),
+    ("I1 RA QA I1 S MB S UA", "Nothing to do.", "Notes"),
     ("I16 S12 I1 S UA", "This round was cut short after 12 of 16 slots.", "None of this round's"),
     ("I16 S12", "1 request is left, for the round that was cut short.", "after 12 of"),
     ("I1 RA QA I1 RA", "The field was switched off and on in between", "The field stayed on"),
