@@ -193,6 +193,17 @@ def test_a_disk_that_is_full_at_the_end(release, tmp_path):
     assert install("--remove", *root[:2]) == 0 and not [*(tmp_path / "root").iterdir()]
 
 
+def test_a_signal_while_files_are_put(release, tmp_path):
+    """All are put: old ones beside new ones would be of two versions."""
+    (tmp_path / "mv").write_text(f"#!/bin/sh\nkill -TERM $PPID\nexec {shutil.which('mv')} \"$@\"\n")
+    (tmp_path / "mv").chmod(0o755)
+    interrupted = Program(TOP / "install", PATH=f"{tmp_path}:{os.environ['PATH']}")
+    whole, other = tmp_path / "whole", tmp_path / "other"
+    assert release and install("--destdir", whole) == 0
+    assert interrupted.run("--prefix", "/usr", "--destdir", other).status == 0
+    assert tree(whole) == tree(other)
+
+
 def test_removed_beside_other_files(release, tmp_path):
     (tmp_path / "usr/share").mkdir(parents=True)
     (tmp_path / "usr/share/notes").write_text("mine\n")
