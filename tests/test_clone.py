@@ -181,6 +181,18 @@ def test_the_packaged_program_for_arm(clone, odd):
     assert "AArch64" in told("readelf", "-h", made)
 
 
+def test_the_commands_were_changed_since_the_release(clone, odd):
+    """Of them the program for ARM is made, and not that for x86-64."""
+    (clone.top / "dist/SOURCES").write_text("".join(
+        told(TOP / "release/sources", word) for word in ("code", "commands")))
+    arm = Program(clone.top / "release/packaged",
+                  PATH=f"{odd('aarch64')}{os.pathsep}{os.environ['PATH']}")
+    assert b", of the same code;" in arm.run().err
+    clone.change("commands/reconcile.c")
+    assert b", NOT of this code;" in arm.run().err
+    is_packaged(clone.ask(), "of the same code")
+
+
 @pytest.mark.parametrize(("word", "status"), [("--help", 0), ("it", 2)])
 def test_words_after_test(clone, word, status):
     """It says how, and starts nothing."""

@@ -219,4 +219,4 @@ def test_a_version_that_is_released_is_that_of_dist():
     """Packages of changed sources have another version: the next one, with ~dev."""
     now, released = told(TOP / "release/sources"), (TOP / "dist/SOURCES").read_text()
     # the last line says by which tools
-    assert "~dev" in VERSION or now.splitlines()[:2] == released.splitlines()[:2]
+    assert "~dev" in VERSION or now.splitlines()[:-1] == released.splitlines()[:-1]
