@@ -5,6 +5,8 @@
 # changed, or the kit; times of files don't matter.
 .DEFAULT_GOAL := program
 .DELETE_ON_ERROR:
+# It may lead to another clone.
+unexport CDPATH
 
 # For which machine the library is, and by which of the kit's compilers: amd64 or arm64, llvm or
 # rattle.

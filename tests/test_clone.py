@@ -279,6 +279,17 @@ def test_a_program_that_another_tool_has_made(built):
     assert built.proved_now() == ["vicinity"]
 
 
+@pytest.mark.parametrize("script", ["sums", "sources code", "sources commands", "pages"])
+def test_another_clone_where_cd_looks(clone, tmp_path, script):
+    """By CDPATH, which also lets cd write where it went."""
+    copy(tmp_path, "crates", "crates.txt", "release", "commands", "include", "docs", "README.md")
+    clone.change("crates/vic_frame/src/uid.rt")
+    name, *words = script.split()
+    here, there = (told(f"release/{name}", *words, cwd=clone.top, CDPATH=path)
+                   for path in ("", str(tmp_path)))
+    assert here == there
+
+
 # Beside the kit's gate, which says what it has proved.
 
 @pytest.fixture
