@@ -161,6 +161,14 @@ def test_an_unpacked_program_that_is_empty_is_unpacked_again(clone):
     is_packaged(clone.ask(), "")
 
 
+def test_a_packaged_program_that_the_machine_does_not_run(clone):
+    """As with an old C library, where the loader ends with a status that would be an answer."""
+    clone.ask()
+    program, = clone.top.glob("out/packaged/*")
+    script(program, "#!/bin/sh\nexit 1\n")
+    assert clone.ask()[::2] == (b"", 4)
+
+
 @pytest.fixture
 def odd(clone, tmp_path):
     """A processor of another kind."""
