@@ -4,6 +4,7 @@ import { el, folded, lowered } from "./elements.mjs";
 import { maskOf } from "./frames.mjs";
 import { KIND } from "./kinds.mjs";
 import { Pane } from "./pane.mjs";
+import { noOthers } from "./say.mjs";
 import { inOrder, MOST_NAMES, nameOf, shelved, Shelves } from "./shelves.mjs";
 import { ALLOWED, granted, HOLDS, mayBeWrong, missed, notSure, stillHolds } from "./sure.mjs";
 import { tell } from "./told.mjs";
@@ -82,10 +83,8 @@ export function collectionView(object) {
   const open = object.logs.filter(isOpen), isShelf = away.every((item) => item.may_be_in.every((file) => shelves.placeOf(file)));
   const todo = [...of("missing"), ...of("misplaced"), ...of("unexpected")], isKnown = !todo.length && !unknown.length;
   const edited = object.logs.filter(({ file }) => file.endsWith(EDITED)).length, changes = edited ? ` (${edited.toLocaleString("en")} edited)` : "";
-  const said = { headline: headlineOf(object), lights: lights(object) }, rests = conditionsOfAll(object, shelves);
-  return [banner(isWhole(object) ? { look: "yes", sign: "✓", ...said } : isTried(object) ? { look: "read", sign: "?", ...said }
-    : { look: "no", sign: "!", ...said },
-    `${printable(object.name)} · ${count(object.logs.length, "log")}${changes}`), ...isKnown ? rests : [],
+  const said = { ...lookOf(object), headline: headlineOf(object), lights: lights(object) }, rests = conditionsOfAll(object, shelves);
+  return [banner(said, `${printable(object.name)} · ${count(object.logs.length, "log")}${changes}`), ...isKnown ? rests : [],
     ...logs("Count again", countAgain(open.length), open, true, object, shelves),
     ...part("At the shelves", todo, true, howTo(object), shelved(todo, (item) => shelves.at(item), object.counts.missing ? slots : {}, (item) => shelves.toDo(item))),
     ...part("Not heard on their shelves", away, true, `${AWAY} ${isShelf ? "on a shelf" : "in a field"} that has to be counted again. ${STILL_AWAY}`,
@@ -157,10 +156,21 @@ const isComplete = ({ kind, status }) => kind === KIND.COMPLETE && status === 0;
 const isTried = ({ logs: all }) => all.some(({ file }) => TRIAL.test(file));
 
 /**
- * What is only tried is never green.
+ * Whether other tags may be in some field if strong replies hid weaker ones.
  * @param {CollectionObject} object
  */
-const isWhole = (object) => isComplete(object) && !isTried(object);
+const isHiding = ({ logs: all }) => all.some(({ captured }) => captured?.holds === false);
+
+/**
+ * As of one log with a list, what may hide others isn't green, nor is what is only tried.
+ * @param {CollectionObject} object
+ * @returns {Pick<import("./say.mjs").Said, "look" | "sign">}
+ */
+function lookOf(object) {
+  if (isTried(object)) return { look: "read", sign: "?" };
+  if (!isComplete(object)) return { look: "no", sign: "!" };
+  return isHiding(object) ? { look: "read", sign: "i" } : { look: "yes", sign: "✓" };
+}
 
 /** @param {CollectionObject} object */
 const isOfAll = (object) => isComplete(object) || object.kind === KIND.SMALL;
@@ -174,8 +184,7 @@ function sentenceOf(object) {
   const which = counts["no tag"] ? " that have a tag" : "", again = object.logs.filter(isOpen), shelves = new Shelves(object.logs);
   if (isComplete(object)) {
     if (tags === 0) return "Nothing is expected, and nothing is here.";
-    if (tags === 1) return "The one expected item is here, and no other.";
-    return `All ${count(tags, "expected item")}${which} are here, and no others.`;
+    return `${tags === 1 ? "The one expected item is" : `All ${count(tags, "expected item")}${which} are`} here${noOthers(tags, isHiding(object))}`;
   }
   if (object.kind === KIND.SMALL) return notSure(object.margin, object.wanted ?? 0);
   const unknown = object.items.filter((item) => item.state === "not provable"), away = unknown.filter((item) => shelves.isAway(item)).length;

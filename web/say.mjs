@@ -173,14 +173,18 @@ function headline({ object: { kind, count: number = 0, found, certain, open, cap
 }
 
 /**
- * The tags of a log without a list in which nothing is left to ask.
+ * What is said behind tags that are here, where nothing is left to ask.
  * @param {number} number
  * @param {boolean} isHiding whether others may be there if their replies were hidden
  */
-function tagsHere(number, isHiding) {
-  const others = isHiding ? IF_THERE : number === 1 ? ", and no other." : ", and no others.";
-  return `${count(number, "tag is", "tags are")} here${others}`;
-}
+export const noOthers = (number, isHiding) => isHiding ? IF_THERE : number === 1 ? ", and no other." : ", and no others.";
+
+/**
+ * The tags of a log without a list in which nothing is left to ask.
+ * @param {number} number
+ * @param {boolean} isHiding
+ */
+const tagsHere = (number, isHiding) => `${count(number, "tag is", "tags are")} here${noOthers(number, isHiding)}`;
 
 /**
  * Of tags that are open only since they were silenced before they were heard.
@@ -195,11 +199,11 @@ function unproved(number, listed) {
 
 /**
  * @param {number} number
- * @param {boolean} isHiding whether others may be there if their replies were hidden
+ * @param {boolean} isHiding
  */
 function whole(number, isHiding) {
   if (number === 0) return "The field is empty, and nothing is listed.";
-  return `${allListed(number)}${isHiding ? IF_THERE : number === 1 ? ", and no other." : ", and no others."}`;
+  return `${allListed(number)}${noOthers(number, isHiding)}`;
 }
 
 /** @param {number} number */
