@@ -3,7 +3,7 @@ import { withRoom } from "./collection.mjs";
 import { at, bytesIn } from "./elements.mjs";
 import { gathered, isLacking, isUnanswered, read } from "./opened.mjs";
 import { Pane } from "./pane.mjs";
-import { unfoldOnPaper } from "./printing.mjs";
+import { unfold, unfoldOnPaper } from "./printing.mjs";
 import { pageOf, save } from "./saving.mjs";
 import { headed, overview, show, shown, titleOfEntry } from "./shown.mjs";
 import { isSpreadsheet } from "./tables.mjs";
@@ -199,8 +199,9 @@ function asBefore() {
 
 saves.addEventListener("click", () => {
   const log = shownLog(), object = log.told?.object ?? (log.collection && withRoom(log.collection));
-  const template = new TextDecoder().decode(bytesIn("record"));
-  if (object) save(pageOf(template, object, titleOfEntry(log), shown.innerText), `${log.name}.html`);
+  const template = new TextDecoder().decode(bytesIn("record")), fold = unfold(), text = shown.innerText;
+  fold();
+  if (object) save(pageOf(template, object, titleOfEntry(log), text), `${log.name}.html`);
 });
 
 // How logs come
