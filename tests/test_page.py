@@ -1011,6 +1011,21 @@ def test_a_collection_is_not_green_where_a_list_is_not(page, two, others, look):
     page.until(f".banner.{look} h1", "The one listed tag is here")
 
 
+def test_items_without_a_place_are_not_called_in_place(page):
+    """As where the cells of a shelf are merged: it is told how many these are."""
+    books = b"uid,shelf\nE0040100000000A1,A\nE0040100000000B2,\nE0040100000000B1,B\n"
+    logs = {"A.log": log_of("I1 RA QA I1 S"), "B.log": log_of("I1 RB QB I1 S")}
+    page.drop(**{"books.csv": books, **logs})
+    page.until("h1", "1 item missing.")
+    assert page.texts(".lights dd") == ["2 of 2 logs", "2 of 3 items, 1 without a place"]
+    assert page.texts("#told > p") == ["The 2 other items of the catalogue are here."]
+    page.drop(**{"books.csv": books.replace(b"B2,", b"B2,B").replace(b"B1,B", b"B1,")})
+    page.until("#told > p", "The 2 other items of the catalogue are here, and in place.")
+    page.drop(**{"books.csv": b"uid,shelf\nE0040100000000A1,A\nE0040100000000B2,B\n"})
+    page.until(".banner.yes h1", "All 2 expected items are here, and no others.")
+    assert page.texts(".lights dd") == ["2 of 2 logs", "2 of 2 items"]
+
+
 def test_a_collection_of_which_one_field_has_a_silenced_tag_of_another(page, of_python, tmp_path):
     """It was asked once in the first field, but is in the second; the next were asked twice."""
     files = {"catalogue.csv": b"uid\nE0040100000000A1\nE0040100000000B2\n",
@@ -1523,6 +1538,16 @@ def test_a_page_that_was_saved_is_read_without_its_script(page, tmp_path):
     page.wait(page.driver.find_element("id", "old").is_displayed)
     assert "The one listed tag is here, and no other." in page.texts("#old")[0]
     assert "Content Security Policy" in page.browser.console()[0]
+
+
+def test_the_text_of_a_page_that_was_saved_has_what_is_folded(page, tmp_path):
+    """As a long list of items is, which stays so on the screen."""
+    uids = [f"E004{number:012X}" for number in range(300)]
+    page.drop(**{"books.csv": "\n".join(["uid", *uids]).encode(), "A.log": log_of("I1 S")})
+    page.until("h1", "300 items missing.")
+    _, plain = drawn_in(saved(page, tmp_path / "saved").read_text())
+    assert [uid for uid in uids if uid not in plain] == []
+    assert uids[0] not in page.said()
 
 
 # The page as a browser saves it, with what its scripts have made of it.

@@ -119,7 +119,7 @@ function howTo({ counts, logs: fields }) {
 
 /** @param {CollectionObject} object */
 function inPlace({ counts, items: all }) {
-  const place = all.some((item) => item.belongs) ? ", and in place" : "", { there } = counts;
+  const place = all.every((item) => item.belongs || item.state !== "there") ? ", and in place" : "", { there } = counts;
   if (!there || there === all.length - counts.unexpected) return [];
   return [el("p", {}, `The ${count(there, "other item")} of the catalogue ${there === 1 ? "is" : "are"} here${place}.`)];
 }
@@ -211,9 +211,11 @@ function lights(object) {
   // a headline of items that are all here doesn't count these
   const untagged = isOfAll(object) && counts["no tag"] ? `, ${counts["no tag"].toLocaleString("en")} without a tag` : "";
   const items = object.items.length - counts.unexpected, isPlaced = object.items.some((item) => item.belongs);
+  const loose = isPlaced ? object.items.filter(({ uid, state, belongs }) => uid && !belongs && state !== "unexpected").length : 0;
+  const unplaced = loose ? `, ${loose.toLocaleString("en")} without a place` : "";
   const read = `${done.toLocaleString("en")} of ${count(logs.length, "log")}`;
   return [{ name: "Read to the end", value: read, look: done === logs.length ? "yes" : "no" },
-    { name: isPlaced ? "In place" : "Here", value: `${counts.there.toLocaleString("en")} of ${count(items, "item")}${untagged}`,
+    { name: isPlaced ? "In place" : "Here", value: `${counts.there.toLocaleString("en")} of ${count(items, "item")}${untagged}${unplaced}`,
       look: counts.there === items ? "yes" : differs ? "no" : "plain" }];
 }
 
