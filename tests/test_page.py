@@ -1011,6 +1011,19 @@ def test_a_collection_is_not_green_where_a_list_is_not(page, two, others, look):
     page.until(f".banner.{look} h1", "The one listed tag is here")
 
 
+@pytest.mark.parametrize(("rows", "headline", "items"), [
+    ("", "Nothing is expected, and nothing is here.", "0 of 0 items"),
+    (",Emma\n,Kim\n", "No expected item has a tag, and no tag is here.",
+     "0 of 2 items, 2 without a tag")])
+def test_an_empty_field_is_not_green_without_a_tag_that_is_expected(page, rows, headline, items):
+    """As an export has it that failed, beside an antenna that does; nor is it without a list."""
+    page.drop(**{"books.csv": f"uid,title\n{rows}".encode(), "A.log": log_of("I1 S")})
+    page.until(".banner.read h1", headline)
+    assert page.texts(".lights dd")[1] == items
+    page.drop(**{"A.log": log_of("I1 S")})
+    page.until(".banner.read h1", "The field is empty, and nothing is listed.")
+
+
 def test_items_without_a_place_are_not_called_in_place(page):
     """As where the cells of a shelf are merged: it is told how many these are."""
     books = b"uid,shelf\nE0040100000000A1,A\nE0040100000000B2,\nE0040100000000B1,B\n"
@@ -1236,7 +1249,7 @@ def test_a_better_catalogue_is_compared_with_the_same_logs(page, tmp_path, name,
 
 
 @pytest.mark.parametrize(("table", "words"), [
-    (b"uid\nE004\n", "row 2: E004 isn't a UID"), (b"title,uid\na,\nb,\n\n", "Nothing is expected"),
+    (b"uid\nE004\n", "row 2: E004 isn't a UID"), (b"title,uid\na,\nb,\n\n", "No expected item has"),
     (b"uid,x\nE0040100000000A1,\nE0040100000000A1,\n", "E0040100000000A1 is also in row 2"),
     (b"uid,uid\n", "two columns are named uid"),
     (b"vicinity-log 1\nU E0040100000000A1\nU E004", "catalogue, line 3: refused (ListedLength)."),

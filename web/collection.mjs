@@ -162,14 +162,14 @@ const isTried = ({ logs: all }) => all.some(({ file }) => TRIAL.test(file));
 const isHiding = ({ logs: all }) => all.some(({ captured }) => captured?.holds === false);
 
 /**
- * As of one log with a list, what may hide others isn't green, nor is what is only tried.
+ * As of one log, what is complete isn't green without a tag that was expected, nor where others may be hidden. What is only tried never is.
  * @param {CollectionObject} object
  * @returns {Pick<import("./say.mjs").Said, "look" | "sign">}
  */
 function lookOf(object) {
   if (isTried(object)) return { look: "read", sign: "?" };
   if (!isComplete(object)) return { look: "no", sign: "!" };
-  return isHiding(object) ? { look: "read", sign: "i" } : { look: "yes", sign: "✓" };
+  return object.counts.there && !isHiding(object) ? { look: "yes", sign: "✓" } : { look: "read", sign: "i" };
 }
 
 /** @param {CollectionObject} object */
@@ -183,7 +183,7 @@ function sentenceOf(object) {
   const { counts } = object, tags = object.items.filter((item) => item.uid !== null && item.state !== "unexpected").length;
   const which = counts["no tag"] ? " that have a tag" : "", again = object.logs.filter(isOpen), shelves = new Shelves(object.logs);
   if (isComplete(object)) {
-    if (tags === 0) return "Nothing is expected, and nothing is here.";
+    if (tags === 0) return counts["no tag"] ? "No expected item has a tag, and no tag is here." : "Nothing is expected, and nothing is here.";
     return `${tags === 1 ? "The one expected item is" : `All ${count(tags, "expected item")}${which} are`} here${noOthers(tags, isHiding(object))}`;
   }
   if (object.kind === KIND.SMALL) return notSure(object.margin, object.wanted ?? 0);
