@@ -49,7 +49,7 @@ pub extern "C" fn vicinity_interface() -> u32
 pub extern "C" fn vicinity_version() -> u32
     ensures { result ≡ 10307 }
 {
-    10_306
+    10_307
 }
 
 /// Judges the log that a text spells, and writes the answer in numbers. The result is its status:
