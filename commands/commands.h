@@ -7,8 +7,6 @@
 #include <stdbool.h>
 #include <stddef.h>
 
-enum { WHOLE = 0, FOUND = 1, REFUSED = 3, NO_ANSWER = 4 }; /* statuses */
-
 enum { PIECE = 1 << 16 }; /* bytes that a text begins with, and that are read at once */
 
 /* A text that grows. Once memory is refused, it stays as it is. */
@@ -40,27 +38,27 @@ bool make_room(struct text *text, size_t more);
 void put(struct text *text, const char *format, ...);
 void append(struct text *text, const void *bytes, size_t len);
 bool read_file(const char *file, struct text *text);
-int end_with(uint32_t status, struct text *answered);
+int end_with(enum vicinity_status status, struct text *answered);
 
 /* logs.c */
-uint32_t check(const struct text *log, struct text *answered);
-uint32_t explain(const struct text *log, struct text *answered);
+enum vicinity_status check(const struct text *log, struct text *answered);
+enum vicinity_status explain(const struct text *log, struct text *answered);
 int mask_digits(uint64_t bits);
 void put_mask(struct text *answered, const char *before, uint32_t bits, uint64_t value);
 void put_finding(struct text *answered, const struct vicinity_finding *finding);
 struct vicinity_finding *findings_of(const char *bytes, size_t len, struct vicinity_answer *answer, size_t *needed);
-uint32_t report(const struct text *log, struct text *answered);
-uint32_t margin(const struct text *log, struct text *answered);
-uint32_t simulate(const struct text *log, struct text *answered);
+enum vicinity_status report(const struct text *log, struct text *answered);
+enum vicinity_status margin(const struct text *log, struct text *answered);
+enum vicinity_status simulate(const struct text *log, struct text *answered);
 
 /* frames.c */
-uint32_t frame(const char *word, struct text *answered);
-uint32_t spell(char **words, int count, struct text *answered);
+enum vicinity_status frame(const char *word, struct text *answered);
+enum vicinity_status spell(char **words, int count, struct text *answered);
 
 /* surveys.c */
 void put_name(struct text *answered, const char *file);
-uint32_t expect(const struct text *text, const char *file, struct surveys *told, struct text *answered);
-uint32_t survey(const struct text *log, const char *file, struct surveys *told, struct text *answered);
+enum vicinity_status expect(const struct text *text, const char *file, struct surveys *told, struct text *answered);
+enum vicinity_status survey(const struct text *log, const char *file, struct surveys *told, struct text *answered);
 const struct vicinity_mask *masks_of(const struct surveys *told, uint32_t log, size_t *count);
 bool has_memory(struct surveys *told);
 

@@ -54,7 +54,7 @@ static bool read_hex(const char *word, size_t digits, uint8_t *bytes)
     return digits % 2 == 0;
 }
 
-uint32_t frame(const char *word, struct text *answered)
+enum vicinity_status frame(const char *word, struct text *answered)
 {
     uint8_t bytes[MOST_DIGITS / 2] = {0};
     struct vicinity_request request;
@@ -62,13 +62,13 @@ uint32_t frame(const char *word, struct text *answered)
     size_t digits = strlen(word);
     if (digits > MOST_DIGITS || !read_hex(word, digits, bytes)) {
         put(answered, "refused %s\n", digits > MOST_DIGITS ? "LineTooLong" : "Hex");
-        return REFUSED;
+        return VICINITY_STATUS_REFUSED;
     }
     vicinity_read_request(bytes, digits / 2, &request);
     vicinity_read_response(bytes, digits / 2, &reply);
     put_request(answered, &request);
     put_reply(answered, &reply);
-    return request.fault && reply.fault ? REFUSED : WHOLE;
+    return request.fault && reply.fault ? VICINITY_STATUS_REFUSED : VICINITY_STATUS_DONE;
 }
 
 /* Why words spell no frame; what spells one returns NULL. */
@@ -147,7 +147,7 @@ static bool has_form(char **words, int count, const struct form *form)
     return count == form->count;
 }
 
-uint32_t spell(char **words, int count, struct text *answered)
+enum vicinity_status spell(char **words, int count, struct text *answered)
 {
     struct vicinity_frame spelled = {0};
     const char *refusal = WORDS;
@@ -156,10 +156,10 @@ uint32_t spell(char **words, int count, struct text *answered)
             refusal = FORMS[i].spell(words, &spelled);
     if (refusal) {
         put(answered, "refused %s\n", refusal);
-        return REFUSED;
+        return VICINITY_STATUS_REFUSED;
     }
     for (uint32_t i = 0; i < spelled.len; i++)
         put(answered, "%02X", (unsigned)spelled.bytes[i]);
     put(answered, "\n");
-    return WHOLE;
+    return VICINITY_STATUS_DONE;
 }

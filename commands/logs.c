@@ -6,7 +6,7 @@
 
 enum { FIRST_ROOM = 1024 }; /* of a population, of findings */
 
-uint32_t check(const struct text *log, struct text *answered)
+enum vicinity_status check(const struct text *log, struct text *answered)
 {
     struct vicinity_answer answer = {0};
     vicinity_check((const uint8_t *)log->bytes, log->len, &answer);
@@ -14,7 +14,7 @@ uint32_t check(const struct text *log, struct text *answered)
     return answer.status;
 }
 
-uint32_t explain(const struct text *log, struct text *answered)
+enum vicinity_status explain(const struct text *log, struct text *answered)
 {
     struct vicinity_answer answer = {0};
     uint64_t *population = NULL;
@@ -24,11 +24,11 @@ uint32_t explain(const struct text *log, struct text *answered)
         room = needed;
         population = malloc(room * sizeof *population);
         if (!population)
-            return NO_ANSWER;
+            return VICINITY_STATUS_NO_ANSWER;
         vicinity_explain((const uint8_t *)log->bytes, log->len, &answer, population, room, &needed);
     }
     put(answered, "%s", answer.text);
-    if (answer.kind >= VICINITY_ABSENT && answer.kind <= VICINITY_DOUBTFUL) {
+    if (answer.status == VICINITY_STATUS_NOT_COMPLETE) {
         put(answered, "population %zu\n", needed);
         for (size_t i = 0; i < needed; i++)
             put(answered, "U %016" PRIX64 "\n", population[i]);
@@ -100,14 +100,14 @@ struct vicinity_finding *findings_of(const char *bytes, size_t len, struct vicin
     return findings;
 }
 
-uint32_t report(const struct text *log, struct text *answered)
+enum vicinity_status report(const struct text *log, struct text *answered)
 {
     struct vicinity_answer answer = {0};
     size_t needed;
     struct vicinity_finding *findings = findings_of(log->bytes, log->len, &answer, &needed);
     if (!findings)
-        return NO_ANSWER;
-    if (answer.kind < VICINITY_ABSENT || answer.kind > VICINITY_DOUBTFUL) /* else the first finding says the same */
+        return VICINITY_STATUS_NO_ANSWER;
+    if (answer.status != VICINITY_STATUS_NOT_COMPLETE) /* else the first finding says the same */
         put(answered, "%s", answer.text);
     for (size_t i = 0; i < needed; i++)
         put_finding(answered, &findings[i]);
@@ -115,13 +115,13 @@ uint32_t report(const struct text *log, struct text *answered)
     return answer.status;
 }
 
-uint32_t margin(const struct text *log, struct text *answered)
+enum vicinity_status margin(const struct text *log, struct text *answered)
 {
     struct vicinity_answer answer = {0};
     struct vicinity_weakest weakest;
     vicinity_margin((const uint8_t *)log->bytes, log->len, &answer, &weakest);
     put(answered, "%s", answer.text);
-    if (answer.kind == VICINITY_COMPLETE) {
+    if (vicinity_is_complete(&answer)) {
         put(answered, "margin %" PRIu32 "\n", weakest.margin);
         put_mask(answered, "weakest", weakest.mask_len, weakest.mask_value);
         put(answered, "\n");
@@ -129,13 +129,13 @@ uint32_t margin(const struct text *log, struct text *answered)
     return answer.status;
 }
 
-uint32_t simulate(const struct text *log, struct text *answered)
+enum vicinity_status simulate(const struct text *log, struct text *answered)
 {
-    uint32_t status = WHOLE;
+    enum vicinity_status status = VICINITY_STATUS_DONE;
     size_t needed = PIECE;
     while (answered->room < needed) {
         if (!make_room(answered, needed))
-            return NO_ANSWER;
+            return VICINITY_STATUS_NO_ANSWER;
         status = vicinity_simulate((const uint8_t *)log->bytes, log->len, (uint8_t *)answered->bytes, answered->room,
                                    &needed);
     }

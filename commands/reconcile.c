@@ -171,7 +171,7 @@ static void put_findings(const struct surveys *told, const struct vicinity_findi
 }
 
 /* Reconciles what the texts say. There is memory for the certain UIDs. */
-static uint32_t reconcile(struct surveys *told, uint64_t *certain, struct text *answered)
+static enum vicinity_status reconcile(struct surveys *told, uint64_t *certain, struct text *answered)
 {
     struct vicinity_answer answer = {0};
     struct vicinity_finding *findings = NULL;
@@ -185,7 +185,7 @@ static uint32_t reconcile(struct surveys *told, uint64_t *certain, struct text *
         room = needed;
         findings = malloc(room * sizeof *findings);
         if (!findings)
-            return NO_ANSWER;
+            return VICINITY_STATUS_NO_ANSWER;
         vicinity_reconcile((const uint64_t *)told->expected.bytes, told->expected.len / sizeof(uint64_t), certain, count,
                            (const struct vicinity_mask *)told->masks.bytes,
                            told->masks.len / sizeof(struct vicinity_mask), &answer, findings, room, &needed);
@@ -205,24 +205,24 @@ int reconcile_files(char **files, int count)
 {
     struct text text = {0}, answered = {0};
     struct surveys told = {.files = files + 1};
-    uint32_t status = WHOLE;
+    enum vicinity_status status = VICINITY_STATUS_DONE;
     bool is_read = true;
-    for (int i = 0; i < count && is_read && status == WHOLE; i++) {
+    for (int i = 0; i < count && is_read && status == VICINITY_STATUS_DONE; i++) {
         text.len = 0;
         is_read = read_file(files[i], &text);
         if (is_read)
             status = (i ? survey : expect)(&text, files[i], &told, &answered);
         if (!has_memory(&told))
-            status = NO_ANSWER;
+            status = VICINITY_STATUS_NO_ANSWER;
     }
     uint64_t *certain = malloc(told.shown.len + sizeof *certain);
-    if (is_read && status == WHOLE)
-        status = certain ? reconcile(&told, certain, &answered) : NO_ANSWER;
+    if (is_read && status == VICINITY_STATUS_DONE)
+        status = certain ? reconcile(&told, certain, &answered) : VICINITY_STATUS_NO_ANSWER;
     free(certain);
     free(text.bytes);
     free(told.expected.bytes);
     free(told.shown.bytes);
     free(told.masks.bytes);
     free(told.ends.bytes);
-    return is_read ? end_with(status, &answered) : NO_ANSWER;
+    return is_read ? end_with(status, &answered) : VICINITY_STATUS_NO_ANSWER;
 }

@@ -12,16 +12,16 @@ void put_name(struct text *answered, const char *file)
     put(answered, "\n");
 }
 
-static uint32_t put_refused(struct text *answered, uint32_t line, const char *file, const char *name)
+static enum vicinity_status put_refused(struct text *answered, uint32_t line, const char *file, const char *name)
 {
     put(answered, "refused at line %" PRIu32 " of ", line);
     append(answered, file, strlen(file));
     put(answered, ": %s\n", name);
-    return REFUSED;
+    return VICINITY_STATUS_REFUSED;
 }
 
-/* Puts why a text isn't a possible log, if so. Returns the status, WHOLE for one that is. */
-static uint32_t put_wrong(struct text *answered, const struct vicinity_answer *answer, const char *file)
+/* Puts why a text isn't a possible log, if so. Returns the status, VICINITY_STATUS_DONE for one that is. */
+static enum vicinity_status put_wrong(struct text *answered, const struct vicinity_answer *answer, const char *file)
 {
     struct vicinity_name fault;
     if (answer->kind == VICINITY_REFUSED) {
@@ -32,18 +32,18 @@ static uint32_t put_wrong(struct text *answered, const struct vicinity_answer *a
         put(answered, "impossible at line %" PRIu32 " of ", answer->line);
         put_name(answered, file);
     }
-    return answer->status == FOUND ? WHOLE : answer->status;
+    return answer->status == VICINITY_STATUS_NOT_COMPLETE ? VICINITY_STATUS_DONE : answer->status;
 }
 
 /* Keeps the UIDs that a text lists. It may have no entries but these. */
-uint32_t expect(const struct text *text, const char *file, struct surveys *told, struct text *answered)
+enum vicinity_status expect(const struct text *text, const char *file, struct surveys *told, struct text *answered)
 {
     struct vicinity_answer answer = {0};
     struct text *uids = &told->expected;
     size_t room = 0, needed = 1;
     while (room < needed) {
         if (!make_room(uids, needed * sizeof(uint64_t)))
-            return NO_ANSWER;
+            return VICINITY_STATUS_NO_ANSWER;
         room = uids->room / sizeof(uint64_t);
         vicinity_listed((const uint8_t *)text->bytes, text->len, &answer, (uint64_t *)uids->bytes, room, &needed);
     }
@@ -63,14 +63,15 @@ static size_t list_start(const struct text *log)
 }
 
 /* Keeps all open masks of a log. */
-static uint32_t survey_masks(const struct text *log, const char *file, struct surveys *told, struct text *answered)
+static enum vicinity_status survey_masks(const struct text *log, const char *file, struct surveys *told,
+                                         struct text *answered)
 {
     struct vicinity_answer answer = {0};
     struct text *masks = &told->masks;
     size_t room = 0, needed = 1;
     while (room < needed) {
         if (!make_room(masks, needed * sizeof(struct vicinity_mask)))
-            return NO_ANSWER;
+            return VICINITY_STATUS_NO_ANSWER;
         room = (masks->room - masks->len) / sizeof(struct vicinity_mask);
         vicinity_open_masks((const uint8_t *)log->bytes, log->len, &answer,
                             (struct vicinity_mask *)(masks->bytes + masks->len), room, &needed);
@@ -83,12 +84,12 @@ static uint32_t survey_masks(const struct text *log, const char *file, struct su
 
 /* Keeps what a log says of its field: its open masks, and its certain UIDs, which are what isn't listed in its report
  * without a list. */
-uint32_t survey(const struct text *log, const char *file, struct surveys *told, struct text *answered)
+enum vicinity_status survey(const struct text *log, const char *file, struct surveys *told, struct text *answered)
 {
     struct vicinity_answer answer = {0};
     size_t count;
-    uint32_t status = survey_masks(log, file, told, answered);
-    if (status != WHOLE)
+    enum vicinity_status status = survey_masks(log, file, told, answered);
+    if (status != VICINITY_STATUS_DONE)
         return status;
     struct vicinity_finding *findings = findings_of(log->bytes, list_start(log), &answer, &count);
     for (size_t i = 0; findings && i < count; i++) {
@@ -98,7 +99,7 @@ uint32_t survey(const struct text *log, const char *file, struct surveys *told, 
     }
     told->logs++;
     free(findings);
-    return findings && answer.kind != VICINITY_NO_ANSWER ? WHOLE : NO_ANSWER;
+    return findings && answer.kind != VICINITY_NO_ANSWER ? VICINITY_STATUS_DONE : VICINITY_STATUS_NO_ANSWER;
 }
 
 const struct vicinity_mask *masks_of(const struct surveys *told, uint32_t log, size_t *count)

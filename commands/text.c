@@ -18,7 +18,7 @@ enum {
 int no_answer(const char *why)
 {
     fprintf(stderr, "vicinity: %s\n", why);
-    return NO_ANSWER;
+    return VICINITY_STATUS_NO_ANSWER;
 }
 
 bool make_room(struct text *text, size_t more)
@@ -102,9 +102,9 @@ static const char *write_text(const struct text *text)
 }
 
 /* Writes an answer, and returns the status with which the program ends. */
-int end_with(uint32_t status, struct text *answered)
+int end_with(enum vicinity_status status, struct text *answered)
 {
-    const char *why = status == NO_ANSWER || answered->refused ? "out of memory" : write_text(answered);
+    const char *why = status == VICINITY_STATUS_NO_ANSWER || answered->refused ? "out of memory" : write_text(answered);
     free(answered->bytes);
     return why ? no_answer(why) : (int)status;
 }

@@ -55,10 +55,10 @@ static int find_operands(char **words, int count)
 }
 
 /* A command over FILE, or over standard input if none is named. */
-static int run_over(const char *file, uint32_t (*judge)(const struct text *log, struct text *answered))
+static int run_over(const char *file, enum vicinity_status (*judge)(const struct text *log, struct text *answered))
 {
     struct text log = {0}, answered = {0};
-    int status = read_file(file, &log) ? end_with(judge(&log, &answered), &answered) : NO_ANSWER;
+    int status = read_file(file, &log) ? end_with(judge(&log, &answered), &answered) : VICINITY_STATUS_NO_ANSWER;
     free(log.bytes);
     return status;
 }
@@ -74,7 +74,7 @@ static int run_spell(char **words, int count)
 
 static const struct {
     const char *name;
-    uint32_t (*judge)(const struct text *log, struct text *answered);
+    enum vicinity_status (*judge)(const struct text *log, struct text *answered);
 } OVER_TEXTS[] = {{"check", check}, {"explain", explain}, {"report", report}, {"margin", margin}, {"simulate", simulate}};
 
 static int run(const char *command, char **words, int count)

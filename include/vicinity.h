@@ -45,9 +45,20 @@ extern "C" {
 #define VICINITY_VERSION_NUMBER 10307u
 
 /*
- * The kinds of answers. Compare the kind with VICINITY_COMPLETE: complete is 1 as a kind and 0 as a
- * status, so the return value of vicinity_check is not true or false.
+ * What a call that judges returns: the exit status of `vicinity check`. It is neither true nor
+ * false, nor a kind of answer: gcc -Wall warns if the two are compared, and so do compilers of C++.
+ * vicinity_listed and vicinity_simulate judge no list: of them 0 is VICINITY_STATUS_DONE.
  */
+enum vicinity_status {
+    VICINITY_STATUS_COMPLETE = 0, /* the list is complete */
+    VICINITY_STATUS_DONE = 0, /* the result is written */
+    VICINITY_STATUS_NOT_COMPLETE = 1, /* the log is possible, and its list isn't complete */
+    VICINITY_STATUS_IMPOSSIBLE = 2, /* no tags could have produced the log */
+    VICINITY_STATUS_REFUSED = 3, /* the text is not a log, or not a list */
+    VICINITY_STATUS_NO_ANSWER = 4 /* memory was refused */
+};
+
+/* The kinds of answers, for the field `kind`. */
 enum vicinity_kind {
     VICINITY_NO_ANSWER = 0, /* memory was refused; status 4 */
     VICINITY_COMPLETE = 1, /* the list is complete, with `count` UIDs; status 0 */
@@ -109,7 +120,7 @@ enum vicinity_refusal {
  */
 struct vicinity_answer {
     uint32_t kind;       /* enum vicinity_kind */
-    uint32_t status;     /* the exit status of `vicinity check`: 0 to 3, or 4 for no answer */
+    uint32_t status;     /* enum vicinity_status: what the call returns */
     uint32_t count;      /* how many UIDs are listed */
     uint32_t line;       /* from 1 */
     uint32_t fault;      /* enum vicinity_fault, or VICINITY_WRONG_MASK of vicinity_reconcile */
@@ -118,6 +129,12 @@ struct vicinity_answer {
     uint64_t uid;        /* its top byte is E0 */
     char text[64]; /* the line that `vicinity check` prints, or "listed N"; LF, then zeros */
 };
+
+/* Whether the list is complete: 1 if so, else 0. */
+static __inline int vicinity_is_complete(const struct vicinity_answer *answer)
+{
+    return answer->kind == VICINITY_COMPLETE;
+}
 
 /* The kinds of findings. The first four have the numbers that they have as answers. */
 enum vicinity_finding_kind {
@@ -225,7 +242,8 @@ uint32_t vicinity_interface(void);
 uint32_t vicinity_version(void);
 
 /* Judges a log, writes the answer, and returns its status. */
-uint32_t vicinity_check(const uint8_t *text, size_t text_len, struct vicinity_answer *answer);
+enum vicinity_status vicinity_check(const uint8_t *text, size_t text_len,
+                                    struct vicinity_answer *answer);
 
 /*
  * Judges a log and explains the answer by a counterexample, as `vicinity explain` does. These are
@@ -235,8 +253,9 @@ uint32_t vicinity_check(const uint8_t *text, size_t text_len, struct vicinity_an
  * none, which is the empty population. There is no counterexample, and `*needed` is 0, for
  * VICINITY_COMPLETE, _IMPOSSIBLE, _REFUSED and _NO_ANSWER.
  */
-uint32_t vicinity_explain(const uint8_t *text, size_t text_len, struct vicinity_answer *answer,
-                          uint64_t *population, size_t room, size_t *needed);
+enum vicinity_status vicinity_explain(const uint8_t *text, size_t text_len,
+                                      struct vicinity_answer *answer, uint64_t *population,
+                                      size_t room, size_t *needed);
 
 /*
  * Judges a log and lists every finding, in the order of the lines of `vicinity report`. Of a
@@ -247,8 +266,10 @@ uint32_t vicinity_explain(const uint8_t *text, size_t text_len, struct vicinity_
  * again with a larger buffer. There is none, and `*needed` is 0, for VICINITY_COMPLETE, _REFUSED
  * and _NO_ANSWER.
  */
-uint32_t vicinity_report(const uint8_t *text, size_t text_len, struct vicinity_answer *answer,
-                         struct vicinity_finding *findings, size_t room, size_t *needed);
+enum vicinity_status vicinity_report(const uint8_t *text, size_t text_len,
+                                     struct vicinity_answer *answer,
+                                     struct vicinity_finding *findings, size_t room,
+                                     size_t *needed);
 
 /*
  * Judges a text without `U` lines and a list of UIDs in any order, as a reader's loop does. The
@@ -256,18 +277,22 @@ uint32_t vicinity_report(const uint8_t *text, size_t text_len, struct vicinity_a
  * to end with LF. A UID that comes twice has the fault VICINITY_FAULT_DUPLICATE_LISTED, and one
  * that doesn't begin E0 VICINITY_FAULT_NOT_VICINITY, at its line.
  */
-uint32_t vicinity_check_listed(const uint8_t *text, size_t text_len, const uint64_t *uids,
-                               size_t count, struct vicinity_answer *answer);
+enum vicinity_status vicinity_check_listed(const uint8_t *text, size_t text_len,
+                                           const uint64_t *uids, size_t count,
+                                           struct vicinity_answer *answer);
 
 /* As vicinity_explain, for a text and a list of UIDs as vicinity_check_listed takes them. */
-uint32_t vicinity_explain_listed(const uint8_t *text, size_t text_len, const uint64_t *uids,
-                                 size_t count, struct vicinity_answer *answer,
-                                 uint64_t *population, size_t room, size_t *needed);
+enum vicinity_status vicinity_explain_listed(const uint8_t *text, size_t text_len,
+                                             const uint64_t *uids, size_t count,
+                                             struct vicinity_answer *answer, uint64_t *population,
+                                             size_t room, size_t *needed);
 
 /* As vicinity_report, for a text and a list of UIDs as vicinity_check_listed takes them. */
-uint32_t vicinity_report_listed(const uint8_t *text, size_t text_len, const uint64_t *uids,
-                                size_t count, struct vicinity_answer *answer,
-                                struct vicinity_finding *findings, size_t room, size_t *needed);
+enum vicinity_status vicinity_report_listed(const uint8_t *text, size_t text_len,
+                                            const uint64_t *uids, size_t count,
+                                            struct vicinity_answer *answer,
+                                            struct vicinity_finding *findings, size_t room,
+                                            size_t *needed);
 
 /*
  * Judges a log and lists its certain UIDs, those of tags that must be there, in rising order. Its
@@ -276,8 +301,9 @@ uint32_t vicinity_report_listed(const uint8_t *text, size_t text_len, const uint
  * with a larger buffer. There is none, and `*needed` is 0, for VICINITY_IMPOSSIBLE, _REFUSED and
  * _NO_ANSWER.
  */
-uint32_t vicinity_certain(const uint8_t *text, size_t text_len, struct vicinity_answer *answer,
-                          uint64_t *certain, size_t room, size_t *needed);
+enum vicinity_status vicinity_certain(const uint8_t *text, size_t text_len,
+                                      struct vicinity_answer *answer, uint64_t *certain,
+                                      size_t room, size_t *needed);
 
 /*
  * Judges a log and lists all its open masks, by length and then by value, each with `fault` 0. All
@@ -285,16 +311,19 @@ uint32_t vicinity_certain(const uint8_t *text, size_t text_len, struct vicinity_
  * like that. `U` lines, `*needed` and the buffer are as with vicinity_certain. A possible log
  * without open masks was read completely: only one population could have produced it.
  */
-uint32_t vicinity_open_masks(const uint8_t *text, size_t text_len, struct vicinity_answer *answer,
-                             struct vicinity_mask *masks, size_t room, size_t *needed);
+enum vicinity_status vicinity_open_masks(const uint8_t *text, size_t text_len,
+                                         struct vicinity_answer *answer,
+                                         struct vicinity_mask *masks, size_t room, size_t *needed);
 
 /*
  * Judges a log once, and writes what vicinity_certain and vicinity_open_masks write, each into a
  * buffer of its own with its own number of elements.
  */
-uint32_t vicinity_survey(const uint8_t *text, size_t text_len, struct vicinity_answer *answer,
-                         uint64_t *certain, size_t certain_room, size_t *certain_needed,
-                         struct vicinity_mask *masks, size_t mask_room, size_t *masks_needed);
+enum vicinity_status vicinity_survey(const uint8_t *text, size_t text_len,
+                                     struct vicinity_answer *answer, uint64_t *certain,
+                                     size_t certain_room, size_t *certain_needed,
+                                     struct vicinity_mask *masks, size_t mask_room,
+                                     size_t *masks_needed);
 
 /*
  * Lists the UIDs of a text that has the header and `U` lines alone, comments aside, in rising
@@ -305,8 +334,9 @@ uint32_t vicinity_survey(const uint8_t *text, size_t text_len, struct vicinity_a
  * Any other text is VICINITY_REFUSED, and `*needed` is 0: at its first fault if it is not a log,
  * otherwise with VICINITY_FAULT_NOT_LISTED at the first of its lines that lists no UID.
  */
-uint32_t vicinity_listed(const uint8_t *text, size_t text_len, struct vicinity_answer *answer,
-                         uint64_t *uids, size_t room, size_t *needed);
+enum vicinity_status vicinity_listed(const uint8_t *text, size_t text_len,
+                                     struct vicinity_answer *answer, uint64_t *uids, size_t room,
+                                     size_t *needed);
 
 /*
  * Reconciles the logs of many fields with the UIDs that are expected, in any order. `certain` and
@@ -330,10 +360,12 @@ uint32_t vicinity_listed(const uint8_t *text, size_t text_len, struct vicinity_a
  * value with more bits, and VICINITY_FAULT_TOO_MANY_LINES for a UID that is expected after
  * 4,294,967,295 others. A place beyond that is written as that number.
  */
-uint32_t vicinity_reconcile(const uint64_t *expected, size_t count, const uint64_t *certain,
-                            size_t certain_count, const struct vicinity_mask *masks,
-                            size_t mask_count, struct vicinity_answer *answer,
-                            struct vicinity_finding *findings, size_t room, size_t *needed);
+enum vicinity_status vicinity_reconcile(const uint64_t *expected, size_t count,
+                                        const uint64_t *certain, size_t certain_count,
+                                        const struct vicinity_mask *masks, size_t mask_count,
+                                        struct vicinity_answer *answer,
+                                        struct vicinity_finding *findings, size_t room,
+                                        size_t *needed);
 
 /*
  * Judges a log and writes its margin. A UID was overlooked in a slot in which, by the log, its tag
@@ -343,13 +375,15 @@ uint32_t vicinity_reconcile(const uint64_t *expected, size_t count, const uint64
  * would have had to be missed in so many slots. It is written for every possible log, complete or
  * not; `*weakest` is all 0 for VICINITY_IMPOSSIBLE, _REFUSED and _NO_ANSWER.
  */
-uint32_t vicinity_margin(const uint8_t *text, size_t text_len, struct vicinity_answer *answer,
-                         struct vicinity_weakest *weakest);
+enum vicinity_status vicinity_margin(const uint8_t *text, size_t text_len,
+                                     struct vicinity_answer *answer,
+                                     struct vicinity_weakest *weakest);
 
 /* As vicinity_margin, for a text and a list of UIDs as vicinity_check_listed takes them. */
-uint32_t vicinity_margin_listed(const uint8_t *text, size_t text_len, const uint64_t *uids,
-                                size_t count, struct vicinity_answer *answer,
-                                struct vicinity_weakest *weakest);
+enum vicinity_status vicinity_margin_listed(const uint8_t *text, size_t text_len,
+                                            const uint64_t *uids, size_t count,
+                                            struct vicinity_answer *answer,
+                                            struct vicinity_weakest *weakest);
 
 /*
  * Judges a log and writes in how many of its slots each UID was overlooked. vicinity_margin says
@@ -362,9 +396,9 @@ uint32_t vicinity_margin_listed(const uint8_t *text, size_t text_len, const uint
  * VICINITY_FAULT_NOT_VICINITY: the first one, at the line that it would have if the text were
  * followed by a line for each UID. A line beyond 4,294,967,295 is written as that number.
  */
-uint32_t vicinity_overlooked(const uint8_t *text, size_t text_len, const uint64_t *uids,
-                             size_t count, struct vicinity_answer *answer, uint32_t *places,
-                             size_t room);
+enum vicinity_status vicinity_overlooked(const uint8_t *text, size_t text_len, const uint64_t *uids,
+                                         size_t count, struct vicinity_answer *answer,
+                                         uint32_t *places, size_t room);
 
 /*
  * Fills in the slots of a log, as the tags that it lists would answer. What `vicinity simulate`
@@ -373,8 +407,8 @@ uint32_t vicinity_overlooked(const uint8_t *text, size_t text_len, const uint64_
  * after them; otherwise nothing is written there: call again with a larger buffer. Returns the
  * status: 0 for a log, 3 for a refusal; 4 if memory was refused, and then `*needed` is 0.
  */
-uint32_t vicinity_simulate(const uint8_t *text, size_t text_len, uint8_t *filled, size_t room,
-                           size_t *needed);
+enum vicinity_status vicinity_simulate(const uint8_t *text, size_t text_len, uint8_t *filled,
+                                       size_t room, size_t *needed);
 
 /* The calls below take no memory. */
 

@@ -2,11 +2,13 @@
 that end where memory ends, and each allocation refused in turn. The commands in C, over one of
 them, are asked what the program is (test_commands.py); the calls one by one are in test_calls.py,
 programs in other languages in test_bindings.py."""
+import re
+
 import pytest
 from vicinity._native import AnswerStruct
 
-from helpers.library import uids
-from helpers.program import STRICT, TOP, linked, told
+from helpers.library import CALLS, uids
+from helpers.program import STRICT, TOP, Program, linked, needs, told
 from helpers.texts import texts
 
 LOGS = sorted(TOP.glob("examples/*.log"))
@@ -19,6 +21,58 @@ def test_the_header_is_c_and_cpp_of_each_standard(standard):
     language = "c++" if standard.startswith("c++") else "c"
     told("cc", "-x", language, f"-std={standard}", *STRICT, "-fsyntax-only", "-include",
          "include/vicinity.h", "/dev/null")
+
+
+# The calls whose result is a status, each with its parameters.
+RETURNING = re.findall(r"^enum vicinity_status (vicinity_\w+)\(([^;]*)\);",
+                       (TOP / "include/vicinity.h").read_text(), re.M)
+
+
+def test_what_judges_returns_a_status():
+    """All that write an answer, and the one that writes a log instead."""
+    assert [name for name, given in RETURNING if "*answer" not in given] == ["vicinity_simulate"]
+    header = (TOP / "include/vicinity.h").read_text()
+    declared = re.findall(r"^[a-z].*\bvicinity_\w+\(([^;{]*)\);", header, re.M)
+    assert len(declared) == len(CALLS)
+    assert sum("*answer" in given for given in declared) == len(RETURNING) - 1
+
+
+@pytest.mark.parametrize("compiler", ["gcc", "g++", "clang++"])
+@pytest.mark.parametrize(("compared", "warned"), [
+    ("VICINITY_COMPLETE", True), ("VICINITY_REFUSED", True), ("VICINITY_FINDING_ABSENT", True),
+    ("VICINITY_STATUS_COMPLETE", False), ("VICINITY_STATUS_DONE", False)])
+def test_a_status_that_is_compared_with_a_kind_is_warned_of(tmp_path, compiler, compared, warned):
+    """By -Wall: complete is 1 as a kind, and 0 as a status."""
+    needs(compiler)
+    source = tmp_path / f"compared.{'cpp' if '++' in compiler else 'c'}"
+    lines = ['#include "vicinity.h"']
+    for name, given in RETURNING:
+        words = ", ".join(re.findall(r"(\w+)(?:,|$)", given))
+        lines.append(f"int {name}_is({given}) {{ return {name}({words}) == {compared}; }}\n")
+    source.write_text("\n".join(lines))
+    said = Program(compiler, "-Wall", "-Iinclude", "-fsyntax-only", source).run()
+    assert said.status == 0
+    assert said.err.count(b"[-Wenum-compare]") == len(RETURNING) * warned
+    assert warned or said.err == b""
+
+
+def test_complete_is_the_kind_and_not_the_status(release, tmp_path):
+    (tmp_path / "complete.c").write_text("""#include "vicinity.h"
+int main(void)
+{
+    static const char log[] = "vicinity-log 1\\nT 260100F60A\\nS\\n";
+    struct vicinity_answer answer = {0};
+    if (vicinity_is_complete(&answer)) /* no answer, though its status is 0 */
+        return 1;
+    vicinity_check((const uint8_t *)log, sizeof log - 1, &answer);
+    if (!vicinity_is_complete(&answer))
+        return 2;
+    vicinity_check((const uint8_t *)log, sizeof log - 3, &answer); /* unsettled */
+    return vicinity_is_complete(&answer) ? 3 : 0;
+}
+""")
+    complete = linked(release, tmp_path / "complete", tmp_path / "complete.c")
+    assert complete.run() == (b"", b"", 0)
 
 
 @pytest.mark.slow

@@ -169,7 +169,7 @@ static size_t find_all(size_t margin, struct vicinity_answer *answer)
             cycles++;
             note('F', &none);
             find(&named, 'C');
-        } else if (answer->kind == VICINITY_COMPLETE && weakest.margin < margin) {
+        } else if (vicinity_is_complete(answer) && weakest.margin < margin) {
             for (size_t lacking = margin - weakest.margin; lacking > 0; lacking--)
                 find(&all, 'N');
         } else {
@@ -203,7 +203,7 @@ int main(int argc, char **argv)
         note('T', &frame);
     }
     const size_t reached = find_all(margin, &answer);
-    const int is_done = answer.kind == VICINITY_COMPLETE && reached >= margin;
+    const int is_done = vicinity_is_complete(&answer) && reached >= margin;
     if (answer.kind == VICINITY_NO_ANSWER) {
         fprintf(stderr, "vicinity: out of memory\n");
         return 4;

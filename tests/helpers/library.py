@@ -11,8 +11,8 @@ from vicinity._native import AnswerStruct, FindingStruct, MaskStruct
 
 from helpers.program import TOP
 
-# The calls that the header declares.
-CALLS = re.findall(r"^[a-z][a-z0-9_ *]*[ *](vicinity_[a-z_]+)\(",
+# The calls that the header declares, without what it defines itself.
+CALLS = re.findall(r"^(?!static )[a-z][a-z0-9_ *]*[ *](vicinity_[a-z_]+)\(",
                    (TOP / "include/vicinity.h").read_text(), re.M)
 U8, U32, U64, SIZE = ctypes.c_uint8, ctypes.c_uint32, ctypes.c_uint64, ctypes.c_size_t
 STATUSES = {"complete": 0, "impossible": 2, "refused": 3}
