@@ -73,7 +73,7 @@ SameOrSlots o p = (o ≡ p) ⊎ ((d e : Entry) × (o ≡ Some d) × (p ≡ Some 
 at_some : (o p : Option Entry) (d e : Entry) → o ≡ Some d → p ≡ Some e → IsWeaker d e → SameOrSlots o p
 at_some o p d e k l w = ⊎_elim (λ same. inl (k ∙ (ap Some same ∙ sym l))) (λ s. inr (d, e, k, l, s.0, s.1)) w
 
-at_each : (ds es : List Entry) → AreWeaker ds es → (i : ℕ) → SameOrSlots (slice_get ds i) (slice_get es i)
+pub at_each : (ds es : List Entry) → AreWeaker ds es → (i : ℕ) → SameOrSlots (slice_get ds i) (slice_get es i)
 at_each ds es w i = elim (cases_lt i (length ds)) [
   | inl below ↦
       let many = w.as_many in
@@ -99,7 +99,7 @@ same_masks o p k s = grind (arith, nat_tests)
 
 -- ---- rounds, Quiet tags, listed UIDs
 
-weaker_opener : (ds es : List Entry) → AreWeaker ds es → (i : ℕ) → opener ds i ≡ opener es i
+pub weaker_opener : (ds es : List Entry) → AreWeaker ds es → (i : ℕ) → opener ds i ≡ opener es i
 weaker_opener ds es w zero = refl
 weaker_opener ds es w (suc j) = let s = same_ends _ _ (at_each ds es w j) in grind (arith, nat_tests, weaker_opener ds es w j)
 

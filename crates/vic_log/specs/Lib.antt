@@ -4,6 +4,7 @@ pub mod Populations
 pub mod Slots
 pub mod Weaker
 pub mod Overlooked
+pub mod Deaf
 pub mod Order
 pub mod FirstVersion
 pub mod SecondVersion

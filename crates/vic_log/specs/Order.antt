@@ -67,6 +67,10 @@ AreValid es = (i : ℕ) (q : Request) → slice_get es i ≡ Some (Sent q) → I
 abbrev pub entries : List LogLine → List Entry
 entries lines = map (λ l. l.item) lines
 
+-- the numbers of a log's lines
+abbrev pub numbers : List LogLine → List ℕ
+numbers lines = map (λ l. l.number) lines
+
 -- the line numbers rise, and are above n
 abbrev pub IsRisingFrom : ℕ → List LogLine → Type 0
 IsRisingFrom n [] = ⊤

@@ -1,6 +1,7 @@
 //! The entries of a log.
 
 ghost use Rattle.std.specs.Prelude.{◌≡◌, ◌==◌, ℕ, false, true, IfSome, IfNone, Some};
+ghost use Rattle.vic_log.specs.Deaf.{is_answer};
 ghost use Rattle.vic_log.specs.Rounds.{is_slot};
 ghost use Rattle.vic_log.specs.Slots.{hears, tells};
 
@@ -65,6 +66,17 @@ impl Entry {
             | Entry::Garbled
             | Entry::Captured(_) => true,
             Entry::Unknown | Entry::Sent(_) | Entry::Listed(_) | Entry::FieldCycle => false,
+        }
+    }
+
+    /// Whether it is an answer: a slot in which a tag answered.
+    pub fn is_answer(&self) -> bool
+        ensures { result ≡ is_answer self.now }
+    {
+        match *self {
+            Entry::Heard(_) | Entry::Captured(_) | Entry::Collision | Entry::Garbled => true,
+            Entry::Unknown | Entry::Sent(_) => false,
+            Entry::Silent | Entry::Listed(_) | Entry::FieldCycle => false,
         }
     }
 

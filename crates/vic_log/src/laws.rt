@@ -1,10 +1,12 @@
 //! Laws about logs and their text.
 
-ghost use Rattle.std.specs.Prelude.{◌≡◌, ◌++◌, ◌∷◌, ◌↔◌, ◌⊎◌, ℕ, true, [], List, Some, None, Ok, Result};
+ghost use Rattle.std.specs.Prelude.{◌≡◌, ◌≢◌, ◌<◌, ◌≤◌, ◌++◌, ◌∷◌, ◌↔◌, ◌⊎◌, ℕ, true, false, [], List, slice_get, Some, None, Ok, Result};
 ghost use Rattle.vic_frame.specs.Uids.{IsUid};
 ghost use Rattle.vic_log.specs.declared.entry.Entry.{Entry};
+ghost use Rattle.vic_log.specs.declared.entry.Entry.TheVariants.{Silent, Unknown};
 ghost use Rattle.vic_log.specs.declared.fault.LineFault.{LineFault};
 ghost use Rattle.vic_log.specs.declared.fault.LogFault.{LogFault};
+ghost use Rattle.vic_log.specs.Deaf.{IsLastAnswer, answers, hidden_entries, has_heard, deaf_entries, ends_silent, ArePartlyHidden, ArePartlyDeaf};
 ghost use Rattle.vic_log.specs.Early.{IsEarlyFault, ReadsAs, Judges};
 ghost use Rattle.vic_log.specs.FirstVersion.{IsOfFirstVersion, AreOfFirstVersion, opener_in_first, is_quiet_in_first, FitsFirst, CouldHaveGivenFirst, IsInOrderFirst};
 ghost use Rattle.vic_log.specs.declared.entry.Version.{Version};
@@ -120,4 +122,44 @@ pub fn weaker_entries_keep_populations()
 pub fn never_overlooked_is_open()
     ensures { (es : List Entry) (u : ℕ) → IsUid u
         → IsNeverOverlooked es u ↔ (is_open (slots_of es) u ≡ true) }
+{}
+
+/// The hidden entries are weaker than the entries, and the deaf ones weaker than the hidden ones.
+pub fn deaf_is_weakest()
+    ensures hidden { (es : List Entry) → AreWeaker (hidden_entries es) es }
+    ensures deaf { (es : List Entry) → AreWeaker (deaf_entries es) (hidden_entries es) }
+{}
+
+/// The deaf entries are the hidden ones, but for silent slots that come behind the last answer, or
+/// where there is none: of these nothing is known.
+pub fn deaf_behind_the_last_answer()
+    ensures behind { (es : List Entry) (i j : ℕ) → IsLastAnswer es i → i < j
+        → slice_get es j ≡ Some Silent → slice_get (deaf_entries es) j ≡ Some Unknown }
+    ensures before { (es : List Entry) (i j : ℕ) → IsLastAnswer es i → j ≤ i
+        → slice_get (deaf_entries es) j ≡ slice_get (hidden_entries es) j }
+    ensures never { (es : List Entry) (j : ℕ) → answers es ≡ 0
+        → slice_get es j ≡ Some Silent → slice_get (deaf_entries es) j ≡ Some Unknown }
+    ensures others { (es : List Entry) (j : ℕ) → slice_get es j ≢ Some Silent
+        → slice_get (deaf_entries es) j ≡ slice_get (hidden_entries es) j }
+{}
+
+/// A population that could have produced entries in which some replies may have hidden others could
+/// have produced the hidden ones. One that could have produced them where, besides, nothing is
+/// known of some silent slots behind the last answer, as of those from some moment on, could have
+/// produced the deaf ones.
+pub fn hidden_and_deaf_keep_populations()
+    ensures hidden { (ds es : List Entry) → ArePartlyHidden ds es
+        → (p : List ℕ) → CouldHaveGiven p ds → CouldHaveGiven p (hidden_entries es) }
+    ensures deaf { (ds es : List Entry) → ArePartlyDeaf ds es
+        → (p : List ℕ) → CouldHaveGiven p ds → CouldHaveGiven p (deaf_entries es) }
+{}
+
+/// Entries without a reply that was heard alone are their own hidden ones; where no silent slot
+/// comes behind the last answer, the deaf entries are the hidden ones. The deaf entries of the
+/// hidden ones are the deaf ones.
+pub fn hidden_and_deaf_may_be_the_same()
+    ensures hidden { (es : List Entry) → has_heard es ≡ false → hidden_entries es ≡ es }
+    ensures deaf { (es : List Entry) → ends_silent es ≡ false
+        → deaf_entries es ≡ hidden_entries es }
+    ensures both { (es : List Entry) → deaf_entries (hidden_entries es) ≡ deaf_entries es }
 {}

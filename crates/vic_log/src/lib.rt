@@ -9,6 +9,7 @@
 #![tactic(auto)]
 
 mod begun;
+mod deaf;
 mod decoding;
 mod digits;
 mod entry;

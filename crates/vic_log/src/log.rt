@@ -2,7 +2,8 @@
 
 ghost use Rattle.std.specs.Prelude.{◌≡◌, ◌<◌, ◌≤◌, [], ◌∷◌, ◌++◌, not, ◌||◌, true, false};
 ghost use Rattle.std.specs.Prelude.{Some, None, MatchResult, OnOk, OnErr, if◌then◌else◌};
-ghost use Rattle.vic_log.specs.declared.entry.Version.TheVariants.{V1, V2};
+ghost use Rattle.vic_log.specs.Deaf.{answers, deaf_entries, ends_silent, has_heard, hidden_entries};
+ghost use Rattle.vic_log.specs.declared.entry.Version.TheVariants.{V1, V2, V3};
 ghost use Rattle.vic_log.specs.declared.fault.PushFault.TheVariants.{DuplicateListed};
 ghost use Rattle.vic_log.specs.FirstVersion.{IsOfFirstVersion};
 ghost use Rattle.vic_log.specs.SecondVersion.{IsOfSecondVersion};
@@ -10,8 +11,9 @@ ghost use Rattle.vic_frame.specs.Uids.{has};
 ghost use Rattle.vic_log.specs.inner.UidSets.{IsIndex};
 ghost use Rattle.vic_log.specs.Kept.{left_after, Keeps};
 ghost use Rattle.vic_log.specs.Log.{LogValue, IsLog, with_line, last_from, RefusesOr, IsValidEntry};
-ghost use Rattle.vic_log.specs.Order.{entries, listed, is_empty, refusal};
+ghost use Rattle.vic_log.specs.Order.{entries, listed, numbers, is_empty, refusal};
 
+use crate::deaf;
 use crate::entry::{Entry, MAX_LINES, Version};
 use crate::fault::PushFault;
 use crate::packed::PackedLine;
@@ -98,6 +100,54 @@ impl Log {
             Some(line) => line.number(),
             None => 1,
         }
+    }
+
+    /// How many of its slot lines are answers: slots in which a tag answered.
+    pub fn answers(&self) -> u32
+        ensures value { result ≡ answers (entries self.now.lines) }
+        ensures limit { result ≤ MAX_LINES }
+    {
+        deaf::answers(&self.lines) as u32
+    }
+
+    /// Whether some reply was heard alone; if none was, `into_hidden` keeps the entries.
+    pub fn has_heard(&self) -> bool
+        ensures { result ≡ has_heard (entries self.now.lines) }
+    {
+        deaf::has_heard(&self.lines)
+    }
+
+    /// Whether a silent slot comes behind its last answer, or where it has none; if none does,
+    /// `into_deaf` makes of it what `into_hidden` does.
+    pub fn ends_silent(&self) -> bool
+        ensures { result ≡ ends_silent (entries self.now.lines) }
+    {
+        deaf::ends_silent(&self.lines)
+    }
+
+    /// The log as if its replies may have hidden others, in version 3.
+    pub fn into_hidden(self) -> Log
+        ensures items { entries result.lines ≡ hidden_entries (entries self.lines) }
+        ensures same { numbers result.lines ≡ numbers self.lines }
+        ensures version { result.version ≡ V3 }
+    {
+        let mut log = self;
+        deaf::hide(&mut log.lines);
+        log.version = Version::V3;
+        log
+    }
+
+    /// The log as if its replies may have hidden others, and the reader may have gone deaf after
+    /// its last answer, in version 3.
+    pub fn into_deaf(self) -> Log
+        ensures items { entries result.lines ≡ deaf_entries (entries self.lines) }
+        ensures same { numbers result.lines ≡ numbers self.lines }
+        ensures version { result.version ≡ V3 }
+    {
+        let mut log = self;
+        deaf::deafen(&mut log.lines);
+        log.version = Version::V3;
+        log
     }
 
     /// Why an entry can't follow these lines, if it can't.

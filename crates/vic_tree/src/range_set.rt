@@ -114,6 +114,13 @@ impl RangeSet {
         }
     }
 
+    /// The keys of its UIDs, as ranges in order with a key between any two.
+    pub fn ranges(&self) -> &[KeyRange]
+        ensures { result.now ≡ self.now }
+    {
+        &self.ranges
+    }
+
     /// The set without the UIDs with some keys.
     pub fn besides(&self, alloc: Global, keys: &SortedKeys) -> Result<RangeSet, AllocError>
         ensures { IfOk result (λ set. SameUids (is_open_in set)
