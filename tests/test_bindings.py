@@ -382,9 +382,11 @@ def test_cpp_header_after_those_of_qt(header):
          "-fsyntax-only", "-include", header, "-x", "c++", "/dev/null")
 
 
-def test_cpp_library(release, tmp_path):
-    tests = linked(release, tmp_path / "test", *CPP, "-fsanitize=address,undefined",
-                   "-fno-sanitize-recover=all", "bindings/cpp/test.cpp", compiler="g++")
+@pytest.mark.parametrize("standard", ("c++11", "c++17"))
+def test_cpp_library(standard, release, tmp_path):
+    tests = linked(release, tmp_path / "test", *CPP, f"-std={standard}",
+                   "-fsanitize=address,undefined", "-fno-sanitize-recover=all",
+                   "bindings/cpp/test.cpp", compiler="g++")
     assert tests.told().endswith(" passed\n")
 
 

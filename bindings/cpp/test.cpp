@@ -2,6 +2,7 @@
 #include "vicinity.hpp"
 
 #include <cstdlib>
+#include <cstring>
 #include <iostream>
 #include <new>
 #include <utility>
@@ -74,6 +75,38 @@ static void try_answers()
     }
 }
 
+// A pointer alone, or a buffer, doesn't say where its text ends: not at a NUL.
+template <typename From> constexpr bool is_no_text()
+{
+    return !std::is_constructible<vicinity::Text, From>::value;
+}
+static_assert(is_no_text<const char *>() && is_no_text<char *>() && is_no_text<char (&)[9]>() &&
+                  is_no_text<const unsigned char *>() && is_no_text<const char *const &>(),
+              "a text has a length");
+
+static void try_texts()
+{
+    // what is behind a NUL counts: here a tag that answers after a silent slot
+    const char nul[] = "vicinity-log 1\nT 260100F60A\nS\n# \0\nT 260100F60A\n"
+                       "R 0000A1000000000104E06745\n";
+    const std::string text(nul, sizeof nul - 1);
+    IS(text.size() > std::strlen(nul));
+    IS(vicinity::check(nul).line_text() == "impossible at line 6");
+    IS(vicinity::check(text).line_text() == "impossible at line 6");
+    IS(vicinity::check({text.data(), text.size()}).line_text() == "impossible at line 6");
+    const auto *bytes = reinterpret_cast<const std::uint8_t *>(text.data());
+    IS(vicinity::report({bytes, text.size()}).findings.size() == 2);
+    IS(vicinity::check_listed(nul, {}).line_text() == "impossible at line 6");
+    IS(vicinity::check({nul, std::strlen(nul)}).is_complete());
+    // the last byte of an array is one of the text, unless it is NUL
+    const char without[] = {'v', 'i', 'c', 'i', 'n', 'i', 't', 'y', '-', 'l', 'o', 'g', ' ', '1'};
+    IS(vicinity::check(without).line_text() == "unsettled 0 -");
+#if __cplusplus >= 201703L
+    IS(vicinity::check(std::string_view(text)).line_text() == "impossible at line 6");
+    IS(vicinity::check(std::string_view()).line_text() == "refused at line 1: Header");
+#endif
+}
+
 static void try_margins()
 {
     const vicinity::Margin silent = vicinity::margin(SILENT);
@@ -114,6 +147,16 @@ static void try_many()
     vicinity::Survey &same = kept; // as in a loop that keeps some elements of a vector
     kept = std::move(same);
     IS(vicinity::reconcile({A}, {kept}).answer.is_complete());
+    // also one from which the UIDs or the masks alone were taken
+    vicinity::Survey taken = vicinity::survey("vicinity-log 1\n");
+    const std::vector<vicinity_mask> masks = std::move(taken.masks);
+    IS(masks.size() == 1 && !taken.is_whole());
+    IS(thrown<vicinity::NoLogs>([&] { vicinity::reconcile({}, {taken}); }) == "no logs");
+    taken.masks = masks;
+    IS(vicinity::reconcile({}, {taken}).answer.line_text() == "unsettled 0 -");
+    taken = kept;
+    taken.certain.clear();
+    IS(thrown<vicinity::NoLogs>([&] { vicinity::reconcile({}, {taken}); }) == "no logs");
     const vicinity::Survey unread = vicinity::survey("vicinity-log 1\n");
     has_memory = false;
     try {
@@ -163,6 +206,7 @@ static void try_frames()
 int main()
 {
     try_answers();
+    try_texts();
     try_margins();
     try_many();
     try_frames();

@@ -6,8 +6,8 @@
 //     vicinity::Answer answer = vicinity::check("vicinity-log 1\nT 260100F60A\nS\n");
 //     if (answer.is_complete())
 //
-// A text is bytes: a log as it was written, whatever ends its lines. Any number of threads may call
-// at the same time.
+// A text is bytes: a log as it was written, whatever ends its lines, and each NUL in it. Any number
+// of threads may call at the same time.
 #ifndef VICINITY_HPP
 #define VICINITY_HPP
 
@@ -18,8 +18,12 @@
 #include <new>
 #include <stdexcept>
 #include <string>
+#include <type_traits>
 #include <utility>
 #include <vector>
+#if __cplusplus >= 201703L
+#include <string_view>
+#endif
 
 namespace vicinity
 {
@@ -37,6 +41,41 @@ inline std::uint32_t version()
 {
     return vicinity_version();
 }
+
+// ---- texts
+
+// The bytes of a text, which have to outlive it: those of a std::string, of a literal, or so many
+// from a pointer on, and from C++17 on those of a std::string_view. A pointer alone is no text: one
+// that has a NUL would seem to end there, and the answer would be about its beginning.
+class Text
+{
+  public:
+    Text(const std::string &text) : Text(text.data(), text.size()) {}
+#if __cplusplus >= 201703L
+    Text(std::string_view text) : Text(text.data(), text.size()) {}
+#endif
+    template <std::size_t Size>
+    Text(const char (&literal)[Size]) : Text(literal, Size - (literal[Size - 1] == '\0'))
+    {
+    }
+    Text(const char *start, std::size_t count)
+        : Text(reinterpret_cast<const std::uint8_t *>(start), count)
+    {
+    }
+    Text(const std::uint8_t *start, std::size_t count) : bytes_(start), size_(count) {}
+
+    template <std::size_t Size> Text(char (&)[Size]) = delete; // how much of it is the text?
+    template <typename Pointer,
+              typename = typename std::enable_if<std::is_pointer<Pointer>::value>::type>
+    Text(Pointer) = delete;
+
+    const std::uint8_t *bytes() const { return bytes_; }
+    std::size_t size() const { return size_; }
+
+  private:
+    const std::uint8_t *bytes_;
+    std::size_t size_;
+};
 
 // ---- errors
 
@@ -67,7 +106,8 @@ struct WrongFrame : std::invalid_argument {
     explicit WrongFrame(std::uint32_t why) : std::invalid_argument(fault_name(why)), fault(why) {}
 };
 
-// There are no logs to reconcile.
+// There are no logs to reconcile, or a survey isn't what `survey` returned, as one from which the
+// masks were moved away.
 struct NoLogs : std::invalid_argument {
     NoLogs() : std::invalid_argument("no logs") {}
 };
@@ -114,7 +154,7 @@ struct Mask {
 struct Answer : vicinity_answer {
     // No answer: the kind is VICINITY_NO_ANSWER and the status 4. So is one that was moved away, and
     // with it a Survey: without its masks it would say that nothing else can be there.
-    Answer() noexcept : vicinity_answer() { status = 4; }
+    Answer() noexcept : vicinity_answer() { status = VICINITY_STATUS_NO_ANSWER; }
     Answer(const Answer &) = default;
     Answer &operator=(const Answer &) = default;
     Answer(Answer &&from) noexcept : Answer() { std::swap<vicinity_answer>(*this, from); }
@@ -194,19 +234,27 @@ struct Survey {
         std::swap(answer, other.answer);
         certain.swap(other.certain);
         masks.swap(other.masks);
+        std::swap(certain_count, other.certain_count);
+        std::swap(mask_count, other.mask_count);
         return *this;
     }
+
+    // Whether it is of a possible log, and has all that `survey` found.
+    bool is_whole() const
+    {
+        return answer.kind >= VICINITY_COMPLETE && answer.kind <= VICINITY_DOUBTFUL &&
+               certain.size() >= certain_count && masks.size() >= mask_count;
+    }
+
+  private:
+    friend Survey survey(Text text);
+    std::size_t certain_count = 0, mask_count = 0; // how many were found
 };
 
 // ---- what the calls share
 
 namespace detail
 {
-
-inline const std::uint8_t *bytes(const std::string &text)
-{
-    return reinterpret_cast<const std::uint8_t *>(text.data());
-}
 
 inline Answer answered(const Answer &answer)
 {
@@ -237,9 +285,10 @@ inline Margin measured(const Answer &answer, const vicinity_weakest &told)
 }
 
 // A text whose last line ends, so that lines can follow.
-inline std::string ended(const std::string &text)
+inline std::string ended(Text text)
 {
-    return !text.empty() && text.back() == '\n' ? text : text + '\n';
+    std::string whole(text.bytes(), text.bytes() + text.size());
+    return !whole.empty() && whole.back() == '\n' ? whole : whole + '\n';
 }
 
 inline void refuse(std::uint32_t fault)
@@ -265,95 +314,94 @@ inline bool fits()
 }
 
 // The answer to a log, as `vicinity check`.
-inline Answer check(const std::string &text)
+inline Answer check(Text text)
 {
     Answer answer{};
-    vicinity_check(detail::bytes(text), text.size(), &answer);
+    vicinity_check(text.bytes(), text.size(), &answer);
     return detail::answered(answer);
 }
 
 // The answer to a log, and a counterexample, as `vicinity explain`.
-inline Explained explain(const std::string &text)
+inline Explained explain(Text text)
 {
     Explained told{};
     told.answer = detail::fill(told.population, [&](Answer *answer, std::uint64_t *uids,
                                                     std::size_t room, std::size_t *needed) {
-        vicinity_explain(detail::bytes(text), text.size(), answer, uids, room, needed);
+        vicinity_explain(text.bytes(), text.size(), answer, uids, room, needed);
     });
     return told;
 }
 
 // The answer to a log, and every finding, as `vicinity report`.
-inline Report report(const std::string &text)
+inline Report report(Text text)
 {
     Report told{};
     told.answer = detail::fill(told.findings, [&](Answer *answer, vicinity_finding *found,
                                                   std::size_t room, std::size_t *needed) {
-        vicinity_report(detail::bytes(text), text.size(), answer, found, room, needed);
+        vicinity_report(text.bytes(), text.size(), answer, found, room, needed);
     });
     return told;
 }
 
 // The same for a text without `U` lines, followed by one for each of these UIDs, in any order.
-inline Answer check_listed(const std::string &text, const std::vector<std::uint64_t> &uids)
+inline Answer check_listed(Text text, const std::vector<std::uint64_t> &uids)
 {
     const std::string whole = detail::ended(text);
     Answer answer{};
-    vicinity_check_listed(detail::bytes(whole), whole.size(), uids.data(), uids.size(), &answer);
+    vicinity_check_listed(Text(whole).bytes(), whole.size(), uids.data(), uids.size(), &answer);
     return detail::answered(answer);
 }
 
-inline Explained explain_listed(const std::string &text, const std::vector<std::uint64_t> &uids)
+inline Explained explain_listed(Text text, const std::vector<std::uint64_t> &uids)
 {
     const std::string whole = detail::ended(text);
     Explained told{};
     told.answer = detail::fill(told.population, [&](Answer *answer, std::uint64_t *found,
                                                     std::size_t room, std::size_t *needed) {
-        vicinity_explain_listed(detail::bytes(whole), whole.size(), uids.data(), uids.size(),
+        vicinity_explain_listed(Text(whole).bytes(), whole.size(), uids.data(), uids.size(),
                                 answer, found, room, needed);
     });
     return told;
 }
 
-inline Report report_listed(const std::string &text, const std::vector<std::uint64_t> &uids)
+inline Report report_listed(Text text, const std::vector<std::uint64_t> &uids)
 {
     const std::string whole = detail::ended(text);
     Report told{};
     told.answer = detail::fill(told.findings, [&](Answer *answer, vicinity_finding *found,
                                                   std::size_t room, std::size_t *needed) {
-        vicinity_report_listed(detail::bytes(whole), whole.size(), uids.data(), uids.size(), answer,
+        vicinity_report_listed(Text(whole).bytes(), whole.size(), uids.data(), uids.size(), answer,
                                found, room, needed);
     });
     return told;
 }
 
 // The answer to a log, and its margin, as `vicinity margin`.
-inline Margin margin(const std::string &text)
+inline Margin margin(Text text)
 {
     Answer answer{};
     vicinity_weakest told;
-    vicinity_margin(detail::bytes(text), text.size(), &answer, &told);
+    vicinity_margin(text.bytes(), text.size(), &answer, &told);
     return detail::measured(answer, told);
 }
 
-inline Margin margin_listed(const std::string &text, const std::vector<std::uint64_t> &uids)
+inline Margin margin_listed(Text text, const std::vector<std::uint64_t> &uids)
 {
     const std::string whole = detail::ended(text);
     Answer answer{};
     vicinity_weakest told;
-    vicinity_margin_listed(detail::bytes(whole), whole.size(), uids.data(), uids.size(), &answer,
+    vicinity_margin_listed(Text(whole).bytes(), whole.size(), uids.data(), uids.size(), &answer,
                            &told);
     return detail::measured(answer, told);
 }
 
 // In how many slots of a log each of these UIDs was overlooked. A text that is not a log is
 // Refused, and so is a UID that doesn't begin E0.
-inline std::vector<std::uint32_t> overlooked(const std::string &text,
-                                             const std::vector<std::uint64_t> &uids)
+inline std::vector<std::uint32_t> overlooked(Text text, const std::vector<std::uint64_t> &uids)
 {
     std::vector<std::uint32_t> slot_counts(uids.size());
     Answer answer{};
-    vicinity_overlooked(detail::bytes(text), text.size(), uids.data(), uids.size(), &answer,
+    vicinity_overlooked(text.bytes(), text.size(), uids.data(), uids.size(), &answer,
                         slot_counts.data(), slot_counts.size());
     if (detail::answered(answer).kind == VICINITY_REFUSED)
         throw Refused(answer.line, answer.fault);
@@ -362,12 +410,12 @@ inline std::vector<std::uint32_t> overlooked(const std::string &text,
 
 // The UIDs, in rising order, of a text that only lists UIDs: a list of what is expected. Any other
 // text is Refused.
-inline std::vector<std::uint64_t> listed(const std::string &text)
+inline std::vector<std::uint64_t> listed(Text text)
 {
     std::vector<std::uint64_t> uids;
     const Answer told = detail::fill(
         uids, [&](Answer *answer, std::uint64_t *found, std::size_t room, std::size_t *needed) {
-            vicinity_listed(detail::bytes(text), text.size(), answer, found, room, needed);
+            vicinity_listed(text.bytes(), text.size(), answer, found, room, needed);
         });
     if (told.kind != VICINITY_LISTED)
         throw Refused(told.line, told.fault);
@@ -376,14 +424,14 @@ inline std::vector<std::uint64_t> listed(const std::string &text)
 
 // What a log says of its field. A text that is not a log is Refused, one that no tags could have
 // produced Impossible.
-inline Survey survey(const std::string &text)
+inline Survey survey(Text text)
 {
     Survey told{};
     told.certain.resize(64);
     told.masks.resize(64);
     for (;;) {
         std::size_t uids = 0, masks = 0;
-        vicinity_survey(detail::bytes(text), text.size(), &told.answer, told.certain.data(),
+        vicinity_survey(text.bytes(), text.size(), &told.answer, told.certain.data(),
                         told.certain.size(), &uids, told.masks.data(), told.masks.size(), &masks);
         detail::answered(told.answer);
         if (told.answer.kind == VICINITY_REFUSED)
@@ -393,6 +441,8 @@ inline Survey survey(const std::string &text)
         bool held = uids <= told.certain.size() && masks <= told.masks.size();
         told.certain.resize(uids);
         told.masks.resize(masks);
+        told.certain_count = uids;
+        told.mask_count = masks;
         if (held)
             return told;
     }
@@ -409,8 +459,8 @@ inline Report reconcile(const std::vector<std::uint64_t> &expected,
     if (surveys.empty())
         throw NoLogs();
     for (const Survey &one : surveys) {
-        if (one.answer.kind < VICINITY_COMPLETE || one.answer.kind > VICINITY_DOUBTFUL)
-            throw NoLogs(); // it is none that `survey` returned
+        if (!one.is_whole())
+            throw NoLogs();
         certain.insert(certain.end(), one.certain.begin(), one.certain.end());
         masks.insert(masks.end(), one.masks.begin(), one.masks.end());
     }
@@ -426,21 +476,21 @@ inline Report reconcile(const std::vector<std::uint64_t> &expected,
 }
 
 // The log that conforming tags would produce: the text has the requests, and lists the tags.
-inline std::string simulate(const std::string &text)
+inline std::string simulate(Text text)
 {
     std::vector<std::uint8_t> room(64 + 4 * text.size());
     for (;;) {
         std::size_t needed = 0;
-        std::uint32_t status =
-            vicinity_simulate(detail::bytes(text), text.size(), room.data(), room.size(), &needed);
-        if (status == 4)
+        const vicinity_status status =
+            vicinity_simulate(text.bytes(), text.size(), room.data(), room.size(), &needed);
+        if (status == VICINITY_STATUS_NO_ANSWER)
             throw std::bad_alloc();
         if (needed > room.size()) {
             room.resize(needed);
             continue;
         }
         std::string filled(room.begin(), room.begin() + static_cast<std::ptrdiff_t>(needed));
-        if (status != 0)
+        if (status != VICINITY_STATUS_DONE)
             throw NotSimulated(filled.substr(0, filled.find('\n')));
         return filled;
     }
