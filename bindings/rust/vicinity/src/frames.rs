@@ -40,10 +40,10 @@ pub struct Reply {
 pub enum Entry<'a> {
     /// `T`: this frame was sent.
     Sent(&'a [u8]),
-    /// `R`: this reply was heard, and no other tag answered.
-    Heard(&'a [u8]),
-    /// `H`: this reply was heard; whether others answered too isn't known.
-    Captured(&'a [u8]),
+    /// `H`: this reply was heard, and may have hidden others. This is what a reader knows.
+    Reply(&'a [u8]),
+    /// `R`: this reply was heard, and no other tag answered. If one did, an answer can be wrong.
+    LoneReply(&'a [u8]),
     /// `S`: the slot was silent.
     Silent,
     /// `C`: several tags answered.
@@ -173,19 +173,22 @@ pub fn slot_mask(slots: u8, mask: Mask, slot: u8) -> Result<Mask, Refusal> {
 /// let reply = write_response(0, 0, Uid::new(0xE0040100000000A1).unwrap())?;
 /// let asked = format!("{HEADER_LINE}T 260100F60A\n");
 /// for (entry, wanted) in [
-///     (Entry::Captured(&reply), "unlisted E0040100000000A1"),
+///     (Entry::Reply(&reply), "unlisted E0040100000000A1"),
 ///     (Entry::Unknown, "unsettled 0 -"),
 /// ] {
 ///     let text = asked.clone() + &write_line(entry)?;
 ///     assert_eq!(check(text.as_bytes()).unwrap().to_string(), wanted);
 /// }
+/// // only where no other tag can have answered:
+/// assert!(write_line(Entry::LoneReply(&reply))?.starts_with("R "));
+/// assert!(write_line(Entry::Reply(&reply))?.starts_with("H "));
 /// # Ok::<(), vicinity::Refusal>(())
 /// ```
 pub fn write_line(entry: Entry<'_>) -> Result<String, Refusal> {
     let (letter, bytes, uid): (u8, &[u8], u64) = match entry {
         Entry::Sent(bytes) => (b'T', bytes, 0),
-        Entry::Heard(bytes) => (b'R', bytes, 0),
-        Entry::Captured(bytes) => (b'H', bytes, 0),
+        Entry::Reply(bytes) => (b'H', bytes, 0),
+        Entry::LoneReply(bytes) => (b'R', bytes, 0),
         Entry::Silent => (b'S', &[], 0),
         Entry::Collision => (b'C', &[], 0),
         Entry::Garbled => (b'D', &[], 0),
