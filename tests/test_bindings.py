@@ -6,6 +6,7 @@ import os
 import platform
 import pty
 import re
+import resource
 import shutil
 import signal
 import subprocess
@@ -153,9 +154,20 @@ def test_an_example_that_is_refused_memory_has_no_answer(example, language, tmp_
     refuse, statuses = shim("refuse", tmp_path), set()
     for number in range(1, 80):
         said = check.run(whole, env={**os.environ, "LD_PRELOAD": refuse, "REFUSED": str(number)})
-        assert said[::2] == (b"complete 4\n", 0) or said.out == b"" and said.status not in (0, 1)
+        assert (said.out, said.status) in ((b"complete 4\n", 0), (b"", 4)) or (
+            language == "rust" and (said.out, said.status) == (b"", -signal.SIGABRT))
         statuses.add(said.status)
     assert 4 in statuses
+
+
+def test_the_example_in_go_that_is_refused_memory_by_go_has_no_answer(example, tmp_path):
+    """Go itself would end it with the status of an impossible log."""
+    (tmp_path / "large.log").touch()
+    os.truncate(tmp_path / "large.log", 20 << 30)
+    out, err, status = example("go", LIBRARIES[0]).run(
+        tmp_path / "large.log",
+        preexec_fn=lambda: resource.setrlimit(resource.RLIMIT_AS, (4 << 30, 4 << 30)))
+    assert (out, status) == (b"", 4) and b"out of memory" in err
 
 
 @pytest.mark.parametrize("by", LIBRARIES)

@@ -11,7 +11,7 @@ const noAnswer = 4
 // ErrOutOfMemory means that there is no answer because memory ran out.
 var ErrOutOfMemory = errors.New("vicinity: out of memory")
 
-// ErrNoLogs means that there is nothing to reconcile: no survey, or one that isn't of a possible log.
+// ErrNoLogs means that there is nothing to reconcile: no survey, or one that isn't of a possible log, or lacks UIDs or masks.
 var ErrNoLogs = errors.New("vicinity: no logs, or a survey of none")
 
 // RefusedError is a text that is not a log, or not a list: the line and its fault. Of lists that are reconciled, Line counts

@@ -66,6 +66,23 @@ type Survey struct {
 	Answer    Answer // which says what the list of the log is worth
 	Certain   []UID  // the UIDs that must be there, in rising order
 	OpenMasks []Mask // all masks whose UIDs may be there or not, by length and then by value
+
+	certain, openMasks int // how many of each SurveyOf found
+}
+
+// isWhole reports whether it is of a possible log, and lacks nothing that SurveyOf found: without its masks it would say that
+// nothing else can be there. One that came as JSON has no such numbers, but the kind of its answer needs a UID or a mask.
+func (survey Survey) isWhole() bool {
+	isWhole := len(survey.Certain) >= survey.certain && len(survey.OpenMasks) >= survey.openMasks
+	switch survey.Answer.Kind {
+	case Complete, Absent:
+		return isWhole
+	case Unlisted:
+		return isWhole && len(survey.Certain) > 0
+	case Unsettled, Doubtful:
+		return isWhole && len(survey.OpenMasks) > 0
+	}
+	return false
 }
 
 // Fits reports whether the linked library has the interface of the header.
@@ -199,7 +216,7 @@ func SurveyOf(text []byte) (Survey, error) {
 		case found.Kind == Impossible:
 			return Survey{Answer: found}, &ImpossibleError{found.Line}
 		case int(count) <= len(uids) && int(open) <= len(masks):
-			survey := Survey{Answer: found, Certain: uids[:count]}
+			survey := Survey{Answer: found, Certain: uids[:count], certain: int(count), openMasks: int(open)}
 			for _, mask := range masks[:open] {
 				survey.OpenMasks = append(survey.OpenMasks, Mask{uint32(mask.len), uint64(mask.value)})
 			}
@@ -218,8 +235,8 @@ func Reconcile(expected []UID, surveys []Survey) (Answer, []Finding, error) {
 	var certain []UID
 	var masks []C.struct_vicinity_mask
 	for _, survey := range surveys {
-		if kind := survey.Answer.Kind; kind < Complete || kind > Doubtful {
-			return Answer{Status: noAnswer}, nil, ErrNoLogs // it is none that SurveyOf returned
+		if !survey.isWhole() {
+			return Answer{Status: noAnswer}, nil, ErrNoLogs
 		}
 		certain = append(certain, survey.Certain...)
 		for _, mask := range survey.OpenMasks {

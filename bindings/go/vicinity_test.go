@@ -1,8 +1,10 @@
 package vicinity
 
 import (
+	"encoding/json"
 	"errors"
 	"fmt"
+	"regexp"
 	"testing"
 )
 
@@ -96,6 +98,43 @@ func TestSurveysThatAreNone(t *testing.T) {
 	}
 	for _, surveys := range [][]Survey{nil, {}, {{}}} {
 		if answer, _, err := Reconcile(nil, surveys); !errors.Is(err, ErrNoLogs) || answer.IsComplete() {
+			t.Error(answer, err)
+		}
+	}
+}
+
+// A log in which one answered, and may have hidden others.
+const captured = HeaderLine + "T 260100F60A\nH 0000A1000000000104E06745\n"
+
+func TestSurveysThatLackSomething(t *testing.T) {
+	whole, err := SurveyOf([]byte(captured))
+	if err != nil || len(whole.OpenMasks) == 0 || len(whole.Certain) != 1 {
+		t.Fatal(whole, err)
+	}
+	reused, taken := whole, whole
+	reused.OpenMasks = whole.OpenMasks[:0]
+	taken.Certain = nil
+	unasked, err := SurveyOf([]byte(HeaderLine))
+	if err != nil {
+		t.Fatal(err)
+	}
+	var sent Survey
+	text, _ := json.Marshal(unasked)
+	text = regexp.MustCompile(`"OpenMasks":\[.*?\]`).ReplaceAll(text, []byte(`"OpenMasks":null`))
+	if err := json.Unmarshal(text, &sent); err != nil || sent.Answer.Kind != Unsettled || sent.OpenMasks != nil {
+		t.Fatal(sent, err)
+	}
+	for _, survey := range []Survey{reused, taken, sent} {
+		if answer, _, err := Reconcile([]UID{a}, []Survey{survey}); !errors.Is(err, ErrNoLogs) || answer.IsComplete() {
+			t.Error(answer, err)
+		}
+	}
+	text, _ = json.Marshal(whole)
+	if err := json.Unmarshal(text, &sent); err != nil {
+		t.Fatal(err)
+	}
+	for _, survey := range []Survey{whole, sent} {
+		if answer, _, err := Reconcile([]UID{a}, []Survey{survey}); err != nil || answer.Kind != Unsettled {
 			t.Error(answer, err)
 		}
 	}
