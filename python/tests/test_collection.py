@@ -81,7 +81,7 @@ class Calls(unittest.TestCase):
                 ([B], [SILENCE_A + ALL + HEARD_B, ALL + b"S\n"], "unsettled 56 040100000000A1")):
             found = [vicinity.survey(log(lines)) for lines in logs]
             for order in (found, found[::-1], found * 2, iter(found)):
-                report = vicinity.reconcile(iter(expected), order)
+                report = vicinity.reconcile(tuple(expected), order)
                 self.assertEqual(str(report), text)
                 self.assertEqual(report.answer.text, text.partition("\n")[0])
                 self.assertEqual(report.answer.status, 0 if text.startswith("complete") else 1)

@@ -47,7 +47,7 @@ class Calls(Command):
                 listed = b"".join(vicinity.write_line("U", uid=uid) for uid in uids)
                 wanted = vicinity.margin(log(lines + listed))
                 self.assertEqual(vicinity.margin_listed(log(lines), uids), wanted)
-                self.assertEqual(vicinity.margin_listed(log(lines).rstrip(), iter(uids)), wanted)
+                self.assertEqual(vicinity.margin_listed(log(lines).rstrip(), tuple(uids)), wanted)
         self.assertEqual(str(vicinity.margin_listed(log(TWICE), [1])),
                          "refused at line 7: NotVicinity")
 

@@ -1,6 +1,8 @@
 """The package over the library that LIBVICINITY names, or the installed one."""
+import csv
 import ctypes
 import io
+import itertools
 import os
 import pathlib
 import pickle
@@ -10,6 +12,7 @@ import sys
 import tempfile
 import threading
 import unittest
+from array import array
 
 from cases import (A, ALL, ANSWERS, B, HEARD_A, HEARD_B, LIST_A, LIST_B, SILENCE_A, SIXTEEN, TOP,
                    frame, log)
@@ -180,15 +183,30 @@ class Calls(unittest.TestCase):
                 with self.assertRaisesRegex(TypeError, "listed reads those of a list"):
                     vicinity.reconcile(uids, [there])
 
-    def test_a_generator_that_is_used_up_is_no_empty_list(self):
-        silent, uids = log(ALL + b"S\n"), (uid for uid in [A])
-        self.assertEqual(str(vicinity.check_listed(silent, uids)), f"absent {A:016X}")
-        for call in (vicinity.check_listed, vicinity.margin_listed, vicinity.overlooked):
-            with self.assertRaisesRegex(ValueError, "a generator that is used up: give a list"):
-                call(silent, uids)
-        with self.assertRaisesRegex(ValueError, "used up"):
-            vicinity.reconcile(uids, [vicinity.survey(silent)])
-        self.assertEqual(str(vicinity.check_listed(silent, (uid for uid in []))), "complete 0")
+    def test_an_iterator_is_no_list(self):
+        """Used up it would be an empty one, and of this log the answer `complete 0`."""
+        silent = log(ALL + b"S\n")
+        there = vicinity.survey(silent)
+        iterators = {"generator": (uid for uid in [A]), "map": map(int, [A]),
+                     "filter": filter(None, [A]), "zip": zip([A]), "reader": csv.reader([str(A)]),
+                     "list_iterator": iter([A]), "set_iterator": iter({A}),
+                     "chain": itertools.chain([A]), "dict_keyiterator": iter({A: 1}),
+                     "enumerate": enumerate([A]), "reversed": reversed((A,))}
+        for is_used_up in (False, True):
+            for name, uids in iterators.items():
+                for call in (vicinity.check_listed, vicinity.explain_listed,
+                             vicinity.report_listed, vicinity.margin_listed, vicinity.overlooked):
+                    with self.assertRaisesRegex(TypeError, f"UIDs are a list, not {name}, which"):
+                        call(silent, uids)
+                with self.assertRaisesRegex(TypeError, "UIDs are a list"):
+                    vicinity.reconcile(uids, [there])
+                with self.assertRaisesRegex(TypeError, "UIDs are a list"):
+                    _calls.reconcile_parts([], uids, [])
+                with self.assertRaisesRegex(TypeError, "masks are a list"):
+                    _calls.reconcile_parts([], [], uids)
+                self.assertEqual(len(list(uids)), 0 if is_used_up else 1)
+        for uids in ([A], (A,), {A}, {A: 1}, {A: 1}.keys(), range(A, A + 1), array("Q", [A])):
+            self.assertEqual(str(vicinity.check_listed(silent, uids)), f"absent {A:016X}")
         with self.assertRaises(TypeError):
             vicinity.check_listed(silent, None)
 
@@ -322,8 +340,8 @@ class Calls(unittest.TestCase):
     def test_numbers_are_those_of_the_header(self):
         with open(os.path.join(TOP, "include/vicinity.h")) as file:
             header = file.read()
-        kinds = {name: int(it)
-                 for name, it in re.findall(r"VICINITY_(?!FINDING_)([A-Z_]+) = (\d),? /\*", header)}
+        of_kinds = r"VICINITY_(?!FINDING_|STATUS_)([A-Z_]+) = (\d),? /\*"
+        kinds = {name: int(it) for name, it in re.findall(of_kinds, header)}
         of_faults = r"VICINITY_(?:FAULT_(?=\w)|(?=WRONG_MASK))(\w+) = (\d+)"
         faults = {name: int(it) for name, it in re.findall(of_faults, header)}
         self.assertEqual(kinds, {"NO_ANSWER": 0, **{it.name: it.value for it in Kind}})

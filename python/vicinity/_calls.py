@@ -7,7 +7,7 @@ import re
 import struct
 from array import array
 from html import escape
-from typing import Any, Iterable, Optional, Sequence
+from typing import Any, Collection, Iterable, Optional, Sequence
 
 from ._answers import (Answer, Explanation, Fault, Finding, FindingKind, Kind, ListFault, Margin,
                        Mask, Report, Simulation, Survey, Weakest)
@@ -30,29 +30,36 @@ def _text(text: BytesLike) -> tuple[bytes, int]:
     return text, len(text)
 
 
-def _text_and_list(text: BytesLike, uids: Iterable[int]) -> Sequence[Any]:
+def _text_and_list(text: BytesLike, uids: Collection[int]) -> Sequence[Any]:
     """A text with a separate list, with an LF after its last line."""
     text, listed = bytes_of(text), _numbers(uids)
     text = text if text.endswith(b"\n") else text + b"\n"
     return text, len(text), listed, len(listed)
 
 
-def _numbers(uids: Iterable[int]) -> ctypes.Array[ctypes.c_uint64]:
+def _kept(what: str, elements: Iterable[Any]) -> None:
+    """Raises TypeError if elements are an iterator: one that is used up, in part or to its end,
+    can't be told from one with fewer elements or none."""
+    if iter(elements) is elements:
+        raise TypeError(f"{what} are a list, not {type(elements).__name__}, which may be used up")
+
+
+def _numbers(uids: Collection[int]) -> ctypes.Array[ctypes.c_uint64]:
     """UIDs as a C array. Raises OverflowError if a number doesn't fit into 64 bits."""
     if isinstance(uids, (str, bytes, bytearray, memoryview)) or hasattr(uids, "read"):
         raise TypeError(f"UIDs are numbers, not {type(uids).__name__}: "
                         "listed reads those of a list, parse_uid one")
-    if getattr(uids, "gi_frame", ...) is None:
-        raise ValueError("the UIDs are a generator that is used up: give a list")
+    _kept("UIDs", uids)
     numbers = array("Q", uids)
     place = ctypes.c_uint64 * len(numbers)
     # what an empty array points to isn't aligned
     return place.from_buffer(numbers) if numbers else place()
 
 
-def _masks(masks: Iterable[Mask]) -> ctypes.Array[ctypes.Structure]:
+def _masks(masks: Collection[Mask]) -> ctypes.Array[ctypes.Structure]:
     """Masks as a C array.
     Raises OverflowError if a number of one doesn't fit into 32 or 64 bits."""
+    _kept("masks", masks)
     try:
         structs = [PACKED_MASK.pack(0, length, value) for length, value in masks]
     except struct.error as error:
@@ -126,12 +133,13 @@ def check(text: BytesLike) -> Answer:
     return _answer(_asked("check", _text(text)))
 
 
-def check_listed(text: BytesLike, uids: Iterable[int]) -> Answer:
+def check_listed(text: BytesLike, uids: Collection[int]) -> Answer:
     """The answer to a text that lists nothing, with a separate list of UIDs, in any order.
     The last line of the text may lack its LF.
 
-    Raises what `check` raises, ValueError if the UIDs are a generator that is used up (of another
-    iterator nobody can tell: it is an empty list), and OverflowError if one exceeds 64 bits."""
+    Raises what `check` raises, TypeError if the UIDs are an iterator, as a generator, a map or a
+    csv.reader (one that is used up would be an empty list), and OverflowError if one exceeds 64
+    bits."""
     return _answer(_asked("check_listed", _text_and_list(text, uids)))
 
 
@@ -140,7 +148,7 @@ def explain(text: BytesLike) -> Explanation:
     return _explanation("explain", _text(text))
 
 
-def explain_listed(text: BytesLike, uids: Iterable[int]) -> Explanation:
+def explain_listed(text: BytesLike, uids: Collection[int]) -> Explanation:
     """The answer of `check_listed`, and the UIDs of tags that show it.
     Raises what `check_listed` raises."""
     return _explanation("explain_listed", _text_and_list(text, uids))
@@ -160,7 +168,7 @@ def report(text: BytesLike) -> Report:
     return _report("report", _text(text))
 
 
-def report_listed(text: BytesLike, uids: Iterable[int]) -> Report:
+def report_listed(text: BytesLike, uids: Collection[int]) -> Report:
     """The answer of `check_listed`, and every finding. Raises what `check_listed` raises."""
     return _report("report_listed", _text_and_list(text, uids))
 
@@ -171,13 +179,13 @@ def margin(text: BytesLike) -> Margin:
     return _margin("margin", _text(text))
 
 
-def margin_listed(text: BytesLike, uids: Iterable[int]) -> Margin:
+def margin_listed(text: BytesLike, uids: Collection[int]) -> Margin:
     """The answer of `check_listed`, and the margin against this list.
     Raises what `check_listed` raises."""
     return _margin("margin_listed", _text_and_list(text, uids))
 
 
-def overlooked(text: BytesLike, uids: Iterable[int]) -> list[int]:
+def overlooked(text: BytesLike, uids: Collection[int]) -> list[int]:
     """In how many slots of a log each of these UIDs was overlooked, in their order:
     its tag should have answered, and the slot is logged as silent, or as the reply R of another.
     They may be any, listed or not, also of an impossible log.
@@ -221,27 +229,28 @@ def listed(text: BytesLike) -> list[int]:
     return found
 
 
-def reconcile(expected: Iterable[int], surveys: Iterable[Survey], *, strict: bool = True) -> Report:
+def reconcile(expected: Collection[int], surveys: Iterable[Survey], *,
+              strict: bool = True) -> Report:
     """The answer for many logs, of which these are the surveys, and every finding;
     `expected` are the UIDs that should be in their fields, in any order.
     If a log is refused or impossible, the answer is that to the first one;
     if it isn't strict, any UID may be in the field of such a log, and the answer is never complete.
 
-    Raises ValueError if there is no survey, what `check` raises,
-    and OverflowError if a UID or a mask doesn't fit into 64 bits."""
+    Raises ValueError if there is no survey, what `check_listed` raises,
+    and OverflowError if a mask doesn't fit into 64 bits."""
     found = list(surveys)
     if not found:
         raise ValueError("no logs: there is nothing to reconcile")
     broken = [one for one in found if one.answer.status > 1]
     if broken and strict:
         return Report(broken[0].answer, [])
-    return reconcile_parts(expected, (uid for one in found for uid in one.certain),
+    return reconcile_parts(expected, [uid for one in found for uid in one.certain],
                            [*(mask for one in found for mask in one.open_masks),
                             *[Mask(0, 0)] * bool(broken)])
 
 
-def reconcile_parts(expected: Iterable[int], certain: Iterable[int],
-                    masks: Iterable[Mask]) -> Report:
+def reconcile_parts(expected: Collection[int], certain: Collection[int],
+                    masks: Collection[Mask]) -> Report:
     """What `reconcile` returns for all certain UIDs and open masks of some logs."""
     listed, known, left = _numbers(expected), _numbers(certain), _masks(masks)
     return _report("reconcile", [listed, len(listed), known, len(known), left, len(left)])

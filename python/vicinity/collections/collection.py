@@ -55,8 +55,8 @@ class Collection:
                  wanted: int = 0, files: Mapping[str, tuple[str, bytes]] = {}):
         self.expected, self.logs, self.places = expected, read.all, places
         self.answer, self.findings = reconcile_parts(
-            expected.uids, (uid for log in self.logs for uid in log.certain),
-            (mask for log in self.logs for mask in log.open_masks))
+            expected.uids, [uid for log in self.logs for uid in log.certain],
+            [mask for log in self.logs for mask in log.open_masks])
         self.read, self.wanted, self.files = read, wanted, files
         self.aside = [log for log in self.logs if log.status]
         self.items = list(self._items())
