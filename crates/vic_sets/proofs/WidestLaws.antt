@@ -1,5 +1,5 @@
 -- The widest mask of a fork, from those of its halves.
-use Rattle.vic_sets.proofs.Words.{◌≡◌, ℕ, ◌+◌, ◌-◌, ◌*◌, ◌/◌, ◌^◌, ◌%◌, ◌<◌, inl, inr, refl, sym, ap, ◌∙◌, arith, Bool, true, false, cond, ◌==◌, cases_eq, mod-eq_of_lt, mod_below, pow_more, BitMask, IsAtMost, IsWidestOf, AllPass, with_low_bit}
+use Rattle.vic_sets.proofs.Words.{◌≡◌, ℕ, ◌+◌, ◌-◌, ◌*◌, ◌/◌, ◌^◌, ◌%◌, ◌<◌, ◌⊎◌, inl, inr, Box, refl, sym, ap, ◌∙◌, arith, Bool, false, cond, ◌==◌, cases_eq, mod-eq_of_lt, Global, mod_below, pow_more, BitMask, Node, Fork', Clear, Shut, Fork, Halves, open_at, IsAtMost, IsWidestOf, IsReduced, AllPass, with_low_bit}
 use Rattle.vic_sets.proofs.Bits.{half_below, low_and_rest}
 
 -- the numbers with a lowest bit pass where those without it pass another test
@@ -22,9 +22,18 @@ one_half p q u =
     let f : (2 * u + 1) / 2 ≡ u = omega arith in
     rw (e, f) refl
 
--- each number lies in a mask of no bits
-in_whole : (m : BitMask) (u : ℕ) → m.len ≡ 0 → m.value < 2 ^ m.len → u % 2 ^ m.len ≡ m.value
-in_whole m u none fits = let size : 2 ^ m.len ≡ 1 = ap (λ l. 2 ^ l) none in rw size (omega arith)
+-- a reduced node that isn't clear has a number that is shut
+shut_number : (n : Node) → IsReduced n → (n ≡ Clear) ⊎ ((u : ℕ) × (open_at n u ≡ false))
+shut_number Clear r = inl refl
+shut_number Shut r = inr (0, refl)
+shut_number (Fork' p l h) r = inr (at_sides (shut_number l r.0) (shut_number h r.1)) where
+  at_sides : (l ≡ Clear) ⊎ ((u : ℕ) × (open_at l u ≡ false)) → (h ≡ Clear) ⊎ ((u : ℕ) × (open_at h u ≡ false)) → (u : ℕ) × (forked (open_at l) (open_at h) u ≡ false)
+  at_sides (inr a) b = (2 * a.0 + 0, zero_half (open_at l) (open_at h) a.0 ∙ a.1)
+  at_sides (inl a) (inr b) = (2 * b.0 + 1, one_half (open_at l) (open_at h) b.0 ∙ b.1)
+  at_sides (inl a) (inl b) = absurd (r.2 (rw (a, b) tt))
+
+fork_shut : (halves : Box Halves Global) → IsReduced (Fork halves) → (u : ℕ) × (open_at (Fork halves) u ≡ false)
+fork_shut halves r = elim (shut_number (Fork halves) r) [ inl a ↦ absurd (cc) | inr b ↦ b ]
 
 -- a mask that passes in a half passes with its bit
 pass_more : (f p : ℕ → Bool) (bit : ℕ) (m : BitMask) → bit < 2 → IsHalf f bit p → AllPass p m → AllPass f (with_low_bit bit m)
@@ -44,15 +53,17 @@ pass_less f p n pos half h w e =
     sym (half w) ∙ h u (omega arith)
 
 -- the widest mask of a half is that of a fork, where no mask of the other half comes before it
-pub half_widest : (f p q : ℕ → Bool) (bit : ℕ) (m : BitMask) → (((u : ℕ) → p u ≡ true) → ((u : ℕ) → q u ≡ true) → ⊥) → bit < 2 → IsHalf f bit p → IsHalf f (1 - bit) q → IsWidestOf p m
-    → ((n : BitMask) → n.value < 2 ^ n.len → AllPass q n → IsAtMost (with_low_bit bit m) (with_low_bit (1 - bit) n)) → IsWidestOf f (with_low_bit bit m)
-half_widest f p q bit m some_shut small own other w others = record {
+pub half_widest : (halves : Box Halves Global) (p q : ℕ → Bool) (bit : ℕ) (m : BitMask) → IsReduced (Fork halves) → bit < 2 → IsHalf (open_at (Fork halves)) bit p → IsHalf (open_at (Fork halves)) (1 - bit) q → IsWidestOf p m
+    → ((n : BitMask) → n.value < 2 ^ n.len → AllPass q n → IsAtMost (with_low_bit bit m) (with_low_bit (1 - bit) n)) → IsWidestOf (open_at (Fork halves)) (with_low_bit bit m)
+half_widest halves p q bit m reduced small own other w others = record {
   fits = omega (arith, w.fits, pow_more 2 m.len);
   passes = pass_more f p bit m small own w.passes;
   least = λ n fits h. elim (cases_eq n.len 0) [
     | inl none ↦
-        let all : (u : ℕ) → f u ≡ true = λ u. h u (in_whole n u none fits) in
-        absurd (some_shut (λ u. sym (own u) ∙ all (2 * u + bit)) (λ u. sym (other u) ∙ all (2 * u + (1 - bit))))
+        let size : 2 ^ n.len ≡ 1 = ap (λ l. 2 ^ l) none in
+        let shut = fork_shut halves reduced in
+        let passed = h shut.0 (rw size (omega arith)) in
+        absurd (cc (passed, shut.1))
     | inr some ↦ elim (cases_eq (n.value % 2) bit) [
       | inl e ↦
           let g = w.least (shorter n) (half_below n.value n.len (omega arith) fits) (pass_less f p n (omega arith) (rw e own) h) in
@@ -64,6 +75,9 @@ half_widest f p q bit m some_shut small own other w others = record {
     ]
   ];
 } where
+  f : ℕ → Bool
+  f = open_at (Fork halves)
+
   shorter : BitMask → BitMask
   shorter n = record { len = n.len - 1; value = n.value / 2 }
 

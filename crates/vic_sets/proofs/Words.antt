@@ -1,5 +1,5 @@
 -- The words of proofs, from one place: what files name from outside of the crate, and the definitions that several of them name.
-pub use Rattle.std.proofs.Common.{All, Bool, Contains, IfSome, List, None, Option, Some, [], ap, arith, cond, eq-eqb, eqb-true, false, filter, get_or, inl, inr, length, mod-eq_of_lt, nat_eq, not, pow-add, pow_pos, refl, rules, shr-shr, subst, suc, sym, take, take_all, true, zero, ℕ, ◌%◌, ◌&&◌, ◌*◌, ◌++◌, ◌+◌, ◌-◌, ◌/◌, ◌<◌, ◌==◌, ◌^◌, ◌||◌, ◌∙◌, ◌∷◌, ◌≡◌, ◌≢◌, ◌≤◌, ◌⊎◌}
+pub use Rattle.std.proofs.Common.{All, Bool, Box, Contains, Global, IfSome, List, None, Option, Some, [], ap, arith, cond, eq-eqb, eqb-true, false, filter, get_or, inl, inr, length, max, mod-eq_of_lt, nat_eq, not, pow-add, pow_pos, refl, rules, shr-shr, subst, suc, sym, take, take_all, true, zero, ℕ, ◌%◌, ◌&&◌, ◌*◌, ◌++◌, ◌+◌, ◌-◌, ◌/◌, ◌<◌, ◌==◌, ◌^◌, ◌||◌, ◌∙◌, ◌∷◌, ◌≡◌, ◌≢◌, ◌≤◌, ◌⊎◌}
 pub use Rattle.std.proofs.Math.Bool.{and_comm}
 pub use Rattle.std.proofs.Math.Nat.{add-mod_right, div-eq_of_lt}
 pub use Rattle.std.proofs.lemmas.Bool.{and_left, and_parts, cases_Bool, cases_eq, cases_lt, false≢true, or_parts}
@@ -22,8 +22,9 @@ pub use Rattle.vic_tree.proofs.GatheringLaws.{gathers_both, gathers_full, gather
 pub use Rattle.vic_tree.specs.Gathering.{Gathers}
 pub use Rattle.vic_tree.specs.OpenSet.{AllOpen, IsAtMost, IsWidest, SameUids}
 pub use Rattle.vic_sets.specs.Cells.{AreApart, AreCells, IsApart, IsCell, NoHalves, beside, cut_at, holds, in_cells}
-pub use Rattle.vic_sets.specs.Nodes.{height, open_at}
+pub use Rattle.vic_sets.specs.Nodes.{IsFork, IsReduced, height, open_at}
+pub use Rattle.vic_sets.specs.declared.node.Halves.{Halves}
 pub use Rattle.vic_sets.specs.declared.node.Node.{Fork', Node}
-pub use Rattle.vic_sets.specs.declared.node.Node.TheVariants.{Clear, Shut}
+pub use Rattle.vic_sets.specs.declared.node.Node.TheVariants.{Clear, Fork, Shut}
 pub use Rattle.vic_sets.specs.inner.Free.{IsFree, IsFreeIn, IsFreeUnder}
 pub use Rattle.vic_sets.specs.inner.Widest.{AllPass, IsWidestOf, with_low_bit}

@@ -15,6 +15,24 @@ height Clear = 0
 height Shut = 0
 height (Fork' p zero one) = max (height zero) (height one) + 1
 
+-- both are the same leaf
+abbrev pub AreOneLeaf : Node → Node → Type 0
+AreOneLeaf Clear Clear = Unit {0}
+AreOneLeaf Shut Shut = Unit {0}
+AreOneLeaf _ _ = ⊥
+
+-- no fork of two equal leaves
+abbrev pub IsReduced : Node → Type 0
+IsReduced Clear = Unit {0}
+IsReduced Shut = Unit {0}
+IsReduced (Fork' p zero one) = IsReduced zero × IsReduced one × (¬ AreOneLeaf zero one)
+
+-- the halves of a fork have none, though they may be equal leaves themselves
+abbrev pub HasReducedSides : Node → Type 0
+HasReducedSides Clear = Unit {0}
+HasReducedSides Shut = Unit {0}
+HasReducedSides (Fork' p zero one) = IsReduced zero × IsReduced one
+
 -- a fork
 abbrev pub IsFork : Node → Type 0
 IsFork Clear = ⊥

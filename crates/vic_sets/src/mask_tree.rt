@@ -14,9 +14,9 @@ use std::mem;
 use vic_frame::{Mask, UID_BITS, Uid, without_top_byte};
 use vic_tree::OpenSet;
 
-/// A set of UIDs as a tree that tests their low 56 bits, lowest first, at most 56 forks deep.
-/// Settling a mask takes one step for each of its bits, 56 for each exception in it, and a look at
-/// the other exceptions.
+/// A set of UIDs as a tree that tests their low 56 bits, lowest first. No fork in it has two equal
+/// leaves, and it is at most 56 forks deep. Settling a mask takes one step for each of its bits, 56
+/// for each exception in it, and a look at the other exceptions.
 #[derive(Drop)]
 pub struct MaskTree {
     root: Node,
@@ -27,7 +27,7 @@ impl Model for MaskTree {
     ghost use Rattle.std.specs.Prelude.{◌≤◌};
     ghost use Rattle.vic_frame.specs.declared.uid.TheConstants.{UID_BITS};
     ghost use Rattle.vic_sets.specs.declared.node.Node.{Node};
-    ghost use Rattle.vic_sets.specs.Nodes.{height};
+    ghost use Rattle.vic_sets.specs.Nodes.{height, IsReduced};
     ghost use Rattle.vic_sets.specs.contracts.node.Node as e;
     ghost use Rattle.std.specs.Coded.{codes};
 
@@ -37,7 +37,7 @@ impl Model for MaskTree {
 
     ghost view = { λ a. a.root };
 
-    ghost invariant = { λ a. height a.root ≤ UID_BITS };
+    ghost invariant = { λ a. IsReduced a.root × (height a.root ≤ UID_BITS) };
 }
 
 impl OpenSet for MaskTree {

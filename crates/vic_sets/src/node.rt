@@ -1,7 +1,7 @@
 //! Trees of bits.
 
 ghost use Rattle.std.specs.Prelude.{◌≡◌, ℕ, ◌+◌, ◌/◌, ◌^◌, ◌%◌, ◌≤◌, ◌==◌, OnOk, max, if◌then◌else◌};
-ghost use Rattle.vic_sets.specs.Nodes.{open_at, height, IsFork};
+ghost use Rattle.vic_sets.specs.Nodes.{open_at, height, IsReduced, HasReducedSides, IsFork};
 
 use std::alloc::{AllocError, Global};
 
@@ -44,9 +44,29 @@ pub(crate) fn is_open_at(node: &Node, number: u64) -> bool
     }
 }
 
+/// Replaces a fork of two equal leaves with one leaf.
+fn merge(node: &mut Node)
+    requires { HasReducedSides node.old }
+    ensures reduced { IsReduced node.new }
+    ensures same { (u : ℕ) → open_at node.new u ≡ open_at node.old u }
+    ensures not_higher { height node.new ≤ height node.old }
+{
+    let leaf = match node {
+        Node::Fork(halves) => match (&halves.zero, &halves.one) {
+            (Node::Clear, Node::Clear) => Node::Clear,
+            (Node::Shut, Node::Shut) => Node::Shut,
+            _ => return,
+        },
+        _ => return,
+    };
+    *node = leaf;
+}
+
 /// Replaces a leaf with a fork of two like it.
 fn split(node: &mut Node, alloc: Global) -> Result<(), AllocError>
+    requires { IsReduced node.old }
     ensures fork { OnOk result (IsFork node.new) }
+    ensures reduced { OnOk result (HasReducedSides node.new) }
     ensures same { OnOk result ((u : ℕ) → open_at node.new u ≡ open_at node.old u) }
     ensures height { OnOk result (height node.new ≤ max (height node.old) 1) }
 {
@@ -73,6 +93,8 @@ pub(crate) fn fill(
     value: u64,
     opens: bool,
 ) -> Result<(), AllocError>
+    requires { IsReduced node.old }
+    ensures reduced { OnOk result (IsReduced node.new) }
     ensures height { OnOk result (height node.new ≤ max (height node.old) len) }
     ensures opened { OnOk result ((u : ℕ) → open_at node.new u
         ≡ (if u % 2 ^ len == value % 2 ^ len then opens else open_at node.old u)) }
@@ -93,6 +115,7 @@ pub(crate) fn fill(
             fill(&mut halves.one, alloc, len - 1, value / 2, opens)?;
         }
     }
+    merge(node);
     Ok(())
 }
 

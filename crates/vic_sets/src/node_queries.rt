@@ -1,7 +1,7 @@
 //! Queries on a tree of bits: at most three UIDs that are open below a node, and the widest mask.
 
 ghost use Rattle.std.specs.Prelude.{◌≡◌, ℕ, ◌+◌, ◌<◌, ◌≤◌, false, IfSome, IfNone, if◌then◌else◌};
-ghost use Rattle.vic_sets.specs.Nodes.{open_at, height};
+ghost use Rattle.vic_sets.specs.Nodes.{open_at, height, IsReduced};
 ghost use Rattle.vic_tree.specs.Gathering.{Gathers};
 ghost use Rattle.vic_sets.specs.inner.Free.{IsFreeUnder};
 ghost use Rattle.vic_sets.specs.inner.Widest.{IsWidestOf, with_low_bit};
@@ -41,7 +41,8 @@ fn lengthened(mask: &Mask, bit: bool) -> Mask
 /// The mask of least length, then of least value, all of whose numbers are open below a node; none
 /// if no number is.
 pub(crate) fn widest_below(node: &Node) -> Option<Mask>
-    requires { height node.now ≤ UID_BITS }
+    requires reduced { IsReduced node.now }
+    requires low { height node.now ≤ UID_BITS }
     ensures found { IfSome result (IsWidestOf (open_at node.now)) }
     ensures short { IfSome result (λ m. m.len ≤ height node.now) }
     ensures none { IfNone result ((u : ℕ) → open_at node.now u ≡ false) }
@@ -54,9 +55,6 @@ pub(crate) fn widest_below(node: &Node) -> Option<Mask>
             (Some(zero), None) => Some(lengthened(&zero, false)),
             (None, Some(one)) => Some(lengthened(&one, true)),
             (Some(zero), Some(one)) => {
-                if zero.len() == 0 && one.len() == 0 {
-                    return Some(zero);
-                }
                 Some(lengthened(&zero, false).min(lengthened(&one, true)))
             }
         },

@@ -7,4 +7,4 @@ widest_found n None low found short = found
 widest_found n (Some m) low found short = widest_of_uids n m low (omega arith) found
 
 pub returns-clause-found : goal.returns-clause-found
-returns-clause-found c = rw (← c.self.view_is) (widest_found c.self.inside.root c.widest_below.result c.self.invariant c.widest_below.ensures.found c.widest_below.ensures.short)
+returns-clause-found c = rw (← c.self.view_is) (widest_found c.self.inside.root c.widest_below.result c.self.invariant.1 c.widest_below.ensures.found c.widest_below.ensures.short)
