@@ -18,6 +18,7 @@ pytest.register_assert_rewrite("helpers")
 sys.dont_write_bytecode = True
 os.environ["PYTHONDONTWRITEBYTECODE"] = "1"
 
+from helpers.chips import OVER_A_CHIP, loop_with  # noqa: E402
 from helpers.library import Library  # noqa: E402
 from helpers.lines import biglog  # noqa: E402
 from helpers.program import (  # noqa: E402
@@ -180,6 +181,13 @@ def commands(release, once, running):
         many(folder, ["cc", *watched], release / "libvicinity.a")
     made = once("commands", make)
     return running(made / "many", Program(made / "vicinity"))
+
+
+@pytest.fixture(scope="session")
+def loop_over_a_chip(release, once):
+    """The example of a reader's loop in C, over a chip that a test simulates."""
+    made = once("loop", lambda folder: loop_with(release, folder, OVER_A_CHIP))
+    return Program(made / "loop")
 
 
 @pytest.fixture(scope="session")

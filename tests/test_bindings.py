@@ -15,6 +15,7 @@ import tty
 
 import pytest
 
+from helpers.chips import loop_with
 from helpers.frames import hex_of
 from helpers.memory import shim
 from helpers.program import STRICT, TOP, Program, compiled, linked, told
@@ -204,16 +205,21 @@ def test_a_reader_loop_that_does_not_reach_its_margin(example, language):
     """Its limit of rounds comes first, though the list is complete."""
     loop, margin = example(language, LIBRARIES[0], "reader_loop"), ["--margin"] * (language != "c")
     out, err, status = loop.run("3", *margin, "20000")
-    assert (out[:29], status) == (b"complete 3 after 20000 rounds", 1)
-    assert re.fullmatch(rb"stopped at the limit of 20000 rounds, with margin 199\d\d\n", err)
+    assert (out[:27], status) == (b"complete 3 after 130 rounds", 1)
+    assert re.fullmatch(rb"stopped at the limit of 130 rounds, with margin 12\d\n", err)
+
+
+@pytest.mark.parametrize("language", ["c", "python"])
+def test_a_reader_loop_in_an_empty_field(example, language):
+    """It says that a deaf reader would say the same."""
+    out, err, status = example(language, LIBRARIES[0], "reader_loop").run("0")
+    assert (out[:11], status) == (b"complete 0 ", 0)
+    assert err.startswith(b"no tag was heard: a deaf reader writes the same log, unless")
 
 
 def with_lines(release, tmp_path, lines, before):
     """reader_loop.c, with these lines before one of its own."""
-    source = (TOP / "examples/c/reader_loop.c").read_text()
-    assert source.count(before) == 1
-    (tmp_path / "loop.c").write_text(source.replace(before, lines + before))
-    return linked(release, tmp_path / "loop", tmp_path / "loop.c")
+    return loop_with(release, tmp_path, {before: lines})
 
 
 def broken_off(release, tmp_path, lines):
@@ -238,14 +244,16 @@ def test_a_reader_loop_whose_chip_hears_that_no_other_tag_answered(release, tmp_
     assert (out[:12], status) == (b"complete 40 ", 0)
 
 
-@pytest.mark.parametrize(("rounds", "said"), [
-    (1, b"unsettled 5 04"), (2, b"unsettled 56 9E3779B97F4A7C"), (8, b"complete 3")])
-def test_a_reader_loop_whose_chip_stops_hears_no_silence(release, tmp_path, rounds, said):
-    """From some round on no slot is reached, and the margin rises no more."""
+@pytest.mark.parametrize(("rounds", "said", "margin"), [
+    (1, b"unsettled 5 04", 0), (2, b"unsettled 56 9E3779B97F4A7C", 0), (6, b"complete 3", 3),
+    (8, b"complete 3", 5)])
+def test_a_reader_loop_whose_chip_stops_hears_no_silence(release, tmp_path, rounds, said, margin):
+    """From some round on no slot is reached, and the margin rises no more. If it has been reached,
+    no tag is heard after that."""
     loop = broken_off(release, tmp_path, f"    if (rounds >= {rounds})\n        return 0;\n")
     out, err, status = loop.run("3", "5")
-    assert (out.partition(b" after 20000 rounds")[0], status) == (said, 1)
-    assert re.search(rb"with margin [0-4]\n$", err)
+    assert re.match(said + rb" after 1\d\d rounds in log 1, \d calls", out) and status == 1
+    assert err.endswith(b"with margin %d\n" % margin)
 
 
 @pytest.mark.parametrize("slots", [2, 16, 1 << 31])
