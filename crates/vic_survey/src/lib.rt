@@ -1,0 +1,20 @@
+//! What a log says of its field, as a value and as a sealed text.
+//!
+//! A `Survey` has the name of a log and what the log says, whatever it lists: which UIDs are
+//! certain, which are open, its margin, and what more would be possible if replies had hidden
+//! others, or if the reader had gone deaf. `surveys_text` is the one text of several surveys,
+//! `read_surveys` reads it: each other text is refused at its first wrong line.
+#![tactic(auto)]
+
+mod digits;
+mod fault;
+mod name;
+mod rising;
+mod survey;
+mod write;
+
+pub use fault::SurveysFault;
+pub use name::{MAX_NAME_LEN, Name};
+pub use rising::{CertainUids, MAX_LINE_NUMBER, RisingMasks};
+pub use survey::{Field, MAX_COUNT, Seen, Survey};
+pub use write::{push_survey, surveys_text};
