@@ -36,6 +36,7 @@ const said = (call) => {
     return error.constructor.name;
   }
 };
+const empty = library.survey(silent);
 const listed = (text, uids) => said(() => library.marginListed(text, uids));
 const sent = BigUint64Array.of(uid), request = { slots: 16, maskLen: 4, maskValue: 1n };
 structuredClone(sent, { transfer: [sent.buffer] });
@@ -46,9 +47,13 @@ console.log(JSON.stringify([
   [wide, [...silent], new DataView(wide.buffer), wide.buffer].map((text) => listed(text, [])),
   [[mask], [{ ...mask, value: value + 2n ** 64n }], [{ ...mask, value: value - 2n ** 64n }],
     [{ ...mask, len: 56 + 2 ** 32 }], [{ ...mask, len: 56.5 }], [{ ...mask, value: "A1" }],
-    ["56 A1"], [,], ...none].map((masks) => said(() => library.reconcile([uid], [uid], masks))),
+    ["56 A1"], [,], null, ...none].map((open) => said(() => library.reconcile([uid], [{ certain: [uid], open }]))),
   [silent, "vicinity-log 1\\nU E00401000000A1\\n", ""]
-    .map((text) => said(() => library.reconcile(library.listed(text).list, [], []))),
+    .map((text) => said(() => library.reconcile(library.listed(text).list, [empty]))),
+  [[[], [empty]], [[uid], [empty, empty]], [[], [empty, library.survey("vicinity-log 1")]], [[], []], [[], [], []], [[], [null]],
+    [[], [{}]], [[], [{ certain: [] }]], [[], [{ open: [] }]], [[], [{ certain: null, open: [] }]], [[], [{ certain: sent, open: [] }]],
+    [[], undefined], [[], new Set([empty])], [[uid], [uid], [mask]]]
+    .map((words) => said(() => library.reconcile(...words))),
   [[1, undefined, 0n], [1, 2 ** 32, 0n], [1, 4, 2n ** 64n], [1, 4, 1], [1, 4, "E"], ["1", 4, 1n]]
     .map((words) => said(() => library.writeInventory(...words))),
   [[request, undefined], [request, 1.5], [{ ...request, maskValue: 1n + 2n ** 64n }, 3]]
@@ -109,11 +114,13 @@ def test_what_belongs_to_one_system_is_refused(wasm_module, tmp_path, old, new, 
 
 def test_a_list_is_taken_whole_or_not_at_all(wasm_module):
     """Also behind a last line that doesn't end; and so are masks."""
-    ended, lists, texts, masked, refused, written, asked, after = json.loads(
+    ended, lists, texts, masked, refused, joined, written, asked, after = json.loads(
         told("node", "--input-type=module", "-e", BESIDE, wasm_module, cwd=TOP))
     assert ended == [f"absent {UID_A:X}"] * 3
     assert lists == ["complete 0", *["TypeError"] * 9] and texts == ["TypeError"] * 4
-    assert masked == ["complete 1", *["TypeError"] * 11] and refused == ["TypeError"] * 3
+    assert masked == ["complete 1", *["TypeError"] * 12] and refused == ["TypeError"] * 3
+    assert joined == ["complete 0", f"absent {UID_A:X}", "unsettled 0 -", *["RangeError"] * 2,
+                      *["TypeError"] * 9]
     assert written == ["TypeError"] * 6 and asked == ["TypeError"] * 3
     assert after == "complete 0\n"
 

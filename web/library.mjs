@@ -21,6 +21,7 @@ import { FOUND } from "./kinds.mjs";
  */
 /** @typedef {{kind: number, line: number, maskLen: number, maskValue: bigint, uid: bigint}} Finding */
 /** @typedef {{fault: number, len: number, value: bigint}} Mask */
+/** @typedef {{certain: bigint[] | BigUint64Array, open: {fault?: number, len: number, value: bigint}[]}} Surveyed what `survey` says of a field */
 /** @typedef {{margin: number, maskLen: number, maskValue: bigint}} Weakest the margin of a log, and its weakest mask */
 /** @typedef {{fault: number, link: number, slots: number, maskLen: number, maskValue: bigint, uid: bigint}} Request */
 /** @typedef {{fault: number, flags: number, dsfid: number, uid: bigint}} Reply */
@@ -133,16 +134,23 @@ export class Library {
   }
 
   /**
+   * Arrays of UIDs, one after another.
    * @param {Take} take
-   * @param {bigint[] | BigUint64Array} uids
+   * @param {(bigint[] | BigUint64Array)[]} arrays
    * @returns {[number, number]}
    */
-  #putUids(take, uids) {
-    if (!Array.isArray(uids) && uids.BYTES_PER_ELEMENT !== UID) throw new TypeError("UIDs are an array of BigInt");
-    const at = take(UID * uids.length), view = this.#view;
-    // these throw if an array was transferred, as to a worker, which has left it without any element
-    for (const [i, uid] of uids.entries()) view.setBigUint64(at + UID * i, long(uid), true);
-    return [at, uids.length];
+  #putUids(take, arrays) {
+    if (!arrays.every((uids) => Array.isArray(uids) || uids.BYTES_PER_ELEMENT === UID)) throw new TypeError("UIDs are an array of BigInt");
+    const count = arrays.reduce((sum, uids) => sum + uids.length, 0), at = take(UID * count), view = this.#view;
+    let to = at;
+    for (const uids of arrays) {
+      // these throw if an array was transferred, as to a worker, which has left it without any element
+      for (const uid of uids.values()) {
+        view.setBigUint64(to, long(uid), true);
+        to += UID;
+      }
+    }
+    return [at, count];
   }
 
   /**
@@ -281,7 +289,7 @@ export class Library {
   marginListed(text, uids) {
     return this.#margin("margin_listed", (take) => {
       const [at, length] = this.#put(take, text), isEnded = this.#bytes[at + length - 1] === LINE_FEED;
-      return [at, isEnded ? length : length + 1, ...this.#putUids(take, uids)];
+      return [at, isEnded ? length : length + 1, ...this.#putUids(take, [uids])];
     });
   }
 
@@ -307,7 +315,7 @@ export class Library {
    */
   overlooked(text, uids) {
     return this.#within((take) => {
-      const words = [...this.#put(take, text), ...this.#putUids(take, uids)], answer = take(ANSWER), at = take(PLACES * uids.length);
+      const words = [...this.#put(take, text), ...this.#putUids(take, [uids])], answer = take(ANSWER), at = take(PLACES * uids.length);
       this.#call("overlooked", ...words, answer, at, uids.length);
       const told = this.#answer(answer), view = this.#view;
       return { answer: told, list: Array.from({ length: uids.length }, (_, i) => view.getUint32(at + PLACES * i, true)) };
@@ -315,21 +323,28 @@ export class Library {
   }
 
   /**
+   * The answer to many logs, and every finding, by what `survey` said of each, in any order. Without any log there is nothing to
+   * reconcile, which throws RangeError: an empty shelf has a log, too.
    * @param {bigint[] | BigUint64Array} expected
-   * @param {bigint[] | BigUint64Array} certain
-   * @param {Mask[]} masks
+   * @param {Surveyed[]} surveys
    */
-  reconcile(expected, certain, masks) {
+  reconcile(expected, surveys) {
+    if (!Array.isArray(surveys)) throw new TypeError("surveys are an array");
+    if (!surveys.length) throw new RangeError("no logs: there is nothing to reconcile");
     return this.#listed("reconcile", (take) => {
-      const given = [...this.#putUids(take, expected), ...this.#putUids(take, certain)];
-      if (!Array.isArray(masks)) throw new TypeError("masks are an array");
-      const at = take(MASK * masks.length), view = this.#view;
-      for (const [i, { fault, len, value }] of masks.entries()) {
-        view.setUint32(at + MASK * i, fault, true);
-        view.setUint32(at + MASK * i + 4, word(len), true);
-        view.setBigUint64(at + MASK * i + 8, long(value), true);
+      if (!surveys.every(({ open }) => Array.isArray(open))) throw new TypeError("masks are an array");
+      const given = [...this.#putUids(take, [expected]), ...this.#putUids(take, surveys.map(({ certain }) => certain))];
+      const count = surveys.reduce((sum, { open }) => sum + open.length, 0), at = take(MASK * count), view = this.#view;
+      let to = at;
+      for (const { open } of surveys) {
+        for (const { fault = 0, len, value } of open) {
+          view.setUint32(to, word(fault), true);
+          view.setUint32(to + 4, word(len), true);
+          view.setBigUint64(to + 8, long(value), true);
+          to += MASK;
+        }
       }
-      return [...given, at, masks.length];
+      return [...given, at, count];
     }, FINDING, findingAt);
   }
 

@@ -69,8 +69,7 @@ export async function reconciled(library, given) {
   const places = placesOf(catalogue, given.places, files);
   const uids = catalogue.entries.flatMap(({ uid }) => uid ?? []), logs = [];
   for (const log of given.logs) logs.push(await surveyed(library, log));
-  const { answer, list } = library.reconcile(uids, logs.flatMap((log) => log.certain),
-    logs.flatMap((log) => log.open.map((mask) => ({ fault: 0, ...mask }))));
+  const { answer, list } = library.reconcile(uids, logs);
   if (answer.status > 1) throw new Error(answer.text.trim());
   const missing = overlookedIn(library, logs, list.filter((it) => it.kind === FOUND.ABSENT).map((it) => it.uid));
   const items = itemsOf(catalogue, places, logs, list, files, missing);

@@ -46,7 +46,7 @@ function surveyed(library, text) {
   const all = said(certain.list, isNone ? [ALL] : masks); // what says nothing isn't an empty field
   const same = [said(certain.list, open.list), said(left.certain, left.open)].every((it) => it === all);
   if (!same || shown(left.answer) !== shown(certain.answer)) written.push("the survey differs\n");
-  const { answer, list } = library.reconcile(EXPECTED, certain.list, masks);
+  const { answer, list } = library.reconcile(EXPECTED, [{ certain: certain.list, open: masks }]);
   written.push(shown(answer), ...list.map((found) =>
     `${found.kind} ${found.line} ${found.maskLen} ${hex(found.maskValue)} ${hex(found.uid)}\n`));
   return written.join("");
