@@ -75,6 +75,14 @@ int main(void)
     assert complete.run() == (b"", b"", 0)
 
 
+def test_the_sizes_on_the_pages(release):
+    """Within a twentieth."""
+    page = (TOP / "docs/PERFORMANCE.md").read_text()
+    sizes, = re.findall(r"`libvicinity.a` has about (\d+) KB, `libvicinity.so` (\d+) KB", page)
+    for name, size in zip(("libvicinity.a", "libvicinity.so"), map(int, sizes)):
+        assert size == pytest.approx((release / name).stat().st_size / 1000, rel=0.05)
+
+
 @pytest.mark.slow
 def test_both_compilers_make_the_same_of_every_text(library, library_rattle):
     """Each number of each call, about worked logs, their beginnings and changed ones."""

@@ -48,6 +48,16 @@ def packages(request, once):
     return of
 
 
+@pytest.mark.parametrize(("page", "folder"), [("README.md", "."), ("docs/RUNNING.md", "dist")])
+def test_the_command_that_installs_them(page, folder):
+    """In a plain sh its words are the packages in dist/, each once."""
+    words = re.search(r"apt install ([^`\n]*)", (TOP / page).read_text())[1]
+    named = told("sh", "-c", f"printf '%s\\n' {words}", cwd=TOP / folder).split()
+    packages = "vicinity", "libvicinity1", "python3-vicinity"
+    assert [re.match(r".*/([^/_]*)_", name)[1] for name in named] == list(packages)
+    assert all((TOP / folder / name).is_file() for name in named)
+
+
 @pytest.mark.slow  # the packages are made for it, and taken by all others
 @pytest.mark.parametrize("target", TARGETS)
 def test_names_and_fields(packages, target):

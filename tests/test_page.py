@@ -1100,6 +1100,10 @@ def test_items_are_told_by_their_shelves(page):
     page.until("h1", "1 in the wrong place")
     assert page.texts(".logs summary")[0] == (
         "C (shelf-c.log): 3 tags proved; left to ask, by 1 request or more: UIDs ending in E or F")
+    # of the items it is said that what is told of them isn't
+    granted = page.run(
+        "return [...document.querySelectorAll('details li')].map((it) => it.textContent)")
+    assert sum("this step is tested, not proved" in it for it in granted) == 1
     page.run("for (const it of document.querySelectorAll('details:has(> .items)')) it.open = true")
     assert page.texts(ROWS) == [
         "Shelf A", "missing: look for it\nWalden\n1 slot or more\nE00401502B91C435",

@@ -350,7 +350,7 @@ def test_page_of_a_collection(reconciled):
     assert page.texts("h1") == ["1 item missing and 1 not known yet; count 1 log again."]
     assert page.texts(".lights dd") == ["2 of 3 logs", "10 of 12 items"]
     groups = ["Count again (1 log)", "At the shelves (1)", "Not known yet (1)",
-              "Read to the end (2 logs)", "What this takes for granted (9)"]
+              "Read to the end (2 logs)", "What this takes for granted (10)"]
     assert page.texts("details > summary h2") == groups
     assert page.texts(".items tbody tr")[0] == (
         "missing: look for it\nWalden\nA\n1 slot or more\nE00401502B91C435")

@@ -2,7 +2,9 @@
 the library for C does. tests/test_rows.py asks it for the rows of tests/data/rows over texts, and
 tests/test_calls.py makes its calls one by one."""
 import ctypes
+import gzip
 import json
+import re
 
 import pytest
 from vicinity._native import AnswerStruct, WeakestStruct
@@ -47,12 +49,14 @@ console.log(JSON.stringify([
   [wide, [...silent], new DataView(wide.buffer), wide.buffer].map((text) => listed(text, [])),
   [[mask], [{ ...mask, value: value + 2n ** 64n }], [{ ...mask, value: value - 2n ** 64n }],
     [{ ...mask, len: 56 + 2 ** 32 }], [{ ...mask, len: 56.5 }], [{ ...mask, value: "A1" }],
-    ["56 A1"], [,], null, ...none].map((open) => said(() => library.reconcile([uid], [{ certain: [uid], open }]))),
+    ["56 A1"], [,], null, ...none]
+    .map((open) => said(() => library.reconcile([uid], [{ certain: [uid], open }]))),
   [silent, "vicinity-log 1\\nU E00401000000A1\\n", ""]
     .map((text) => said(() => library.reconcile(library.listed(text).list, [empty]))),
-  [[[], [empty]], [[uid], [empty, empty]], [[], [empty, library.survey("vicinity-log 1")]], [[], []], [[], [], []], [[], [null]],
-    [[], [{}]], [[], [{ certain: [] }]], [[], [{ open: [] }]], [[], [{ certain: null, open: [] }]], [[], [{ certain: sent, open: [] }]],
-    [[], undefined], [[], new Set([empty])], [[uid], [uid], [mask]]]
+  [[[], [empty]], [[uid], [empty, empty]], [[], [empty, library.survey("vicinity-log 1")]],
+    [[], []], [[], [], []], [[], [null]], [[], [{}]], [[], [{ certain: [] }]], [[], [{ open: [] }]],
+    [[], [{ certain: null, open: [] }]], [[], [{ certain: sent, open: [] }]], [[], undefined],
+    [[], new Set([empty])], [[uid], [uid], [mask]]]
     .map((words) => said(() => library.reconcile(...words))),
   [[1, undefined, 0n], [1, 2 ** 32, 0n], [1, 4, 2n ** 64n], [1, 4, 1], [1, 4, "E"], ["1", 4, 1n]]
     .map((words) => said(() => library.writeInventory(...words))),
@@ -86,6 +90,15 @@ def test_the_module_needs_nothing_and_exports_the_calls(wasm_module):
     assert imported == []
     assert sorted(exported) == sorted([*CALLS, *EXPORTS])
     assert wasm_module.stat().st_size < MOST_BYTES
+
+
+def test_the_size_on_the_page(wasm_module):
+    """Within a twentieth."""
+    size, small = re.search(r"vicinity.wasm` \(about (\d+) KB, (\d+) KB compressed",
+                            (TOP / "docs/EMBEDDING.md").read_text()).groups()
+    module = wasm_module.read_bytes()
+    assert int(size) == pytest.approx(len(module) / 1000, rel=0.05)
+    assert int(small) == pytest.approx(len(gzip.compress(module)) / 1000, rel=0.05)
 
 
 @pytest.mark.slow

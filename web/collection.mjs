@@ -55,7 +55,8 @@ const AGAIN_BROKEN = "If it happens again, send the log and this page to whoever
 const NO_TAG = "These rows of the catalogue have no UID, so nothing is known of them: look for them by eye.";
 const UNKNOWN_YET = "Whether these are here isn't known until the logs above are counted again.";
 const OF_LOGS = ["Nothing was carried from one field to another while the logs were written.", "Each place of the catalogue has " +
-  "a log: what stands in a place without one is called missing."];
+  "a log: what stands in a place without one is called missing.", "The state of each item (here, missing, in the wrong place) follows from " +
+  "what is proved of the logs: this step is tested, not proved."];
 
 /** @param {OneLog} log */
 const isAside = (log) => log.list.status > 1;

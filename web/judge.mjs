@@ -58,13 +58,11 @@ function findingsOf(list, overlooked) {
 }
 
 /**
- * The share of all UIDs that masks have. They are added up by their lengths, so that the order makes no difference.
+ * The share of all UIDs that masks have: how many they have, divided only once, so that the order of adding makes no difference.
  * @param {Mask[]} masks
  */
 function shareOf(masks) {
-  const lengths = /** @type {number[]} */ (new Array(UID_BITS + 1).fill(0));
-  for (const { len } of masks) lengths[len]++;
-  return lengths.reduce((sum, many, length) => sum + many * 2 ** -length, 0);
+  return Number(masks.reduce((sum, { len }) => sum + (1n << BigInt(UID_BITS - len)), 0n)) / 2 ** UID_BITS;
 }
 
 /**

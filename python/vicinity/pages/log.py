@@ -3,11 +3,11 @@ from __future__ import annotations
 
 import json
 from hashlib import sha256
-from typing import Any, Iterator
+from typing import Any, Iterable, Iterator
 
-from .._answers import Answer, FindingKind, Kind
+from .._answers import Answer, FindingKind, Kind, Mask
 from .._calls import check_listed, explain, survey, with_captures
-from .._fields import mask_fields, object_of
+from .._fields import UID_BITS, mask_fields, object_of
 from ..collections.surveys import without_list
 from ..frames import uid_text
 from ..sessions.findings import WORDS, Told
@@ -29,6 +29,12 @@ def of_log(text: bytes, name: str) -> tuple[Answer, Iterator[str]]:
     return told.answer, document(f"{told.answer}: {name}", [said], show(told))
 
 
+def share_of(masks: Iterable[Mask]) -> float:
+    """The share of all UIDs that open masks have: how many they have, divided only once,
+    so that the order of adding makes no difference."""
+    return sum(1 << UID_BITS - mask.length for mask in masks) / (1 << UID_BITS)
+
+
 def page_object(name: str, told: Told) -> dict[str, Any]:
     """All that a page draws of a log."""
     answer, text = told.answer, told.session.text
@@ -45,7 +51,7 @@ def page_object(name: str, told: Told) -> dict[str, Any]:
         "findings": [it for it in told.objects(MOST_TOLD) if it["kind"] not in OF_MASKS],
         "found": {WORDS[kind]: len(told.of(kind)) for kind in COUNTED},
         "certain": {"count": len(certain), "uids": [*map(uid_text, certain[:MOST_LISTED])]},
-        "open": {"count": len(masks), "share": sum(2.0 ** -mask.length for mask in masks),
+        "open": {"count": len(masks), "share": share_of(masks),
                  # all tags are asked first in sixteen slots
                  "masks": [{**mask_fields(mask),
                             "ask": [ask(text, slots, mask) for slots in (16, 1)[mask.length > 0:]]}
