@@ -16,15 +16,30 @@ FIELDS, RESTARTED = 1000, 600
 TAGS = 30
 
 
+class Forgetful(Search):
+    """Begins each log with an empty list."""
+
+    def begin(self):
+        self.heard = set()
+        super().begin()
+
+
+class Unsure(Search):
+    """Asks no tag at the end."""
+
+    def make_sure(self):
+        self.is_sure = True
+
+
 def field_of(seed, chances=Chances(), kind=Field):
     """A field of random tags."""
     rng = random.Random(seed)
     return kind({0xE0 << 56 | rng.randrange(1 << 56) for _ in range(TAGS)}, rng, chances)
 
 
-def searches(chances=Chances(), fields=FIELDS, kind=Field):
+def searches(chances=Chances(), fields=FIELDS, kind=Field, search=Search):
     """Searches over such fields, not yet begun."""
-    return (Search(field_of(seed, chances, kind)) for seed in range(fields))
+    return (search(field_of(seed, chances, kind)) for seed in range(fields))
 
 
 @pytest.mark.parametrize(("chances", "fields", "rounds"), [
@@ -45,7 +60,7 @@ def test_a_tag_that_is_missing_was_overlooked():
     """Where weak tags miss requests, the answer may be complete without them: only without tags
     that didn't answer where they were asked."""
     missing = complete = 0
-    for search in searches(Chances(capture=0.3, miss=0.5, noise=0.05), 200):
+    for search in searches(Chances(capture=0.3, miss=0.5, noise=0.05), 100):
         if search.run().answer.is_complete:
             complete += 1
             missing += len(search.field.uids - search.heard)
@@ -54,32 +69,44 @@ def test_a_tag_that_is_missing_was_overlooked():
     assert complete > 0 and missing > 0
 
 
-@pytest.mark.parametrize(("capture", "margin", "complete", "lacking"), [
-    (0, 1, 596, 33), (0, 2, 596, 4), (0, 3, 596, 1), (0.3, 1, 600, 12)])
-def test_no_log_forgets_what_an_earlier_one_heard(capture, margin, complete, lacking):
-    """Nor does a greater margin leave more tags missing, in as many fields as docs/READERS.md
-    says."""
-    restarted, done = 0, []
-    for search in searches(Chances(capture=capture, miss=0.2), RESTARTED, chips.Recorded):
-        if search.run(margin).answer.is_complete:
-            assert search.field.told <= search.heard
-            done.append(search)
-        restarted += search.logs > 1
-    assert restarted > RESTARTED / 4
+# As docs/READERS.md has them: of the fields, so many lists are complete, and of these so many lack
+# a tag; of so many, an earlier log had heard it.
+MISSES, DEAD = Chances(miss=0.2), Chances(capture=0.3)
+
+
+@pytest.mark.parametrize(("search", "chances", "margin", "complete", "lacking", "forgotten"), [
+    (Search, MISSES, 1, 596, 33, 0), (Search, MISSES, 2, 596, 4, 0), (Search, MISSES, 3, 596, 1, 0),
+    (Search, Chances(capture=0.3, miss=0.2), 1, 600, 12, 0), (Forgetful, MISSES, 1, 598, 63, 30)])
+def test_no_log_forgets_what_an_earlier_one_heard(
+        search, chances, margin, complete, lacking, forgotten):
+    tried = list(searches(chances, RESTARTED, chips.Recorded, search))
+    done = [one for one in tried if one.run(margin).answer.is_complete]
+    assert sum(one.logs > 1 for one in tried) > RESTARTED / 4
     assert len(done) == complete
-    assert sum(search.heard != search.field.uids for search in done) == lacking
+    assert sum(one.heard != one.field.uids for one in done) == lacking
+    assert sum(not one.field.told <= one.heard for one in done) == forgotten
 
 
-@pytest.mark.parametrize("margin", [1, 3])
-def test_no_list_is_complete_by_a_receiver_that_died(margin):
-    """But where it died before it heard anything: that, only a reference tag would show."""
-    complete = lacking = 0
-    for search in searches(Chances(capture=0.3), kind=chips.Deaf):
-        if search.run(margin).answer.is_complete:
-            complete += 1
-            lacking += search.heard != search.field.uids
-            assert search.heard == search.field.uids or not search.field.told
-    assert (complete, lacking) == (13, 13)
+@pytest.mark.parametrize(("search", "complete"), [(Search, 13), (Unsure, 93)])
+def test_no_list_is_complete_by_a_receiver_that_died(search, complete):
+    """But where it died before it heard anything, or no tag is asked at the end."""
+    done = [one for one in searches(DEAD, kind=chips.Deaf, search=search)
+            if one.run().answer.is_complete]
+    assert len(done) == complete and all(one.heard != one.field.uids for one in done)
+    assert search is Unsure or not any(one.field.told for one in done)
+
+
+def test_a_reference_tag_vouches_for_an_empty_field():
+    """One that is on the list from the start: whenever the receiver dies, no list is complete."""
+    for search in searches(DEAD, 100, chips.Deaf):
+        search.field.left %= 2
+        search.heard = {min(search.field.uids)}
+        assert not search.run().answer.is_complete
+    reference = {0xE0 << 56 | 1}
+    for tags, complete in (reference, True), (set(), False):
+        search = Search(Field(tags, random.Random(1)))
+        search.heard = set(reference)
+        assert search.is_done(search.run(), 1) == complete
 
 
 def test_a_receiver_that_dies_at_the_very_end_is_seen():
@@ -202,12 +229,14 @@ def test_without_its_last_rounds_it_is_not_complete():
 
 def test_with_replies_noted_as_alone_it_misses_hidden_tags():
     """What the letter H is for: the same searches, noted with R, without their last rounds."""
-    missed = 0
-    for search in searches(Chances(capture=0.3), 100):
+    complete = missed = 0
+    for search in searches(Chances(capture=0.3), 300):
         search.ask_on(reader_loop.ALL)
         search.lines = [line.replace(b"H ", b"R ") for line in search.lines]
-        missed += search.check().answer.is_complete and search.heard != search.field.uids
-    assert missed > 50
+        is_complete = search.check().answer.is_complete
+        complete += is_complete
+        missed += is_complete and search.heard != search.field.uids
+    assert (complete, missed) == (273, 264)
 
 
 @pytest.mark.parametrize("kind", chips.CHIPS)
