@@ -10,6 +10,7 @@ from helpers.program import TOP, linked
 # The receiver dies at one of so many requests, in which most of a field is searched.
 DEAD_BY = 60
 ONE_IN_TEN = 0.1
+E0 = 0xE0 << 56
 
 
 class Recorded(Field):
@@ -86,16 +87,17 @@ class Astray(Field):
 
 
 class Foreign(Field):
-    """One tag, the first, has a UID that doesn't begin with E0."""
+    """One tag has a UID that doesn't begin with E0."""
 
     def __init__(self, uids, *given):
-        self.foreign = min(uids) % (1 << 56)
-        super().__init__(uids - {min(uids)} | {self.foreign}, *given)
+        self.first = min(uids)
+        super().__init__(uids - {self.first} | {self.first - E0}, *given)
 
     def slot(self, answering):
-        if answering == [self.foreign]:
-            return "H", vicinity.add_crc(bytes(2) + self.foreign.to_bytes(8, "little"))
-        return super().slot(answering)
+        letter, reply = super().slot([uid | E0 for uid in answering])
+        if reply == vicinity.write_response(0, 0, self.first):
+            reply = vicinity.add_crc(bytes(2) + (self.first - E0).to_bytes(8, "little"))
+        return letter, reply
 
 
 class Twins(Field):
