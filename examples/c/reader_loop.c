@@ -51,7 +51,8 @@ static struct uids heard, foreign;
 /* UIDs: found in this log; silenced since its last field cycle; never read. */
 static struct uids found, quiet, unread;
 
-/* The log, the masks that are left to ask, and whether a tag that was found answered after the last silence. */
+/* The log; the masks that are left to ask, at most sixteen of each of sixteen lengths; whether a tag that was found
+ * answered after the last silence. */
 static char text[TEXT_ROOM];
 static struct vicinity_mask to_ask[SLOTS * SLOTS];
 static size_t len, masks, rounds, logs, calls;
