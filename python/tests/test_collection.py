@@ -80,7 +80,7 @@ class Calls(unittest.TestCase):
                 ([A, B], [SILENCE_A + ALL + HEARD_B, ALL + b"S\n"], "doubtful E0040100000000A1"),
                 ([B], [SILENCE_A + ALL + HEARD_B, ALL + b"S\n"], "unsettled 56 040100000000A1")):
             found = [vicinity.survey(log(lines)) for lines in logs]
-            for order in (found, found[::-1], found * 2, iter(found)):
+            for order in (found, found[::-1], found * 2, tuple(found)):
                 report = vicinity.reconcile(tuple(expected), order)
                 self.assertEqual(str(report), text)
                 self.assertEqual(report.answer.text, text.partition("\n")[0])
@@ -90,6 +90,10 @@ class Calls(unittest.TestCase):
         for expected in ([], [A]):
             with self.assertRaisesRegex(ValueError, "no logs"):
                 vicinity.reconcile(expected, [])
+        # of one that is used up in part, the answer would be about fewer logs
+        for found in (iter([vicinity.survey(NOTHING)]), map(vicinity.survey, [NOTHING])):
+            with self.assertRaisesRegex(TypeError, "surveys are a list, not "):
+                vicinity.reconcile([], found)
 
     def test_logs_that_are_refused_or_impossible(self):
         good, refused, impossible = map(vicinity.survey,
@@ -278,7 +282,7 @@ class Reconcile(Command):
                 self.assertNotIn("complete 1", drawn_in(said)[1] if form == "page" else said)
                 self.assertGreater(status, 1)
             self.assertNotEqual(drawn_in(said)[0]["kind"], "complete")
-        found = map(vicinity.survey, (log(ALL + HEARD_A), log(b"X\n")))
+        found = [vicinity.survey(log(lines)) for lines in (ALL + HEARD_A, b"X\n")]
         report = vicinity.reconcile([A], found, strict=False)
         self.assertEqual(str(report), "unsettled 1 00")
 

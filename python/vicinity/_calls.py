@@ -229,15 +229,16 @@ def listed(text: BytesLike) -> list[int]:
     return found
 
 
-def reconcile(expected: Collection[int], surveys: Iterable[Survey], *,
+def reconcile(expected: Collection[int], surveys: Collection[Survey], *,
               strict: bool = True) -> Report:
     """The answer for many logs, of which these are the surveys, and every finding;
     `expected` are the UIDs that should be in their fields, in any order.
     If a log is refused or impossible, the answer is that to the first one;
     if it isn't strict, any UID may be in the field of such a log, and the answer is never complete.
 
-    Raises ValueError if there is no survey, what `check_listed` raises,
-    and OverflowError if a mask doesn't fit into 64 bits."""
+    Raises ValueError if there is no survey, TypeError if they are an iterator,
+    what `check_listed` raises, and OverflowError if a mask doesn't fit into 64 bits."""
+    _kept("surveys", surveys)
     found = list(surveys)
     if not found:
         raise ValueError("no logs: there is nothing to reconcile")
