@@ -408,3 +408,13 @@ def test_man_pages(name, tool):
     said = Program(*tool.split()).run(name, stderr=subprocess.STDOUT)
     assert not [line for line in said.out.splitlines()
                 if b"referenced manual not found" not in line]
+
+
+def test_what_is_decided_outside_of_the_proof_is_named():
+    """Beside what is proved: each part that works something out by itself, and what."""
+    page = text_of("docs/PROOFS.md")
+    part, = re.findall(r"### What is decided outside of the proof\n(.*?)\n#", page, re.S)
+    for what in ("Python", "JavaScript", "C++", "Go", "Rust", "catalogue", "state of each item",
+                 "refused, impossible or unreadable", "margin of a collection", "`captured`",
+                 "JSON", "CSV", "`compare`", "causes", "`bindings/`"):
+        assert what in part
