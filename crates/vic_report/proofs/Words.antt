@@ -48,7 +48,7 @@ pub use Rattle.vic_verdict.specs.Verdict.{IsAbsent, IsFirstMask, IsUnlisted, IsV
 pub use Rattle.vic_walk.specs.declared.answers.Answering.{Answering}
 pub use Rattle.vic_verdict.specs.declared.judging.Verdict.TheVariants.{Complete, Impossible}
 pub use Rattle.vic_report.specs.Conflicts.{FitsLines, IsConflictAt, IsNoQuietReply, IsSilencedBefore, IsSilencedBy, IsTellingLine}
-pub use Rattle.vic_report.specs.Findings.{IsRuledOut, IsShownCertain, MayAnswer, RulesOut, ShowsCertain, ShowsAt, uids_of}
+pub use Rattle.vic_report.specs.Findings.{IsFirstReply, IsRuledOut, IsShownCertain, IsShownFirst, MayAnswer, RulesOut, ShowsCertain, ShowsAt, uids_of}
 pub use Rattle.vic_log.specs.Overlooked.{denies_reply_of, some_denies_reply_of}
 pub use Rattle.vic_report.specs.Reports.{AreFindings, AreOpenMasks, IsReport, IsLeftToAsk, verdict_by, verdict_of}
 pub use Rattle.vic_report.specs.declared.shown.ShownUid.{ShownUid}

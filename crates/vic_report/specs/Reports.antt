@@ -17,7 +17,7 @@ use Rattle.vic_report.specs.declared.reporting.LogReport.TheVariants.{Impossible
 use Rattle.vic_verdict.specs.declared.judging.Verdict.{Verdict}
 use Rattle.vic_verdict.specs.declared.judging.Verdict.TheVariants as verdict
 use Rattle.vic_report.specs.Conflicts.{IsConflict}
-use Rattle.vic_report.specs.Findings.{IsRuledOut, IsShownCertain, uids_of}
+use Rattle.vic_report.specs.Findings.{IsRuledOut, IsShownCertain, IsShownFirst, uids_of}
 use Rattle.vic_verdict.specs.Possible.{IsPossible}
 use Rattle.vic_verdict.specs.Differences.{IsUndecided, IsLeftOpen, MayBeMissing}
 use Rattle.vic_verdict.specs.Rising.{IsListOf}
@@ -45,6 +45,7 @@ pub record AreFindings (lines : List LogLine) (f : Findings) : Type 0 where
   pub absent_shown : All (IsRuledOut lines) f.absent.items
   pub unlisted : IsListOf (IsUnlisted (entries lines)) (uids_of f.unlisted.items)
   pub unlisted_shown : All (IsShownCertain lines) f.unlisted.items
+  pub unlisted_first : All (IsShownFirst lines) f.unlisted.items
   pub unsettled : MatchOption f.unsettled (NoSuch (IsLeftOpen (entries lines)))
       (IsLeftToAsk (entries lines))
   pub doubtful : IsListOf (MayBeMissing (entries lines)) f.doubtful.items

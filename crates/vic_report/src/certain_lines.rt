@@ -1,9 +1,9 @@
 //! Lines that show that UIDs are there.
 //!
 //! For each UID its first reply is noted, or, if it was never heard, the first unread slot that
-//! requires all who answer there. That a reply is the first one is only tested.
+//! requires all who answer there.
 
-ghost use Rattle.std.specs.Prelude.{◌≡◌, ◌<◌, ℕ, IfOk, List, length, true};
+ghost use Rattle.std.specs.Prelude.{◌≡◌, ◌<◌, ◌⊎◌, ℕ, IfOk, List, length, true};
 ghost use Rattle.std.specs.List.{All};
 ghost use Rattle.std.specs.List.Sorted.{IsStrictlyIncreasing};
 ghost use Rattle.vic_frame.specs.Uids.{has};
@@ -12,8 +12,8 @@ ghost use Rattle.vic_log.specs.Order.{entries};
 ghost use Rattle.vic_verdict.specs.Verdict.{IsHeard};
 ghost use Rattle.vic_verdict.specs.Needs.{IsMet, SomeForces};
 ghost use Rattle.vic_walk.specs.Answers.{AreAnswering};
-ghost use Rattle.vic_report.specs.Findings.{IsShownCertain, ShowsCertain, uids_of};
-ghost use Rattle.vic_report.specs.inner.NotedLines.{AreShown, HasNoted, is_noted};
+ghost use Rattle.vic_report.specs.Findings.{IsShownCertain, IsShownFirst, ShowsCertain, uids_of};
+ghost use Rattle.vic_report.specs.inner.NotedLines.{AreFirstReplies, AreShown, AreShownFirst, HasNoted, IsNewAt, IsNoted, is_noted};
 ghost use Rattle.vic_verdict.specs.Possible.{IsCertainUid, IsPossible};
 
 use crate::shown::ShownUid;
@@ -36,6 +36,7 @@ pub fn lines_of_certain(
     requires certain { (u : ℕ) → has certain.now u ≡ true → IsCertainUid (entries lines.now) u }
     ensures uids { IfOk result (λ v. uids_of v.items ≡ certain.now) }
     ensures shown { IfOk result (λ v. All (IsShownCertain lines.now) v.items) }
+    ensures first { IfOk result (λ v. All (IsShownFirst lines.now) v.items) }
 {
     let uids = certain.as_slice();
     let mut noted = vec![in alloc; None; uids.len()]?;
@@ -55,6 +56,8 @@ fn each_with_its_line(
     ensures uids { IfOk result (λ v. uids_of v.items ≡ uids.now) }
     ensures shown { IfOk result (λ v. (lines : List LogLineValue)
         → AreShown lines uids.now noted.now → All (IsShownCertain lines) v.items) }
+    ensures first { IfOk result (λ v. (lines : List LogLineValue)
+        → AreShownFirst lines uids.now noted.now → All (IsShownFirst lines) v.items) }
 {
     let mut shown = Vec::with_capacity(alloc, uids.len())?;
     for (index, uid) in uids.iter().enumerate() {
@@ -70,9 +73,11 @@ fn each_with_its_line(
 /// of `uids`.
 fn note(noted: &mut [Option<u32>], uids: &[Uid], uid: Uid, line: u32)
     requires { length noted.old ≡ length uids.now }
-    ensures { (lines : List LogLineValue) → IsStrictlyIncreasing uids.now
+    ensures noted { (lines : List LogLineValue) → IsStrictlyIncreasing uids.now
         → ShowsCertain lines line uid
         → HasNoted lines uids.now noted.old noted.new (λ u. u ≡ uid) }
+    ensures only { IsStrictlyIncreasing uids.now → (i n : ℕ) → IsNoted noted.new i n
+        → IsNoted noted.old i n ⊎ IsNewAt uids.now noted.old uid line i n }
 {
     if let Ok(index) = uids.binary_search(&uid) {
         if noted[index].is_none() {
@@ -81,11 +86,14 @@ fn note(noted: &mut [Option<u32>], uids: &[Uid], uid: Uid, line: u32)
     }
 }
 
-/// Notes a line for each UID that was heard.
+/// Notes for each UID that was heard its first reply.
 fn note_replies(noted: &mut [Option<u32>], uids: &[Uid], lines: &[PackedLine])
     requires { length noted.old ≡ length uids.now }
-    ensures { IsStrictlyIncreasing uids.now
+    ensures noted { IsStrictlyIncreasing uids.now
         → HasNoted lines.now uids.now noted.old noted.new (IsHeard (entries lines.now)) }
+    ensures first { IsStrictlyIncreasing uids.now
+        → AreFirstReplies lines.now uids.now noted.old
+        → AreFirstReplies lines.now uids.now noted.new }
 {
     for line in lines {
         if let Some(uid) = line.item().heard() {

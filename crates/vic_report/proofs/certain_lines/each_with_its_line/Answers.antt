@@ -1,16 +1,13 @@
-use Rattle.vic_report.proofs.Words.{◌≡◌, ℕ, None, Some, true, refl, [], ◌∷◌, ◌++◌, ◌∙◌, take, ap, arith, get_or, get_or_default, subst, sym, All-push, false≢true, ShowsCertain, IsShownCertain, map_push, take_all, take_more}
-use Rattle.std.proofs.Common.{Option, is_some}
+use Rattle.vic_report.proofs.Words.{◌≡◌, [], ◌∷◌, ◌++◌, ◌∙◌, take, ap, arith, get_or, get_or_default, subst, sym, All-push, entries, IsFirstReply, ShowsCertain, IsShownCertain, IsShownFirst, map_push, take_all, take_more}
+use Rattle.vic_report.proofs.NotedLines.{noted_line}
+use Rattle.vic_verdict.specs.Verdict.{IsHeard}
 use Rattle.vic_report.proofs.certain_lines.each_with_its_line.Goals as goal
 
 pub bounds : goal.bounds
 bounds c = omega (arith, c.requires.room, c.loop-index-test.true)
 
-is_there : (o : Option ℕ) → is_some o ≡ true → (x : ℕ) × (o ≡ Some x)
-is_there (Some x) h = (x, refl)
-is_there None h = absurd (false≢true h)
-
 pub unreachable-requires : goal.unreachable-requires
-unreachable-requires c = let w = is_there _ (c.requires.noted c.loop-index.index c.loop-index-test.true) in c.in_default.not-Some w.0 w.1
+unreachable-requires c = let w = noted_line c.args.noted.now c.loop-index.index (c.requires.noted c.loop-index.index c.loop-index-test.true) in c.in_default.not-Some w.0 w.1
 
 pub loop-index-preserved : goal.loop-index-preserved
 loop-index-preserved c =
@@ -22,6 +19,7 @@ loop-index-preserved c =
     record {
       uids = rw (c.in_ok-push.ensures.items, map_push, c.loop-index.invariant.uids, take_more us i u lt) (ap (λ v. take i us ++ v ∷ []) c.index-uids-index.is);
       shown = λ lines noted. rw c.in_ok-push.ensures.items (All-push (IsShownCertain lines) c.loop-index.shown.items _ (c.loop-index.invariant.shown lines noted) (subst (ShowsCertain lines c.in-Some.line) here (noted i c.in-Some.line c.in-Some.is)));
+      first = λ lines noted. rw c.in_ok-push.ensures.items (All-push (IsShownFirst lines) c.loop-index.shown.items _ (c.loop-index.invariant.first lines noted) (subst (λ v. IsHeard (entries lines) v → IsFirstReply lines c.in-Some.line v) here (noted i c.in-Some.line lt c.in-Some.is)));
     }
 
 pub returns-clause-uids : goal.returns-clause-uids
@@ -29,3 +27,6 @@ returns-clause-uids c = c.loop-index.invariant.uids ∙ take_all c.loop-index.in
 
 pub returns-clause-shown : goal.returns-clause-shown
 returns-clause-shown c = c.loop-index.invariant.shown
+
+pub returns-clause-first : goal.returns-clause-first
+returns-clause-first c = c.loop-index.invariant.first

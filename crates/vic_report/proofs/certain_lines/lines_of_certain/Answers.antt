@@ -3,8 +3,8 @@ use Rattle.std.proofs.Common.{Option, is_some, replicate}
 use Rattle.std.proofs.Math.Seq.{take-append_seam}
 use Rattle.std.proofs.lemmas.List.{get_or-replicate, get_or_past, length-replicate}
 use Rattle.std.proofs.lemmas.Result.{IfOk-weaker}
-use Rattle.vic_report.proofs.NotedLines.{met_noted}
-use Rattle.vic_report.specs.inner.NotedLines.{AreShown, HasNoted, is_noted}
+use Rattle.vic_report.proofs.NotedLines.{met_noted, shown_first}
+use Rattle.vic_report.specs.inner.NotedLines.{HasNoted}
 use Rattle.vic_verdict.specs.Needs.{SomeForces}
 use Rattle.vic_verdict.specs.Verdict.{IsHeard}
 use Rattle.vic_report.proofs.certain_lines.lines_of_certain.Goals as goal
@@ -35,7 +35,7 @@ each_with_its_line-requires-clause-noted c i lt =
     let w = both c.args.lines.now us _ _ _ _ _ _ _
     (c.deref_mut-2.ensures.value ∙ refilled _ _ _ (omega (arith, c.deref_mut.ensures.len, c.note_replies.auto.noted)))
     (c.deref-2.ensures.value ∙ refilled _ _ _ (omega (arith, c.deref_mut-2.ensures.len, c.note_unread.auto.noted)))
-    c.deref.ensures.value c.note_replies.ensures c.note_unread.ensures (subst IsStrictlyIncreasing (sym c.as_slice-uids.ensures.value) c.as_slice-uids.ensures.rising) in
+    c.deref.ensures.value c.note_replies.ensures.noted c.note_unread.ensures (subst IsStrictlyIncreasing (sym c.as_slice-uids.ensures.value) c.as_slice-uids.ensures.rising) in
     met_noted c.args.lines.now us c.args.met.now _ _ _ i c.requires.possible c.requires.met w.0 w.1 lt must
 
 pub returns-clause-shown : goal.returns-clause-shown
@@ -44,5 +44,18 @@ returns-clause-shown c =
     let w = both c.args.lines.now c.as_slice-uids.result.now _ _ _ _ _ _ _
     (c.deref_mut-2.ensures.value ∙ refilled _ _ _ (omega (arith, c.deref_mut.ensures.len, c.note_replies.auto.noted)))
     (c.deref-2.ensures.value ∙ refilled _ _ _ (omega (arith, c.deref_mut-2.ensures.len, c.note_unread.auto.noted)))
-    c.deref.ensures.value c.note_replies.ensures c.note_unread.ensures (subst IsStrictlyIncreasing (sym c.as_slice-uids.ensures.value) c.as_slice-uids.ensures.rising) in
+    c.deref.ensures.value c.note_replies.ensures.noted c.note_unread.ensures (subst IsStrictlyIncreasing (sym c.as_slice-uids.ensures.value) c.as_slice-uids.ensures.rising) in
     IfOk-weaker c.each_with_its_line.result _ _ (λ v shows. shows c.args.lines.now (w.1.shown (w.0.shown (λ i n e. absurd (none_at _ i n _ blank e))))) c.each_with_its_line.ensures.shown
+
+pub returns-clause-first : goal.returns-clause-first
+returns-clause-first c =
+    let lines = c.args.lines.now in
+    let us = c.as_slice-uids.result.now in
+    let up : IsStrictlyIncreasing us = subst IsStrictlyIncreasing (sym c.as_slice-uids.ensures.value) c.as_slice-uids.ensures.rising in
+    let blank = c.deref_mut.ensures.value ∙ c.in_ok-noted.ensures.items_if_clones_equal (λ y e. grind (arith)) in
+    let w = both lines us _ _ _ _ _ _ _
+    (c.deref_mut-2.ensures.value ∙ refilled _ _ _ (omega (arith, c.deref_mut.ensures.len, c.note_replies.auto.noted)))
+    (c.deref-2.ensures.value ∙ refilled _ _ _ (omega (arith, c.deref_mut-2.ensures.len, c.note_unread.auto.noted)))
+    c.deref.ensures.value c.note_replies.ensures.noted c.note_unread.ensures up in
+    let first = c.note_replies.ensures.first up (λ i n e. absurd (none_at _ i n _ blank e)) in
+    IfOk-weaker c.each_with_its_line.result _ _ (λ v shown. shown lines (shown_first lines us _ _ _ _ w.0 w.1 first)) c.each_with_its_line.ensures.first

@@ -11,7 +11,7 @@ loop-uid-preserved c lines up shows =
     let below = c.loop-uid-test.true in
     both_noted lines c.args.uids.now c.args.noted.now c.loop-uid.noted c.note.new.noted (λ u. has (take i us) u ≡ true) (λ u. u ≡ own) (λ u. has (take (i + 1) us) u ≡ true) (λ u h. member_split us i u own below c.uid-item.is h)
     (c.loop-uid.invariant lines up shows)
-    (c.note.ensures lines up (shows own (member_at us i own own below (sym c.uid-item.is))))
+    (c.note.ensures.noted lines up (shows own (member_at us i own own below (sym c.uid-item.is))))
 
 pub returns : goal.returns
 returns c lines up shows =

@@ -1,4 +1,4 @@
-use Rattle.vic_report.proofs.Words.{◌≡◌, true, ◌∙◌, sym, ap, subst, MatchOption, has, entries, listed, IsLeftOpen, IsPossibleUid, IsCertainUid, IsListOf, IsAbsent, IsUnlisted, NoSuch, AreOpenMasks, IsLeftToAsk, without_keys, is_open_in, AreListed, log_facts, all_findings}
+use Rattle.vic_report.proofs.Words.{◌∙◌, sym, ap, subst, MatchOption, has, entries, listed, IsLeftOpen, IsPossibleUid, IsCertainUid, IsListOf, IsAbsent, IsUnlisted, NoSuch, AreOpenMasks, IsLeftToAsk, without_keys, is_open_in, AreListed, log_facts, all_findings}
 use Rattle.vic_report.proofs.AllFindings.{left_to_ask, open_set, shut_all}
 use Rattle.vic_report.proofs.findings.find_findings.Goals as goal
 
@@ -42,6 +42,7 @@ returns c =
       absent_shown = c.in_ok-lines_of_absent.ensures.shown;
       unlisted = subst (IsListOf (IsUnlisted es)) (sym c.in_ok-lines_of_certain.ensures.uids) all.unlisted;
       unlisted_shown = rw c.lines-lines.ensures.value at c.in_ok-lines_of_certain.ensures.shown;
+      unlisted_first = rw c.lines-lines.ensures.value at c.in_ok-lines_of_certain.ensures.first;
       unsettled = subst (λ o. MatchOption o (NoSuch (IsLeftOpen es)) (IsLeftToAsk es)) (sym c.left_to_ask.ensures) (left_to_ask es d.unsettled c.open_masks_besides-masks.result all.unsettled masks);
       doubtful = rw c.into_vec.ensures.value all.doubtful;
     }
