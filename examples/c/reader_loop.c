@@ -365,7 +365,7 @@ int main(int argc, char **argv)
     tags = argc > 1 ? count_in(argv[1]) : 40;
     if (vicinity_interface() != VICINITY_INTERFACE || argc > 3 || tags > MOST_TAGS || margin > MOST_TAGS) {
         fprintf(stderr, "reader_loop [TAGS [MARGIN]], at most %d, over an interface %d\n", MOST_TAGS, VICINITY_INTERFACE);
-        return 4;
+        return VICINITY_STATUS_NO_ANSWER;
     }
     for (size_t i = 0; i < tags; i++)
         field[i].uid = UINT64_C(0xE0) << 56 | (i + 1) * UINT64_C(0x9E3779B97F4A7C15) >> 8;
@@ -377,12 +377,12 @@ int main(int argc, char **argv)
     const int is_done = vicinity_is_complete(&answer) && reached >= margin && (is_sure || heard.count == 0);
     if (answer.kind == VICINITY_NO_ANSWER) {
         fprintf(stderr, "vicinity: out of memory\n");
-        return 4;
+        return VICINITY_STATUS_NO_ANSWER;
     }
     printf("%.*s after %zu rounds in log %zu, %zu calls of the checker\n", (int)strcspn(answer.text, "\n"),
            answer.text, rounds, logs, calls);
     explain(reached, is_done);
     if (fflush(stdout) || ferror(stdout))
-        return 4;
-    return is_done && heard.count == tags ? 0 : 1;
+        return VICINITY_STATUS_NO_ANSWER;
+    return is_done && heard.count == tags ? VICINITY_STATUS_COMPLETE : VICINITY_STATUS_NOT_COMPLETE;
 }
