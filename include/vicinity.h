@@ -41,8 +41,8 @@ extern "C" {
 #define VICINITY_INTERFACE 1u
 
 /* The version of this header, as text and as a number like that of vicinity_version(). */
-#define VICINITY_VERSION "1.3.7"
-#define VICINITY_VERSION_NUMBER 10307u
+#define VICINITY_VERSION "1.4.0"
+#define VICINITY_VERSION_NUMBER 10400u
 
 /*
  * What a call that judges returns: the exit status of `vicinity check`. It is neither true nor

@@ -2,6 +2,6 @@ module vicinity-check
 
 go 1.19
 
-require vicinity v1.3.7
+require vicinity v1.4.0
 
 replace vicinity => ../../bindings/go

@@ -29,4 +29,4 @@ __all__ = ["Answer", "Explanation", "Fault", "Finding", "FindingKind", "FrameFau
            "page", "parse_uid", "read_request", "read_response", "reconcile", "report",
            "report_listed", "simulate", "simulate_into", "slot_mask", "survey", "uid_text",
            "write_inventory", "write_line", "write_response", "write_stay_quiet"]
-__version__ = "1.3.7"
+__version__ = "1.4.0.dev0"

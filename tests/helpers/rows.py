@@ -30,12 +30,12 @@ FILES = ("verdicts", "texts", "populations", "reports", "margins", "simulations"
          "spelled")
 
 
-def all_rows(asked):
-    """Each row that these can be asked for, with the name of who is asked: its command, what is
-    given, what is answered and its status."""
+def all_rows(asked, but=()):
+    """Each row that these can be asked for, but for those of some files, with the name of who is
+    asked: its command, what is given, what is answered and its status."""
     for one in asked:
         for name in FILES:
-            for place, line in rows(name):
+            for place, line in rows(name) if name not in but else ():
                 words, given, *answers = (cell.strip() for cell in line.split("|"))
                 command, _, status = words.partition(" ")
                 if one not in MODULES or hasattr(OfLibrary, command):

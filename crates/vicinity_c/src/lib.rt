@@ -47,9 +47,9 @@ pub extern "C" fn vicinity_interface() -> u32
 /// The version of this library: 10,000 times its first number, 100 times its second, and its third.
 #[unsafe(no_mangle)]
 pub extern "C" fn vicinity_version() -> u32
-    ensures { result ≡ 10307 }
+    ensures { result ≡ 10400 }
 {
-    10_307
+    10_400
 }
 
 /// Judges the log that a text spells, and writes the answer in numbers. The result is its status:
