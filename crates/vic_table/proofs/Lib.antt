@@ -1,0 +1,12 @@
+mod Words
+mod Elements
+mod Trimming
+mod Splitting
+mod HexDigits
+mod Cutting
+mod FirstLine
+mod Sets
+mod Reading
+mod Rows
+mod PlaceRows
+mod Whole

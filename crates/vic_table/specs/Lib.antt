@@ -1,0 +1,10 @@
+pub mod Cells
+pub mod Contents
+pub mod Columns
+pub mod Lines
+pub mod Values
+pub mod Rows
+pub mod Table
+pub mod Reads
+pub mod Names
+pub mod inner

@@ -1,0 +1,7 @@
+-- Definitions that private contracts alone cite.
+pub mod Spans
+pub mod Reading
+pub mod Faults
+pub mod Under
+pub mod Kept
+pub mod Sets
