@@ -1,9 +1,8 @@
 -- The first line of some bytes.
-use Rattle.vic_table.proofs.Words.{◌≡◌, ◌≢◌, ℕ, suc, ◌+◌, ◌-◌, ◌<◌, ◌≤◌, true, false, Some, None, Option, List, [], ◌∷◌, ◌++◌, length, drop, take, get_or, map, refl, sym, ap, ap₂, subst, ◌∙◌, arith, nat_tests, common_steps, append_assoc, append-nil, nat_eq, ◌==◌, cond-true, cond-false, cases_eq, ne_eqb, or_parts, or_from, eq-eqb, eqb-true, ⊎_elim, length_push, length-append, length-drop, length-take, length-take-le, drop_all, take_all, take-append_seam, take-append-le, drop-drop, drop-take, drop-append-le, split_at, has, onto, cut, content, ends_with, all_but_last, without_last, lines_of_text, list_any_at, get_or-take, is_none, not}
-use Rattle.std.specs.Prelude.{slice_range, MatchOption}
+use Rattle.vic_table.proofs.Words.{◌≡◌, ℕ, suc, ◌+◌, ◌-◌, ◌<◌, ◌≤◌, true, false, Some, None, Option, List, [], ◌∷◌, ◌++◌, length, drop, take, get_or, map, refl, sym, ap, ap₂, subst, ◌∙◌, arith, nat_tests, common_steps, nat_eq, ◌==◌, cond-true, cond-false, cases_eq, ne_eqb, or_parts, or_from, eq-eqb, eqb-true, ⊎_elim, length_push, length-append, length-drop, length-take-le, drop_all, take_all, take-append_seam, take-append-le, drop-drop, drop-take, split_at, has, onto, cut, content, ends_with, all_but_last, without_last, lines_of_text, list_any_at, get_or-take, is_none, not}
+use Rattle.std.specs.Prelude.{slice_range}
 use Rattle.bstr.specs.Find.{IsFirstByte, is_byte}
 use Rattle.vic_table.specs.Lines.{end_of_first}
-use Rattle.vic_table.specs.declared.lines.LineAt.{LineAt}
 use Rattle.vic_table.specs.inner.Reading.{IsLineAt}
 
 -- ---- where a byte is

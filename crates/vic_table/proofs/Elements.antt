@@ -1,5 +1,5 @@
 -- Lists read element by element.
-use Rattle.vic_table.proofs.Words.{◌≡◌, ℕ, ◌+◌, ◌-◌, ◌<◌, ◌≤◌, zero, suc, List, [], ◌∷◌, Bool, true, false, ◌&&◌, ◌||◌, Some, None, refl, sym, ap, ◌∙◌, arith, take, drop, length, slice_get, get_or, nat_lt, cond-true, cond-false, lt-ltb, le-ltb, cases_lt, inl, inr, list_all, list_any, list_all_more, list_any_more, list_all_at, list_any_at, slice_get_within, get_or_from_slice_get}
+use Rattle.vic_table.proofs.Words.{◌≡◌, ℕ, ◌+◌, ◌-◌, ◌<◌, ◌≤◌, zero, suc, List, [], ◌∷◌, Bool, true, false, ◌&&◌, ◌||◌, Some, None, refl, ap, ◌∙◌, arith, take, drop, length, slice_get, get_or, nat_lt, cond-true, cond-false, lt-ltb, le-ltb, cases_lt, inl, inr, list_all, list_any, list_all_more, list_any_more, list_all_at, list_any_at, slice_get_within, get_or_from_slice_get}
 use Rattle.std.specs.List.{count_by, position}
 use Rattle.std.proofs.lemmas.List.Sums.{count_by_more_yes, count_by_more_no, position_or_len_is}
 

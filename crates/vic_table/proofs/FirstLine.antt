@@ -1,7 +1,7 @@
 -- The first line under the third separator.
 use Rattle.vic_table.proofs.Words.{◌≡◌, ℕ, List, Bool, false, ◌&&◌, Option, Some, None, Result, Ok, Err, MatchResult, is_none, option_or, option_and_then, refl, sym, ap, ap₂, ◌∙◌, cond-false, arith, nat_tests}
 use Rattle.vic_table.specs.Cells.{cells_of}
-use Rattle.vic_table.specs.Columns.{separator_byte, separator_of, columns_under, columns_of, first_cells, columns_fault, is_misquoted, names_fault, first_line_fault}
+use Rattle.vic_table.specs.Columns.{separator_byte, columns_under, columns_of, first_cells, columns_fault, is_misquoted, names_fault, first_line_fault}
 use Rattle.vic_table.specs.declared.fault.TableLineFault.TheVariants as fault
 use Rattle.vic_table.specs.declared.columns.Columns.{Columns}
 use Rattle.vic_table.specs.declared.columns.Separator.{Separator}

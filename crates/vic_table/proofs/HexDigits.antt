@@ -1,9 +1,7 @@
 -- Hex digits in a cell.
-use Rattle.vic_table.proofs.Words.{◌≡◌, ◌≢◌, ℕ, ◌≤◌, ◌<◌, ◌+◌, suc, List, [], ◌∷◌, ◌++◌, None, Some, true, false, Bool, ◌||◌, refl, sym, ap, ◌∙◌, arith, nat_tests, common_steps, length, drop, take, get_or, filter, is_some, list_any, or-false, length-append, length-drop, take_all, filter-append, filter_more, take-append-drop, cases_eq, inl, inr, ⊎_elim, ◌⊎◌}
-use Rattle.std.specs.List.{position_or_len, slice_split, onto_first}
+use Rattle.vic_table.proofs.Words.{◌≡◌, ◌≢◌, ℕ, ◌<◌, ◌+◌, List, [], ◌∷◌, ◌++◌, None, true, Bool, ◌||◌, refl, sym, ap, ◌∙◌, arith, nat_tests, common_steps, length, drop, take, get_or, filter, is_some, list_any, or-false, length-append, filter-append, filter_more, take-append-drop}
+use Rattle.std.specs.List.{position_or_len, slice_split}
 use Rattle.std.proofs.lemmas.List.Splits.{slice_split_first}
-use Rattle.std.proofs.lemmas.List.Sums.{length-filter, position_or_len_is}
-use Rattle.hex.specs.Hex.{decode_sized}
 use Rattle.vic_table.specs.Contents.{hex_uid, has_uid, is_no_hex_digit, is_digit_of_uid}
 
 pub hex_uid-len : (digits : List ℕ) → length digits ≢ 16 → hex_uid digits ≡ None

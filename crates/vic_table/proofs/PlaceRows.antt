@@ -1,5 +1,5 @@
 -- A row of a table of places.
-use Rattle.vic_table.proofs.Words.{◌≡◌, ℕ, suc, Bool, true, false, not, Option, Some, None, List, [], ◌∷◌, ◌++◌, length, refl, sym, ap, subst, ◌∙◌, cond-false, cond-true, eq-eqb, option_or, if◌then◌else◌, ◌==◌, ◌||◌, append-nil}
+use Rattle.vic_table.proofs.Words.{◌≡◌, ℕ, suc, Bool, true, false, not, Some, None, List, [], ◌∷◌, ◌++◌, length, refl, sym, ap, ◌∙◌, cond-false, eq-eqb, option_or, if◌then◌else◌, ◌==◌, ◌||◌}
 use Rattle.std.specs.BTreeSet.{BTreeSet}
 use Rattle.std.specs.declared.vec.Vec.{Vec}
 use Rattle.std.proofs.Common.{Global}
@@ -10,13 +10,12 @@ use Rattle.vic_table.specs.Lines.{bytes_fault}
 use Rattle.vic_table.specs.Rows.{cell_at, is_blank_line, is_named, place_fault, place_row_of, place_line_fault, cells_place_fault, line_place_row, cells_place_row}
 use Rattle.vic_table.specs.Values.{PlaceRowValue}
 use Rattle.vic_table.specs.declared.columns.PlacesColumns.{PlacesColumns}
-use Rattle.vic_table.specs.declared.fault.TableLineFault.{TableLineFault}
 use Rattle.vic_table.specs.declared.fault.TableLineFault.TheVariants as fault
 use Rattle.vic_table.specs.declared.fault.TableFault.{TableFault}
 use Rattle.vic_table.specs.declared.fault.TableFault.TheVariants.{Line, Memory}
 use Rattle.vic_table.specs.declared.place_rows.PlaceRow.{PlaceRow}
 use Rattle.vic_table.specs.inner.Faults.{RefusesAt}
-use Rattle.vic_table.specs.inner.Kept.{place_row_value, place_row_or_none}
+use Rattle.vic_table.specs.inner.Kept.{place_row_value}
 use Rattle.vic_table.specs.inner.Sets.{AreLogsOf, IsPlaceRowOf, TellsNewLog}
 
 not_named : (b : Bool) → true ≡ not b → b ≡ false

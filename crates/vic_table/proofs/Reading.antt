@@ -1,5 +1,5 @@
 -- Lines read one after another.
-use Rattle.vic_table.proofs.Words.{◌≡◌, ◌≢◌, ℕ, zero, suc, ◌+◌, ◌-◌, ◌<◌, ◌≤◌, true, false, Option, Some, None, Result, Ok, Err, List, [], ◌∷◌, ◌++◌, length, drop, take, map, slice_get, refl, sym, ap, ap₂, subst, ◌∙◌, arith, nat_tests, cond-true, cond-false, ne_eqb, eq-eqb, ◌==◌, cases_lt, cases_eq, inl, inr, append-nil, option_or, slice_get_past, length-drop, lines_of_text, filter_map-append, has}
+use Rattle.vic_table.proofs.Words.{◌≡◌, ◌≢◌, ℕ, zero, suc, ◌<◌, ◌≤◌, true, false, Option, Some, None, List, [], ◌∷◌, ◌++◌, length, drop, slice_get, refl, sym, ap, ap₂, ◌∙◌, arith, nat_tests, cond-true, cond-false, ne_eqb, eq-eqb, ◌==◌, cases_lt, cases_eq, inl, inr, option_or, slice_get_past, length-drop, lines_of_text, filter_map-append, has}
 use Rattle.std.specs.BTreeSet.{BTreeSet}
 use Rattle.std.specs.declared.vec.Vec.{Vec}
 use Rattle.vic_table.specs.Lines.{bytes_fault}
@@ -8,7 +8,6 @@ use Rattle.vic_table.specs.Table.{fault_behind, fault_of, end_fault, cells_fault
 use Rattle.vic_table.specs.Values.{ItemValue, PlaceRowValue}
 use Rattle.vic_table.specs.declared.columns.CatalogueColumns.{CatalogueColumns}
 use Rattle.vic_table.specs.declared.columns.PlacesColumns.{PlacesColumns}
-use Rattle.vic_table.specs.declared.columns.Columns.{Columns}
 use Rattle.vic_table.specs.declared.columns.Columns.TheVariants.{Catalogue, Places}
 use Rattle.vic_table.specs.declared.fault.TableLineFault.{TableLineFault}
 use Rattle.vic_table.specs.declared.fault.TableLineFault.TheVariants as fault
@@ -18,7 +17,7 @@ use Rattle.vic_table.specs.declared.items.Item.{Item}
 use Rattle.vic_table.specs.declared.place_rows.PlaceRow.{PlaceRow}
 use Rattle.vic_table.specs.inner.Faults.{RefusesAt}
 use Rattle.vic_table.specs.inner.Kept.{item_values, item_or_none, place_row_or_none}
-use Rattle.vic_table.specs.inner.Reading.{AreClean, FollowsFirst, RefusesLines}
+use Rattle.vic_table.specs.inner.Reading.{AreClean, RefusesLines}
 use Rattle.vic_table.specs.inner.Sets.{IsSetOf, IsItemOf, AreLogsOf, IsPlaceRowOf}
 
 -- ---- the line behind some others

@@ -1,12 +1,12 @@
 -- A row's faults in the order of the code, and a line that is a row.
-use Rattle.vic_table.proofs.Words.{◌≡◌, ℕ, suc, Bool, true, false, not, Option, Some, None, Result, Ok, Err, MatchResult, List, [], ◌∷◌, ◌++◌, length, refl, sym, ap, ap₂, subst, ◌∙◌, arith, nat_tests, cond-false, cond-true, option_or, if◌then◌else◌, ◌==◌, append-nil, has, option_map}
+use Rattle.vic_table.proofs.Words.{◌≡◌, ℕ, suc, Bool, true, false, not, Option, Some, None, List, [], ◌∷◌, ◌++◌, length, refl, sym, ap, subst, ◌∙◌, cond-false, cond-true, option_or, if◌then◌else◌, ◌==◌, append-nil, has, option_map}
 use Rattle.std.specs.Prelude.{codes, slice_range}
 use Rattle.std.specs.BTreeSet.{BTreeSet}
 use Rattle.vic_table.specs.Cells.{cells_of}
 use Rattle.vic_table.specs.Columns.{separator_byte, tells_elsewhere}
 use Rattle.vic_table.specs.Contents.{spelled_uid}
 use Rattle.vic_table.specs.Lines.{bytes_fault}
-use Rattle.vic_table.specs.Rows.{cell_at, is_no_uid, is_given, is_blank_at, is_no_away, is_blank_line, is_word_at, place_at, item_fault, item_of, item_line_fault, cells_item_fault, line_item, cells_item, item_uids}
+use Rattle.vic_table.specs.Rows.{cell_at, is_no_uid, is_given, is_blank_line, is_word_at, place_at, item_fault, item_of, item_line_fault, cells_item_fault, line_item, cells_item, item_uids}
 use Rattle.vic_table.specs.declared.columns.CatalogueColumns.{CatalogueColumns}
 use Rattle.vic_table.specs.declared.fault.TableLineFault.{TableLineFault}
 use Rattle.vic_table.specs.declared.fault.TableLineFault.TheVariants as fault
@@ -14,7 +14,7 @@ use Rattle.vic_table.specs.declared.fault.TableFault.{TableFault}
 use Rattle.vic_table.specs.declared.fault.TableFault.TheVariants.{Line, Memory}
 use Rattle.vic_table.specs.declared.items.Item.{Item}
 use Rattle.vic_table.specs.inner.Faults.{RefusesAt, shape_fault, rest_fault}
-use Rattle.vic_table.specs.inner.Kept.{item_value, item_or_none}
+use Rattle.vic_table.specs.inner.Kept.{item_value}
 use Rattle.vic_table.specs.inner.Sets.{IsSetOf, IsItemOf, TellsNew, uid_or_none}
 
 in_parts : (a b d : Bool) (x y z : TableLineFault) (o : Option TableLineFault) → (if a then Some x else (if b then Some y else (if d then Some z else o))) ≡ option_or (if a then Some x else (if b then Some y else (if d then Some z else None))) o

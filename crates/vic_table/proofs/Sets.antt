@@ -1,5 +1,5 @@
 -- One more UID, or log, in a set.
-use Rattle.vic_table.proofs.Words.{◌≡◌, ℕ, Bool, true, false, not, cond, Some, None, List, [], ◌∷◌, ◌++◌, refl, sym, ap, ◌∙◌, arith, nat_tests, or-false, list_any-append, has, nat_eq, ◌||◌, append-nil}
+use Rattle.vic_table.proofs.Words.{◌≡◌, ℕ, Bool, true, false, not, cond, Some, None, List, [], ◌∷◌, ◌++◌, refl, sym, ap, ◌∙◌, arith, nat_tests, list_any-append, has, nat_eq, ◌||◌, append-nil}
 use Rattle.std.specs.BTreeMap.{is_at}
 use Rattle.std.specs.BTreeSet.{BTreeSet, contains}
 use Rattle.std.specs.Cmp.Lexicographic.{slice_cmp}
@@ -7,9 +7,9 @@ use Rattle.std.specs.Ordering.{nat_cmp}
 use Rattle.std.specs.Str.{bytes_eq}
 use Rattle.std.specs.declared.vec.Vec.{Vec}
 use Rattle.std.proofs.lemmas.Map.Text.{is_eq-slice_cmp}
-use Rattle.vic_table.specs.Rows.{is_given, is_named}
+use Rattle.vic_table.specs.Rows.{is_named}
 use Rattle.vic_table.specs.Values.{PlaceRowValue}
-use Rattle.vic_table.specs.inner.Sets.{IsSetOf, TellsNew, uid_or_none, AreLogsOf, TellsNewLog}
+use Rattle.vic_table.specs.inner.Sets.{IsSetOf, TellsNew, AreLogsOf, TellsNewLog}
 
 set_more : (before : List ℕ) (uid : ℕ) (old set : BTreeSet ℕ) → IsSetOf before old → ((q : ℕ) → contains nat_cmp set q ≡ cond (is_at (nat_cmp uid) q) true (contains nat_cmp old q)) → IsSetOf (before ++ uid ∷ []) set
 set_more before uid old set h more q = rw (list_any-append (nat_eq q) before (uid ∷ [])) (more q ∙ (rw (h q) (same (has before q)))) where

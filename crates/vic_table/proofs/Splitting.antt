@@ -1,5 +1,5 @@
 -- A line split byte by byte.
-use Rattle.vic_table.proofs.Words.{◌≡◌, ℕ, zero, ◌≤◌, ◌<◌, ◌-◌, suc, List, [], ◌∷◌, ◌++◌, Option, Some, None, true, false, refl, sym, ap, ap₂, ◌∙◌, arith, nat_tests, common_steps, append_assoc, append-nil, length, drop, take, map, get_or, All, AllByRecursion, length-append, length-drop, take_all, drop-append-le, take-append-le, All-push, All-weaker, drop_all, ◌≢◌, recursion_from_All, map-append}
+use Rattle.vic_table.proofs.Words.{◌≡◌, ℕ, ◌≤◌, ◌-◌, List, [], ◌∷◌, ◌++◌, Option, Some, None, refl, sym, ap, ap₂, ◌∙◌, arith, nat_tests, append_assoc, append-nil, length, drop, take, All, AllByRecursion, length-append, length-drop, take_all, drop-append-le, take-append-le, All-push, All-weaker, drop_all, ◌≢◌, recursion_from_All, map-append}
 use Rattle.std.specs.Prelude.{⊤}
 use Rattle.vic_table.specs.Cells.{with_byte, with_cell, cells_from}
 use Rattle.vic_table.specs.declared.cells.Span.{Span}
@@ -7,7 +7,7 @@ use Rattle.vic_table.specs.declared.cells.Spot.{Spot}
 use Rattle.vic_table.specs.declared.cells.Spot.TheVariants.{Begin, Plain, Quoted, Closed}
 use Rattle.vic_table.specs.declared.cells.Step.{Step}
 use Rattle.vic_table.specs.declared.cells.Step.TheVariants.{Skips, Keeps, Ends, Wrong}
-use Rattle.vic_table.specs.inner.Spans.{IsWithin, span_bytes, span_cells, with_front, joined, after_step}
+use Rattle.vic_table.specs.inner.Spans.{IsWithin, span_bytes, span_cells, joined, after_step}
 
 -- some cells, if any
 abbrev pub HasSome : Option (List (List ℕ)) → Type 0

@@ -1,6 +1,6 @@
 -- A cell without its last byte.
-use Rattle.vic_table.proofs.Words.{◌≡◌, ℕ, List, [], ◌∷◌, ◌++◌, true, false, arith, nat_tests, common_steps, list_all-append}
-use Rattle.vic_table.specs.Contents.{is_space, is_blank, trimmed_end}
+use Rattle.vic_table.proofs.Words.{◌≡◌, ℕ, List, [], ◌∷◌, ◌++◌, true, false, arith, nat_tests, list_all-append}
+use Rattle.vic_table.specs.Contents.{is_space, trimmed_end}
 
 pub trimmed_end-space : (cell : List ℕ) (b : ℕ) → is_space b ≡ true → trimmed_end (cell ++ b ∷ []) ≡ trimmed_end cell
 trimmed_end-space [] b h = grind (arith, nat_tests)

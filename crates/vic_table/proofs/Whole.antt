@@ -1,10 +1,10 @@
 -- A whole text: its first line, and the lines that follow.
-use Rattle.vic_table.proofs.Words.{◌≡◌, ℕ, zero, suc, ◌<◌, ◌≤◌, Option, Some, None, List, [], ◌∷◌, length, drop, slice_get, refl, sym, ap, subst, ◌∙◌, arith, option_or, lines_of_text, cut}
+use Rattle.vic_table.proofs.Words.{◌≡◌, ℕ, zero, suc, ◌<◌, Some, None, List, ◌∷◌, length, drop, slice_get, refl, sym, ap, subst, ◌∙◌, arith, option_or, lines_of_text, cut}
 use Rattle.std.specs.Prelude.{slice_range}
 use Rattle.vic_table.specs.Columns.{columns_of, first_line_fault}
-use Rattle.vic_table.specs.Lines.{bytes_fault, without_mark, table_lines, first_end, end_of_first}
+use Rattle.vic_table.specs.Lines.{bytes_fault, without_mark, table_lines, end_of_first}
 use Rattle.vic_table.specs.Table.{HasNoFault, IsCatalogueOf, ArePlacesOf, Refuses, fault_behind, items_upto, place_rows_upto}
-use Rattle.vic_table.specs.Values.{ItemValue, PlaceRowValue, CatalogueValue}
+use Rattle.vic_table.specs.Values.{ItemValue, PlaceRowValue}
 use Rattle.vic_table.specs.declared.columns.CatalogueColumns.{CatalogueColumns}
 use Rattle.vic_table.specs.declared.columns.PlacesColumns.{PlacesColumns}
 use Rattle.vic_table.specs.declared.columns.Columns.{Columns}
@@ -12,7 +12,7 @@ use Rattle.vic_table.specs.declared.columns.Columns.TheVariants.{Catalogue, Plac
 use Rattle.vic_table.specs.declared.fault.TableFault.{TableFault}
 use Rattle.vic_table.specs.declared.fault.TableFault.TheVariants.{Line, Memory}
 use Rattle.vic_table.specs.declared.lines.LineAt.{LineAt}
-use Rattle.vic_table.specs.inner.Reading.{IsLineAt, AreClean, FollowsFirst, RefusesLines}
+use Rattle.vic_table.specs.inner.Reading.{IsLineAt, FollowsFirst, RefusesLines}
 
 pub refuses_text : (text : List ℕ) (e : TableFault) → RefusesLines (table_lines text) e → Refuses text e
 refuses_text text (Line n f) r = r

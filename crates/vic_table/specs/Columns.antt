@@ -1,5 +1,5 @@
 -- The columns of a table, by its first line.
-use Rattle.std.specs.Prelude.{◌≡◌, ℕ, ◌==◌, Bool, ◌&&◌, false, true, nat_le, if◌then◌else◌, Option, Some, None, is_none, unwrap_or, List, length, take, count_by, position, codes}
+use Rattle.std.specs.Prelude.{ℕ, ◌==◌, Bool, ◌&&◌, false, nat_le, if◌then◌else◌, Option, Some, None, is_none, unwrap_or, List, length, take, count_by, position, codes}
 use Rattle.std.specs.List.{list_any, remove}
 use Rattle.std.specs.Option.{option_and_then, option_or}
 use Rattle.std.specs.Str.{byte, bytes_eq}

@@ -1,5 +1,5 @@
 -- The lines of a table's text, and what is wrong with one whatever its cells are.
-use Rattle.std.specs.Prelude.{ℕ, suc, ◌==◌, Bool, ◌&&◌, not, nat_lt, if◌then◌else◌, Option, Some, None, List, [], ◌∷◌, length, take, drop}
+use Rattle.std.specs.Prelude.{ℕ, suc, Bool, ◌&&◌, not, nat_lt, if◌then◌else◌, Option, Some, None, List, [], ◌∷◌, length, take, drop}
 use Rattle.std.specs.Str.{bytes_eq, is_utf8}
 use Rattle.vic_frame.specs.Uids.{has}
 use Rattle.vic_log.specs.Lines.{cr, cut, content, lines_of_text}

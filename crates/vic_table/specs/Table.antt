@@ -1,5 +1,5 @@
 -- The table of a text, or its first fault.
-use Rattle.std.specs.Prelude.{◌≡◌, ℕ, zero, suc, ◌<◌, ◌==◌, Bool, true, false, ⊤, if◌then◌else◌, Option, Some, None, List, [], ◌∷◌, ◌++◌, length, slice_get}
+use Rattle.std.specs.Prelude.{◌≡◌, ℕ, zero, suc, ◌<◌, ◌==◌, ⊤, if◌then◌else◌, Option, Some, None, List, [], ◌∷◌, ◌++◌, length, slice_get}
 use Rattle.std.specs.Option.{option_and_then, option_or}
 use Rattle.vic_table.specs.Columns.{columns_of, first_line_fault}
 use Rattle.vic_table.specs.Lines.{table_lines, first_end, bytes_fault}

@@ -1,5 +1,5 @@
 -- Items and rows as they are kept: with places in the text.
-use Rattle.std.specs.Prelude.{◌≡◌, ℕ, ◌≤◌, Option, Some, None, List, [], ◌∷◌, map, slice_range}
+use Rattle.std.specs.Prelude.{ℕ, ◌≤◌, Option, Some, None, List, [], ◌∷◌, map, slice_range}
 use Rattle.std.specs.Option.{option_map}
 use Rattle.vic_table.specs.Values.{ItemValue, PlaceRowValue}
 use Rattle.vic_table.specs.declared.items.Item.{Item}

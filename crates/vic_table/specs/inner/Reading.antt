@@ -1,5 +1,5 @@
 -- A text read line by line.
-use Rattle.std.specs.Prelude.{◌≡◌, ℕ, suc, ◌<◌, ◌≤◌, ⊤, Option, Some, None, List, [], ◌∷◌, length, drop, map, slice_range}
+use Rattle.std.specs.Prelude.{◌≡◌, ℕ, ◌<◌, ◌≤◌, ⊤, Some, None, List, ◌∷◌, length, drop, slice_range}
 use Rattle.vic_log.specs.Lines.{cut, lines_of_text}
 use Rattle.vic_table.specs.Lines.{end_of_first}
 use Rattle.vic_table.specs.Table.{columns_named, fault_behind, IsFirstFault}

@@ -8,7 +8,7 @@ use Rattle.std.specs.declared.vec.Vec.{Vec}
 use Rattle.vic_frame.specs.Uids.{has}
 use Rattle.vic_table.specs.Lines.{bytes_fault}
 use Rattle.vic_table.specs.Rows.{is_given, is_named, item_uids, item_line_fault, line_item, place_line_fault, line_place_row}
-use Rattle.vic_table.specs.Values.{ItemValue, PlaceRowValue}
+use Rattle.vic_table.specs.Values.{PlaceRowValue}
 use Rattle.vic_table.specs.declared.columns.CatalogueColumns.{CatalogueColumns}
 use Rattle.vic_table.specs.declared.columns.PlacesColumns.{PlacesColumns}
 use Rattle.vic_table.specs.declared.items.Item.{Item}

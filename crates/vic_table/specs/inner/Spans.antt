@@ -2,7 +2,6 @@
 use Rattle.std.specs.Prelude.{ℕ, ◌≤◌, Option, Some, None, List, [], ◌∷◌, ◌++◌, map, slice_range}
 use Rattle.vic_table.specs.Cells.{with_byte, with_cell, cells_from}
 use Rattle.vic_table.specs.declared.cells.Span.{Span}
-use Rattle.vic_table.specs.declared.cells.Spot.{Spot}
 use Rattle.vic_table.specs.declared.cells.Spot.TheVariants.{Begin}
 use Rattle.vic_table.specs.declared.cells.Step.{Step}
 use Rattle.vic_table.specs.declared.cells.Step.TheVariants.{Skips, Keeps, Ends, Wrong}

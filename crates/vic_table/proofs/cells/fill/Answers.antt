@@ -1,5 +1,5 @@
 use Rattle.std.proofs.lemmas.List.{drop_more}
-use Rattle.vic_table.proofs.Words.{◌≡◌, ◌+◌, drop, arith, common_steps}
+use Rattle.vic_table.proofs.Words.{◌+◌, drop}
 use Rattle.vic_table.proofs.Splitting.{split_begin, split_skips, split_keeps, split_ends, split_wrong, split_within}
 use Rattle.vic_table.proofs.cells.fill.Goals as goal
 use Rattle.vic_table.proofs.cells.fill.Goals.{in-Skips, in-Keeps+in_ok-push-in-Keeps, in-Ends+in_ok-push-in-Ends}

@@ -1,4 +1,4 @@
-use Rattle.vic_table.proofs.Words.{◌≡◌, ◌+◌, ◌-◌, Some, List, take, drop, slice_get, sym, ap, ◌∙◌, arith, or_from, false, list_any}
+use Rattle.vic_table.proofs.Words.{◌≡◌, ◌+◌, ◌-◌, take, drop, sym, ◌∙◌, arith, or_from}
 use Rattle.vic_table.proofs.Elements.{list_any_next, list_any_holds, slice_get-take, slice_get-drop_at}
 use Rattle.vic_table.specs.Contents.{tells_uid}
 use Rattle.vic_table.proofs.columns.any_tells_uid.Goals as goal

@@ -1,4 +1,4 @@
-use Rattle.vic_table.proofs.Words.{refl, sym, ap, subst, ◌∙◌}
+use Rattle.vic_table.proofs.Words.{refl, sym, ap, ◌∙◌}
 use Rattle.vic_table.specs.Contents.{spelled_uid}
 use Rattle.vic_table.proofs.Rows.{item_fault-shape, row_done}
 use Rattle.vic_table.proofs.items.row_item.Goals as goal

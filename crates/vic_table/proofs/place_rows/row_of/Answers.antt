@@ -1,4 +1,4 @@
-use Rattle.vic_table.proofs.Words.{◌≡◌, refl, sym, ap, subst, ◌∙◌, arith, common_steps}
+use Rattle.vic_table.proofs.Words.{◌≡◌, refl, sym, ap, ◌∙◌, arith, common_steps}
 use Rattle.vic_table.specs.Contents.{is_blank, trimmed}
 use Rattle.vic_table.proofs.PlaceRows.{place_row_done}
 use Rattle.vic_table.proofs.place_rows.row_of.Goals as goal
