@@ -115,6 +115,14 @@ enum vicinity_status report(const struct text *log, struct text *answered)
     return answer.status;
 }
 
+static void put_reading(struct text *answered, const char *before, uint32_t has, uint32_t bits, uint64_t value)
+{
+    if (has)
+        put_mask(answered, before, bits, value);
+    else
+        put(answered, "%s -", before);
+}
+
 enum vicinity_status margin(const struct text *log, struct text *answered)
 {
     struct vicinity_answer answer = {0};
@@ -124,6 +132,8 @@ enum vicinity_status margin(const struct text *log, struct text *answered)
     if (vicinity_is_complete(&answer)) {
         put(answered, "margin %" PRIu32 "\n", weakest.margin);
         put_mask(answered, "weakest", weakest.mask_len, weakest.mask_value);
+        put_reading(answered, "\nhidden", weakest.has_hidden, weakest.hidden_len, weakest.hidden_value);
+        put_reading(answered, "\ndeaf", weakest.has_deaf, weakest.deaf_len, weakest.deaf_value);
         put(answered, "\n");
     }
     return answer.status;

@@ -194,11 +194,23 @@ struct vicinity_mask {
  * The margin of a log: the least number of slots in which a tag that isn't listed was overlooked.
  * The mask is the first, by length and then by value, all of whose UIDs have this margin and aren't
  * listed. All is 0 if there is no margin, since the log is impossible or the text is refused.
+ *
+ * A complete list is judged twice more: as if each reply `R` may have hidden others (hidden), and
+ * as if, besides, the reader may have gone deaf after the last slot in which a tag answered (deaf).
+ * A mask is the first, by length and then by value, all of whose UIDs are then possible and aren't
+ * listed; `has_hidden` and `has_deaf` are 1 if there is one. All six are 0 if there is none, or the
+ * list isn't complete.
  */
 struct vicinity_weakest {
     uint32_t margin;
     uint32_t mask_len;   /* in bits, 0 to 56 */
     uint64_t mask_value; /* below two to the power of mask_len */
+    uint32_t has_hidden;
+    uint32_t hidden_len;
+    uint64_t hidden_value;
+    uint32_t has_deaf;
+    uint32_t deaf_len;
+    uint64_t deaf_value;
 };
 
 /* A line of a log, LF included, then zeros. */
@@ -227,7 +239,7 @@ _Static_assert(sizeof(struct vicinity_frame) == 24, "the size of struct vicinity
 _Static_assert(sizeof(struct vicinity_request) == 32, "the size of struct vicinity_request");
 _Static_assert(sizeof(struct vicinity_reply) == 16, "the size of struct vicinity_reply");
 _Static_assert(sizeof(struct vicinity_mask) == 16, "the size of struct vicinity_mask");
-_Static_assert(sizeof(struct vicinity_weakest) == 16, "the size of struct vicinity_weakest");
+_Static_assert(sizeof(struct vicinity_weakest) == 48, "the size of struct vicinity_weakest");
 _Static_assert(sizeof(struct vicinity_line) == 140, "the size of struct vicinity_line");
 _Static_assert(sizeof(struct vicinity_name) == 32, "the size of struct vicinity_name");
 #endif

@@ -112,12 +112,14 @@ static void try_margins()
     const vicinity::Margin silent = vicinity::margin(SILENT);
     IS(silent.answer.is_complete());
     IS(silent.weakest.margin == 1 && silent.weakest.mask.text() == "0 -");
+    IS(silent.weakest.hidden.text() == "-" && silent.weakest.deaf.text() == "0 -");
     // A answers and is silenced, then nobody does: B was overlooked in both slots
     const std::string quiet =
         ONE + vicinity::write_line('T', vicinity::write_stay_quiet(2, A)) + "T 260100F60A\nS";
     const vicinity::Margin listed = vicinity::margin_listed(quiet, {A});
     IS(listed.answer.line_text() == "complete 1");
     IS(listed.weakest.margin == 2 && listed.weakest.mask.text() == "1 00");
+    IS(listed.weakest.hidden.text() == "-" && listed.weakest.deaf.text() == "1 00");
     IS((vicinity::overlooked(quiet, {B, A, B}) == std::vector<std::uint32_t>{2, 0, 2}));
     IS(vicinity::overlooked(quiet, {}).empty());
     IS(thrown<vicinity::Refused>([] { vicinity::overlooked("x", {A}); }) ==

@@ -206,11 +206,23 @@ struct Report {
     std::vector<vicinity_finding> findings;
 };
 
+// What a log proves less about its list if it is read more cautiously.
+struct Reading {
+    bool opens; // whether other tags could then be there; if not, the list is complete even so
+    Mask mask;  // the first mask, by length and then by value, of their UIDs
+
+    // As the program writes it.
+    std::string text() const { return opens ? mask.text() : "-"; }
+};
+
 // Where a list is least sure: the margin of a log, and the first mask, by length and then by value,
 // whose UIDs have it and aren't listed.
 struct Weakest {
     std::uint32_t margin; // in how many slots such a tag would have had to be missed
     Mask mask;
+    Reading hidden; // of a complete list, if each reply R may have hidden others
+    Reading deaf;   // the same if, besides, the reader may have gone deaf after the last slot in
+                    // which a tag answered
 };
 
 struct Margin {
@@ -281,7 +293,11 @@ template <typename Element, typename Call> Answer fill(std::vector<Element> &buf
 
 inline Margin measured(const Answer &answer, const vicinity_weakest &told)
 {
-    return {answered(answer), {told.margin, {told.mask_len, told.mask_value}}};
+    return {answered(answer),
+            {told.margin,
+             {told.mask_len, told.mask_value},
+             {told.has_hidden != 0, {told.hidden_len, told.hidden_value}},
+             {told.has_deaf != 0, {told.deaf_len, told.deaf_value}}}};
 }
 
 // A text whose last line ends, so that lines can follow.

@@ -59,6 +59,22 @@ type Finding struct {
 type Weakest struct {
 	Margin uint32 // in how many slots such a tag would have had to be missed
 	Mask   Mask
+	Hidden Reading // of a complete list, if each reply R may have hidden others
+	Deaf   Reading // the same if, besides, the reader may have gone deaf after the last slot in which a tag answered
+}
+
+// Reading is what a log proves less about its list if it is read more cautiously.
+type Reading struct {
+	Opens bool // whether other tags could then be there; if not, the list is complete even so
+	Mask  Mask // the first mask, by length and then by value, of their UIDs
+}
+
+// String returns the mask as the program writes it, "-" if there is none.
+func (reading Reading) String() string {
+	if !reading.Opens {
+		return "-"
+	}
+	return reading.Mask.String()
 }
 
 // Survey is what a possible log says of its field, whatever it lists.
@@ -334,7 +350,12 @@ func answer(told *C.struct_vicinity_answer) (Answer, error) {
 
 func measured(told *C.struct_vicinity_answer, least *C.struct_vicinity_weakest) (Answer, Weakest, error) {
 	found, err := answer(told)
-	return found, Weakest{uint32(least.margin), Mask{uint32(least.mask_len), uint64(least.mask_value)}}, err
+	return found, Weakest{
+		Margin: uint32(least.margin),
+		Mask:   Mask{uint32(least.mask_len), uint64(least.mask_value)},
+		Hidden: Reading{least.has_hidden != 0, Mask{uint32(least.hidden_len), uint64(least.hidden_value)}},
+		Deaf:   Reading{least.has_deaf != 0, Mask{uint32(least.deaf_len), uint64(least.deaf_value)}},
+	}, err
 }
 
 func findings(list []C.struct_vicinity_finding) []Finding {

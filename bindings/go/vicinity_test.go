@@ -193,7 +193,7 @@ func TestListBesideTheText(t *testing.T) {
 
 func TestMargins(t *testing.T) {
 	answer, weakest, err := Margin([]byte(silent))
-	if err != nil || answer.Text != "complete 0" || weakest != (Weakest{1, Mask{}}) {
+	if err != nil || answer.Text != "complete 0" || weakest != (Weakest{Margin: 1, Deaf: Reading{Opens: true}}) {
 		t.Error(answer, weakest, err)
 	}
 	// a answers and is silenced, then nobody does: b was overlooked in both slots
@@ -201,7 +201,7 @@ func TestMargins(t *testing.T) {
 	asked, _ := WriteLine('T', frame)
 	quiet := []byte(one + asked + "T 260100F60A\nS")
 	answer, weakest, err = MarginListed(quiet, []UID{a})
-	if err != nil || answer.Text != "complete 1" || weakest != (Weakest{2, Mask{1, 0}}) {
+	if err != nil || answer.Text != "complete 1" || weakest != (Weakest{2, Mask{1, 0}, Reading{}, Reading{true, Mask{1, 0}}}) {
 		t.Error(answer, weakest, err)
 	}
 	slots, err := Overlooked(quiet, []UID{b, a, b})

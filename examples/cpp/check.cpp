@@ -47,7 +47,8 @@ static int check(const std::string &text)
         std::cerr << vicinity::write_listed(uid);
     if (explained.answer.is_complete()) {
         const vicinity::Weakest weakest = vicinity::margin(text).weakest;
-        std::cerr << "margin " << weakest.margin << "\nweakest " << weakest.mask.text() << '\n';
+        std::cerr << "margin " << weakest.margin << "\nweakest " << weakest.mask.text() << "\nhidden "
+                  << weakest.hidden.text() << "\ndeaf " << weakest.deaf.text() << '\n';
     }
     return show(explained.answer);
 }

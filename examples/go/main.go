@@ -33,6 +33,8 @@ func check(text []byte) (int, error) {
 		}
 		fmt.Fprintln(os.Stderr, "margin", weakest.Margin)
 		fmt.Fprintln(os.Stderr, "weakest", weakest.Mask)
+		fmt.Fprintln(os.Stderr, "hidden", weakest.Hidden)
+		fmt.Fprintln(os.Stderr, "deaf", weakest.Deaf)
 	}
 	_, err = fmt.Println(answer)
 	return answer.Status, err

@@ -20,11 +20,13 @@ SAID = "A tag would have had to be missed in"
 class Calls(Command):
     def test_margins(self):
         for text, wanted in (
-                (log(ALL + b"S\n"), "complete 0\nmargin 1\nweakest 0 -"),
-                (log(TWICE + LIST_A), "complete 1\nmargin 2\nweakest 1 00"),
+                (log(ALL + b"S\n"), "complete 0\nmargin 1\nweakest 0 -\nhidden -\ndeaf 0 -"),
+                (log(TWICE + LIST_A),
+                 "complete 1\nmargin 2\nweakest 1 00\nhidden -\ndeaf 1 00"),
                 (log(TWICE + LIST_A).replace(b"1\n", b"3\n", 1).replace(b"R ", b"H "),
-                 "complete 1\nmargin 1\nweakest 1 00"),
-                (log(ONCE_B + LIST_A), "complete 1\nmargin 1\nweakest 56 040100000000B2"),
+                 "complete 1\nmargin 1\nweakest 1 00\nhidden -\ndeaf 1 00"),
+                (log(ONCE_B + LIST_A), "complete 1\nmargin 1\nweakest 56 040100000000B2\n"
+                                       "hidden 56 040100000000B2\ndeaf 1 00"),
                 (log(ALL + b"C\n" + LIST_A), "unsettled 1 00"),
                 (log(TWICE + ALL + HEARD_A), "impossible at line 8"),
                 (b"", "refused at line 1: Header")):
@@ -34,7 +36,7 @@ class Calls(Command):
             self.assertEqual(vicinity.margin(bytearray(text)), found)
 
     def test_of_every_possible_log(self):
-        for lines, wanted in ((TWICE + LIST_A, Weakest(2, Mask(1, 0))),
+        for lines, wanted in ((TWICE + LIST_A, Weakest(2, Mask(1, 0), None, Mask(1, 0))),
                               (ALL + HEARD_A, Weakest(0, Mask(56, A & (1 << 56) - 1))),
                               (ALL + b"C\n" + LIST_A, Weakest(0, Mask(1, 0))),
                               (ALL + b"S\n" + LIST_A, Weakest(1, Mask(1, 0))),
@@ -86,7 +88,7 @@ class Said(Command):
 
     def test_as_the_program_says_it(self):
         self.assertEqual(within("margin", self.whole),
-                         (b"complete 1\nmargin 2\nweakest 1 00\n", b"", 0))
+                         (b"complete 1\nmargin 2\nweakest 1 00\nhidden -\ndeaf 1 00\n", b"", 0))
         for name, status in ((self.absent, 1), (self.names[6], 2), (self.names[7], 3)):
             answer = within("check", name)[0].partition(b": ")[2]
             self.assertEqual(within("margin", name), (answer, b"", status))

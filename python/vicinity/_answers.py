@@ -224,6 +224,12 @@ class Weakest(NamedTuple):
     mask: Mask
     """The first mask, by length and then by value, of at most 56 bits,
     all of whose UIDs aren't listed and were overlooked in so many slots."""
+    hidden: Optional[Mask] = None
+    """Of a complete list the first mask of UIDs that aren't on it and could be there
+    if each reply R may have hidden others; None if it is complete even so."""
+    deaf: Optional[Mask] = None
+    """The same if, besides, the reader may have gone deaf after the last slot
+    in which a tag answered."""
 
 
 class Margin(NamedTuple):
@@ -238,8 +244,11 @@ class Margin(NamedTuple):
         """What `vicinity margin` writes, without its last LF."""
         if self.weakest is None or not self.answer.is_complete:
             return self.answer.text
-        margin, mask = self.weakest
-        return f"{self.answer}\nmargin {margin}\nweakest {mask.length} {mask.digits}"
+        margin, *masks = self.weakest
+        names = ("weakest", "hidden", "deaf")
+        return "\n".join([str(self.answer), f"margin {margin}", *(
+            f"{name} {mask.length} {mask.digits}" if mask else f"{name} -"
+            for name, mask in zip(names, masks))])
 
 
 class Survey(NamedTuple):

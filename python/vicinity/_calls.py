@@ -122,7 +122,9 @@ def _margin(name: str, given: Sequence[Any]) -> Margin:
     least = WeakestStruct()
     answer = _answer(_asked(name, given, ctypes.byref(least)))
     return Margin(answer, None if answer.status > 1 else
-                  Weakest(least.margin, Mask(least.mask_len, least.mask_value)))
+                  Weakest(least.margin, Mask(least.mask_len, least.mask_value),
+                          Mask(least.hidden_len, least.hidden_value) if least.has_hidden else None,
+                          Mask(least.deaf_len, least.deaf_value) if least.has_deaf else None))
 
 
 def check(text: BytesLike) -> Answer:

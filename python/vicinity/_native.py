@@ -31,7 +31,9 @@ RequestStruct = _struct("vicinity_request", fault=U32, link=U32, slots=U32, mask
                         mask_value=U64, uid=U64)
 ReplyStruct = _struct("vicinity_reply", fault=U32, flags=U16, dsfid=U16, uid=U64)
 MaskStruct = _struct("vicinity_mask", fault=U32, len=U32, value=U64)
-WeakestStruct = _struct("vicinity_weakest", margin=U32, mask_len=U32, mask_value=U64)
+WeakestStruct = _struct("vicinity_weakest", margin=U32, mask_len=U32, mask_value=U64,
+                        has_hidden=U32, hidden_len=U32, hidden_value=U64,
+                        has_deaf=U32, deaf_len=U32, deaf_value=U64)
 FrameStruct = _struct("vicinity_frame", fault=U32, len=U32, bytes=ctypes.c_uint8 * 16)
 LineStruct = _struct("vicinity_line", fault=U32, len=U32, text=ctypes.c_char * 132)
 NameStruct = _struct("vicinity_name", len=U32, text=ctypes.c_char * 28)

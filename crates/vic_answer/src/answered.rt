@@ -42,8 +42,8 @@ pub trait Judgement: HasVerdict {
     ghost IsOf: { List LogLineValue → Self → Type 0 };
 
     /// What is found in a log. It fails only if memory is refused.
-    fn found_in(alloc: Global, log: &Log) -> Result<Self, AllocError>
-        ensures { IfOk result (IsOf log.now.lines) };
+    fn found_in(alloc: Global, log: Log) -> Result<Self, AllocError>
+        ensures { IfOk result (IsOf log.lines) };
 
     // the verdict in it is right
     ghost tells: { (lines : List LogLineValue) (found : Self)
@@ -84,7 +84,7 @@ pub(crate) fn answer_reading<T: Judgement>(
         → spec.IsReading text reading → spec.IsAnswered T.IsOf text a) }
 {
     match reading {
-        Answered::Found(log) => Ok(Answered::Found(T::found_in(alloc, &log)?)),
+        Answered::Found(log) => Ok(Answered::Found(T::found_in(alloc, log)?)),
         Answered::RefusedAt { line, fault } => Ok(Answered::RefusedAt { line, fault }),
     }
 }

@@ -39,8 +39,8 @@ impl HasVerdict for Verdict {
 impl Judgement for Verdict {
     ghost IsOf = { IsVerdict };
 
-    fn found_in(alloc: Global, log: &Log) -> Result<Verdict, AllocError> {
-        judge(alloc, log)
+    fn found_in(alloc: Global, log: Log) -> Result<Verdict, AllocError> {
+        judge(alloc, &log)
     }
 
     ghost tells = { λ lines v h. h };

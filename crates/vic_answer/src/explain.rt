@@ -31,8 +31,8 @@ impl HasVerdict for Explanation {
 impl Judgement for Explanation {
     ghost IsOf = { IsExplanation };
 
-    fn found_in(alloc: Global, log: &Log) -> Result<Explanation, AllocError> {
-        explain(alloc, log)
+    fn found_in(alloc: Global, log: Log) -> Result<Explanation, AllocError> {
+        explain(alloc, &log)
     }
 
     ghost tells = { λ lines e h. h.verdict };

@@ -1,9 +1,9 @@
 //! The command `margin`.
 
-ghost use Rattle.std.specs.Prelude.{◌≡◌, ◌<◌, ◌++◌};
+ghost use Rattle.std.specs.Prelude.{◌≡◌, ◌+◌, ◌*◌, ◌<◌, ◌≤◌, ◌++◌};
 ghost use Rattle.arrayvec.specs.ArrayVec.{array_vec_len};
 ghost use Rattle.vic_answer.specs.CompleteRun.{IsCompleteWhereWrittenFirst};
-ghost use Rattle.vic_answer.specs.MarginText.{IsMarginOf, IsMarginOfLines, measured_text, weakest_text};
+ghost use Rattle.vic_answer.specs.MarginText.{IsMarginOf, IsMarginOfLines, mask_or_none, measured_text, readings_text, weakest_text};
 ghost use Rattle.vic_answer.specs.Runs.{LeavesSink, LeavesSource, RunsOver, RunsOverRevealed};
 
 use crate::answered::{Answered, HasVerdict, Judgement, answer_of};
@@ -11,10 +11,11 @@ use crate::lines::answer_line;
 use crate::output::write_and_flush;
 use crate::run::{Written, run_judged};
 use crate::status::{RunFault, Status};
-use crate::text::{ANSWER_ROOM, Text, put, put_decimal, put_mask};
+use crate::text::{ANSWER_ROOM, MASK_LEN, TEXT_ROOM, Text, put, put_decimal, put_mask};
 use std::alloc::{AllocError, Global};
+use vic_frame::Mask;
 use vic_log::{Log, Sink, Source};
-use vic_margin::{Margin, Weakest, margin};
+use vic_margin::{Margin, Readings, Weakest, margin};
 use vic_verdict::Verdict;
 
 impl HasVerdict for Margin {
@@ -29,7 +30,7 @@ impl HasVerdict for Margin {
 impl Judgement for Margin {
     ghost IsOf = { IsMarginOfLines };
 
-    fn found_in(alloc: Global, log: &Log) -> Result<Margin, AllocError> {
+    fn found_in(alloc: Global, log: Log) -> Result<Margin, AllocError> {
         margin(alloc, log)
     }
 
@@ -46,8 +47,9 @@ impl Written for Margin {
 }
 
 /// Judges the log that is read from a source and writes the line of `check`; if it is `complete`,
-/// also the margin of the log and its weakest mask, each on a line; and flushes. The status is that
-/// of `check`. It reads to the end or an early fault.
+/// also the margin of the log, its weakest mask, and what its hidden and its deaf reading leave
+/// unsettled, each on a line; and flushes. The status is that of `check`. It reads to the end or an
+/// early fault.
 pub fn run_margin<R: Source, W: Sink>(
     alloc: Global,
     source: &mut R,
@@ -68,8 +70,8 @@ pub fn run_margin<R: Source, W: Sink>(
     run_judged::<Margin, R, W>(alloc, source, sink)
 }
 
-/// The lines of an answer: after that of `check` the margin and the weakest mask, if it is
-/// `complete`.
+/// The lines of an answer: after that of `check` the margin, the weakest mask and the two readings,
+/// if it is `complete`.
 fn measured_text(measured: &Answered<Margin>) -> Text
     ensures { result.items ≡ measured_text measured.now }
 {
@@ -77,6 +79,7 @@ fn measured_text(measured: &Answered<Margin>) -> Text
     if let Answered::Found(margin) = measured {
         if let Verdict::Complete { .. } = margin.verdict {
             put_weakest(&mut text, &margin.weakest);
+            put_readings(&mut text, &margin.readings);
         }
     }
     text
@@ -85,7 +88,8 @@ fn measured_text(measured: &Answered<Margin>) -> Text
 /// Appends the lines of the margin of a log and of its weakest mask, if it has them.
 fn put_weakest(text: &mut Text, weakest: &Option<Weakest>)
     requires { array_vec_len text.old < ANSWER_ROOM }
-    ensures { text.new.items ≡ text.old.items ++ weakest_text weakest.now }
+    ensures items { text.new.items ≡ text.old.items ++ weakest_text weakest.now }
+    ensures len { array_vec_len text.new < 2 * ANSWER_ROOM }
 {
     if let Some(Weakest { margin, mask }) = weakest {
         put(text, "margin ");
@@ -93,5 +97,31 @@ fn put_weakest(text: &mut Text, weakest: &Option<Weakest>)
         put(text, "\nweakest ");
         put_mask(text, mask);
         put(text, "\n");
+    }
+}
+
+/// Appends the lines of the hidden and of the deaf reading of a log, if it has them.
+fn put_readings(text: &mut Text, readings: &Option<Readings>)
+    requires { array_vec_len text.old < 2 * ANSWER_ROOM }
+    ensures { text.new.items ≡ text.old.items ++ readings_text readings.now }
+{
+    if let Some(Readings { hidden, deaf }) = readings {
+        put(text, "hidden ");
+        put_mask_or_none(text, hidden);
+        put(text, "\ndeaf ");
+        put_mask_or_none(text, deaf);
+        put(text, "\n");
+    }
+}
+
+/// Appends a mask, or `-` if there is none.
+fn put_mask_or_none(text: &mut Text, mask: &Option<Mask>)
+    requires { array_vec_len text.old + MASK_LEN ≤ TEXT_ROOM }
+    ensures items { text.new.items ≡ text.old.items ++ mask_or_none mask.now }
+    ensures len { array_vec_len text.new ≤ array_vec_len text.old + MASK_LEN }
+{
+    match mask {
+        Some(mask) => put_mask(text, mask),
+        None => put(text, "-"),
     }
 }

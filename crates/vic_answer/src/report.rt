@@ -32,8 +32,8 @@ impl HasVerdict for LogReport {
 impl Judgement for LogReport {
     ghost IsOf = { IsReport };
 
-    fn found_in(alloc: Global, log: &Log) -> Result<LogReport, AllocError> {
-        report(alloc, log)
+    fn found_in(alloc: Global, log: Log) -> Result<LogReport, AllocError> {
+        report(alloc, &log)
     }
 
     ghost tells = { report_begins };

@@ -23,8 +23,8 @@ impl HasVerdict for Survey {
 impl Judgement for Survey {
     ghost IsOf = { IsSurvey };
 
-    fn found_in(alloc: Global, log: &Log) -> Result<Survey, AllocError> {
-        Survey::of_log(alloc, log)
+    fn found_in(alloc: Global, log: Log) -> Result<Survey, AllocError> {
+        Survey::of_log(alloc, &log)
     }
 
     ghost tells = { λ lines s h. h.verdict };

@@ -12,8 +12,8 @@ use vic_log::push_hex;
 /// Room for the line of an answer, at most 45 bytes, and at least one zero after it.
 pub(crate) const ANSWER_ROOM: usize = 64;
 
-/// Room for three lines: those of `margin`.
-pub const TEXT_ROOM: usize = 3 * ANSWER_ROOM;
+/// Room for the five lines of `margin`.
+pub const TEXT_ROOM: usize = 4 * ANSWER_ROOM;
 
 /// A short text, in a buffer of fixed size.
 pub type Text = ArrayVec<u8, TEXT_ROOM>;
@@ -66,7 +66,7 @@ pub(crate) fn put_uid(text: &mut Text, uid: u64)
 }
 
 /// The greatest number of bytes of a mask: its length, a space and its value.
-const MASK_LEN: usize = DECIMAL_LEN + 1 + HEX_LEN;
+pub(crate) const MASK_LEN: usize = DECIMAL_LEN + 1 + HEX_LEN;
 
 /// Appends a mask: its length and its value.
 pub(crate) fn put_mask(text: &mut Text, mask: &Mask)

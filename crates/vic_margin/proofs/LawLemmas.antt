@@ -27,7 +27,7 @@ seldom_listed es n u m is few = elim (cases_Bool (has (listed es) u)) [
   | inr isnt ↦ let often = unlisted_often es n u m is isnt in absurd (omega (arith, few, often))
 ]
 
-some_possible : (es : List Entry) (u : ℕ) → IsPossible es → IsPossibleUid es u → has (listed es) u ≡ false → IsMarginOfSome es 0
+some_possible : (es : List Entry) (u : ℕ) → IsPossible es → IsPossibleUid es u → has (listed es) u ≡ false → IsMarginOfSome es (listed es) 0
 some_possible es u possible may isnt =
     let is = IsUid-member may.0 u may.1 may.3 in
     record { uid = u; is_uid = is; unlisted = isnt; margin = (no_margin es u).1 ((possible_never es u is possible).0 may) }
@@ -56,10 +56,10 @@ unsettled_margin lines m w v h =
     let le = h.margin.1 0 (some_possible (entries lines) some.0 v.0 some.1 some.2) in
     omega (arith, le)
 
-unsettled_of : (es : List Entry) (k : BitMask) → IsPossible es → IsOfMargin es 0 k → IsUnsettled es k
+unsettled_of : (es : List Entry) (k : BitMask) → IsPossible es → IsOfMargin es (listed es) 0 k → IsUnsettled es k
 unsettled_of es k possible h = (h.short, h.fits, λ u is lies. ((possible_never es u is possible).1 ((no_margin es u).0 (h.margin u is lies)), h.unlisted u is lies))
 
-of_unsettled : (es : List Entry) (k : BitMask) → IsPossible es → IsUnsettled es k → IsOfMargin es 0 k
+of_unsettled : (es : List Entry) (k : BitMask) → IsPossible es → IsUnsettled es k → IsOfMargin es (listed es) 0 k
 of_unsettled es k possible h = record {
   short = h.0;
   fits = h.1;
@@ -81,7 +81,7 @@ same_mask m k a b = grind (arith, a, b)
 pub unsettled_mask : (lines : List LogLine) (m : BitMask) (w : Weakest) → IsVerdict lines (Unsettled m) → IsWeakest (entries lines) w → w.mask ≡ m
 unsettled_mask lines m w v h =
     let es = entries lines in
-    let first : IsFirstMask (IsOfMargin es 0) w.mask = subst (λ n. IsFirstMask (IsOfMargin es n) w.mask) (unsettled_margin lines m w v h) h.mask in
+    let first : IsFirstMask (IsOfMargin es (listed es) 0) w.mask = subst (λ n. IsFirstMask (IsOfMargin es (listed es) n) w.mask) (unsettled_margin lines m w v h) h.mask in
     same_mask w.mask m (first.1 m (of_unsettled es m v.0 v.3.0)) (v.3.1 w.mask (unsettled_of es w.mask v.0 first.0))
 
 -- ---- wrong lines

@@ -9,3 +9,4 @@ pub mod Counting
 pub mod Differing
 pub mod LawLemmas
 pub mod More
+pub mod Opened

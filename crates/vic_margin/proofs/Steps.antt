@@ -1,5 +1,5 @@
 -- What each kind of entry makes of what a tally knows.
-use Rattle.vic_margin.proofs.Words.{◌≡◌, ◌≢◌, ◌==◌, ◌||◌, ◌&&◌, not, ℕ, suc, ◌+◌, ◌<◌, ◌≤◌, Bool, true, false, Some, List, length, slice_get, slice_index, add-one, ap, sym, refl, subst, ◌∙◌, inl, inr, arith, nat_tests, cases_Bool, cases_eq, false_from_ne_true, eqb-true, nat_lt, IsUid, mirror, Entry, Reply, Captured, Collision, FieldCycle, Garbled, Heard, Listed, Sent, Silent, Unknown, StayQuiet, answers_at, is_quiet, silences, wakes, lies_in_some, mask_at, AreBorders, IsPartOf, part_count, AreCut, names, is_marked, Span, is_overlooked, denies_reply_of, some_denies_reply_of, margin_before, margin_of, one_if, Tally, AreMargins, IsCounted, IsSpanAt, IsTallyAt, IsTallyOf, IsTurned, within}
+use Rattle.vic_margin.proofs.Words.{◌≡◌, ◌≢◌, ◌==◌, ◌||◌, ◌&&◌, not, ℕ, suc, ◌+◌, ◌<◌, ◌≤◌, Bool, true, false, Some, List, length, slice_get, slice_index, add-one, ap, sym, refl, subst, ◌∙◌, inl, inr, arith, nat_tests, cases_Bool, cases_eq, false_from_ne_true, eqb-true, nat_lt, IsUid, mirror, Entry, Reply, Captured, Collision, FieldCycle, Garbled, Heard, Listed, Sent, Silent, Unknown, StayQuiet, answers_at, is_quiet, silences, wakes, lies_in_some, mask_at, AreBorders, IsPartOf, AreCut, names, is_marked, Span, is_overlooked, denies_reply_of, some_denies_reply_of, margin_before, margin_of, one_if, Tally, AreMargins, IsCounted, IsSpanAt, IsTallyAt, IsTallyOf, IsTurned, within}
 use Rattle.std.proofs.Common.{get_or, zero}
 use Rattle.std.proofs.lemmas.Option.{slice_get-get_or}
 use Rattle.vic_walk.proofs.PartLaws.{one_part}

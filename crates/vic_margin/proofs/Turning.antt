@@ -1,5 +1,5 @@
 -- Parts of a tally that are turned: from what isn't counted to what is, and back.
-use Rattle.vic_margin.proofs.Words.{◌≡◌, ◌≢◌, ℕ, ◌+◌, ◌-◌, ◌<◌, Bool, true, false, not, ◌&&◌, length, nat_lt, slice_index, slice_set, inl, inr, refl, sym, ap, ◌∙◌, arith, nat_tests, cases_eq, get_or-set_same, get_or-set_other}
+use Rattle.vic_margin.proofs.Words.{◌≡◌, ◌≢◌, ℕ, ◌+◌, ◌-◌, ◌<◌, Bool, true, false, not, ◌&&◌, length, nat_lt, slice_index, slice_set, inl, inr, refl, sym, ◌∙◌, arith, nat_tests, cases_eq, get_or-set_same, get_or-set_other}
 use Rattle.std.proofs.Math.ListN.{length-set}
 use Rattle.vic_walk.specs.Marked.{is_marked}
 use Rattle.vic_margin.specs.declared.tally.Tally.{Tally}

@@ -1,4 +1,5 @@
 pub mod UidMargins
 pub mod Margins
+pub mod Readings
 pub mod Differing
 pub mod inner

@@ -10,25 +10,33 @@ use Rattle.vic_verdict.specs.Verdict.{IsFirstMask, IsLeast}
 use Rattle.vic_margin.specs.declared.answer.Weakest.{Weakest}
 use Rattle.vic_margin.specs.UidMargins.{margin_of}
 
--- a UID that isn't listed has this margin
-pub record IsMarginOfSome (es : List Entry) (n : ℕ) : Type 0 where
+-- a UID that isn't in the list has this margin
+pub record IsMarginOfSome (es : List Entry) (us : List ℕ) (n : ℕ) : Type 0 where
   pub uid : ℕ
   pub is_uid : IsUid uid
-  pub unlisted : has (listed es) uid ≡ false
+  pub unlisted : has us uid ≡ false
   pub margin : margin_of es uid ≡ n
 
--- the margin of a log: the least of the UIDs that aren't listed
-abbrev pub IsMargin : List Entry → ℕ → Type 0
-IsMargin es n = IsLeast (IsMarginOfSome es) n
+-- the margin of a log beside a list: the least of the UIDs that aren't in it
+abbrev pub IsMarginBesides : List Entry → List ℕ → ℕ → Type 0
+IsMarginBesides es us n = IsLeast (IsMarginOfSome es us) n
 
--- a mask of at most 56 bits all of whose UIDs aren't listed and have this margin
-pub record IsOfMargin (es : List Entry) (n : ℕ) (m : BitMask) : Type 0 where
+-- a mask of at most 56 bits all of whose UIDs aren't in the list and have this margin
+pub record IsOfMargin (es : List Entry) (us : List ℕ) (n : ℕ) (m : BitMask) : Type 0 where
   pub short : m.len ≤ UID_BITS
   pub fits : m.value < 2 ^ m.len
-  pub unlisted : (u : ℕ) → IsUid u → lies_in m u ≡ true → has (listed es) u ≡ false
+  pub unlisted : (u : ℕ) → IsUid u → lies_in m u ≡ true → has us u ≡ false
   pub margin : (u : ℕ) → IsUid u → lies_in m u ≡ true → margin_of es u ≡ n
 
--- the margin of a log, and the first mask by length, then by value, of UIDs that have it
-pub record IsWeakest (es : List Entry) (w : Weakest) : Type 0 where
-  pub margin : IsMargin es w.margin
-  pub mask : IsFirstMask (IsOfMargin es w.margin) w.mask
+-- the margin of a log beside a list, and the first mask by length, then by value, of UIDs that have
+-- it
+pub record IsWeakestBesides (es : List Entry) (us : List ℕ) (w : Weakest) : Type 0 where
+  pub margin : IsMarginBesides es us w.margin
+  pub mask : IsFirstMask (IsOfMargin es us w.margin) w.mask
+
+-- the same beside the list of the log itself
+abbrev pub IsMargin : List Entry → ℕ → Type 0
+IsMargin es n = IsMarginBesides es (listed es) n
+
+abbrev pub IsWeakest : List Entry → Weakest → Type 0
+IsWeakest es w = IsWeakestBesides es (listed es) w

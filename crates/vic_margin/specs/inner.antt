@@ -3,3 +3,4 @@ pub mod Trees
 pub mod Counts
 pub mod Tallies
 pub mod Least
+pub mod Opened

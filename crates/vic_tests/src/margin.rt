@@ -5,6 +5,7 @@ use crate::values::{A, B, mask, uid};
 use std::alloc::Global;
 use std::process::Abort;
 use std::test::Fail;
+use vic_frame::Mask;
 use vic_log::read_log;
 use vic_margin::{Margin, margin, overlooked};
 use vic_verdict::{Verdict, judge};
@@ -23,9 +24,12 @@ const MARGINS: [(&str, u32, u8, u64); 7] = [
 /// Asks a log for its margin.
 fn has_margin(rt: &impl Abort, alloc: Global, row: &(&str, u32, u8, u64)) -> Result<(), Fail> {
     let log = read_log(alloc, text_of(alloc, row.0)?.as_bytes())?;
-    let Margin { verdict, weakest } = margin(alloc, &log)?;
+    let judged = judge(alloc, &log)?;
+    let Margin {
+        verdict, weakest, ..
+    } = margin(alloc, log)?;
     let weakest = weakest.ok_or("impossible")?;
-    assert!(rt; verdict == judge(alloc, &log)?, "{}", row.0);
+    assert!(rt; verdict == judged, "{}", row.0);
     assert!(rt; weakest.margin == row.1, "{}", row.0);
     assert!(rt; weakest.mask == mask(row.2, row.3)?, "{}", row.0);
     Ok(())
@@ -39,13 +43,63 @@ fn margins_of_logs(rt: HostRuntime) -> Result<(), Fail> {
     Ok(())
 }
 
+/// The length and the value of a mask, if there is one.
+type MaskRow = Option<(u8, u64)>;
+
+/// Logs with complete lists, each with what its hidden and its deaf reading leave unsettled.
+const READINGS: [(&str, MaskRow, MaskRow); 4] = [
+    ("I1 S", None, Some((0, 0))),
+    ("I1 RA UA", Some((1, 0)), Some((1, 0))),
+    ("I1 RA QA I1 S UA", None, Some((1, 0))),
+    (
+        "I1 RA QA QB I1 S UA",
+        Some((56, 0x04_0100_0000_00B2)),
+        Some((1, 0)),
+    ),
+];
+
+/// Whether a mask is that of a row, or both are missing.
+fn is_mask_of(found: &Option<Mask>, row: &MaskRow) -> bool {
+    match (found, row) {
+        (Some(found), Some((len, value))) => found.len() == *len && found.value() == *value,
+        (None, None) => true,
+        (Some(_), None) | (None, Some(_)) => false,
+    }
+}
+
+/// Asks a log for its readings.
+fn has_readings(
+    rt: &impl Abort,
+    alloc: Global,
+    row: &(&str, MaskRow, MaskRow),
+) -> Result<(), Fail> {
+    let log = read_log(alloc, text_of(alloc, row.0)?.as_bytes())?;
+    let readings = margin(alloc, log)?.readings.ok_or("not complete")?;
+    assert!(rt; is_mask_of(&readings.hidden, &row.1), "{}", row.0);
+    assert!(rt; is_mask_of(&readings.deaf, &row.2), "{}", row.0);
+    Ok(())
+}
+
+#[test]
+fn readings_of_logs(rt: HostRuntime) -> Result<(), Fail> {
+    for row in &READINGS {
+        has_readings(&rt, rt.alloc(), row)?;
+    }
+    Ok(())
+}
+
 #[test]
 fn no_margin_of_an_impossible_log(rt: HostRuntime) -> Result<(), Fail> {
     let text = text_of(rt.alloc(), "I1 RA QA I1 RB QB I1 S UA UB")?;
     let log = read_log(rt.alloc(), text.as_bytes())?;
-    let Margin { verdict, weakest } = margin(rt.alloc(), &log)?;
+    let Margin {
+        verdict,
+        weakest,
+        readings,
+    } = margin(rt.alloc(), log)?;
     assert!(&rt; verdict == Verdict::Impossible { line: 6 });
     assert!(&rt; weakest.is_none());
+    assert!(&rt; readings.is_none());
     Ok(())
 }
 

@@ -18,11 +18,13 @@ use vic_answer::{
     Answered, NO_ANSWER, UidMargins, VicinityAnswer, answer_of, answer_text, copy_list, numbers_of,
     overlooked_text, read_text,
 };
+use vic_frame::Mask;
 use vic_log::LineFault;
-use vic_margin::{Margin, Weakest};
+use vic_margin::{Margin, Readings, Weakest};
 
 /// The margin of a log, and the weakest mask: the first by length, then by value, all of whose UIDs
-/// have this margin and aren't listed. All is 0 if there is no margin.
+/// have this margin and aren't listed; and, if the list is complete, what the hidden and the deaf
+/// reading of the log leave unsettled. All is 0 if there is no margin.
 #[repr(C)]
 #[derive(Clone, Copy, Debug, PartialEq, Eq)]
 pub struct VicinityWeakest {
@@ -31,6 +33,15 @@ pub struct VicinityWeakest {
     /// At most 56.
     pub mask_len: u32,
     pub mask_value: u64,
+    /// 1 if the list isn't complete in the hidden reading of the log; else 0, as the next two.
+    pub has_hidden: u32,
+    /// The first mask of UIDs that are possible in it and not listed; at most 56.
+    pub hidden_len: u32,
+    pub hidden_value: u64,
+    /// The same in the deaf reading.
+    pub has_deaf: u32,
+    pub deaf_len: u32,
+    pub deaf_value: u64,
 }
 
 /// No margin.
@@ -38,11 +49,18 @@ const NO_WEAKEST: VicinityWeakest = VicinityWeakest {
     margin: 0,
     mask_len: 0,
     mask_value: 0,
+    has_hidden: 0,
+    hidden_len: 0,
+    hidden_value: 0,
+    has_deaf: 0,
+    deaf_len: 0,
+    deaf_value: 0,
 };
 
 /// Judges the log that a text spells, as `vicinity_check` does, and returns its margin, complete or
 /// not: the least number of slots in which a UID that isn't listed was overlooked, with the weakest
-/// mask. It is all 0 if the log is impossible or the text refused.
+/// mask; if it is complete, also what its hidden and its deaf reading leave unsettled. It is all 0
+/// if the log is impossible or the text refused.
 #[unsafe(no_mangle)]
 pub extern "C" fn vicinity_margin(
     alloc: Global,
@@ -141,22 +159,67 @@ fn weakest_of(measured: &Answered<Margin>) -> VicinityWeakest
     ensures { result ≡ spec.weakest_of measured.now }
 {
     match measured {
-        Answered::Found(margin) => weakest_fields(&margin.weakest),
+        Answered::Found(margin) => {
+            weakest_fields(&margin.weakest, &readings_or_none(&margin.readings))
+        }
         Answered::RefusedAt { .. } => NO_WEAKEST,
     }
 }
 
 /// A margin in numbers.
-fn weakest_fields(weakest: &Option<Weakest>) -> VicinityWeakest
-    ensures { result ≡ spec.weakest_fields weakest.now }
+fn weakest_fields(weakest: &Option<Weakest>, readings: &Readings) -> VicinityWeakest
+    ensures { result ≡ spec.weakest_fields weakest.now readings.now }
 {
     match weakest {
-        Some(weakest) => VicinityWeakest {
-            margin: weakest.margin,
-            mask_len: u32::from(weakest.mask.len()),
-            mask_value: weakest.mask.value(),
-        },
+        Some(weakest) => {
+            let hidden = mask_or_all(&readings.hidden);
+            let deaf = mask_or_all(&readings.deaf);
+            VicinityWeakest {
+                margin: weakest.margin,
+                mask_len: u32::from(weakest.mask.len()),
+                mask_value: weakest.mask.value(),
+                has_hidden: has_mask(&readings.hidden),
+                hidden_len: u32::from(hidden.len()),
+                hidden_value: hidden.value(),
+                has_deaf: has_mask(&readings.deaf),
+                deaf_len: u32::from(deaf.len()),
+                deaf_value: deaf.value(),
+            }
+        }
         None => NO_WEAKEST,
+    }
+}
+
+/// The readings of a log, none of which leaves a mask unsettled if the list isn't complete.
+fn readings_or_none(readings: &Option<Readings>) -> Readings
+    ensures { result ≡ spec.readings_or_none readings.now }
+{
+    match readings {
+        Some(readings) => *readings,
+        None => Readings {
+            hidden: None,
+            deaf: None,
+        },
+    }
+}
+
+/// 1 if there is a mask, 0 if not.
+fn has_mask(mask: &Option<Mask>) -> u32
+    ensures { result ≡ spec.has_mask mask.now }
+{
+    match mask {
+        Some(_) => 1,
+        None => 0,
+    }
+}
+
+/// A mask; that of no bits if there is none.
+fn mask_or_all(mask: &Option<Mask>) -> Mask
+    ensures { result ≡ spec.mask_or_all mask.now }
+{
+    match mask {
+        Some(mask) => *mask,
+        None => Mask::of_bits(0, 0),
     }
 }
 

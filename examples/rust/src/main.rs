@@ -33,6 +33,12 @@ fn check(text: &[u8]) -> Result<Answer, Box<dyn Error>> {
     if explained.answer.is_complete() {
         if let Some(weakest) = vicinity::margin(text)?.weakest {
             note(format_args!("margin {}\nweakest {}", weakest.margin, weakest.mask));
+            for (reading, mask) in [("hidden", weakest.hidden), ("deaf", weakest.deaf)] {
+                match mask {
+                    Some(mask) => note(format_args!("{reading} {mask}")),
+                    None => note(format_args!("{reading} -")),
+                }
+            }
         }
     }
     Ok(explained.answer)

@@ -40,6 +40,12 @@ pub struct vicinity_weakest {
     pub margin: u32,
     pub mask_len: u32,
     pub mask_value: u64,
+    pub has_hidden: u32,
+    pub hidden_len: u32,
+    pub hidden_value: u64,
+    pub has_deaf: u32,
+    pub deaf_len: u32,
+    pub deaf_value: u64,
 }
 
 #[repr(C)]

@@ -152,6 +152,12 @@ pub struct Weakest {
     pub margin: u32,
     /// The first mask, by length and then by value, whose UIDs have this margin and aren't listed.
     pub mask: Mask,
+    /// Of a complete list the first mask of UIDs that aren't on it and could be there if each reply
+    /// `R` may have hidden others. None if there is none: it is complete even so.
+    pub hidden: Option<Mask>,
+    /// The same if, besides, the reader may have gone deaf after the last slot in which a tag
+    /// answered.
+    pub deaf: Option<Mask>,
 }
 
 /// An answer, and how many misses of a tag it would take to make a complete list wrong.
@@ -168,8 +174,12 @@ impl Margin {
         least: &sys::vicinity_weakest,
     ) -> Result<Margin, OutOfMemory> {
         let answer = Answer::of(told)?;
-        let mask = mask(least.mask_len, least.mask_value);
-        let weakest = (answer.status < 2).then(|| Weakest { margin: least.margin, mask });
+        let weakest = (answer.status < 2).then(|| Weakest {
+            margin: least.margin,
+            mask: mask(least.mask_len, least.mask_value),
+            hidden: (least.has_hidden != 0).then(|| mask(least.hidden_len, least.hidden_value)),
+            deaf: (least.has_deaf != 0).then(|| mask(least.deaf_len, least.deaf_value)),
+        });
         Ok(Margin { answer, weakest })
     }
 }

@@ -1,4 +1,4 @@
-use Rattle.vic_margin.proofs.Words.{arith, length, ◌≡◌, ◌-◌, ◌+◌, IsTallyAt}
+use Rattle.vic_margin.proofs.Words.{arith, length, ◌≡◌, ◌-◌, ◌+◌}
 use Rattle.vic_log.specs.Order.{entries}
 use Rattle.vic_walk.proofs.CutLaws.{place_at}
 use Rattle.vic_walk.specs.Steps.{AreLogParts}

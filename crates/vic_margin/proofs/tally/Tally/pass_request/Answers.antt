@@ -1,4 +1,4 @@
-use Rattle.vic_margin.proofs.Words.{◌≡◌, false_from_ne_true, eqb-true, refl, subst, sym, IsPartOf, IsUid, mirror, Sent}
+use Rattle.vic_margin.proofs.Words.{false_from_ne_true, eqb-true, refl, subst, sym, IsUid, Sent}
 use Rattle.vic_walk.proofs.CutLaws.{silenced_own}
 use Rattle.vic_margin.proofs.Steps.{tally_idle, tally_silenced}
 use Rattle.vic_margin.proofs.tally.Tally.pass_request.Goals as goal
