@@ -38,7 +38,7 @@
 extern "C" {
 #endif
 
-#define VICINITY_INTERFACE 1u
+#define VICINITY_INTERFACE 2u
 
 /* The version of this header, as text and as a number like that of vicinity_version(). */
 #define VICINITY_VERSION "1.4.0"

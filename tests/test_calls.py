@@ -210,6 +210,13 @@ MEASURED = [
     ("UA UA", "refused at line 3: DuplicateListed", (0, 0, 0))]
 
 
+# What the hidden and the deaf reading of the complete ones leave unsettled.
+READINGS = {
+    "I1 S": (None, (0, 0)), "I1 RA UA": ((1, 0), (1, 0)), "I1 RA QA I1 S UA": (None, (1, 0)),
+    "V2 I1 S F I1 S": (None, (0, 0)), "V3 I1 HA QA I1 S UA": (None, (1, 0)),
+    "I1 RA QA QB I1 S UA": ((56, 0x040100000000B2), (1, 0))}
+
+
 @pytest.mark.parametrize(("short", "line", "weakest"), MEASURED, ids=[row[0] for row in MEASURED])
 def test_the_margin_of_a_log(library_of, short, line, weakest):
     """Also with its list removed and passed separately."""
@@ -222,6 +229,10 @@ def test_the_margin_of_a_log(library_of, short, line, weakest):
         status = library_of.call(name, *given, ctypes.byref(told), ctypes.byref(least))
         assert (status, bytes(told)) == (told.status, bytes(refusable(line)))
         assert (least.margin, least.mask_len, least.mask_value) == weakest
+        hidden, deaf = ((1, *mask) if mask else (0, 0, 0)
+                        for mask in READINGS.get(short, (None, None)))
+        assert (least.has_hidden, least.hidden_len, least.hidden_value) == hidden
+        assert (least.has_deaf, least.deaf_len, least.deaf_value) == deaf
 
 
 OVERLOOKED = [

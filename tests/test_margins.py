@@ -32,7 +32,7 @@ def test_random_logs(program, vicinity, logs, part):
         text, answer = text_of(version, lines), vicinity.check(text_of(version, lines))
         margins, uids = Margins(lines), [*uids, *eight_uids(rng)]
         said = program.run("margin", given=text).out.decode().splitlines()
-        assert said == margins.said(answer.text), text.decode()
+        assert said == margins.said(answer.text, lines), text.decode()
         assert vicinity.overlooked(text, uids) == list(map(margins.of, uids)), text.decode()
         if answer.kind is not vicinity.Kind.IMPOSSIBLE:
             weakest = vicinity.margin(text).weakest
@@ -74,4 +74,8 @@ def test_a_wrong_count_is_found(rule):
     rng = random.Random(SEED)
     versions = (rng.randint(1, 3) for _ in range(PLANTED))
     logs = (random_log(rng, version)[1] for version in versions)
-    assert any(WRONG[rule](lines).weakest() != Margins(lines).weakest() for lines in logs)
+    assert any(found(WRONG[rule], lines) != found(Margins, lines) for lines in logs)
+
+
+def found(margins, lines):
+    return margins(lines).weakest(), margins(lines).readings(lines)

@@ -68,7 +68,7 @@ console.log(JSON.stringify([
 SPENT = """
 import { Library } from "./web/library.mjs";
 const library = new Library({ exports: { memory: new WebAssembly.Memory({ initial: 1 }),
-  vicinity_interface: () => 1, vicinity_allocate: () => 16n, vicinity_free() {},
+  vicinity_interface: () => 2, vicinity_allocate: () => 16n, vicinity_free() {},
   vicinity_check() { throw new Error("too much recursion"); } } });
 const said = () => { try { library.check(""); } catch (error) { console.log(error.message); } };
 said();

@@ -8,7 +8,7 @@ from helpers.lines import log_of
 
 LOG, EMPTY = log_of("V3 I1 HA I1 RA UA"), log_of("V3")
 READ = (b"complete 1\n", b"", 0)
-MEASURED = (b"complete 1\nmargin 1\nweakest 1 00\n", b"", 0)
+MEASURED = (b"complete 1\nmargin 1\nweakest 1 00\nhidden 1 00\ndeaf 1 00\n", b"", 0)
 USAGE = (b"", b"vicinity: usage\n", 4)
 UNREAD, UNWRITTEN = (b"", b"vicinity: read failed\n", 4), (b"", b"vicinity: write failed\n", 4)
 

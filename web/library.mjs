@@ -28,7 +28,7 @@ import { FOUND } from "./kinds.mjs";
 /** @typedef {(...words: (number | bigint)[]) => number | bigint} Call */
 /** @typedef {(bytes: number) => number} Take reserves bytes until the call has ended, and says where */
 
-const INTERFACE = 1, NO_ANSWER = 4, FIRST_ROOM = 64;
+const INTERFACE = 2, NO_ANSWER = 4, FIRST_ROOM = 64;
 /** The sizes of the header's structs, in bytes, and where the text of an answer begins. */
 const ANSWER = 104, TEXT = 40, FINDING = 32, MASK = 16, WEAKEST = 48, PLACES = 4, UID = 8, REQUEST = 32, REPLY = 16, FRAME = 24, NAME = 32, NUMBER = 8;
 const LINE_FEED = 10;

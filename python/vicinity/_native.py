@@ -9,7 +9,7 @@ import platform
 from typing import Any, Sequence, Union
 
 BytesLike = Union[bytes, bytearray, memoryview, mmap.mmap]
-INTERFACE = 1
+INTERFACE = 2
 #: The library's file.
 NAME = "vicinity.dll" if os.name == "nt" else "libvicinity.so.1"
 X86_64_V2 = ("cx16", "lahf_lm", "popcnt", "sse4_1", "sse4_2", "ssse3")

@@ -4,8 +4,8 @@ All UIDs are divided into masks of which each slot asks all or none, so that one
 enough."""
 import collections
 
-from helpers.air import (FIELD_CYCLE, UID_BITS, Listed, answers, as_mask, as_uid, divided, greatest,
-                         hex_of, lies_in, slots_of)
+from helpers.air import (FIELD_CYCLE, UID_BITS, Listed, StayQuiet, answers, as_mask, as_uid,
+                         divided, greatest, hex_of, lies_in, slots_of)
 from helpers.random_logs import spelled
 from helpers.reports import is_reply
 
@@ -58,12 +58,38 @@ class Margins:
     def first(self, masks):
         return masks[0]
 
-    def said(self, answer):
+    def is_answer(self, slot):
+        """Whether a tag answered in the slot."""
+        return spelled(slot.line)[0] in "RHCD"
+
+    def silent(self):
+        return [slot for slot in self.slots if spelled(slot.line) == "S"]
+
+    def heard_last(self, lines):
+        """The number of the last line in which a tag answered, 0 if there is none."""
+        return max((slot.number for slot in slots_of(lines) if self.is_answer(slot)), default=0)
+
+    def readings(self, lines):
+        """Of a complete list: the first masks of the UIDs that aren't listed and possible if
+        replies may have hidden others, so that only silence rules out; and if, besides, nothing
+        is known of the silence behind the last answer. None if there is none."""
+        last = self.heard_last(lines)
+        return [self.opened(self.silent()),
+                self.opened([slot for slot in self.silent() if slot.number < last])]
+
+    def opened(self, silent):
+        parts = [part for part in self.unlisted()
+                 if not any(answers(slot, as_uid(part)) for slot in silent)]
+        return self.first(greatest(parts)) if parts else None
+
+    def said(self, answer, lines):
         """What `margin` prints of a log with this answer."""
         if not answer.startswith("complete"):
             return [answer]
         margin, *mask = self.weakest()
-        return [answer, f"margin {margin}", "weakest %d %s" % (mask[0], hex_of(*mask))]
+        return [answer, f"margin {margin}", "weakest %d %s" % (mask[0], hex_of(*mask)), *(
+            f"{name} %d %s" % (mask[0], hex_of(*mask)) if mask else f"{name} -"
+            for name, mask in zip(("hidden", "deaf"), self.readings(lines)))]
 
 
 # Wrong counts, each wrong in one rule.
@@ -96,4 +122,13 @@ WRONG = {
     "the margin is the greatest": wrong(least=lambda self, margins: max(margins)),
     "the last of several masks": wrong(
         first=lambda self, masks: [mask for mask in masks if mask[0] == masks[0][0]][-1]),
+    "a silence behind the last answer stays": wrong(heard_last=lambda self, lines: len(lines) + 2),
+    "all silence is behind the last answer": wrong(heard_last=lambda self, lines: 0),
+    "a captured reply is no answer": wrong(
+        is_answer=lambda self, slot: spelled(slot.line)[0] in "RCD"),
+    "an unknown slot is an answer": wrong(
+        is_answer=lambda self, slot: spelled(slot.line)[0] in "RHCDN"),
+    "a Stay Quiet is an answer": wrong(heard_last=lambda self, lines: max(
+        (number for number, line in enumerate(lines, 2)
+         if isinstance(line, StayQuiet) or spelled(line)[:1] in tuple("RHCD")), default=0)),
 }

@@ -39,9 +39,9 @@ use vic_answer::{
 /// not if a call is added.
 #[unsafe(no_mangle)]
 pub extern "C" fn vicinity_interface() -> u32
-    ensures { result ≡ 1 }
+    ensures { result ≡ 2 }
 {
-    1
+    2
 }
 
 /// The version of this library: 10,000 times its first number, 100 times its second, and its third.

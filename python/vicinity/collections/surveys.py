@@ -83,8 +83,8 @@ def _survey(name: str, text: bytes, has_lines: bool) -> Log:
     if found.answer.status > 1:
         return Log(name, found.answer, captured=captured)
     lines = list(certain_lines(text).values()) if has_lines else None
-    return Log(name, *found, lines, captured,
-               margin_listed(without_list(text), found.certain).weakest)
+    weakest = margin_listed(without_list(text), found.certain).weakest
+    return Log(name, *found, lines, captured, weakest and Weakest(weakest.margin, weakest.mask))
 
 
 def _captured(found: Survey, reread: Survey) -> dict[str, Any]:

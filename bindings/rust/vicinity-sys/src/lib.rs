@@ -4,7 +4,7 @@
 #![allow(non_camel_case_types)]
 
 /// The interface for which these declarations are; compare it with `vicinity_interface()`.
-pub const VICINITY_INTERFACE: u32 = 1;
+pub const VICINITY_INTERFACE: u32 = 2;
 
 /// The first line of a log.
 pub const VICINITY_HEADER_LINE: &str = "vicinity-log 3\n";

@@ -118,7 +118,7 @@ impl Finding {
             9 => Finding::MoreOpenMasks,
             10 => Finding::ConflictLine(told.line),
             11 => Finding::SilencedBy(told.line),
-            kind => unreachable!("a finding of kind {kind}, which interface 1 doesn't have"),
+            kind => unreachable!("a finding of kind {kind}, which interface 2 doesn't have"),
         }
     }
 }
