@@ -26,7 +26,9 @@ fn has_margin(rt: &impl Abort, alloc: Global, row: &(&str, u32, u8, u64)) -> Res
     let log = read_log(alloc, text_of(alloc, row.0)?.as_bytes())?;
     let judged = judge(alloc, &log)?;
     let Margin {
-        verdict, weakest, ..
+        verdict,
+        weakest,
+        ..
     } = margin(alloc, log)?;
     let weakest = weakest.ok_or("impossible")?;
     assert!(rt; verdict == judged, "{}", row.0);
