@@ -1,2 +1,13 @@
 mod Words
 pub mod Joined
+mod ValueWords
+pub mod Spelled
+pub mod HexBack
+pub mod ValueLaws
+pub mod RisingLaws
+pub mod LineLaws
+mod RunWords
+pub mod Single
+pub mod Runs
+pub mod Complete
+pub mod Wrong

@@ -4,3 +4,4 @@ pub mod Surveys
 pub mod Digits
 pub mod SurveyText
 pub mod SurveyReading
+pub mod inner

@@ -1,6 +1,7 @@
 //! Numbers, UIDs and masks behind a text.
 
 ghost use Rattle.std.specs.Prelude.{◌≡◌, ◌≤◌, ◌++◌, OnOk, decimal};
+ghost use Rattle.arrayvec.specs.ArrayVec.{array_vec_len};
 ghost use Rattle.vic_survey.specs.Digits.{hex_bytes, mask_text, uid_text, value_text};
 
 use arrayvec::ArrayVec;
@@ -31,7 +32,8 @@ pub(crate) fn push_bytes(text: &mut Vec<u8>, count: usize, number: u64) -> Resul
 /// The last `count` bytes of a number, most significant first, in hex digits.
 pub(crate) fn hex_digits(count: usize, number: u64) -> ArrayVec<u8, HEX_LEN>
     requires { count ≤ 8 }
-    ensures { result.items ≡ hex_bytes count number }
+    ensures items { result.items ≡ hex_bytes count number }
+    ensures len { array_vec_len result ≤ HEX_LEN }
 {
     let mut digits = ArrayVec::new();
     let bytes = number.to_be_bytes();

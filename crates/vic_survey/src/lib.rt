@@ -6,15 +6,22 @@
 //! `read_surveys` reads it: each other text is refused at its first wrong line.
 #![tactic(auto)]
 
+mod begun;
 mod digits;
 mod fault;
+mod faults;
+pub mod laws;
 mod name;
+mod read;
 mod rising;
+mod steps;
 mod survey;
+mod values;
 mod write;
 
 pub use fault::SurveysFault;
 pub use name::{MAX_NAME_LEN, Name};
+pub use read::read_surveys;
 pub use rising::{CertainUids, MAX_LINE_NUMBER, RisingMasks};
 pub use survey::{Field, MAX_COUNT, Seen, Survey};
 pub use write::{push_survey, surveys_text};

@@ -1,10 +1,13 @@
 //! Certain UIDs with their lines, and masks, in rising order.
 
-ghost use Rattle.std.specs.Prelude.{◌≡◌};
-ghost use Rattle.vic_survey.specs.Parts.{AreCertain, AreOpen};
+ghost use Rattle.std.specs.Prelude.{◌≡◌, ◌==◌, ◌++◌, ◌∷◌, [], OnOk, length, true};
+ghost use Rattle.vic_frame.specs.Uids.{IsUid};
+ghost use Rattle.vic_survey.specs.Parts.{AreCertain, AreOpen, IsLineNumber, IsShort};
+ghost use Rattle.vic_survey.specs.inner.Rising.{comes_before, is_above, is_behind};
 
+use std::alloc::{AllocError, Global};
 use std::marker::Model;
-use vic_frame::Mask;
+use vic_frame::{Mask, Uid};
 use vic_log::MAX_LINES;
 use vic_report::ShownUid;
 
@@ -33,6 +36,36 @@ impl Model for CertainUids {
 }
 
 impl CertainUids {
+    /// None.
+    pub(crate) fn none(alloc: Global) -> CertainUids
+        ensures { result ≡ [] }
+    {
+        CertainUids {
+            uids: Vec::new(alloc),
+        }
+    }
+
+    /// Whether a UID is above all of them.
+    pub(crate) fn is_above(&self, uid: Uid) -> bool
+        ensures { result ≡ is_above self.now uid }
+    {
+        match self.uids.last() {
+            Some(last) => last.uid < uid,
+            None => true,
+        }
+    }
+
+    /// Adds one above all of them.
+    pub(crate) fn push(&mut self, one: ShownUid) -> Result<(), AllocError>
+        requires above { is_above self.old one.uid ≡ true }
+        requires uid { IsUid one.uid }
+        requires line { IsLineNumber one.line }
+        ensures { OnOk result (self.new ≡ self.old ++ one ∷ []) }
+    {
+        self.uids.push(one)?;
+        Ok(())
+    }
+
     /// The UIDs, from the least to the greatest.
     pub fn as_slice(&self) -> &[ShownUid]
         ensures value { result.now ≡ self.now }
@@ -61,11 +94,58 @@ impl Model for RisingMasks {
 }
 
 impl RisingMasks {
+    /// None.
+    pub(crate) fn none(alloc: Global) -> RisingMasks
+        ensures { result ≡ [] }
+    {
+        RisingMasks {
+            masks: Vec::new(alloc),
+        }
+    }
+
+    /// Whether there are none.
+    pub fn is_empty(&self) -> bool
+        ensures { result ≡ (length self.now == 0) }
+    {
+        self.masks.as_slice().is_empty()
+    }
+
+    /// Whether a mask comes behind all of them.
+    pub(crate) fn is_behind(&self, mask: &Mask) -> bool
+        ensures { result ≡ is_behind self.now mask.now }
+    {
+        match self.masks.last() {
+            Some(last) => comes_before(last, mask),
+            None => true,
+        }
+    }
+
+    /// Adds one behind all of them.
+    pub(crate) fn push(&mut self, mask: Mask) -> Result<(), AllocError>
+        requires behind { is_behind self.old mask ≡ true }
+        requires short { IsShort mask }
+        ensures { OnOk result (self.new ≡ self.old ++ mask ∷ []) }
+    {
+        self.masks.push(mask)?;
+        Ok(())
+    }
+
     /// The masks, the shortest first.
     pub fn as_slice(&self) -> &[Mask]
         ensures value { result.now ≡ self.now }
         ensures masks { AreOpen self.now }
     {
         &self.masks
+    }
+}
+
+/// Whether the first mask comes before the second, by length, then by value.
+fn comes_before(mask: &Mask, other: &Mask) -> bool
+    ensures { result ≡ comes_before mask.now other.now }
+{
+    if mask.len() == other.len() {
+        mask.value() < other.value()
+    } else {
+        mask.len() < other.len()
     }
 }

@@ -2,9 +2,11 @@
 
 ghost use Rattle.std.specs.Prelude.{◌≡◌};
 ghost use Rattle.vic_survey.specs.Surveys.{IsField, IsSurvey};
+ghost use Rattle.vic_survey.specs.inner.Steps.{nothing};
 
 use crate::name::Name;
 use crate::rising::{CertainUids, RisingMasks};
+use std::alloc::Global;
 use std::marker::Model;
 use vic_frame::Mask;
 use vic_log::{LineFault, MAX_LINES};
@@ -47,6 +49,23 @@ pub struct Seen {
     pub hidden: Option<Mask>,
     /// The same if besides the reader had gone deaf after its last answer.
     pub deaf: Option<Mask>,
+}
+
+impl Seen {
+    /// What a log says of which nothing was read.
+    pub(crate) fn nothing(alloc: Global) -> Seen
+        ensures { result ≡ nothing }
+    {
+        Seen {
+            answers: 0,
+            certain: CertainUids::none(alloc),
+            open: RisingMasks::none(alloc),
+            margin: 0,
+            weakest: Mask::default(),
+            hidden: None,
+            deaf: None,
+        }
+    }
 }
 
 /// The name of a log, and what it says of its field.

@@ -1,0 +1,5 @@
+use Rattle.vic_survey.proofs.Runs.{part_more}
+use Rattle.vic_survey.proofs.steps.next_part.Goals as goal
+
+pub returns-clause-more : goal.returns-clause-more
+returns-clause-more c = part_more c.args.name c.args.seen c.args.part c.args.line.now c.after_part.result c.requires.name c.requires.seen c.requires.at c.after_part.ensures

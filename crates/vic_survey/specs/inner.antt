@@ -1,0 +1,5 @@
+-- Definitions that only private contracts and proofs cite.
+pub mod Rising
+pub mod Values
+pub mod Steps
+pub mod States
