@@ -111,7 +111,7 @@ noted_before old now log told one there n = record {
 }
 
 -- what a key has after a place was put at one, or removed
-put_at : (k u : ℕ) (place old new : Option Place) → new ≡ cond (is_at (nat_cmp k) u) place old → ((u ≡ k) × (new ≡ place)) ⊎ ((u ≡ k → ⊥) × (new ≡ old))
+pub put_at : {X : Type 0} (k u : ℕ) (place old new : Option X) → new ≡ cond (is_at (nat_cmp k) u) place old → ((u ≡ k) × (new ≡ place)) ⊎ ((u ≡ k → ⊥) × (new ≡ old))
 put_at k u place old new e = ⊎_elim
     (λ same. inl (same, grind (arith, common_steps, e, same)))
     (λ other. inr (other, grind (arith, common_steps, e, other)))

@@ -6,5 +6,6 @@ pub mod OneLog
 pub mod Joins
 pub mod Reconciling
 pub mod Telling
+pub mod FirstLogs
 pub mod Surveyed
 mod Plain

@@ -1,11 +1,11 @@
 -- The words of proofs, from one place: what files name from outside of the crate, and the definitions that several of them name.
-pub use Rattle.std.proofs.Common.{All, Any, Bool, Contains, IfNone, IfSome, IsPermutation, IsSomeAnd, List, MatchOption, None, Option, Some, [], ap, arith, cond, drop, false, get_or, get_or-take, inl, inr, is_eq, is_some, length, length-take, map, nat_cmp, nat_eq, not, option_copied, option_map, refl, rules, slice_get, slice_index, subst, suc, sym, take, true, ℕ, ⊎_elim, ◌++◌, ◌+◌, ◌<◌, ◌^◌, ◌||◌, ◌↔◌, ◌∙◌, ◌∷◌, ◌≡◌, ◌≤◌, ◌⊎◌}
-pub use Rattle.std.proofs.Math.Seq.{take-append_seam}
-pub use Rattle.std.proofs.lemmas.Bool.{and_from, and_parts, both_ways, cases_eq, eq-eqb, eqb-true, false_from_ne_true, false≢true, ne_eqb, not-true, not_from_false, or_cases, or_left, or_right, true_from_ne_false}
+pub use Rattle.std.proofs.Common.{All, Any, Bool, Contains, IfNone, IfSome, IsPermutation, IsSomeAnd, List, MatchOption, None, Option, Some, [], ap, arith, cond, drop, false, get_or, get_or-take, inl, inr, is_eq, is_some, length, length-take, map, nat_cmp, nat_eq, not, option_copied, option_map, refl, rules, slice_get, slice_index, subst, suc, sym, take, true, ℕ, ⊎_elim, ◌++◌, ◌&&◌, ◌+◌, ◌/◌, ◌<◌, ◌^◌, ◌||◌, ◌↔◌, ◌∙◌, ◌∷◌, ◌≡◌, ◌≤◌, ◌⊎◌}
+pub use Rattle.std.proofs.Math.Seq.{take-append-add, take-append_seam}
+pub use Rattle.std.proofs.lemmas.Bool.{and_from, and_parts, both_ways, cases_Bool, cases_eq, eq-eqb, eqb-true, false_from_ne_true, false≢true, ne_eqb, not-true, not_from_false, or_cases, or_left, or_right, true_from_ne_false}
 pub use Rattle.std.proofs.lemmas.Grind.{common_steps}
-pub use Rattle.std.proofs.lemmas.List.{get_or-map, length-map, map-append, map-id, map_push, take-append-drop, take_all, take_more}
-pub use Rattle.std.proofs.lemmas.List.Elements.{All-contains, All-head, All-more, All-push, All-tail, All-take, Contains-append_left, Contains-push}
-pub use Rattle.std.proofs.lemmas.List.Folds.{Any-from_list_any, list_any-append, list_any-from_Any, list_any_none}
+pub use Rattle.std.proofs.lemmas.List.{get_or-map, length-map, take-append-le, map-append, map-id, map_push, take-append-drop, take_all, take_more}
+pub use Rattle.std.proofs.lemmas.List.Elements.{All-contains, All-head, All-more, All-append, All-nil, All-push, All-tail, All-take, Contains-append_left, Contains-push}
+pub use Rattle.std.proofs.lemmas.List.Folds.{Any-from_list_any, list_any_at, list_any-append, list_any-from_Any, list_any_none}
 pub use Rattle.std.proofs.lemmas.List.Kept.{AllPairs-from_increasing}
 pub use Rattle.std.proofs.lemmas.List.Sorted.{All-permutation, Contains-permutation, IsPermutation-sym}
 pub use Rattle.std.proofs.lemmas.Option.{MatchOption-at_some, get_or_from_slice_get, slice_get-get_or, slice_get_read, slice_get_within}
@@ -55,4 +55,4 @@ pub use Rattle.vic_reconcile.specs.declared.findings.Findings.{Findings}
 pub use Rattle.vic_reconcile.specs.declared.findings.UnlistedUid.{UnlistedUid}
 pub use Rattle.vic_reconcile.specs.declared.reconciliation.Place.{Place}
 pub use Rattle.vic_reconcile.specs.declared.reconciliation.Reconciliation.{Reconciliation}
-pub use Rattle.vic_reconcile.specs.inner.Joined.{AreForgotten, AreNoted, AreSomeNoted, AreOpenBesides, IsFirstLeft, HasOpenMasks, is_left, is_place_in}
+pub use Rattle.vic_reconcile.specs.inner.Joined.{AreFirstNoted, AreForgotten, AreNoted, AreNotedAt, AreSomeNoted, AreOpenBesides, IsFirstLeft, IsFirstLeftFrom, HasOpenMasks, is_left, is_place_in}

@@ -3,17 +3,19 @@
 ghost use Rattle.std.specs.BTreeMap.{get, keys};
 ghost use Rattle.std.specs.List.{All, AllPass};
 ghost use Rattle.std.specs.Ordering.{nat_cmp};
-ghost use Rattle.std.specs.Prelude.{◌≡◌, ◌↔◌, ℕ, false, IfNone, IfOk, IfSome, IsTrue, List, MatchOption, None, Some, is_some, map};
-ghost use Rattle.vic_frame.specs.Uids.{has};
+ghost use Rattle.std.specs.Prelude.{◌≡◌, ◌↔◌, ℕ, true, IfNone, IfOk, IfSome, IsTrue, List, MatchOption, None, Some, is_some, map};
+ghost use Rattle.vic_frame.specs.Uids.{IsUid, has};
 ghost use Rattle.vic_log.specs.declared.entry.LogLine.{LogLine as LogLineValue};
 ghost use Rattle.vic_reconcile.specs.Findings.{AreFindings, AreNone};
 ghost use Rattle.vic_reconcile.specs.Joined.{IsJoined};
 ghost use Rattle.vic_reconcile.specs.inner.Joined.{IsFirstLeft, HasOpenMasks, is_left};
 
+use crate::first_logs::note_first;
 use crate::reconciliation::{Place, Reconciliation};
 use std::alloc::{AllocError, Global};
+use std::collections::BTreeMap;
 use vic_frame::{Mask, Uid};
-use vic_tree::{OpenMasks, OpenSet, RangeSet, RisingUids, SortedKeys};
+use vic_tree::{OpenMasks, RangeSet, RisingUids, SpacedKeys};
 use vic_verdict::compare;
 
 /// What logs tell together against a list of what is expected.
@@ -117,32 +119,24 @@ impl Reconciliation {
 
     /// UIDs that some log leaves open, with the first such log.
     fn first_logs(&self, uids: &[Uid]) -> Result<Vec<DoubtfulUid>, AllocError>
-        requires { AllPass (λ u. is_left self.now.left.items u) uids.now }
+        requires left { (u : ℕ) → has uids.now u ≡ true → is_left self.now.left.items u ≡ true }
+        requires are_uids { (u : ℕ) → has uids.now u ≡ true → IsUid u }
         ensures uids { IfOk result (λ v. map (λ s. s.uid) v.items ≡ uids.now) }
         ensures logs { IfOk result (λ v. All (IsFirstLeft self.now.left.items) v.items) }
     {
+        let mut logs = BTreeMap::new(self.alloc);
+        note_first(self.alloc, &mut logs, &self.left, 0, uids)?;
         let mut first = Vec::with_capacity(self.alloc, uids.len())?;
         for uid in uids {
-            let Some(log) = self.first_log(*uid) else {
+            let Some(log) = logs.get(uid) else {
                 unreachable!()
             };
-            first.push(DoubtfulUid { uid: *uid, log })?;
+            first.push(DoubtfulUid {
+                uid: *uid,
+                log: *log,
+            })?;
         }
         Ok(first)
-    }
-
-    /// The first log that leaves a UID open.
-    fn first_log(&self, uid: Uid) -> Option<usize>
-        ensures some { IfSome result (λ log. IsFirstLeft self.now.left.items
-            (record { uid = uid; log = log })) }
-        ensures none { IfNone result (is_left self.now.left.items uid ≡ false) }
-    {
-        for log in 0..self.left.len() {
-            if self.left[log].has(uid) {
-                return Some(log);
-            }
-        }
-        None
     }
 
     /// What is left to ask for, if a mask is unsettled.
@@ -166,10 +160,10 @@ impl Reconciliation {
     fn open_masks(&self, mask: Mask, certain: &[Uid]) -> Result<Unsettled, AllocError>
         ensures { IfOk result (HasOpenMasks certain.now self.now.left.items mask) }
     {
-        let keys = SortedKeys::of(self.alloc, certain)?;
+        let keys = SpacedKeys::of(self.alloc, certain)?;
         let mut masks = Vec::with_capacity(self.alloc, self.left.len())?;
         for set in &self.left {
-            masks.push(set.open_masks_besides(&keys))?;
+            masks.push(set.open_masks_between(&keys))?;
         }
         Ok(Unsettled { mask, masks })
     }

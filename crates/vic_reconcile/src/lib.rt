@@ -5,6 +5,7 @@
 #![tactic(auto)]
 
 mod findings;
+mod first_logs;
 mod joining;
 pub mod laws;
 mod reconciliation;

@@ -33,3 +33,4 @@ pub use Rattle.vic_tree.specs.OpenSet.{AllOpen, AreKeys, IsAtMost, IsWidest, Sam
 pub use Rattle.vic_tree.specs.Ranges.{AreRanges, AreRangesFrom, in_ranges, is_between, is_open_in, is_outside}
 pub use Rattle.vic_tree.specs.inner.KeptMasks.{Adds, AreKept, IsMaximalAt, IsMaximalIn, IsOpenBelow, IsOpenBlock, Keeps}
 pub use Rattle.vic_tree.specs.inner.Ranges.{AllKeysPass, ComesFirstIn, HoldsBlock, HoldsMask, IsFirstRun, IsFoundBelow, IsFreeBetween, IsFreeInRanges, IsMaskIn, IsWidestBelow, PassFrom, block_size, is_left}
+pub use Rattle.vic_tree.specs.inner.Stretches.{IsFreeFrom, IsStretch}

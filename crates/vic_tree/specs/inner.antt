@@ -1,3 +1,4 @@
 -- Definitions that only private contracts and proofs cite.
 pub mod Ranges
 pub mod KeptMasks
+pub mod Stretches

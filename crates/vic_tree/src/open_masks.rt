@@ -26,10 +26,10 @@ use vic_frame::{Mask, UID_BITS};
 pub const MAX_OPEN_MASKS: usize = 16;
 
 /// How many are kept: one more, to show whether there are more.
-const KEPT: usize = MAX_OPEN_MASKS + 1;
+pub(crate) const KEPT: usize = MAX_OPEN_MASKS + 1;
 
 /// How many there is room for: one more is put in order before the last one is dropped.
-const BUFFER: usize = KEPT + 1;
+pub(crate) const BUFFER: usize = KEPT + 1;
 
 /// The first few of a set's open masks: the masks of at most 56 bits that lie entirely in the set,
 /// and aren't half of another such mask. All open masks together are disjoint, and hold all UIDs of
@@ -60,7 +60,7 @@ pub(crate) fn open_masks_left(ranges: &Ranges<'_>, removed: &SortedKeys) -> Open
 }
 
 /// The masks that were kept, up to the limit, and whether there are more.
-fn first_of_kept(kept: &ArrayVec<Mask, BUFFER>) -> OpenMasks
+pub(crate) fn first_of_kept(kept: &ArrayVec<Mask, BUFFER>) -> OpenMasks
     requires { length kept.now.items ≤ KEPT }
     ensures first { (set : ℕ → Bool) → AreFirst KEPT (IsOpenMask set) kept.now.items
         → AreFirst MAX_OPEN_MASKS (IsOpenMask set) result.masks.items }
@@ -80,7 +80,7 @@ fn first_of_kept(kept: &ArrayVec<Mask, BUFFER>) -> OpenMasks
 
 /// Keeps the open masks of a run. Once the list of kept masks is full, and all are shorter than
 /// those to come, no others are looked at.
-fn keep_in_run(kept: &mut ArrayVec<Mask, BUFFER>, run: KeyRange)
+pub(crate) fn keep_in_run(kept: &mut ArrayVec<Mask, BUFFER>, run: KeyRange)
     requires kept { AreKept kept.old.items }
     ensures keeps { Keeps (IsMaximalIn run.0 run.1) kept.old.items kept.new.items }
     ensures kept { AreKept kept.new.items }

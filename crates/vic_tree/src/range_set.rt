@@ -15,6 +15,7 @@ use crate::open_masks::{MAX_OPEN_MASKS, OpenMasks, all_open_masks_left, open_mas
 use crate::open_set::OpenSet;
 use crate::ranges::{Ranges, complement, complement_in_order, is_in_first, skip_to};
 use crate::sorted_keys::SortedKeys;
+use crate::spaced_keys::{SpacedKeys, open_masks_between};
 use arrayvec::ArrayVec;
 use std::alloc::{AllocError, Global};
 use std::marker::Model;
@@ -141,6 +142,17 @@ impl RangeSet {
             × (¬ (Contains result.masks.items m)) }
     {
         open_masks_left(&self.in_order(), keys)
+    }
+
+    /// The same, in less time where many of the keys lie in the set.
+    pub fn open_masks_between(&self, keys: &SpacedKeys) -> OpenMasks
+        ensures first { AreFirst MAX_OPEN_MASKS
+            (IsOpenMask (without_keys (is_open_in self.now) keys.now)) result.masks.items }
+        ensures more { result.more ≡ true ↔ (m : BitMask)
+            × IsOpenMask (without_keys (is_open_in self.now) keys.now) m
+            × (¬ (Contains result.masks.items m)) }
+    {
+        open_masks_between(&self.in_order(), keys)
     }
 
     /// All open masks of the set without the UIDs with some keys, by length, then by value.

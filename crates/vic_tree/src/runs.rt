@@ -41,6 +41,20 @@ impl<'a> Runs<'a> {
         }
     }
 
+    /// The key from which on the runs are.
+    pub(crate) fn from(&self) -> u64
+        ensures { result ≡ self.now.0 }
+    {
+        self.from
+    }
+
+    /// Leaves the keys before another one behind.
+    pub(crate) fn go_on(&mut self, from: u64)
+        ensures { self.new ≡ (from, self.old.1, self.old.2) }
+    {
+        self.from = from;
+    }
+
     /// Takes out the first run: the first key from `from` on that is left, and those after it up to
     /// the next that isn't.
     pub(crate) fn next_run(&mut self) -> Option<KeyRange>

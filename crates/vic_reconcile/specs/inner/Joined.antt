@@ -1,5 +1,5 @@
 -- What is noted of one more log, and what the logs leave to ask.
-use Rattle.std.specs.Prelude.{◌≡◌, ◌≢◌, ◌↔◌, ◌==◌, ℕ, Bool, true, false, not, None, Some, Option, List, slice_get, take, MatchOption}
+use Rattle.std.specs.Prelude.{◌≡◌, ◌≢◌, ◌↔◌, ◌==◌, ◌+◌, ℕ, Bool, true, false, not, None, Some, Option, List, slice_get, take, MatchOption}
 use Rattle.std.specs.BTreeMap as map
 use Rattle.std.specs.Ordering.{nat_cmp}
 use Rattle.std.specs.List.{AllPass, AllZip, Contains, list_any}
@@ -53,6 +53,23 @@ IsFirstLeft sets d =
     AllPass (λ set. not (is_open_in set d.uid)) (take d.log sets)
     × ((set : List (ℕ × ℕ)) × (slice_get sets d.log ≡ Some set)
     × (is_open_in set d.uid ≡ true))
+
+-- the sets are numbered from `from` on: the number is that of the first that has the UID
+abbrev pub IsFirstLeftFrom : List (List (ℕ × ℕ)) → ℕ → ℕ → ℕ → Type 0
+IsFirstLeftFrom sets from u number =
+    (n : ℕ) × (number ≡ from + n) × IsFirstLeft sets (record { uid = u; log = n })
+
+-- the first set that has it is noted for each of some UIDs, and nothing else has changed
+pub record AreFirstNoted (sets : List (List (ℕ × ℕ))) (from : ℕ) (us : List ℕ)
+    (old new : map.BTreeMap ℕ ℕ) : Type 0 where
+  pub noted : (u : ℕ) → has us u ≡ true
+      → MatchOption (map.get nat_cmp new u) ⊥ (IsFirstLeftFrom sets from u)
+  pub others : (u : ℕ) → has us u ≡ false → map.get nat_cmp new u ≡ map.get nat_cmp old u
+
+-- one number is noted for each of some UIDs, and nothing else has changed
+pub record AreNotedAt (number : ℕ) (us : List ℕ) (old new : map.BTreeMap ℕ ℕ) : Type 0 where
+  pub noted : (u : ℕ) → has us u ≡ true → map.get nat_cmp new u ≡ Some number
+  pub others : (u : ℕ) → has us u ≡ false → map.get nat_cmp new u ≡ map.get nat_cmp old u
 
 -- the first open masks of a set without a list of UIDs, and whether there are more
 pub record AreOpenBesides (certain : List ℕ) (set : List (ℕ × ℕ)) (o : OpenMasks)

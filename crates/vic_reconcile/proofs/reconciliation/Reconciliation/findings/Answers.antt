@@ -1,4 +1,4 @@
-use Rattle.vic_reconcile.proofs.Words.{◌≡◌, true, sym, subst, ◌∙◌, IfSome, MatchOption, is_some, All, nat_cmp, get, has, HasOpenMasks, is_left, all_from_has}
+use Rattle.vic_reconcile.proofs.Words.{◌≡◌, ℕ, true, sym, subst, ◌∙◌, IfSome, MatchOption, is_some, nat_cmp, get, has, HasOpenMasks, is_open_in, all_from_has}
 use Rattle.vic_reconcile.proofs.Reconciling.{findings_of}
 use Rattle.vic_reconcile.proofs.reconciliation.Reconciliation.findings.Goals as goal
 
@@ -11,10 +11,9 @@ pub first_logs-requires : goal.first_logs-requires
 first_logs-requires c =
     let r = c.args.self.now in
     let same = rw c.deref.ensures.value at c.in_ok-all.ensures in
-    subst (All (λ u. is_left r.left.items u ≡ true)) (sym c.as_slice-3.ensures.value)
-    (all_from_has (λ u. is_left r.left.items u ≡ true) c.in_ok-found.found.doubtful (λ u h.
-    let w = (c.in_ok-found.ensures.doubtful.members u).0 h in
-    sym (same u (r.are_uids u w.0)) ∙ w.1))
+    let expected : (u : ℕ) → has c.as_slice-3.result.now u ≡ true → (has r.expected u ≡ true) × (is_open_in c.in_ok-all.all u ≡ true) =
+    λ u h. let w = (c.in_ok-found.ensures.doubtful.members u).0 (subst (λ us. has us u ≡ true) c.as_slice-3.ensures.value h) in (w.0, w.1) in
+    record { left = λ u h. sym (same u (r.are_uids u (expected u h).0)) ∙ (expected u h).1; are_uids = λ u h. r.are_uids u (expected u h).0 }
 
 pub returns : goal.returns
 returns c expected logs j =

@@ -1,4 +1,4 @@
-use Rattle.vic_reconcile.proofs.Words.{◌≡◌, ◌++◌, ◌∷◌, [], ap, sym, subst, ◌∙◌, refl, true, has, take, take-append_seam, is_open_in, entries, AreKeysOf, log_facts, AreForgotten, AreNoted, AreSomeNoted}
+use Rattle.vic_reconcile.proofs.Words.{◌≡◌, ◌++◌, ◌∷◌, [], ap, sym, subst, ◌∙◌, refl, take, take-append_seam, is_open_in, entries, AreKeysOf, log_facts, AreForgotten, AreNoted, AreSomeNoted}
 use Rattle.vic_reconcile.proofs.Joins.{joined_more, still_joined}
 use Rattle.vic_reconcile.proofs.reconciliation.Reconciliation.join.Goals as goal
 

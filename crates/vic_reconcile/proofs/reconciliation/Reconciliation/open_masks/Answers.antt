@@ -9,10 +9,10 @@ loop-set-preserved c =
     let s = c.set-item.result in
     let lt = subst (λ ss. i < length ss) c.deref-set-items.ensures.value c.loop-set-test.true in
     let is = c.set-item.is ∙ ap (λ ss. get_or ss i s) c.deref-set-items.ensures.value in
-    let own : R s c.open_masks_besides.result = record {
+    let own : R s c.open_masks_between.result = record {
       keys = c.in_ok-keys.keys;
       named = c.in_ok-keys.ensures;
-      first = c.open_masks_besides.ensures.first;
-      more = c.open_masks_besides.ensures.more;
+      first = c.open_masks_between.ensures.first;
+      more = c.open_masks_between.ensures.more;
     } in
-    rw (take_more sets i s lt, ← is, c.in_ok-push.ensures.items) (all_zipped_more R (take i sets) c.loop-set.masks.items s c.open_masks_besides.result c.loop-set.invariant own)
+    rw (take_more sets i s lt, ← is, c.in_ok-push.ensures.items) (all_zipped_more R (take i sets) c.loop-set.masks.items s c.open_masks_between.result c.loop-set.invariant own)
