@@ -10,7 +10,7 @@ use Rattle.vic_log.proofs.Written.{IsPlain, IsSpelled, AreSpelled}
 no_digit_is : (w d : ℕ) → hex_digit_value w ≡ None → d < 16 → nat_eq w (slice_index upper_digits d) ≡ false
 no_digit_is w d none lt = grind (arith, nat_tests)
 
-hex_lacks : (w : ℕ) (bytes : List ℕ) → hex_digit_value w ≡ None → IsBytes bytes → has (encode_upper bytes) w ≡ false
+pub hex_lacks : (w : ℕ) (bytes : List ℕ) → hex_digit_value w ≡ None → IsBytes bytes → has (encode_upper bytes) w ≡ false
 unfolding encode_with
 hex_lacks w [] none h = refl
 hex_lacks w (b ∷ bytes) none h = let fits : b < 256 = h 0 in grind (arith, nat_tests, no_digit_is, hex_lacks w bytes none (λ k. h (suc k)))
@@ -23,7 +23,7 @@ hex_long bytes = length-encode_with upper_digits bytes
 plain_line : (letter : ℕ) (bytes : List ℕ) → nat_eq 10 letter ≡ false → nat_eq 13 letter ≡ false → IsBytes bytes → IsPlain (letter ∷ 32 ∷ encode_upper bytes)
 plain_line letter bytes a b h = grind (arith, nat_tests, hex_lacks)
 
-be_bytes : (u : ℕ) → IsBytes (to_be_bytes w64 u)
+pub be_bytes : (u : ℕ) → IsBytes (to_be_bytes w64 u)
 be_bytes u i = grind (arith, nat_tests)
 
 -- a letter, a space and digits
