@@ -66,7 +66,7 @@ impl SpacedKeys {
     }
 
     /// Passes over masks that come behind all that are kept, from a key on, and returns the key
-    /// from which on others may begin. It begins at stretch number `at`, and returns where it ended.
+    /// from which on others may begin. It begins at stretch number `at`, and says where it ended.
     fn pass(&self, at: usize, from: u64, kept: &ArrayVec<Mask, BUFFER>) -> (usize, u64)
         requires { AreKept kept.now.items }
         ensures from { from ≤ result.1 }
