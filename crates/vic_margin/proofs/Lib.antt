@@ -10,3 +10,6 @@ pub mod Differing
 pub mod LawLemmas
 pub mod More
 pub mod Opened
+mod SamePopulations
+mod OneMore
+mod Always

@@ -14,7 +14,7 @@ use Rattle.vic_margin.proofs.LawLemmas.{unlisted_often}
 overlooked_agrees : (es more : List Entry) (i u : ℕ) → suc i ≤ length es → is_overlooked es i u ≡ is_overlooked (es ++ more) i u
 overlooked_agrees es more i u h = rw (answers_agree i es (es ++ more) (agree_upto es more i (omega (arith, h))) u, slice_get-append es more i (omega (arith, h))) refl
 
-before_agrees : (es more : List Entry) (n u : ℕ) → n ≤ length es → margin_before es n u ≡ margin_before (es ++ more) n u
+pub before_agrees : (es more : List Entry) (n u : ℕ) → n ≤ length es → margin_before es n u ≡ margin_before (es ++ more) n u
 before_agrees es more zero u h = refl
 before_agrees es more (suc n) u h =
     let rest = before_agrees es more n u (omega (arith, h)) in

@@ -1,9 +1,13 @@
 //! Laws of the definitions, proved. The functions do nothing: each stands for what its clauses say.
 
-ghost use Rattle.std.specs.Prelude.{◌≡◌, ◌↔◌, ◌<◌, ◌≤◌, ℕ, true, false, List, ◌++◌, length, map};
+ghost use Rattle.std.specs.Prelude.{◌≡◌, ◌↔◌, ◌<◌, ◌≤◌, ◌+◌, ℕ, Bool, true, false, None, List, ◌++◌, length, map};
 ghost use Rattle.vic_frame.specs.Masks.{BitMask};
 ghost use Rattle.vic_frame.specs.Uids.{IsUid, has};
 ghost use Rattle.vic_log.specs.declared.entry.Entry.{Entry};
+ghost use Rattle.vic_log.specs.declared.entry.Version.{Version};
+ghost use Rattle.vic_log.specs.Deaf.{deaf_entries, hidden_entries};
+ghost use Rattle.vic_log.specs.Log.{IsLog};
+ghost use Rattle.vic_log.specs.Quiet.{is_quiet};
 ghost use Rattle.vic_log.specs.declared.entry.Entry.TheVariants.{Listed};
 ghost use Rattle.vic_log.specs.declared.entry.LogLine.{LogLine};
 ghost use Rattle.vic_log.specs.Order.{entries, listed};
@@ -15,6 +19,9 @@ ghost use Rattle.vic_verdict.specs.Verdict.{IsLeast, IsVerdict};
 ghost use Rattle.vic_verdict.specs.declared.judging.Verdict.TheVariants.{Complete, Unsettled};
 ghost use Rattle.vic_margin.specs.Differing.{DifferOnlyAt, IsPossibleWithout};
 ghost use Rattle.vic_margin.specs.Margins.{IsMargin, IsWeakest};
+ghost use Rattle.vic_margin.specs.Readings.{AreReadings, IsFirstOpened};
+ghost use Rattle.vic_margin.specs.SilentRounds.{silent_round};
+ghost use Rattle.vic_margin.specs.declared.answer.Readings.{Readings};
 ghost use Rattle.vic_margin.specs.UidMargins.{margin_of};
 ghost use Rattle.vic_margin.specs.declared.answer.Weakest.{Weakest};
 
@@ -82,4 +89,36 @@ pub fn more_never_lowers_the_margin()
         → IsMargin (es ++ map Listed us) m → IsMargin (es ++ more ++ map Listed us) n → m ≤ n }
     ensures listed { (es : List Entry) (us : List ℕ) (m n : ℕ) → IsMargin es m
         → IsMargin (es ++ map Listed us) n → m ≤ n }
+{}
+
+/// Each log has a margin and a weakest mask.
+pub fn always_a_weakest_mask()
+    ensures { (version : Version) (lines : List LogLine) → IsLog version lines
+        → (w : Weakest) × IsWeakest (entries lines) w }
+{}
+
+/// One more silent round over all tags, in one slot or sixteen, adds one to the margin of each UID
+/// that isn't Quiet; so, where each Quiet UID is listed, to that of the log.
+pub fn one_silent_round_more()
+    ensures uid { (es : List Entry) (link : ℕ) (sixteen : Bool) (u : ℕ)
+        → is_quiet es (length es) u ≡ false
+        → margin_of (es ++ silent_round link sixteen) u ≡ margin_of es u + 1 }
+    ensures log { (es : List Entry) (link : ℕ) (sixteen : Bool) (us : List ℕ) (n : ℕ)
+        → ((u : ℕ) → IsUid u → is_quiet es (length es) u ≡ true
+        → has (listed (es ++ map Listed us)) u ≡ true)
+        → IsMargin (es ++ map Listed us) n
+        → IsMargin (es ++ silent_round link sixteen ++ map Listed us) (n + 1) }
+{}
+
+/// Where the hidden or the deaf reading of possible entries opens no UID, exactly the same
+/// populations could have produced it. Where the deaf one opens none, the hidden one opens none.
+pub fn nothing_opened()
+    ensures hidden { (es : List Entry) → IsPossible es → IsFirstOpened (hidden_entries es) es None
+        → (p : List ℕ) → IsPopulation p
+        → CouldHaveGiven p (hidden_entries es) ↔ CouldHaveGiven p es }
+    ensures deaf { (es : List Entry) → IsPossible es → IsFirstOpened (deaf_entries es) es None
+        → (p : List ℕ) → IsPopulation p
+        → CouldHaveGiven p (deaf_entries es) ↔ CouldHaveGiven p es }
+    ensures both { (es : List Entry) (r : Readings) → AreReadings es r → r.deaf ≡ None
+        → r.hidden ≡ None }
 {}
