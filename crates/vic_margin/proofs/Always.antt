@@ -1,5 +1,5 @@
 -- Each log has a margin, and a weakest mask.
-use Rattle.vic_margin.proofs.Words.{◌≡◌, ◌∙◌, ◌<◌, ◌≤◌, ◌+◌, ◌*◌, ◌/◌, ◌%◌, ◌^◌, ◌==◌, ◌||◌, ℕ, zero, suc, true, false, List, [], ◌∷◌, length, map, nat_eq, inl, inr, refl, sym, ap, subst, arith, cases_Bool, cases_lt, both_ways, or_cases, or_left, or_right, eqb-true, eq-eqb, length-map, has, IsUid, mirror, uid_of, mirror_of_uid, is_uid, Entry, Listed, margin_of}
+use Rattle.vic_margin.proofs.Words.{◌≡◌, ◌∙◌, ◌<◌, ◌≤◌, ◌+◌, ◌*◌, ◌/◌, ◌%◌, ◌^◌, ℕ, suc, true, false, List, [], ◌∷◌, length, map, nat_eq, inl, inr, refl, sym, ap, subst, arith, cases_Bool, cases_lt, both_ways, or_cases, or_left, or_right, eqb-true, eq-eqb, length-map, has, IsUid, mirror, uid_of, mirror_of_uid, is_uid, Entry, Listed, margin_of}
 use Rattle.std.proofs.Common.{⊎_elim}
 use Rattle.std.proofs.Math.Nat.{pow-le-pow_right}
 use Rattle.std.proofs.lemmas.Map.Steps.{le-length_from_below}
@@ -13,9 +13,9 @@ use Rattle.vic_log.specs.declared.entry.Version.{Version}
 use Rattle.vic_tree.specs.OpenSet.{IsAtMost}
 use Rattle.vic_verdict.proofs.Masks.{mask_of, mask_of-alone, mask_of-value}
 use Rattle.vic_verdict.proofs.Populations.{uid_below, uid_end}
-use Rattle.vic_verdict.proofs.Search.{Either, and_either, false_either, least_of, not_either, some_either, test_either}
-use Rattle.vic_verdict.specs.Verdict.{IsFirstMask, IsLeast}
-use Rattle.vic_margin.specs.Margins.{IsMarginBesides, IsMarginOfSome, IsOfMargin, IsWeakest, IsWeakestBesides}
+use Rattle.vic_verdict.proofs.Search.{Either, and_either, false_either, least_of, not_either, some_either}
+use Rattle.vic_verdict.specs.Verdict.{IsFirstMask}
+use Rattle.vic_margin.specs.Margins.{IsMarginOfSome, IsOfMargin, IsWeakest, IsWeakestBesides}
 use Rattle.vic_margin.specs.declared.answer.Weakest.{Weakest}
 use Rattle.vic_margin.proofs.Places.{entries_long}
 

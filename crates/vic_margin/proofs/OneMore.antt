@@ -1,18 +1,17 @@
 -- One more silent round over all tags adds one to each margin of a tag that isn't Quiet.
-use Rattle.vic_margin.proofs.Words.{◌≡◌, ◌∙◌, ◌<◌, ◌≤◌, ◌+◌, ◌-◌, ◌%◌, ◌==◌, ◌&&◌, ◌||◌, not, ℕ, zero, suc, Bool, true, false, List, [], ◌∷◌, ◌++◌, length, map, replicate, Some, if◌then◌else◌, refl, sym, ap, subst, arith, nat_tests, nat_lt, cases_Bool, inl, inr, slice_get, has, IsUid, Entry, Sent, Silent, Listed, answers_at, is_quiet, is_overlooked, margin_before, margin_of, one_if, mask_at}
+use Rattle.vic_margin.proofs.Words.{◌≡◌, ◌∙◌, ◌<◌, ◌≤◌, ◌+◌, ◌-◌, ◌%◌, ◌==◌, ℕ, zero, suc, Bool, true, false, List, [], ◌∷◌, ◌++◌, length, map, replicate, Some, refl, sym, ap, arith, nat_tests, nat_lt, cases_Bool, inl, inr, slice_get, has, IsUid, Entry, Sent, Silent, Listed, is_quiet, is_overlooked, margin_before, margin_of, one_if, mask_at}
 use Rattle.std.proofs.Common.{append-nil}
 use Rattle.std.proofs.Math.Bool.{and-false}
 use Rattle.std.proofs.lemmas.Bool.{lt-ltb}
 use Rattle.std.proofs.lemmas.List.{length-append, length-replicate}
-use Rattle.std.proofs.lemmas.List.Folds.{list_any-append}
-use Rattle.vic_frame.specs.Masks.{BitMask, lies_in}
+use Rattle.vic_frame.specs.Masks.{lies_in}
 use Rattle.vic_frame.specs.Slots.{mask_in, slot_count}
 use Rattle.vic_frame.specs.declared.request.Request.{Request}
 use Rattle.vic_log.proofs.Places.{agree_upto, quiet_agrees}
 use Rattle.vic_log.proofs.Push.{listed-append}
 use Rattle.vic_log.specs.Order.{listed}
 use Rattle.vic_log.specs.Rounds.{opener}
-use Rattle.vic_margin.specs.Margins.{IsMargin, IsMarginOfSome}
+use Rattle.vic_margin.specs.Margins.{IsMargin}
 use Rattle.vic_margin.specs.SilentRounds.{over_all, silent_round}
 use Rattle.vic_margin.proofs.More.{before_agrees, listed_margin}
 
@@ -139,9 +138,8 @@ one_more_log es link sixteen us n quiet m =
       | inr isnt ↦ isnt
     ] in
     let more : (u : ℕ) → IsUid u → has (listed old) u ≡ false → margin_of new u ≡ margin_of old u + 1 = λ u is out.
-        listed_margin (es ++ silent_round link sixteen) us u ∙ (one_more es link sixteen u (ready u is out) ∙ ap (λ k. k + 1) (sym (listed_margin es us u))) in
-    let list = same_list es link sixteen us in
-    (
+    listed_margin (es ++ silent_round link sixteen) us u ∙ (one_more es link sixteen u (ready u is out) ∙ ap (λ k. k + 1) (sym (listed_margin es us u))) in
+    let list = same_list es link sixteen us in (
       record { uid = m.0.uid; is_uid = m.0.is_uid; unlisted = ap (λ xs. has xs m.0.uid) list ∙ m.0.unlisted; margin = more m.0.uid m.0.is_uid m.0.unlisted ∙ ap (λ k. k + 1) m.0.margin },
       λ k some.
           let out = ap (λ xs. has xs some.uid) (sym list) ∙ some.unlisted in

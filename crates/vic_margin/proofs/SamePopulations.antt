@@ -1,5 +1,5 @@
 -- Where a cautious reading opens no UID, the same populations could have produced it.
-use Rattle.vic_margin.proofs.Words.{◌≡◌, ◌∙◌, ◌<◌, ◌&&◌, ◌↔◌, ℕ, Bool, true, List, [], ◌∷◌, zero, length, Option, Some, None, refl, suc, sym, ap, subst, arith, and_parts, slice_get, has, IsUid, Entry, Sent, Silent, Collision, Heard, Listed, Garbled, FieldCycle, Captured, Unknown, answers_at}
+use Rattle.vic_margin.proofs.Words.{◌≡◌, ◌∙◌, ◌&&◌, ◌↔◌, ℕ, Bool, List, [], ◌∷◌, zero, length, Option, Some, None, refl, suc, sym, ap, subst, arith, and_parts, slice_get, has, Entry, Sent, Silent, Collision, Heard, Listed, Garbled, FieldCycle, Captured, Unknown, answers_at}
 use Rattle.std.proofs.Common.{drop}
 use Rattle.std.proofs.lemmas.Bool.{and_from}
 use Rattle.vic_frame.specs.Masks.{BitMask}
