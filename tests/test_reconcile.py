@@ -1,16 +1,21 @@
 """Reconciles logs with lists of what is expected, by the program and the commands in C: the rows of
 tests/data/rows/reconciliations, and files that fail."""
 import re
+import resource
 import subprocess
 
 import pytest
 
+from helpers.frames import hex_of
 from helpers.lines import log_of, reconciled_rows
 from helpers.program import TOP, Program
 from helpers.rows import PROGRAMS
 
 # The names of the logs, in their order.
 LOGS = "abc"
+# Of so many UIDs and logs the program takes a second or two of a processor, and ten or more if it
+# asks each log for each UID.
+UIDS, TIMES, MOST = range(0xE004010000000000, 0xE004010000000000 + 200_000), 4_000, 6
 
 
 @pytest.fixture
@@ -92,3 +97,49 @@ def test_a_catalogue_without_names_of_columns(program, tmp_path, catalogue):
     Program("/bin/sh", "-c", made).run(cwd=tmp_path)
     said = program.run("reconcile", "expected.log", "a", cwd=tmp_path)
     assert said == (b"refused at line 1 of expected.log: Header\n", b"", 3)
+
+
+def frame_line(letter, *body):
+    return f"{letter} {hex_of(body)}\n"
+
+
+def uid_lines(uids):
+    return "".join(f"U {uid:016X}\n" for uid in uids)
+
+
+def asked_alone(uid):
+    """A request for this UID alone, and its reply."""
+    low, *_ = parts = uid.to_bytes(8, "little")
+    return frame_line("T", 0x26, 1, 56, *parts[:7]) + frame_line("R", 0, 0, low, *parts[1:])
+
+
+@pytest.fixture
+def of_many(program, tmp_path):
+    """What the program writes of the list of UIDs and of logs, within these seconds."""
+    def said(names, **texts):
+        for name, text in {"list": uid_lines(UIDS), **texts}.items():
+            (tmp_path / name).write_text(f"vicinity-log 1\n{text}")
+        found = program.run("reconcile", "list", *names, cwd=tmp_path, preexec_fn=lambda: (
+            resource.setrlimit(resource.RLIMIT_CPU, (MOST, MOST))))
+        assert (found.err, found.status) == (b"", 1)
+        return found.out.decode().splitlines()
+    return said
+
+
+def test_many_uids_that_may_be_in_the_last_of_many_logs(of_many):
+    """200 tags that aren't expected may be in each of the others: they were silenced first."""
+    silenced = [0xE0040200 << 32 | low << 16 for low in range(200)]
+    quiet = "".join(frame_line("T", 0x22, 2, *uid.to_bytes(8, "little")) for uid in silenced)
+    names = [*["quiet"] * TIMES, "unasked"]
+    lines = of_many(names, quiet=f"{quiet}T 260100F60A\nS\n", unasked="")
+    assert lines[-len(UIDS):] == [f"doubtful {uid:016X} in unasked" for uid in UIDS]
+
+
+def test_many_logs_that_leave_open_what_another_shows(of_many):
+    """The UIDs have consecutive numbers. So of the masks of 17 bits each of the 2^17 holds one, and
+    of those of 18 bits those do whose bits are a number below 200,000: 16 others are named."""
+    lines = of_many(["heard", *["unasked"] * TIMES], unasked="",
+                    heard="".join(map(asked_alone, UIDS)))
+    free = [f"open 18 {low:06X} in unasked" for low in range(200_000, 200_016)]
+    assert lines[0] == "unsettled 18 030D40"
+    assert lines[-17 * TIMES:] == [*free, "more open in unasked"] * TIMES

@@ -79,10 +79,10 @@ impl SpacedKeys {
         let mut free = from;
         while at < self.stretches.len() {
             let stretch = &self.stretches[at];
-            if free < stretch.range.first() || !is_past(kept, &stretch.widest) {
-                break;
-            }
             if free <= stretch.range.last() {
+                if free < stretch.range.first() || !is_past(kept, &stretch.widest) {
+                    break;
+                }
                 free = stretch.range.last() + 1;
             }
             at += 1;
