@@ -13,8 +13,6 @@
  *   bytes. `needed` points to one number, and any other pointer to a struct to one struct.
  * - All pointers are aligned, and none is NULL. Only one that is passed before a length, count or
  *   room of 0 may have any value, NULL included.
- * - A `text` that UIDs follow, as of vicinity_check_listed, ends with LF: otherwise its last line
- *   may swallow the first of them, and the answer is about fewer.
  * - What is written overlaps nothing else that is passed.
  * - While the call runs, no other thread writes what it reads, or reads or writes what it writes.
  * - malloc, realloc and free belong to one allocator, which aligns to 16 bytes.
@@ -285,9 +283,12 @@ enum vicinity_status vicinity_report(const uint8_t *text, size_t text_len,
 
 /*
  * Judges a text without `U` lines and a list of UIDs in any order, as a reader's loop does. The
- * answer is that of vicinity_check to the text followed by a line `U` for each UID. So the text has
- * to end with LF. A UID that comes twice has the fault VICINITY_FAULT_DUPLICATE_LISTED, and one
- * that doesn't begin E0 VICINITY_FAULT_NOT_VICINITY, at its line.
+ * answer is that of vicinity_check to the text followed by a line `U` for each UID. If the last
+ * line of the text lacks its LF, that is put there first (a CR before it belongs to the line's
+ * end). So for VICINITY_COMPLETE the log lists exactly these UIDs, and those of `U` lines that the
+ * text has all the same; `count` is how many they are. A UID that comes twice has the fault
+ * VICINITY_FAULT_DUPLICATE_LISTED, and one that doesn't begin E0 VICINITY_FAULT_NOT_VICINITY, at
+ * its line.
  */
 enum vicinity_status vicinity_check_listed(const uint8_t *text, size_t text_len,
                                            const uint64_t *uids, size_t count,

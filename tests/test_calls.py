@@ -219,11 +219,12 @@ READINGS = {
 
 @pytest.mark.parametrize(("short", "line", "weakest"), MEASURED, ids=[row[0] for row in MEASURED])
 def test_the_margin_of_a_log(library_of, short, line, weakest):
-    """Also with its list removed and passed separately."""
+    """Also with its list removed and passed separately, with LF after the last line and without."""
     lines = log_of(short).splitlines(keepends=True)
     text = b"".join(given for given in lines if not given.startswith(b"U"))
-    listed = [int(given[2:], 16) for given in lines if given.startswith(b"U")]
-    for name, *given in ("margin", b"".join(lines)), ("margin_listed", text, uids(listed)):
+    listed = uids([int(given[2:], 16) for given in lines if given.startswith(b"U")])
+    for name, *given in (("margin", b"".join(lines)), ("margin_listed", text, listed),
+                         ("margin_listed", text.removesuffix(b"\n"), listed)):
         told, least = (kind.from_buffer_copy(b"\x09" * ctypes.sizeof(kind))
                        for kind in (AnswerStruct, WeakestStruct))
         status = library_of.call(name, *given, ctypes.byref(told), ctypes.byref(least))
@@ -233,6 +234,34 @@ def test_the_margin_of_a_log(library_of, short, line, weakest):
                         for mask in READINGS.get(short, (None, None)))
         assert (least.has_hidden, least.hidden_len, least.hidden_value) == hidden
         assert (least.has_deaf, least.deaf_len, least.deaf_value) == deaf
+
+
+# Texts whose last line lacks its LF, each with what is answered with the list A beside it: the line
+# of A would be lost in a comment, and make a line of another kind a fault.
+WITHOUT_LF = {
+    "a comment": (r"vicinity-log 1\nT 260100F60A\nS\n# end of session", f"absent {A}"),
+    "a slot": (r"vicinity-log 1\nT 260100F60A\nS", f"absent {A}"),
+    "CR": (r"vicinity-log 1\r\nT 260100F60A\r\nS\r", f"absent {A}"),
+    "CR alone": (r"vicinity-log 1\nT 260100F60A\nS\n\r", f"absent {A}"),
+    "the header": ("vicinity-log 1", "unsettled 1 00"),
+    "a UID": (rf"vicinity-log 1\nU {B}", "unsettled 2 00"),
+    "the same UID": (rf"vicinity-log 1\nU {A}", "refused at line 3: DuplicateListed"),
+    "nothing": ("", "refused at line 1: Header")}
+
+
+@pytest.mark.parametrize("name", WITHOUT_LF)
+def test_a_list_beside_a_text_without_its_last_line_feed(library_of, name):
+    """A CR at its end belongs to the line's end, and what the text lists itself counts too."""
+    text, line = WITHOUT_LF[name]
+    text, beside = text.encode().decode("unicode_escape").encode(), uids([UID_A])
+    wanted = bytes(refusable(line))
+    assert bytes(library_of.told(AnswerStruct, "check_listed", text, beside)) == wanted
+    for call in "explain_listed", "report_listed":
+        told, _, _ = library_of.into(0, call, text, beside)
+        assert bytes(told) == wanted
+    told, least = AnswerStruct(), WeakestStruct()
+    library_of.call("margin_listed", text, beside, ctypes.byref(told), ctypes.byref(least))
+    assert bytes(told) == wanted
 
 
 OVERLOOKED = [

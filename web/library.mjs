@@ -31,7 +31,6 @@ import { FOUND } from "./kinds.mjs";
 const INTERFACE = 2, NO_ANSWER = 4, FIRST_ROOM = 64;
 /** The sizes of the header's structs, in bytes, and where the text of an answer begins. */
 const ANSWER = 104, TEXT = 40, FINDING = 32, MASK = 16, WEAKEST = 48, PLACES = 4, UID = 8, REQUEST = 32, REPLY = 16, FRAME = 24, NAME = 32, NUMBER = 8;
-const LINE_FEED = 10;
 /** The mask of all UIDs. @type {Mask} */
 export const ALL = Object.freeze({ fault: 0, len: 0, value: 0n });
 const DECODER = new TextDecoder();
@@ -119,7 +118,6 @@ export class Library {
   }
 
   /**
-   * Behind the text stands an LF, which isn't counted.
    * @param {Take} take
    * @param {Uint8Array | string} text
    * @returns {[number, number]} where it is, and its length
@@ -127,9 +125,8 @@ export class Library {
   #put(take, text) {
     const bytes = typeof text === "string" ? ENCODER.encode(text) : text;
     if (bytes.BYTES_PER_ELEMENT !== 1) throw new TypeError("a text, or a frame, is a Uint8Array");
-    const at = take(bytes.length + 1), memory = this.#bytes;
-    memory.set(bytes, at);
-    memory[at + bytes.length] = LINE_FEED;
+    const at = take(bytes.length);
+    this.#bytes.set(bytes, at);
     return [at, bytes.length];
   }
 
@@ -287,10 +284,7 @@ export class Library {
    * @param {bigint[] | BigUint64Array} uids
    */
   marginListed(text, uids) {
-    return this.#margin("margin_listed", (take) => {
-      const [at, length] = this.#put(take, text), isEnded = this.#bytes[at + length - 1] === LINE_FEED;
-      return [at, isEnded ? length : length + 1, ...this.#putUids(take, [uids])];
-    });
+    return this.#margin("margin_listed", (take) => [...this.#put(take, text), ...this.#putUids(take, [uids])]);
   }
 
   /**

@@ -151,13 +151,17 @@ class OfLibrary:
 
     def in_both_ways(self, name, elements, log, answer):
         """Has a call write these elements; also with the list of the log removed and passed
-        separately, where the answer is that of `check` too."""
+        separately, where the answer is that of `check` too, and so it is if the last line of what
+        is left lacks its LF."""
         text, listed, rest = log.partition(b"U ")
         beside = uids([int(line, 16) for line in (listed + rest).split() if line != b"U"])
-        for call, *words in (name, log), (f"{name}_listed", text, beside):
+        cut = text if text.endswith(b"\n\n") else text.removesuffix(b"\n")
+        for call, *words in ((name, log), (f"{name}_listed", text, beside),
+                             (f"{name}_listed", cut, beside)):
             told = self.library.into_each(elements, call, *words)
             assert bytes(told) == answer
-        assert bytes(self.library.told(AnswerStruct, "check_listed", text, beside)) == answer
+        for given in text, cut:
+            assert bytes(self.library.told(AnswerStruct, "check_listed", given, beside)) == answer
 
     def explain(self, given, answers, status):
         log = log_of(given)

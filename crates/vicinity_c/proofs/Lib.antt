@@ -1,6 +1,7 @@
 mod Words
 mod CrcBytes
 mod ListedLines
+pub mod Beside
 mod ArrayFaults
 mod Answered
 mod GoTogether

@@ -8,3 +8,4 @@ pub mod Arrays
 pub mod Reconciled
 pub mod Margins
 pub mod Together
+pub mod Beside

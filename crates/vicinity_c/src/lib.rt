@@ -2,11 +2,11 @@
 //! out.
 #![tactic(auto)]
 
-ghost use Rattle.std.specs.Prelude.{◌≡◌, ◌≢◌, ◌++◌};
-ghost use Rattle.vic_log.specs.Writing.{listed_text};
+ghost use Rattle.std.specs.Prelude.{◌≡◌, ◌≢◌};
 ghost use Rattle.vic_answer.specs.CheckText.{HasCompleteList};
 ghost use Rattle.vic_answer.specs.ExplainedNumbers.{AreExplainedNumbersFor};
 ghost use Rattle.vic_answer.specs.Numbers.{AreNumbersFor, no_answer};
+ghost use Rattle.vicinity_c.specs.Beside.{ListsBeside, with_listed};
 
 mod arrays;
 mod fields;
@@ -104,9 +104,10 @@ pub extern "C" fn vicinity_explain(
     numbers.status
 }
 
-/// Judges the log of a text with a list of UIDs after it, in any order: the answer of
-/// `vicinity_check` to the text with a line `U` for each UID after it. So the text has no `U` line
-/// of its own, and its last line ends with LF.
+/// Judges the log of a text with a list of UIDs beside it, in any order: the answer of
+/// `vicinity_check` to the text with a line `U` for each UID after it. If the last line of the text
+/// lacks its LF, that is put there first, and a CR before it belongs to the line's end. What the
+/// text lists itself counts too.
 #[unsafe(no_mangle)]
 pub extern "C" fn vicinity_check_listed(
     alloc: Global,
@@ -115,9 +116,10 @@ pub extern "C" fn vicinity_check_listed(
     answer: &mut VicinityAnswer,
 ) -> u32
     ensures answer { answer.new.kind ≢ 0
-        → AreNumbersFor (text.now ++ listed_text uids.now) answer.new }
+        → AreNumbersFor (with_listed text.now uids.now) answer.new }
     ensures whole { answer.new.kind ≡ 1
-        → HasCompleteList (text.now ++ listed_text uids.now) answer.new.count }
+        → HasCompleteList (with_listed text.now uids.now) answer.new.count }
+    ensures list { answer.new.kind ≡ 1 → ListsBeside text.now uids.now answer.new.count }
     ensures no_answer { answer.new.kind ≡ 0 → answer.new ≡ no_answer }
     ensures status { result ≡ answer.new.status }
 {
@@ -142,11 +144,12 @@ pub extern "C" fn vicinity_explain_listed(
     needed: &mut usize,
 ) -> u32
     ensures answer { answer.new.kind ≢ 0
-        → AreNumbersFor (text.now ++ listed_text uids.now) answer.new }
+        → AreNumbersFor (with_listed text.now uids.now) answer.new }
     ensures whole { answer.new.kind ≡ 1
-        → HasCompleteList (text.now ++ listed_text uids.now) answer.new.count }
+        → HasCompleteList (with_listed text.now uids.now) answer.new.count }
+    ensures list { answer.new.kind ≡ 1 → ListsBeside text.now uids.now answer.new.count }
     ensures explained { answer.new.kind ≢ 0
-        → AreExplainedNumbersFor (text.now ++ listed_text uids.now) answer.new needed.new
+        → AreExplainedNumbersFor (with_listed text.now uids.now) answer.new needed.new
         population.old population.new }
     ensures no_answer { answer.new.kind ≡ 0 → answer.new ≡ no_answer }
     ensures no_population { answer.new.kind ≡ 0

@@ -1,7 +1,8 @@
 //! Lines of a log's text for C.
 
-ghost use Rattle.std.specs.Prelude.{◌≡◌, ◌≤◌, ◌+◌, ◌*◌, ◌++◌, ◌∷◌, [], codes, length, IfOk};
-ghost use Rattle.vic_log.specs.Writing.{listed_text};
+ghost use Rattle.std.specs.Prelude.{◌≡◌, ◌≤◌, ◌+◌, ◌*◌, ◌∷◌, [], codes, length, IfOk};
+ghost use Rattle.vic_log.specs.Lines.{ends_with, lf};
+ghost use Rattle.vicinity_c.specs.Beside.{with_listed};
 ghost use Rattle.vicinity_c.specs.Lines as spec;
 
 use crate::frames::TOO_LONG;
@@ -101,13 +102,26 @@ fn no_line(fault: u32) -> VicinityLine
     }
 }
 
-/// A text with a list of UIDs after it, each on a line.
+/// A text with a list of UIDs after it, each on a line, and with LF after its own last line.
 pub(crate) fn with_listed(alloc: Global, text: &[u8], uids: &[u64]) -> Result<Vec<u8>, AllocError>
-    ensures { IfOk result (λ whole. whole.items ≡ text.now ++ listed_text uids.now) }
+    ensures { IfOk result (λ whole. whole.items ≡ with_listed text.now uids.now) }
 {
     let mut whole = Vec::from_slice(alloc, text)?;
+    if !is_ended(text) {
+        whole.push(b'\n')?;
+    }
     for uid in uids {
         whole.extend_from_slice(bytes_line(b'U', &uid.to_be_bytes()).as_slice())?;
     }
     Ok(whole)
+}
+
+/// Whether a text has LF after its last line.
+fn is_ended(text: &[u8]) -> bool
+    ensures { result ≡ ends_with lf text.now }
+{
+    match text.last() {
+        Some(byte) => *byte == b'\n',
+        None => false,
+    }
 }

@@ -1,14 +1,14 @@
 //! The margin of the log of a text, and of UIDs in it, in numbers.
 
-ghost use Rattle.std.specs.Prelude.{◌≡◌, ◌≢◌, ◌++◌, ℕ, IfOk, List, length, map, replicate};
+ghost use Rattle.std.specs.Prelude.{◌≡◌, ◌≢◌, ℕ, IfOk, List, length, map, replicate};
 ghost use Rattle.vic_log.specs.Lines.{lines_of_text};
-ghost use Rattle.vic_log.specs.Writing.{listed_text};
 ghost use Rattle.vic_verdict.specs.declared.judging.Verdict.TheVariants.{Complete};
 ghost use Rattle.vic_answer.specs.Answered.{answer_of};
 ghost use Rattle.vic_answer.specs.CheckText.{HasCompleteList};
 ghost use Rattle.vic_answer.specs.Buffers.{IsPutInto};
 ghost use Rattle.vic_answer.specs.Numbers.{AreNumbersFor, no_answer};
 ghost use Rattle.vicinity_c.specs.Arrays.{IsFirst, uid_fault};
+ghost use Rattle.vicinity_c.specs.Beside.{ListsBeside, with_listed};
 ghost use Rattle.vicinity_c.specs.Margins as spec;
 
 use crate::arrays::{MOST, uids_in};
@@ -96,11 +96,12 @@ pub extern "C" fn vicinity_margin_listed(
     weakest: &mut VicinityWeakest,
 ) -> u32
     ensures answer { answer.new.kind ≢ 0
-        → AreNumbersFor (text.now ++ listed_text uids.now) answer.new }
+        → AreNumbersFor (with_listed text.now uids.now) answer.new }
     ensures whole { answer.new.kind ≡ 1
-        → HasCompleteList (text.now ++ listed_text uids.now) answer.new.count }
+        → HasCompleteList (with_listed text.now uids.now) answer.new.count }
+    ensures list { answer.new.kind ≡ 1 → ListsBeside text.now uids.now answer.new.count }
     ensures weakest { answer.new.kind ≢ 0
-        → spec.AreMarginNumbersFor (text.now ++ listed_text uids.now) answer.new weakest.new }
+        → spec.AreMarginNumbersFor (with_listed text.now uids.now) answer.new weakest.new }
     ensures no_answer { answer.new.kind ≡ 0 → answer.new ≡ no_answer }
     ensures no_weakest { answer.new.kind ≡ 0 → weakest.new ≡ spec.no_weakest }
     ensures status { result ≡ answer.new.status }

@@ -1,10 +1,10 @@
 //! The findings of the log of a text, in numbers.
 
-ghost use Rattle.std.specs.Prelude.{◌≡◌, ◌≢◌, ◌++◌};
-ghost use Rattle.vic_log.specs.Writing.{listed_text};
+ghost use Rattle.std.specs.Prelude.{◌≡◌, ◌≢◌};
 ghost use Rattle.vic_answer.specs.CheckText.{HasCompleteList};
 ghost use Rattle.vic_answer.specs.FindingNumbers.{AreReportedNumbersFor};
 ghost use Rattle.vic_answer.specs.Numbers.{AreNumbersFor, no_answer};
+ghost use Rattle.vicinity_c.specs.Beside.{ListsBeside, with_listed};
 
 use crate::lines::with_listed;
 use std::alloc::Global;
@@ -58,11 +58,12 @@ pub extern "C" fn vicinity_report_listed(
     needed: &mut usize,
 ) -> u32
     ensures answer { answer.new.kind ≢ 0
-        → AreNumbersFor (text.now ++ listed_text uids.now) answer.new }
+        → AreNumbersFor (with_listed text.now uids.now) answer.new }
     ensures whole { answer.new.kind ≡ 1
-        → HasCompleteList (text.now ++ listed_text uids.now) answer.new.count }
+        → HasCompleteList (with_listed text.now uids.now) answer.new.count }
+    ensures list { answer.new.kind ≡ 1 → ListsBeside text.now uids.now answer.new.count }
     ensures reported { answer.new.kind ≢ 0
-        → AreReportedNumbersFor (text.now ++ listed_text uids.now) answer.new needed.new
+        → AreReportedNumbersFor (with_listed text.now uids.now) answer.new needed.new
         findings.old findings.new }
     ensures no_answer { answer.new.kind ≡ 0 → answer.new ≡ no_answer }
     ensures no_findings { answer.new.kind ≡ 0

@@ -109,7 +109,15 @@ pub fn report(text: &[u8]) -> Result<Report, OutOfMemory> {
     Ok(Report { answer: Answer::of(&told)?, findings })
 }
 
-/// The answer to a text without `U` lines, followed by a `U` line for each of these UIDs.
+/// The answer to a text without `U` lines, followed by a `U` line for each of these UIDs. Its last
+/// line may lack its LF.
+///
+/// ```
+/// let a = vicinity::Uid::new(0xE0040100000000A1).unwrap();
+/// let told = vicinity::check_listed(b"vicinity-log 1\nT 260100F60A\nS\n# end", &[a])?;
+/// assert_eq!(told.to_string(), "absent E0040100000000A1");
+/// # Ok::<(), vicinity::OutOfMemory>(())
+/// ```
 pub fn check_listed(text: &[u8], listed: &[Uid]) -> Result<Answer, OutOfMemory> {
     let text = ended(text);
     let (bytes, count) = (text.as_ptr(), listed.len());
