@@ -34,7 +34,7 @@ CHECKS = [("shellcheck", "-x", *SHELL), ("flake8", *PYTHON),
           # Dask has no types
           pytest.param((*MYPY, "--strict", "--allow-untyped-calls", "--ignore-missing-imports",
                         "examples/python/fleet.py"), marks=pytest.mark.slow),
-          (*MYPY, "tests", "tools/biglog.py", "tools/measure.py")]
+          (*MYPY, "tests", "tools/biglog.py", "tools/measure.py", "tools/recheck")]
 
 
 @pytest.mark.parametrize("words", CHECKS, ids=lambda words: f"{words[0]}-{words[-1]}")
