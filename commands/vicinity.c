@@ -67,7 +67,7 @@ static int run_spell(char **words, int count)
 {
     struct text answered = {0};
     int ended = count > 0 && strcmp(words[0], "--") == 0;
-    if (count == ended || (!ended && (strcmp(words[0], "-h") == 0 || strcmp(words[0], "--help") == 0)))
+    if (count == ended)
         return no_answer("usage");
     return end_with(spell(words + ended, count - ended, &answered), &answered);
 }

@@ -1,0 +1,88 @@
+//! The commands, as clap is told of them.
+
+ghost use Rattle.std.specs.Prelude.{◌≡◌, IfOk, false};
+ghost use Rattle.clap.specs.Words.{app_of, rule_of};
+ghost use Rattle.clap.specs.declared.builder.command.Command.TheViews.{out-Command as fields_of};
+ghost use Rattle.vic_words.specs.inner.Commands as declared;
+
+use clap::{Arg, ArgAction, Command};
+use std::alloc::{AllocError, Global};
+
+/// A command with one operand.
+fn with_operand<'a>(
+    alloc: Global,
+    name: &'a str,
+    operand: &'a str,
+    required: bool,
+) -> Result<Command<'a>, AllocError>
+    ensures shape { IfOk result (λ c. app_of c ≡ declared.with_operand name.now operand.now required) }
+    ensures local { IfOk result (λ c. (fields_of c).has_globals ≡ false) }
+{
+    let operand = Arg::new(alloc, operand)
+        .required(required)
+        .action(ArgAction::Set);
+    Command::new(alloc, name).arg(operand)
+}
+
+/// The operands from there on.
+fn operands<'a>(alloc: Global, required: bool) -> Arg<'a>
+    ensures rule { rule_of result ≡ declared.several required }
+    ensures local { result.global ≡ false }
+{
+    Arg::new(alloc, "words")
+        .required(required)
+        .num_args(1..)
+        .action(ArgAction::Append)
+}
+
+/// A command with one or more words.
+fn with_words<'a>(alloc: Global, name: &'a str) -> Result<Command<'a>, AllocError>
+    ensures shape { IfOk result (λ c. app_of c ≡ declared.with_words name.now) }
+    ensures local { IfOk result (λ c. (fields_of c).has_globals ≡ false) }
+{
+    Command::new(alloc, name).arg(operands(alloc, true))
+}
+
+/// A command with a file, and more files or none.
+fn with_files<'a>(alloc: Global, name: &'a str) -> Result<Command<'a>, AllocError>
+    ensures shape { IfOk result (λ c. app_of c ≡ declared.with_files name.now) }
+    ensures local { IfOk result (λ c. (fields_of c).has_globals ≡ false) }
+{
+    with_operand(alloc, name, "file", true)?.arg(operands(alloc, false))
+}
+
+/// The program with one more command, over a file or standard input.
+fn with_file<'a>(
+    alloc: Global,
+    program: Command<'a>,
+    name: &'a str,
+) -> Result<Command<'a>, AllocError>
+    ensures shape { IfOk result (λ c.
+        app_of c ≡ declared.with_file (app_of program.entry) name.now) }
+{
+    program.subcommand(with_operand(alloc, name, "file", false)?)
+}
+
+/// The commands over a file or standard input.
+fn file_commands<'a>(alloc: Global) -> Result<Command<'a>, AllocError>
+    ensures { IfOk result (λ c. app_of c ≡ declared.file_commands) }
+{
+    let program = Command::new(alloc, "vicinity")
+        .disable_help_flag(true)
+        .disable_help_subcommand(true);
+    let program = with_file(alloc, program, "check")?;
+    let program = with_file(alloc, program, "simulate")?;
+    let program = with_file(alloc, program, "explain")?;
+    let program = with_file(alloc, program, "report")?;
+    with_file(alloc, program, "margin")
+}
+
+/// The program's commands.
+pub(crate) fn commands<'a>(alloc: Global) -> Result<Command<'a>, AllocError>
+    ensures { IfOk result (λ c. app_of c ≡ declared.commands) }
+{
+    file_commands(alloc)?
+        .subcommand(with_operand(alloc, "frame", "hex", true)?)?
+        .subcommand(with_files(alloc, "reconcile")?)?
+        .subcommand(with_words(alloc, "spell")?)
+}

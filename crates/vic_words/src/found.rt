@@ -1,0 +1,103 @@
+//! What is asked for, by what clap found among the words.
+
+ghost use Rattle.std.specs.Prelude.{◌≡◌, map, option_map, string_bytes, IfErr, IfOk};
+ghost use Rattle.clap.specs.Words.{first_of, found_of, rows_of, subcommand_rows_of};
+ghost use Rattle.vic_words.specs.inner.Given.{FileAsks, RowsAsk, SubcommandAsks, TaskAsks, words_found};
+ghost use Rattle.vic_words.specs.declared.asked.WordsFault.TheVariants.{Usage};
+
+use crate::asked::{Asked, WordsFault};
+use clap::ArgMatches;
+use std::alloc::{AllocError, Global};
+use vic_answer::Task;
+
+/// The text of an operand, if it was given.
+fn operand(alloc: Global, given: &ArgMatches<'_>, id: &str) -> Result<Option<String>, AllocError>
+    ensures { IfOk result (λ found.
+        option_map string_bytes found ≡ first_of id.now (rows_of (found_of given.now))) }
+{
+    match given.get_str(id) {
+        Some(text) => Ok(Some(String::from_str(alloc, text)?)),
+        None => Ok(None),
+    }
+}
+
+/// Copies of some texts.
+fn copies(alloc: Global, texts: &[&str]) -> Result<Vec<String>, AllocError>
+    ensures { IfOk result (λ copies.
+        map string_bytes copies.items ≡ map (λ text. text.now) texts.now) }
+{
+    let mut copies = Vec::new(alloc);
+    for text in texts {
+        copies.push(String::from_str(alloc, text)?)?;
+    }
+    Ok(copies)
+}
+
+/// The words that a command was given.
+fn given_words(alloc: Global, given: &ArgMatches<'_>) -> Result<Vec<String>, AllocError>
+    ensures { IfOk result (λ words.
+        map string_bytes words.items ≡ words_found (rows_of (found_of given.now))) }
+{
+    match given.get_strs("words") {
+        Some(words) => copies(alloc, words),
+        None => Ok(Vec::new(alloc)),
+    }
+}
+
+/// What a command with a file asks for, by its name.
+fn asked_of_file(name: &str, file: Option<String>) -> Result<Task, WordsFault>
+    ensures asked { IfOk result (FileAsks name.now (option_map string_bytes file)) }
+    ensures usage { IfErr result (λ _. (task : _) → FileAsks name.now (option_map string_bytes file) task → ⊥) }
+{
+    match name {
+        "check" => Ok(Task::Check(file)),
+        "simulate" => Ok(Task::Simulate(file)),
+        "explain" => Ok(Task::Explain(file)),
+        "report" => Ok(Task::Report(file)),
+        "margin" => Ok(Task::Margin(file)),
+        _ => Err(WordsFault::Usage),
+    }
+}
+
+/// What a command with one text asks for, by its name and what it was given.
+fn asked_of_text(alloc: Global, name: &str, given: &ArgMatches<'_>) -> Result<Task, WordsFault>
+    ensures asked { IfOk result (TaskAsks name.now (rows_of (found_of given.now))) }
+    ensures usage { IfErr result (λ e. e ≡ Usage
+        → (task : _) → TaskAsks name.now (rows_of (found_of given.now)) task → ⊥) }
+{
+    match name {
+        "frame" => match operand(alloc, given, "hex")? {
+            Some(word) => Ok(Task::Frame(word)),
+            None => Err(WordsFault::Usage),
+        },
+        "spell" => Ok(Task::Spell(given_words(alloc, given)?)),
+        _ => asked_of_file(name, operand(alloc, given, "file")?),
+    }
+}
+
+/// What a command asks for, by its name and what it was given.
+fn asked_for(alloc: Global, name: &str, given: &ArgMatches<'_>) -> Result<Asked, WordsFault>
+    ensures asked { IfOk result (RowsAsk name.now (rows_of (found_of given.now))) }
+    ensures usage { IfErr result (λ e. e ≡ Usage
+        → (asked : _) → RowsAsk name.now (rows_of (found_of given.now)) asked → ⊥) }
+{
+    if name != "reconcile" {
+        return Ok(Asked::Task(asked_of_text(alloc, name, given)?));
+    }
+    match operand(alloc, given, "file")? {
+        Some(list) => Ok(Asked::Reconcile(list, given_words(alloc, given)?)),
+        None => Err(WordsFault::Usage),
+    }
+}
+
+/// What the words ask for, by what was found.
+pub(crate) fn asked_by(alloc: Global, matches: &ArgMatches<'_>) -> Result<Asked, WordsFault>
+    ensures asked { IfOk result (SubcommandAsks (subcommand_rows_of matches.now)) }
+    ensures usage { IfErr result (λ e. e ≡ Usage
+        → (asked : _) → SubcommandAsks (subcommand_rows_of matches.now) asked → ⊥) }
+{
+    match matches.subcommand() {
+        Some((name, given)) => asked_for(alloc, name, given),
+        None => Err(WordsFault::Usage),
+    }
+}
