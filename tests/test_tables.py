@@ -1,0 +1,140 @@
+"""What tables are, by crates/tables, which prints it in one line each.
+
+`tests/data/tables.json` has texts, one character a byte, each with its items or its first fault.
+Damaged catalogues are compared with helpers/tables.py, which was written from docs/TABLES.md alone;
+and what is read of one is searched for each UID that stands in its bytes."""
+import json
+import random
+import re
+import time
+
+import pytest
+
+from helpers import tables
+from helpers.memory import refused, shim
+from helpers.program import TOP, program_of
+
+ROWS = json.loads((TOP / "tests/data/tables.json").read_text())
+# How many catalogues are damaged, in how many parts.
+NUMBER, PARTS, SEED = 50_000, 5, 1604
+LINES = 1_000_000
+A, B = "E0040100000000A1", "E0040100000000B2"
+# Texts of which each allocation is refused.
+SMALL = (f"uid,place,away\n{A},a,\n{B},\"b\"\"c\",away\nnone,any,\n", "place;log\nx;y\nx;z\n",
+         "uid,t\n,x\n")
+
+
+@pytest.fixture(scope="session")
+def read(pytestconfig):
+    """What the program prints of texts, a line each."""
+    program = program_of(pytestconfig, "tables")
+    return lambda texts: program.told(given=given(texts)).splitlines()
+
+
+def given(texts):
+    return b"".join(b"%d\n%s" % (len(text), text) for text in texts)
+
+
+def test_the_texts(read):
+    texts = [row["text"].encode("latin-1") for row in ROWS]
+    assert read(texts) == [row["told"] for row in ROWS]
+
+
+def test_the_page_says_the_same():
+    """The model, which is written from the page."""
+    for row in ROWS:
+        assert tables.line_of(tables.read(row["text"].encode("latin-1"))) == row["told"], row["name"]
+
+
+@pytest.mark.parametrize("text, told", [
+    (b"uid,t\n%s,%s\n" % (A.encode(), b"x" * (16_384 - 17)), f"catalogue 2:{A}:any:here"),
+    (b"uid,t\r\n%s,%s\r\n" % (A.encode(), b"x" * (16_384 - 17)), f"catalogue 2:{A}:any:here"),
+    (b"uid,t\n%s,%s\n" % (A.encode(), b"x" * (16_384 - 16)), "refused 2 LineTooLong"),
+    (b"\xef\xbb\xbfuid,%s\n%s,x\n" % (b"x" * (16_384 - 4), A.encode()), f"catalogue 2:{A}:any:here"),
+    (b"uid\n%s\n" % A.encode() + b"\n" * (LINES - 2), f"catalogue 2:{A}:any:here"),
+    (b"uid\n%s\n" % A.encode() + b"\n" * (LINES - 1), "refused 1000001 TooManyLines"),
+    (b"uid\n" + b"\n" * (LINES - 1), "refused 1000001 NoItems"),
+])
+def test_the_limits(read, text, told):
+    assert read([text]) == [told]
+
+
+def catalogue(chance):
+    """A random catalogue, of a kind that people write."""
+    separator, end = chance.choice(",;\t"), chance.choice(("\n", "\r\n"))
+    names = ["uid", "title", *chance.choice(((), ("place",), ("place", "away")))]
+    lines = [separator.join(names)]
+    for _ in range(chance.randrange(1, 7)):
+        uid = f"E0{chance.getrandbits(56):014X}"
+        cell = {"uid": chance.choice((uid, uid, uid.lower(), f'"{uid}"', "none")),
+                "title": chance.choice(("x", "", '"a ""b"" c"', f'"a{separator}b"', "\u00e9")),
+                "place": chance.choice(("a", "any", "b c")), "away": chance.choice(("", "away"))}
+        lines.append(separator.join(cell[name] for name in names))
+    return end.join(lines).encode() + chance.choice((b"", end.encode()))
+
+
+def damaged(chance, text):
+    """The text with a byte, a cell, a line or a block lost, doubled, moved or changed."""
+    kind = chance.randrange(5)
+    if kind == 0:
+        parts = re.findall(rb"[^\n]*\n|[^\n]+", text)
+    elif kind == 1:
+        parts = re.findall(rb"[,;\t\n]|[^,;\t\n]+", text)
+    else:
+        parts = [text[i:i + 1] for i in range(len(text))]
+    size = 1 if kind < 4 else chance.randrange(1, 40)
+    at = chance.randrange(len(parts))
+    block = parts[at:at + size]
+    rest = parts[:at] + parts[at + size:]
+    to = chance.randrange(len(rest) + 1)
+    new = chance.choice((b",", b";", b'"', b"\n", b"\r", b" ", b"0", b"E", b"-", b"\xc3", b"\0"))
+    return b"".join(chance.choice((
+        rest, parts[:at] + block + parts[at:], rest[:to] + block + rest[to:],
+        parts[:at] + [new] + parts[at + size:])))
+
+
+@pytest.mark.slow
+@pytest.mark.parametrize("part", range(PARTS))
+def test_damaged_catalogues(read, logs, part):
+    number, seed = logs
+    chance = random.Random(seed + part)
+    texts = [damaged(chance, catalogue(chance)) for _ in range(number)]
+    kinds = set()
+    for text, told in zip(texts, read(texts), strict=True):
+        assert told == tables.line_of(tables.read(text)), text
+        kinds.add(told.split()[0])
+        if told.startswith("catalogue"):
+            # no UID that stands in the bytes is lost, and none is there twice
+            uids = [word.split(":")[1] for word in told.split()[1:]]
+            uids = sorted(uid for uid in uids if uid != "none")
+            stand = re.findall(rb"(?<![0-9A-Fa-f])[Ee]0[0-9A-Fa-f]{14}(?![0-9A-Fa-f])", text)
+            assert sorted(set(uids)) == uids
+            assert {uid.decode().upper() for uid in stand} <= set(uids), text
+    assert kinds >= {"catalogue", "refused"}
+
+
+def test_a_million_lines(read):
+    """Near-linear: the text of 64 million bytes takes less than this in any case."""
+    text = b"uid,title,place\n" + b"".join(
+        b"E0%014X,a title of an item,shelf %d\n" % (number * 0x9E3779B97F4A7C15 % 2**56, number % 997)
+        for number in range(LINES - 1))
+    begin = time.monotonic()
+    told = read([text])[0]
+    assert told.count(" ") == LINES - 1
+    assert time.monotonic() - begin < 60
+
+
+def test_each_allocation_is_refused(pytestconfig, tmp_path):
+    program = program_of(pytestconfig, "tables")
+    texts = [text.encode() for text in SMALL]
+    right = [tables.line_of(tables.read(text)) for text in texts]
+    seen = set()
+    for said in refused(program, shim("refuse", tmp_path), given=given(texts)):
+        told = said.out.decode().splitlines()
+        if not told:
+            # the program itself had no memory, and wrote nothing
+            assert said.status
+            continue
+        assert all(a in (b, "memory") for a, b in zip(told, right, strict=True))
+        seen |= set(told)
+    assert "memory" in seen
