@@ -10,3 +10,5 @@ mod Reading
 mod Rows
 mod PlaceRows
 mod Whole
+mod Telling
+mod Conserving

@@ -6,5 +6,6 @@ pub mod Values
 pub mod Rows
 pub mod Table
 pub mod Reads
+pub mod Conserved
 pub mod Names
 pub mod inner

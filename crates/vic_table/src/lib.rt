@@ -12,6 +12,7 @@ mod columns;
 mod contents;
 mod fault;
 mod items;
+pub mod laws;
 mod lines;
 mod place_rows;
 mod places;
