@@ -115,6 +115,26 @@ def test_damaged_catalogues(read, logs, part):
     assert kinds >= {"catalogue", "refused"}
 
 
+def without_numbers(told):
+    """Of what is read, the items without the numbers of their lines."""
+    return sorted(word.partition(":")[2] for word in told.split()[1:])
+
+
+def test_the_order_of_lines(read, logs):
+    """Changes nothing but their numbers, nor whether a catalogue is refused."""
+    chance = random.Random(logs[1])
+    pairs = []
+    for _ in range(2000):
+        first, *lines = re.findall(rb"[^\n]*\n", catalogue(chance) + b"\n")
+        moved = chance.sample(lines, len(lines))
+        pairs += [b"".join([first, *lines]), b"".join([first, *moved])]
+    told = read(pairs)
+    assert any(one.startswith("catalogue") for one in told)
+    for one, other in zip(told[::2], told[1::2], strict=True):
+        assert one.split()[0] == other.split()[0]
+        assert one.startswith("refused") or without_numbers(one) == without_numbers(other)
+
+
 def test_a_million_lines(read):
     """A million lines take about a second; a quadratic reader would take hours."""
     text = b"uid,title,place\n" + b"".join(

@@ -1,13 +1,13 @@
 -- Each UID of a catalogue is the UID of one item.
-use Rattle.vic_table.proofs.Words.{◌≡◌, ◌≢◌, ℕ, zero, suc, ◌+◌, ◌-◌, ◌≤◌, Bool, true, false, not, ◌||◌, ◌&&◌, ◌==◌, Option, Some, None, List, [], ◌∷◌, ◌++◌, length, take, drop, get_or, slice_get, refl, sym, ap, subst, ◌∙◌, arith, nat_tests, cond-true, cond-false, cases_Bool, cases_eq, cases_lt, inl, inr, append-nil, filter_map-append, has, nat_eq, list_any, list_any-append, is_none, option_or, option_and_then, or_parts, or_from, or-false, get_or_from_slice_get, slice_get_within, eqb-true, nat_lt, lt-ltb, unwrap_or, if◌then◌else◌}
+use Rattle.vic_table.proofs.Words.{◌⊎◌, or_left, or_right, eq-eqb, ◌≡◌, ◌≢◌, ℕ, zero, suc, ◌+◌, ◌-◌, ◌≤◌, Bool, true, false, not, ◌||◌, ◌&&◌, ◌==◌, Option, Some, None, List, [], ◌∷◌, ◌++◌, length, take, drop, get_or, slice_get, refl, sym, ap, subst, ◌∙◌, arith, nat_tests, cond-true, cond-false, cases_Bool, cases_eq, cases_lt, inl, inr, append-nil, filter_map-append, has, nat_eq, list_any, list_any-append, is_none, option_or, option_and_then, or_parts, or_from, or-false, get_or_from_slice_get, slice_get_within, eqb-true, nat_lt, lt-ltb, unwrap_or, if◌then◌else◌}
 use Rattle.std.proofs.lemmas.List.Quantifiers.{position-Some}
-use Rattle.std.specs.List.{cons_option, count_by, position, position_or_len}
+use Rattle.std.specs.List.{cons_option, filter_map, count_by, position, position_or_len}
 use Rattle.std.specs.Prelude.{codes}
 use Rattle.vic_frame.specs.Uids.{AreDifferent}
 use Rattle.vic_table.specs.Cells.{cells_of}
 use Rattle.vic_table.specs.Columns.{separator_byte, are_of_catalogue, are_of_places, catalogue_columns, places_columns, named_columns, columns_under, columns_of, columns_fault, names_fault, is_misquoted, is_of_result, tells_elsewhere, first_line_fault}
-use Rattle.vic_table.specs.Conserved.{UidsAreConserved, IsTold, IsItems, told_uids}
-use Rattle.vic_table.specs.Contents.{is_blank, is_word, spelled_uid, tells_uid}
+use Rattle.vic_table.specs.Conserved.{as_list, UidsAreConserved, IsTold, IsItems, told_uids}
+use Rattle.vic_table.specs.Contents.{hex_uid, hex_runs, is_blank, is_word, spelled_uid, tells_uid}
 use Rattle.vic_table.specs.Lines.{bytes_fault, table_lines}
 use Rattle.vic_table.specs.Rows.{cell_at, is_blank_line, is_no_uid, is_given, item_fault, item_of, item_line_fault, cells_item_fault, cells_item, item_uids}
 use Rattle.vic_table.specs.Table.{fault_of, line_fault, cells_fault, columns_named, item_on, items_upto, HasNoFault}
@@ -145,6 +145,36 @@ one_item item u e = ap (λ o. cons_option o []) e
 no_item : (item : ItemValue) → item.uid ≡ None → item_uids (item ∷ []) ≡ []
 no_item item e = ap (λ o. cons_option o []) e
 
+-- ---- where an item stands
+
+none_there : (j : ℕ) (item : ItemValue) → slice_get [] j ≡ Some item → ⊥
+none_there zero item h = cc
+none_there (suc j) item h = cc
+
+only_there : (j : ℕ) (item own : ItemValue) → slice_get (own ∷ []) j ≡ Some item → own ≡ item
+only_there zero item own h = cc
+only_there (suc j) item own h = absurd (none_there j item h)
+
+either_part : (xs ys : List ItemValue) (j : ℕ) (item : ItemValue) → slice_get (xs ++ ys) j ≡ Some item → (slice_get xs j ≡ Some item) ⊎ ((i : ℕ) × (slice_get ys i ≡ Some item))
+either_part [] ys j item h = inr (j, h)
+either_part (x ∷ xs) ys zero item h = inl h
+either_part (x ∷ xs) ys (suc j) item h = either_part xs ys j item h
+
+nothing_spelled : (u : ℕ) → spelled_uid [] ≡ Some u → ⊥
+nothing_spelled u h = cc
+
+-- a cell that spells a UID is there
+cell_there : (cells : List (List ℕ)) (i u : ℕ) → spelled_uid (cell_at cells i) ≡ Some u → slice_get cells i ≡ Some (cell_at cells i)
+cell_there [] zero u h = absurd (nothing_spelled u h)
+cell_there [] (suc i) u h = absurd (nothing_spelled u h)
+cell_there (cell ∷ cells) zero u h = refl
+cell_there (cell ∷ cells) (suc i) u h = cell_there cells i u h
+
+spelled_told : (cell : List ℕ) (u : ℕ) → spelled_uid cell ≡ Some u → has (told_uids cell) u ≡ true
+spelled_told cell u h =
+    list_any-append (nat_eq u) (filter_map hex_uid (hex_runs cell)) (as_list (spelled_uid cell))
+    ∙ or_right (has (filter_map hex_uid (hex_runs cell)) u) (has (as_list (spelled_uid cell)) u) (ap (λ o. has (as_list o) u) h ∙ or_left (nat_eq u u) false (eq-eqb u u refl))
+
 module _ (c : CatalogueColumns) (lines : List (List ℕ)) (clean : HasNoFault lines) (columns_are : columns_named lines ≡ Some (Catalogue c)) where
   line_clean : (k : ℕ) (line : List ℕ) → slice_get lines (suc k) ≡ Some line → item_line_fault c (item_uids (items_upto c lines (suc k))) line ≡ None
   line_clean k line at =
@@ -268,9 +298,46 @@ module _ (c : CatalogueColumns) (lines : List (List ℕ)) (clean : HasNoFault li
       let later = more_items c lines (suc (suc k)) (length lines - suc (suc k)) (length (items_upto c lines (suc k))) item here in
       record { index = length (items_upto c lines (suc k)); item = item; there = ap (λ m. slice_get (items_upto c lines m) (length (items_upto c lines (suc k)))) (sym all) ∙ later; line_is = refl; uid_is = row.1 }
 
+  -- ---- an item's line
+
+  row_told : (k u : ℕ) (line : List ℕ) (cells : List (List ℕ)) → slice_get lines (suc k) ≡ Some line → cells_of (separator_byte c.separator) line ≡ Some cells → spelled_uid (cell_at cells c.uid) ≡ Some u → IsTold c lines (suc k) u
+  row_told k u line cells at split spells = record {
+    line = line;
+    there = at;
+    cells = cells;
+    split = split;
+    place = c.uid;
+    cell = cell_at cells c.uid;
+    in_it = cell_there cells c.uid u spells;
+    told = spelled_told (cell_at cells c.uid) u spells;
+  }
+
+  in_cells : (k n u : ℕ) (line : List ℕ) → slice_get lines (suc k) ≡ Some line → (o : Option (List (List ℕ))) → o ≡ cells_of (separator_byte c.separator) line → (j : ℕ) (item : ItemValue) → slice_get (cells_item c (suc (suc k)) line o) j ≡ Some item → item.line ≡ suc n → item.uid ≡ Some u → IsTold c lines n u
+  in_cells k n u line at None e j item there l i = absurd (none_there j item there)
+  in_cells k n u line at (Some cells) e j item there l i = elim (cases_Bool (is_blank_line cells)) [
+    | inl blank ↦ absurd (none_there j item (sym (ap (λ xs. slice_get xs j) (cond-true (is_blank_line cells) [] (item_of c (suc (suc k)) line cells ∷ []) blank)) ∙ there))
+    | inr full ↦
+        let same = only_there j item (item_of c (suc (suc k)) line cells) (sym (ap (λ xs. slice_get xs j) (cond-false (is_blank_line cells) [] (item_of c (suc (suc k)) line cells ∷ []) full)) ∙ there) in
+        let number : n ≡ suc k = omega (arith, l, ap (λ x. x.line) same) in
+        rw number (row_told k u line cells at (sym e) (ap (λ x. x.uid) same ∙ i))
+  ]
+
+  in_line : (k n u : ℕ) (o : Option (List ℕ)) → o ≡ slice_get lines k → (j : ℕ) (item : ItemValue) → slice_get (item_on c k o) j ≡ Some item → item.line ≡ suc n → item.uid ≡ Some u → IsTold c lines n u
+  in_line zero n u o e j item there l i = absurd (none_there j item there)
+  in_line (suc k) n u None e j item there l i = absurd (none_there j item there)
+  in_line (suc k) n u (Some line) e j item there l i = in_cells k n u line (sym e) (cells_of (separator_byte c.separator) line) refl j item there l i
+
+  kept_upto : (m n u j : ℕ) (item : ItemValue) → slice_get (items_upto c lines m) j ≡ Some item → item.line ≡ suc n → item.uid ≡ Some u → IsTold c lines n u
+  kept_upto zero n u j item there l i = absurd (none_there j item there)
+  kept_upto (suc m) n u j item there l i = elim (either_part (items_upto c lines m) (item_on c m (slice_get lines m)) j item there) [
+    | inl before ↦ kept_upto m n u j item before l i
+    | inr here ↦ in_line m n u (slice_get lines m) refl here.0 item here.1 l i
+  ]
+
 pub conserved : UidsAreConserved
 conserved text catalogue is = record {
   told = λ n u t. ap_items n u (told_is catalogue.columns (table_lines text) is.no_fault is.columns n u t);
+  kept = λ n u t. kept_upto catalogue.columns (table_lines text) is.no_fault is.columns (length (table_lines text)) n u t.index t.item (ap (λ items. slice_get items t.index) (sym is.items) ∙ t.there) t.line_is t.uid_is;
   once = rw is.items (once_upto catalogue.columns (table_lines text) is.no_fault is.columns (length (table_lines text)));
 } where
   ap_items : (n u : ℕ) → IsItems (items_upto catalogue.columns (table_lines text) (length (table_lines text))) n u → IsItems catalogue.items n u

@@ -12,3 +12,4 @@ mod PlaceRows
 mod Whole
 mod Telling
 mod Conserving
+mod Reordering

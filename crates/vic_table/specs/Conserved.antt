@@ -38,9 +38,11 @@ pub record IsItems (items : List ItemValue) (n u : ℕ) : Type 0 where
   pub line_is : item.line ≡ suc n
   pub uid_is : item.uid ≡ Some u
 
--- each UID that a cell tells is that of its line's item, and no two items have the same
+-- the UIDs of items are exactly those that cells have or spell, each in its item's line, and no two
+-- items have the same
 pub record IsConserved (lines : List (List ℕ)) (catalogue : CatalogueValue) : Type 0 where
   pub told : (n u : ℕ) → IsTold catalogue.columns lines n u → IsItems catalogue.items n u
+  pub kept : (n u : ℕ) → IsItems catalogue.items n u → IsTold catalogue.columns lines n u
   pub once : AreDifferent (item_uids catalogue.items)
 
 -- that, of each catalogue

@@ -7,5 +7,6 @@ pub mod Rows
 pub mod Table
 pub mod Reads
 pub mod Conserved
+pub mod Reordered
 pub mod Names
 pub mod inner
