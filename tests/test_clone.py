@@ -247,7 +247,7 @@ def test_what_is_proved_again(built):
     (built.top / "crates/vic_frame/src/uid.rt").touch()
     assert built.proved_now() == []
     built.change("crates/vic_words/src/lib.rt")
-    assert built.proved_now() == ["vic_words", "vicinity"]
+    assert built.proved_now() == ["vic_words", "vic_program", "vicinity"]
     assert built.proved_now() == []
 
 
@@ -338,20 +338,21 @@ def test_what_the_gate_has_proved_is_taken(clone, gate):
 
 
 def test_what_the_gate_has_not_proved_is_proved_here(gate):
-    lines = [*proved("vic_words"), "rt: vic_words NOT PROVED",
+    lines = [*proved("vic_words", "vic_program"), "rt: vic_words NOT PROVED",
+             "rt: vic_program NOT PROVED: its library vic_words failed",
              "rt: vicinity NOT PROVED: its library vic_words failed"]
-    assert gate(lines) == (b"built here\n", ["vic_words", "vicinity"])
+    assert gate(lines) == (b"built here\n", ["vic_words", "vic_program", "vicinity"])
 
 
 def test_what_the_gate_has_proved_of_other_files_is_proved_here(clone, gate):
     clone.change("crates/vic_answer/src/lib.rt")
     given = gate([*proved(), "rt: vicinity proved"])
-    assert given == (b"built here\n", ["vic_answer", "vic_words", "vicinity"])
+    assert given == (b"built here\n", ["vic_answer", "vic_words", "vic_program", "vicinity"])
 
 
 def test_a_gate_that_was_broken_off(gate):
-    given = gate(proved("vic_words"), is_broken_off=True)
-    assert given == (b"built here\n", ["vic_words", "vicinity"])
+    given = gate(proved("vic_words", "vic_program"), is_broken_off=True)
+    assert given == (b"built here\n", ["vic_words", "vic_program", "vicinity"])
 
 
 # The kit itself.

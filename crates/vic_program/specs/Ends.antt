@@ -1,0 +1,39 @@
+-- How the program ends.
+use Rattle.std.specs.Prelude.{ℕ, List, [], ◌++◌, Option, Some, None, Result, Ok, Err, codes}
+use Rattle.vic_answer.specs.Status.{fault_text, status_code}
+use Rattle.vic_answer.specs.declared.status.RunFault.{RunFault}
+use Rattle.vic_answer.specs.declared.status.RunFault.TheVariants.{Read, Write, Memory}
+use Rattle.vic_answer.specs.declared.status.Status.{Status}
+use Rattle.vic_words.specs.declared.asked.WordsFault.{WordsFault}
+use Rattle.vic_words.specs.declared.asked.WordsFault.TheVariants.{Usage as UsageFault, Memory as MemoryFault}
+use Rattle.vic_program.specs.declared.no_answer.NoAnswer.{NoAnswer}
+use Rattle.vic_program.specs.declared.no_answer.NoAnswer.TheVariants.{Usage, CannotOpen, Run}
+
+-- with a status, or without an answer, and then standard error has this line
+abbrev pub End : Type 0
+End = Result Status (List ℕ)
+
+abbrev pub line_of : NoAnswer → List ℕ
+line_of Usage = codes "vicinity: usage"
+line_of (CannotOpen name) = codes "vicinity: cannot open " ++ name.now
+line_of (Run fault) = fault_text fault
+
+abbrev pub end_of : Result Status NoAnswer → End
+end_of (Ok status) = Ok status
+end_of (Err why) = Err (line_of why)
+
+-- the end of a run over files, of which one couldn't be opened, or none
+abbrev pub ended : Option (List ℕ) → Result Status RunFault → End
+ended unopened (Ok status) = Ok status
+ended (Some name) (Err Read) = Err (codes "vicinity: cannot open " ++ name)
+ended unopened (Err fault) = Err (fault_text fault)
+
+-- the exit status
+abbrev pub exit_code : End → ℕ
+exit_code (Ok status) = status_code status
+exit_code (Err line) = 4
+
+-- what is said where the words ask for nothing
+abbrev pub words_line : WordsFault → List ℕ
+words_line UsageFault = codes "vicinity: usage"
+words_line MemoryFault = fault_text Memory

@@ -1,0 +1,5 @@
+pub mod Files
+pub mod Ends
+pub mod Lines
+pub mod Runs
+pub mod Program

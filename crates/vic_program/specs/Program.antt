@@ -1,0 +1,45 @@
+-- The program, from its words to its exit status.
+use Rattle.std.specs.Prelude.{◌≡◌, ◌⊎◌, ℕ, List, codes, Err}
+use Rattle.vic_answer.specs.Status.{fault_text}
+use Rattle.vic_answer.specs.declared.status.RunFault.TheVariants.{Memory}
+use Rattle.vic_words.specs.Words.{Ask}
+use Rattle.vic_words.specs.declared.asked.Asked.{Asked}
+use Rattle.vic_program.specs.Ends.{End, exit_code}
+use Rattle.vic_program.specs.Files.{FileSource}
+use Rattle.vic_program.specs.Runs.{Reading, RunsAsked, Writing}
+
+-- nothing was read or written, and standard error has this line
+pub record IsSilent {I W : Type 0} (line : List ℕ) (input input' : I) (output output' : W)
+    (end : End) : Type 0 where
+  pub unread : input' ≡ input
+  pub unwritten : output' ≡ output
+  pub ends : end ≡ Err line
+
+-- the words ask for this, and it was done
+pub record IsDone {F T I W : Type 0} (rf : Reading (FileSource F T)) (ri : Reading I)
+    (w : Writing W) (words : List (List ℕ)) (input input' : I) (output output' : W) (end : End)
+    : Type 0 where
+  pub asked : Asked
+  pub asks : Ask words asked
+  pub runs : RunsAsked rf ri w asked input input' output output' end
+
+-- the words ask for nothing
+pub record IsUsage {I W : Type 0} (words : List (List ℕ)) (input input' : I) (output output' : W)
+    (end : End) : Type 0 where
+  pub nothing : (asked : Asked) → Ask words asked → ⊥
+  pub silent : IsSilent (codes "vicinity: usage") input input' output output' end
+
+-- what was done for the words; or memory to read them was refused
+abbrev pub RunsWords : {F T I W : Type 0} → Reading (FileSource F T) → Reading I → Writing W
+    → List (List ℕ) → I → I → W → W → End → Type 0
+RunsWords rf ri w words input input' output output' end =
+    IsDone rf ri w words input input' output output' end
+    ⊎ (IsUsage words input input' output output' end
+    ⊎ IsSilent (fault_text Memory) input input' output output' end)
+
+-- the program's end: what led to it, its exit status, and what was said
+pub record Ends (Ran : End → Type 0) (code : ℕ) (Said : End → Type 0) : Type 0 where
+  pub end : End
+  pub ran : Ran end
+  pub code_is : code ≡ exit_code end
+  pub says : Said end

@@ -1,0 +1,97 @@
+-- What is read and written for what the words ask for.
+use Rattle.std.specs.Prelude.{◌≡◌, ◌⊎◌, ℕ, Bool, true, List, [], ◌∷◌, ◌++◌, length, codes, map, Option, Some, None, Result, Err, OnOk, IfErr, string_bytes}
+use Rattle.vic_answer.specs.Reconciled.{AreComplete, GoOn}
+use Rattle.vic_answer.specs.ReconcileRun.{ReadsListAndLogs, Reconciles, StopsBy, WritesAnswer}
+use Rattle.vic_answer.specs.Runs.{LeavesSink}
+use Rattle.vic_answer.specs.Tasks.{Does, LeavesSourceAfter, file_of}
+use Rattle.vic_answer.specs.declared.status.RunFault.{RunFault}
+use Rattle.vic_answer.specs.declared.status.Status.{Status}
+use Rattle.vic_answer.specs.declared.task.Task.{Task}
+use Rattle.vic_words.specs.declared.asked.Asked.{Asked}
+use Rattle.vic_words.specs.declared.asked.Asked.TheVariants.{Task as OneTask, Reconcile}
+use Rattle.vic_log.specs.Device.{from_read_inner}
+use Rattle.vic_answer.specs.Status.{fault_text}
+use Rattle.vic_answer.specs.declared.status.RunFault.TheVariants.{Memory}
+use Rattle.vic_program.specs.Ends.{End, ended}
+use Rattle.vic_program.specs.Files.{AreNew, FileSource, IsNew, first_unopened, unopened_name}
+
+-- what a contract sees of a source
+pub record Reading (S : Type 0) : Type 0 where
+  pub returned : S → List ℕ
+  pub ended : S → Bool
+  pub reads : S → ℕ
+  pub has_failed : S → Bool
+
+-- and of a sink
+pub record Writing (W : Type 0) : Type 0 where
+  pub written : W → List ℕ
+  pub is_flushed : W → Bool
+  pub has_failed : W → Bool
+
+-- a task was done from a source to a sink, with this result
+pub record DoesTask {S W : Type 0} (r : Reading S) (w : Writing W) (task : Task) (from from' : S)
+    (to to' : W) (ran : Result Status RunFault) : Type 0 where
+  pub does : Does task (r.returned from) (r.returned from') (r.ended from')
+      (w.written to) (w.written to') ran
+  pub leaves_source : LeavesSourceAfter task r.reads r.has_failed from from' ran
+  pub leaves_sink : LeavesSink w.is_flushed w.has_failed to to' ran
+
+-- a task over standard input, or over none
+pub record OverInput {S W : Type 0} (r : Reading S) (w : Writing W) (task : Task)
+    (input input' : S) (output output' : W) (end : End) : Type 0 where
+  pub ran : Result Status RunFault
+  pub does : DoesTask r w task input input' output output' ran
+  pub ends : end ≡ ended None ran
+
+-- a task over the file with this name
+pub record OverFile {F T W : Type 0} (r : Reading (FileSource F T)) (w : Writing W) (task : Task)
+    (name : List ℕ) (output output' : W) (end : End) : Type 0 where
+  pub file : FileSource F T
+  pub file' : FileSource F T
+  pub new : IsNew r.returned r.has_failed name file
+  pub ran : Result Status RunFault
+  pub does : DoesTask r w task file file' output output' ran
+  pub ends : end ≡ ended (unopened_name (from_read_inner file')) ran
+
+-- the logs in the files with these names, against the list in the file with that name
+pub record OverFiles {F T W : Type 0} (r : Reading (FileSource F T)) (w : Writing W)
+    (list_name : List ℕ) (names : List (List ℕ)) (output output' : W) (end : End) : Type 0 where
+  pub list : FileSource F T
+  pub list' : FileSource F T
+  pub logs : List (FileSource F T)
+  pub logs' : List (FileSource F T)
+  pub new : AreNew r.returned r.has_failed (list_name ∷ names) (list ∷ logs)
+  pub ran : Result Status RunFault
+  pub answer : WritesAnswer (Reconciles r.returned r.ended r.has_failed list list' logs logs')
+      list_name names (w.written output) (w.written output') ran
+  pub complete : OnOk ran ((rest : List ℕ)
+      → w.written output' ≡ w.written output ++ (codes "complete " ++ rest)
+      → ReadsListAndLogs r.returned (λ s _. r.ended s ≡ true) list list' logs logs'
+      (λ text texts. AreComplete text texts rest × (length texts ≡ length logs)))
+  pub stops : IfErr ran (StopsBy r.returned r.ended r.has_failed GoOn (list ∷ logs) (list' ∷ logs'))
+  pub leaves_sink : LeavesSink w.is_flushed w.has_failed output output' ran
+  pub ends : end ≡ ended (first_unopened (list' ∷ logs')) ran
+
+-- memory was refused before anything was read
+pub record NoMemory {W : Type 0} (output output' : W) (end : End) : Type 0 where
+  pub untouched : output' ≡ output
+  pub ends : end ≡ Err (fault_text Memory)
+
+-- ---- what is asked for
+
+-- a task, over the file that it names or over standard input
+abbrev pub RunsTask : {F T I W : Type 0} → Reading (FileSource F T) → Reading I → Writing W
+    → Task → Option (List ℕ) → I → I → W → W → End → Type 0
+RunsTask rf ri w task (Some name) input input' output output' end =
+    OverFile rf w task name output output' end × (input' ≡ input)
+RunsTask rf ri w task None input input' output output' end =
+    OverInput ri w task input input' output output' end
+
+abbrev pub RunsAsked : {F T I W : Type 0} → Reading (FileSource F T) → Reading I → Writing W
+    → Asked → I → I → W → W → End → Type 0
+RunsAsked rf ri w (OneTask task) input input' output output' end =
+    RunsTask rf ri w task (file_of task) input input' output output' end
+RunsAsked rf ri w (Reconcile list logs) input input' output output' end =
+    (OverFiles rf w (string_bytes list) (map string_bytes logs.items) output output' end
+    ⊎ NoMemory output output' end)
+    × (input' ≡ input)

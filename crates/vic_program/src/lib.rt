@@ -1,0 +1,14 @@
+//! What the program does for all words and files: what it writes, and with which status it ends.
+//!
+//! It is generic over whatever opens files, and over the three standard streams.
+#![tactic(auto)]
+
+mod files;
+mod no_answer;
+mod program;
+mod run;
+
+pub use files::{Files, LateFile};
+pub use no_answer::NoAnswer;
+pub use program::run_program;
+pub use run::run_asked;

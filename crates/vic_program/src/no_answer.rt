@@ -1,0 +1,84 @@
+//! Why a run has no answer, and what standard error says about it.
+
+ghost use Rattle.std.specs.Prelude.{◌≡◌, ◌++◌, codes, option_copied};
+ghost use Rattle.vic_program.specs.Ends.{end_of, line_of, ended};
+ghost use Rattle.vic_program.specs.Lines.{Tells, Told};
+
+use std::alloc::AllocError;
+use vic_answer::{RunFault, Status, fault_text};
+use vic_log::{Sink, write_whole};
+
+/// The exit status of a run that has no answer.
+pub(crate) const NO_ANSWER: u8 = 4;
+
+/// Why a run has no answer.
+#[derive(Clone, Copy, Debug, Drop)]
+pub enum NoAnswer<'a> {
+    /// The words aren't a command with its operands.
+    Usage,
+    /// The file with this name can't be opened.
+    CannotOpen(&'a str),
+    /// The run failed.
+    Run(RunFault),
+}
+
+impl<'a> From<AllocError> for NoAnswer<'a> {
+    ghost use Rattle.vic_program.specs.Ends.{line_of};
+    ghost use Rattle.vic_answer.specs.Status.{fault_text};
+    ghost use Rattle.vic_answer.specs.declared.status.RunFault.TheVariants.{Memory};
+
+    ghost from_gives = { λ _ r. line_of r ≡ fault_text Memory };
+
+    fn from(_: AllocError) -> NoAnswer<'a> {
+        NoAnswer::Run(RunFault::Memory)
+    }
+}
+
+/// How a run over files ends, by the name of the file that couldn't be opened, if there is one.
+pub(crate) fn ended<'a>(
+    unopened: Option<&'a str>,
+    ran: Result<Status, RunFault>,
+) -> Result<Status, NoAnswer<'a>>
+    ensures { end_of result ≡ ended (option_copied unopened.entry) ran }
+{
+    match (ran, unopened) {
+        (Ok(status), _) => Ok(status),
+        (Err(RunFault::Read), Some(name)) => Err(NoAnswer::CannotOpen(name)),
+        (Err(fault), _) => Err(NoAnswer::Run(fault)),
+    }
+}
+
+impl<'a> NoAnswer<'a> {
+    /// The two parts of the line, without the LF.
+    fn parts(&self) -> (&'static str, &'a str)
+        ensures { result.0.now ++ result.1.now ≡ line_of self.now }
+    {
+        match self {
+            NoAnswer::Usage => ("vicinity: usage", ""),
+            NoAnswer::CannotOpen(name) => ("vicinity: cannot open ", name),
+            NoAnswer::Run(fault) => (fault_text(fault), ""),
+        }
+    }
+
+    /// Says it on a sink, which is flushed. A sink that has failed isn't written to again.
+    pub(crate) fn tell<W: Sink>(&self, sink: &mut W)
+        ensures { Tells W.written W.is_flushed W.has_failed sink.old sink.new
+            (line_of self.now ++ codes "\n") }
+    {
+        let (first, second) = self.parts();
+        tell_part(sink, first.as_bytes());
+        tell_part(sink, second.as_bytes());
+        tell_part(sink, b"\n");
+        if !sink.failed() {
+            // if it fails, the status is the same
+            let _ = sink.flush();
+        }
+    }
+}
+
+/// Writes a part of what is said. If that fails, the status is the same.
+fn tell_part<W: Sink>(sink: &mut W, part: &[u8])
+    ensures { Told W.written W.has_failed sink.old sink.new part.now }
+{
+    let _ = write_whole(sink, part);
+}
