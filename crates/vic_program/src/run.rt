@@ -23,7 +23,8 @@ fn files_of<'a, F: Files>(
     names: &'a [String],
 ) -> Result<Vec<FileSource<'a, F>>, AllocError>
     ensures { IfOk result (λ sources. AreNew ⟦<FromRead<LateFile<'a, F>> as Source>⟧.returned
-        ⟦<FromRead<LateFile<'a, F>> as Source>⟧.has_failed (map string_bytes names.now) sources.items) }
+        ⟦<FromRead<LateFile<'a, F>> as Source>⟧.has_failed
+        (map string_bytes names.now) sources.items) }
 {
     let mut sources = Vec::new(alloc);
     for name in names {
@@ -119,7 +120,8 @@ fn run_task<'a, F: Files, I: Source, O: Sink>(
       written = O.written;
       is_flushed = O.is_flushed;
       has_failed = O.has_failed;
-    }) task.entry.now (file_of task.entry.now) input.old input.new output.old output.new (end_of result) }
+    }) task.entry.now (file_of task.entry.now)
+        input.old input.new output.old output.new (end_of result) }
 {
     match task.file() {
         Some(name) => run_over_file(alloc, task, files, name, output),

@@ -15,7 +15,8 @@ fn with_operand<'a>(
     operand: &'a str,
     required: bool,
 ) -> Result<Command<'a>, AllocError>
-    ensures shape { IfOk result (λ c. app_of c ≡ declared.with_operand name.now operand.now required) }
+    ensures shape { IfOk result (λ c.
+        app_of c ≡ declared.with_operand name.now operand.now required) }
     ensures local { IfOk result (λ c. (fields_of c).has_globals ≡ false) }
 {
     let operand = Arg::new(alloc, operand)

@@ -47,7 +47,8 @@ fn given_words(alloc: Global, given: &ArgMatches<'_>) -> Result<Vec<String>, All
 /// What a command with a file asks for, by its name.
 fn asked_of_file(name: &str, file: Option<String>) -> Result<Task, WordsFault>
     ensures asked { IfOk result (FileAsks name.now (option_map string_bytes file)) }
-    ensures usage { IfErr result (λ _. (task : _) → FileAsks name.now (option_map string_bytes file) task → ⊥) }
+    ensures usage { IfErr result (λ _. (task : _)
+        → FileAsks name.now (option_map string_bytes file) task → ⊥) }
 {
     match name {
         "check" => Ok(Task::Check(file)),

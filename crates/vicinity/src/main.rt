@@ -10,6 +10,7 @@ use vic_program::{Files, run_program};
 use vic_words::WordsFault;
 
 /// The files of the machine.
+#[derive(Drop)]
 struct HostFiles<'a> {
     rt: &'a HostRuntime,
 }
