@@ -1,8 +1,8 @@
 -- How the program ends.
-use Rattle.std.specs.Prelude.{ℕ, List, [], ◌++◌, Option, Some, None, Result, Ok, Err, codes}
+use Rattle.std.specs.Prelude.{ℕ, List, ◌++◌, Option, Some, Result, Ok, Err, codes}
 use Rattle.vic_answer.specs.Status.{fault_text, status_code}
 use Rattle.vic_answer.specs.declared.status.RunFault.{RunFault}
-use Rattle.vic_answer.specs.declared.status.RunFault.TheVariants.{Read, Write, Memory}
+use Rattle.vic_answer.specs.declared.status.RunFault.TheVariants.{Read, Memory}
 use Rattle.vic_answer.specs.declared.status.Status.{Status}
 use Rattle.vic_words.specs.declared.asked.WordsFault.{WordsFault}
 use Rattle.vic_words.specs.declared.asked.WordsFault.TheVariants.{Usage as UsageFault, Memory as MemoryFault}

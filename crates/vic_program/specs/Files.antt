@@ -4,7 +4,7 @@ use Rattle.vic_log.specs.Device.{from_read_inner}
 use Rattle.vic_log.specs.declared.source.FromRead.{FromRead}
 use Rattle.vic_program.specs.declared.files.LateFile.{LateFile}
 use Rattle.vic_program.specs.declared.files.State.{State}
-use Rattle.vic_program.specs.declared.files.State.TheVariants.{Unread, Unopened, Open, Closed}
+use Rattle.vic_program.specs.declared.files.State.TheVariants.{Unread, Unopened}
 
 -- the file has this name, and wasn't opened yet
 pub record IsUnread {F T : Type 0} (file : LateFile F T) (name : List ℕ) : Type 0 where

@@ -1,5 +1,5 @@
 -- What is read and written for what the words ask for.
-use Rattle.std.specs.Prelude.{◌≡◌, ◌⊎◌, ℕ, Bool, true, List, [], ◌∷◌, ◌++◌, length, codes, map, Option, Some, None, Result, Err, OnOk, IfErr, string_bytes}
+use Rattle.std.specs.Prelude.{◌≡◌, ◌⊎◌, ℕ, Bool, true, List, ◌∷◌, ◌++◌, length, codes, map, Option, Some, None, Result, Err, OnOk, IfErr, string_bytes}
 use Rattle.vic_answer.specs.Reconciled.{AreComplete, GoOn}
 use Rattle.vic_answer.specs.ReconcileRun.{ReadsListAndLogs, Reconciles, StopsBy, WritesAnswer}
 use Rattle.vic_answer.specs.Runs.{LeavesSink}

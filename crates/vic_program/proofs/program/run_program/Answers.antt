@@ -1,4 +1,4 @@
-use Rattle.std.proofs.Common.{◌≡◌, Err, ap, refl, rules}
+use Rattle.std.proofs.Common.{Err, ap, refl}
 use Rattle.vic_program.specs.Ends.{line_of}
 use Rattle.vic_program.proofs.Asked.{as_end, match_err}
 use Rattle.vic_program.proofs.program.run_program.Goals as goal

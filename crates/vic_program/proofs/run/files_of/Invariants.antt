@@ -1,4 +1,4 @@
-use Rattle.std.proofs.Common.{◌≡◌, map, string_bytes, take}
+use Rattle.std.proofs.Common.{map, string_bytes, take}
 use Rattle.vic_program.specs.Files.{AreNew}
 use Rattle.vic_program.proofs.run.files_of.Given as goal
 

@@ -1,4 +1,4 @@
-use Rattle.std.proofs.Common.{◌≡◌, ◌∙◌, ◌++◌, ◌∷◌, [], arith, rules, ap, ap₂, sym, option_copied}
+use Rattle.std.proofs.Common.{◌≡◌, ◌∙◌, ◌++◌, ◌∷◌, [], arith, ap, option_copied}
 use Rattle.std.proofs.lemmas.Grind.{common_steps}
 use Rattle.vic_program.specs.Files.{or_else, unopened_name}
 use Rattle.vic_program.proofs.InOrder.{found_more, or_copied}

@@ -1,5 +1,5 @@
-use Rattle.std.proofs.Common.{◌≡◌, ◌∙◌, rules, subst, sym, ap}
-use Rattle.vic_program.specs.Ends.{end_of, ended}
+use Rattle.std.proofs.Common.{◌∙◌, subst, sym, ap}
+use Rattle.vic_program.specs.Ends.{ended}
 use Rattle.vic_program.specs.Files.{IsUnread, unopened_name}
 use Rattle.vic_program.proofs.run.run_over_file.Goals as goal
 

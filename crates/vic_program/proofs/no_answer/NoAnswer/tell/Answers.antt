@@ -1,6 +1,6 @@
-use Rattle.std.proofs.Common.{◌≡◌, ◌∙◌, ◌++◌, Bool, true, false, List, ℕ, codes, rules, sym, ap₂}
+use Rattle.std.proofs.Common.{◌∙◌, ◌++◌, codes, rules, ap₂}
 use Rattle.vic_program.specs.Ends.{line_of}
-use Rattle.vic_program.specs.Lines.{Tells, Told}
+use Rattle.vic_program.specs.Lines.{Told}
 use Rattle.vic_program.proofs.Told.{told_failed, told_flushed, told_three}
 use Rattle.vic_program.proofs.no_answer.NoAnswer.tell.Goals as goal
 
