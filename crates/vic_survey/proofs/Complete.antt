@@ -90,8 +90,12 @@ surveys_run done (s ∷ ss) h =
 -- ---- lines that were read can be completed
 
 completed : (done : List SurveyValue) (s : SurveyValue) (front back : List (List ℕ)) → AreSurveys done → IsSurvey s → survey_lines s ≡ front ++ back → BeginsSome (joined (flat_map survey_lines done ++ front))
-completed done s front back d v e = (done ++ s ∷ [], joined back, All-push IsSurvey done s d v,
-    ap joined (flat_push done s ∙ ap (λ xs. flat_map survey_lines done ++ xs) e ∙ sym (append_assoc (flat_map survey_lines done) front back)) ∙ joined-append (flat_map survey_lines done ++ front) back)
+completed done s front back d v e = (
+  done ++ s ∷ [],
+  joined back,
+  All-push IsSurvey done s d v,
+  ap joined (flat_push done s ∙ ap (λ xs. flat_map survey_lines done ++ xs) e ∙ sym (append_assoc (flat_map survey_lines done) front back)) ∙ joined-append (flat_map survey_lines done ++ front) back,
+)
 
 -- lists that are parted in two ways
 part_split : (ls xs ys ends : List (List ℕ)) → (ls ++ (xs ++ ys)) ++ ends ≡ (ls ++ xs) ++ (ys ++ ends)
@@ -102,18 +106,25 @@ telling_completed : (done : List SurveyValue) (name : List ℕ) (s : Seen) (p : 
 telling_completed done name s p d n v = by_part p where
   t : SurveyValue
   t = record { name = name; field = Possible s }
+
   ends : List (List ℕ)
   ends = seal (lines_before t) ∷ []
+
   ms : List (List ℕ)
   ms = (codes "margin " ++ decimal s.margin) ∷ []
+
   ws : List (List ℕ)
   ws = (codes "weakest " ++ mask_text s.weakest) ∷ []
+
   hs : List (List ℕ)
   hs = (codes "hidden " ++ found_text s.hidden) ∷ []
+
   fs : List (List ℕ)
   fs = (codes "deaf " ++ found_text s.deaf) ∷ []
+
   two : List (List ℕ) → List (List ℕ)
   two xs = name_line name ∷ codes "possible" ∷ xs
+
   by_part : (p : Part) → BeginsSome (joined (flat_map survey_lines done ++ lines_of (Some (Telling name s p))))
   by_part part.Possible = completed done t (two []) (seen_lines s ++ ends) d (record { name = n; field = v }) refl
   by_part part.Lists = completed done t (two (lists_of s)) ((ms ++ (ws ++ (hs ++ fs))) ++ ends) d (record { name = n; field = v }) (ap two (append_assoc (lists_of s) (ms ++ (ws ++ (hs ++ fs))) ends))

@@ -11,3 +11,4 @@ pub mod Single
 pub mod Runs
 pub mod Complete
 pub mod Wrong
+pub mod Made

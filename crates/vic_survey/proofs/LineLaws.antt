@@ -49,7 +49,7 @@ certain_text_of w s h =
     let uid = uid_text_of (take 16 w) u.0 u.1 in
     let line = line_number_text d.0 n.0 n.1 in
     let text : w ≡ uid_text u.0 ++ (codes " by line " ++ decimal n.0) =
-        sym (take-append-drop 16 w) ∙ ap (λ xs. xs ++ drop 16 w) uid.0 ∙ ap (λ xs. uid_text u.0 ++ xs) (after_text (codes " by line ") (drop 16 w) d.0 d.1 ∙ ap (λ xs. codes " by line " ++ xs) line.0) in
+    sym (take-append-drop 16 w) ∙ ap (λ xs. xs ++ drop 16 w) uid.0 ∙ ap (λ xs. uid_text u.0 ++ xs) (after_text (codes " by line ") (drop 16 w) d.0 d.1 ∙ ap (λ xs. codes " by line " ++ xs) line.0) in
     let whole : codes "certain " ++ w ≡ certain_line (record { uid = u.0; line = n.0 }) = ap (λ xs. codes "certain " ++ xs) (text ∙ sym (append_assoc (uid_text u.0) (codes " by line ") (decimal n.0))) in
     subst (λ t. (codes "certain " ++ w ≡ certain_line t) × IsUid t.uid × IsLineNumber t.line) same_s (whole, uid.1, line.1))
 
@@ -144,7 +144,7 @@ pub refused_back : (n : ℕ) (f : LineFault) → IsLineNumber n → (f ≢ Frame
 refused_back n f h once =
     let split : decimal n ++ codes ": " ++ line_fault_name f ≡ decimal n ++ 58 ∷ (codes " " ++ line_fault_name f) = append_assoc (decimal n) (codes ": ") (line_fault_name f) in
     let cut : parted 58 (decimal n ++ codes ": " ++ line_fault_name f) ≡ Some (decimal n, codes " " ++ line_fault_name f) =
-        ap (parted 58) split ∙ parted_back 58 (decimal n) (codes " " ++ line_fault_name f) (no_digit 58 (λ d lt. grind (arith, nat_tests)) n (omega (arith, h.1))) in
+    ap (parted 58) split ∙ parted_back 58 (decimal n) (codes " " ++ line_fault_name f) (no_digit 58 (λ d lt. grind (arith, nat_tests)) n (omega (arith, h.1))) in
     rw (cut, line_number_back n h, fault_back f once) refl
 
 -- ---- names

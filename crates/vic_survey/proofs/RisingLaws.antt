@@ -59,15 +59,19 @@ pub before_is : (m n : BitMask) → comes_before m n ≡ true → ComesBefore m 
 before_is m n h = grind (arith, nat_tests)
 
 before_trans : (a b c : BitMask) → ComesBefore a b → ComesBefore b c → ComesBefore a c
-before_trans a b c h k = (omega (arith, h.0, k.0), λ e.
-    let f : a.len ≡ b.len = omega (arith, h.0, k.0, e) in
-    let g : b.len ≡ c.len = omega (arith, h.0, k.0, e) in
-    omega (arith, h.1 f, k.1 g))
+before_trans a b c h k = (
+  omega (arith, h.0, k.0),
+  λ e.
+      let f : a.len ≡ b.len = omega (arith, h.0, k.0, e) in
+      let g : b.len ≡ c.len = omega (arith, h.0, k.0, e) in
+      omega (arith, h.1 f, k.1 g),
+)
 
 behind_all : (ms : List BitMask) (m : BitMask) → AllPairs ComesBefore ms → is_behind ms m ≡ true → (k : ℕ) (d : BitMask) → k < length ms → ComesBefore (get_or ms k d) m
 behind_all ms m h behind k d lt = by_place (nat_lt k (length ms - 1)) refl where
   last : ComesBefore (get_or ms (length ms - 1) d) m
   last = before_is (get_or ms (length ms - 1) d) m (rw (last_at ms d (omega (arith, lt))) at behind)
+
   by_place : (b : Bool) → nat_lt k (length ms - 1) ≡ b → ComesBefore (get_or ms k d) m
   by_place true e = before_trans (get_or ms k d) (get_or ms (length ms - 1) d) m (h k (length ms - 1) d (ltb-true k (length ms - 1) e) (omega (arith, lt))) last
   by_place false e =

@@ -37,16 +37,16 @@ after_name_adds name line b n h =
       lines = ap (λ ls. name_line name ∷ ls) (sym t.0);
       valid = record { name = n; field = t.1 };
     })) where
-  nothing_valid : IsSeen nothing
-  nothing_valid = record {
-    answers = omega arith;
-    certain = record { rising = λ k lt. absurd (omega (arith, lt)); uids = λ k d lt. absurd (omega (arith, lt)) };
-    masks = record { rising = λ i j d lt more. absurd (omega (arith, more)); short = λ k d lt. absurd (omega (arith, lt)) };
-    margin = omega arith;
-    weakest = (omega arith, omega arith);
-    hidden = tt;
-    deaf = tt;
-  }
+      nothing_valid : IsSeen nothing
+      nothing_valid = record {
+        answers = omega arith;
+        certain = record { rising = λ k lt. absurd (omega (arith, lt)); uids = λ k d lt. absurd (omega (arith, lt)) };
+        masks = record { rising = λ i j d lt more. absurd (omega (arith, more)); short = λ k d lt. absurd (omega (arith, lt)) };
+        margin = omega arith;
+        weakest = (omega arith, omega arith);
+        hidden = tt;
+        deaf = tt;
+      }
 
 -- a number, a mask and a mask or none behind words
 count_is : (words line : List ℕ) (n : ℕ) → count_after words line ≡ Some n → (line ≡ words ++ decimal n) × (n ≤ 999999)
@@ -85,9 +85,9 @@ certain_adds name s line b n v h =
       lines = ap (λ ls. name_line name ∷ codes "possible" ∷ ls) (more_uids (codes "answers " ++ decimal s.answers) s.certain c.0 s.«open» line none text);
       valid = (n, record { answers = v.answers; certain = certain_push s.certain c.0 v.certain p.1 u.1 u.2; masks = v.masks; margin = v.margin; weakest = v.weakest; hidden = v.hidden; deaf = v.deaf }, tt);
     }) where
-  more_uids : (a : List ℕ) (us : List ShownUid) (c : ShownUid) (ms : List BitMask) (line : List ℕ) → ms ≡ [] → line ≡ certain_line c
-      → a ∷ map certain_line (us ++ c ∷ []) ++ map open_line ms ≡ (a ∷ map certain_line us ++ map open_line ms) ++ line ∷ []
-  more_uids a us c ms line none text = rw (none, text, map-append certain_line us (c ∷ [])) (ap (λ xs. a ∷ xs) (append-nil (map certain_line us ++ certain_line c ∷ []) ∙ ap (λ xs. xs ++ certain_line c ∷ []) (sym (append-nil (map certain_line us)))))
+      more_uids : (a : List ℕ) (us : List ShownUid) (c : ShownUid) (ms : List BitMask) (line : List ℕ) → ms ≡ [] → line ≡ certain_line c
+          → a ∷ map certain_line (us ++ c ∷ []) ++ map open_line ms ≡ (a ∷ map certain_line us ++ map open_line ms) ++ line ∷ []
+      more_uids a us c ms line none text = rw (none, text, map-append certain_line us (c ∷ [])) (ap (λ xs. a ∷ xs) (append-nil (map certain_line us ++ certain_line c ∷ []) ∙ ap (λ xs. xs ++ certain_line c ∷ []) (sym (append-nil (map certain_line us)))))
 
 open_adds : (name : List ℕ) (s : Seen) (line : List ℕ) (b : Begun) → IsName name → IsSeen s → more_open name s line ≡ Some b → Adds (Some (Telling name s part.Lists)) line (Some b)
 open_adds name s line b n v h =
@@ -99,9 +99,9 @@ open_adds name s line b n v h =
       lines = ap (λ ls. name_line name ∷ codes "possible" ∷ ls) (more_masks (codes "answers " ++ decimal s.answers) (map certain_line s.certain) s.«open» m.0 line u.0);
       valid = (n, record { answers = v.answers; certain = v.certain; masks = open_push s.«open» m.0 v.masks t.0 u.1; margin = v.margin; weakest = v.weakest; hidden = v.hidden; deaf = v.deaf }, tt);
     }) where
-  more_masks : (a : List ℕ) (cs : List (List ℕ)) (ms : List BitMask) (m : BitMask) (line : List ℕ) → line ≡ open_line m
-      → a ∷ cs ++ map open_line (ms ++ m ∷ []) ≡ (a ∷ cs ++ map open_line ms) ++ line ∷ []
-  more_masks a cs ms m line text = rw (text, map-append open_line ms (m ∷ [])) (sym (append_assoc (a ∷ cs) (map open_line ms) (open_line m ∷ [])))
+      more_masks : (a : List ℕ) (cs : List (List ℕ)) (ms : List BitMask) (m : BitMask) (line : List ℕ) → line ≡ open_line m
+          → a ∷ cs ++ map open_line (ms ++ m ∷ []) ≡ (a ∷ cs ++ map open_line ms) ++ line ∷ []
+      more_masks a cs ms m line text = rw (text, map-append open_line ms (m ∷ [])) (sym (append_assoc (a ∷ cs) (map open_line ms) (open_line m ∷ [])))
 
 one_more : (ds ms : List (List ℕ)) {w line : List ℕ} → line ≡ w → ds ++ (ms ++ w ∷ []) ≡ (ds ++ ms) ++ line ∷ []
 one_more ds ms {w} e = sym (append_assoc ds ms (w ∷ [])) ∙ ap (λ l. (ds ++ ms) ++ l ∷ []) (sym e)
@@ -183,9 +183,11 @@ step_adds done (Some (Told s)) line st d v h =
     let t = if_some (bytes_eq line (seal (lines_before s))) _ st h in
     let it : record { done = done ++ s ∷ []; begun = None } ≡ st = cc (t.1) in
     let text = same line (seal (lines_before s)) t.0 in
-    subst (λ x. (so_far x ≡ (flat_map survey_lines done ++ lines_before s) ++ line ∷ []) × IsState x) it
-    (append-nil (flat_map survey_lines (done ++ s ∷ [])) ∙ flat_push done s ∙ sym (append_assoc (flat_map survey_lines done) (lines_before s) (seal (lines_before s) ∷ []))
-    ∙ ap (λ l. (flat_map survey_lines done ++ lines_before s) ++ l ∷ []) (sym text), (All-push IsSurvey done s d v, tt))
+    subst (λ x. (so_far x ≡ (flat_map survey_lines done ++ lines_before s) ++ line ∷ []) × IsState x) it (
+      append-nil (flat_map survey_lines (done ++ s ∷ [])) ∙ flat_push done s ∙ sym (append_assoc (flat_map survey_lines done) (lines_before s) (seal (lines_before s) ∷ []))
+          ∙ ap (λ l. (flat_map survey_lines done ++ lines_before s) ++ l ∷ []) (sym text),
+      (All-push IsSurvey done s d v, tt),
+    )
 
 -- a line that is read is one more of those that were
 pub step_more : (st : State) (line : List ℕ) (st' : State) → IsState st → step st line ≡ Some st' → (so_far st' ≡ so_far st ++ line ∷ []) × IsState st'

@@ -46,7 +46,8 @@ not_ten b h = grind (arith, nat_tests)
 
 no_lf_name : (name : List ℕ) → AllByRecursion IsVisible name → has name 10 ≡ false
 no_lf_name [] h = refl
-no_lf_name (b ∷ name) h = rw (not_ten b h.0.0, no_lf_name name h.1) refl 
+no_lf_name (b ∷ name) h = rw (not_ten b h.0.0, no_lf_name name h.1) refl
+
 no_lf_fault : (f : LineFault) → has (line_fault_name f) 10 ≡ false
 no_lf_fault fault.TooManyLines = refl
 no_lf_fault fault.LineTooLong = refl
@@ -90,11 +91,12 @@ open_single [] h = tt
 open_single (m ∷ ms) h = (no_lf_mask m h.0, open_single ms h.1)
 
 seen_single : (s : Seen) → IsSeen s → AllByRecursion IsOneLine (seen_lines s)
-seen_single s h =
-    (no_lf_decimal s.answers (omega (arith, h.answers)),
-    both_single (map certain_line s.certain ++ map open_line s.«open») _
-    (both_single (map certain_line s.certain) (map open_line s.«open») (certain_single s.certain (recursion_from_All (λ (t : ShownUid). IsUid t.uid × IsLineNumber t.line) s.certain h.certain.uids)) (open_single s.«open» (recursion_from_All IsShort s.«open» h.masks.short)))
-    (no_lf_decimal s.margin (omega (arith, h.margin)), (no_lf_mask s.weakest h.weakest, (no_lf_found s.hidden h.hidden, (no_lf_found s.deaf h.deaf, tt)))))
+seen_single s h = (
+  no_lf_decimal s.answers (omega (arith, h.answers)),
+  both_single (map certain_line s.certain ++ map open_line s.«open») _
+      (both_single (map certain_line s.certain) (map open_line s.«open») (certain_single s.certain (recursion_from_All (λ (t : ShownUid). IsUid t.uid × IsLineNumber t.line) s.certain h.certain.uids)) (open_single s.«open» (recursion_from_All IsShort s.«open» h.masks.short)))
+      (no_lf_decimal s.margin (omega (arith, h.margin)), (no_lf_mask s.weakest h.weakest, (no_lf_found s.hidden h.hidden, (no_lf_found s.deaf h.deaf, tt)))),
+)
 
 pub lines_single : (s : SurveyValue) → IsSurvey s → AllByRecursion IsOneLine (lines_before s)
 lines_single s h = (no_lf_name s.name (recursion_from_All IsVisible s.name h.name.visible), field_single s.field h.field) where
@@ -109,8 +111,10 @@ digits_single zero n acc h = h
 digits_single (suc k) n acc h = by_test (n / 10 == 0) (digits_single k (n / 10) (digit_glyph false (n % 10) ∷ acc) more) where
   glyph : (d : ℕ) → d < 10 → nat_eq 10 (digit_glyph false d) ≡ false
   glyph d lt = rw (lt-ltb d 10 lt) (grind (arith, nat_tests))
+
   more : has (digit_glyph false (n % 10) ∷ acc) 10 ≡ false
   more = rw (glyph (n % 10) (omega arith), h) refl
+
   by_test : (b : Bool) → has (digits_onto k 10 false (n / 10) (digit_glyph false (n % 10) ∷ acc)) 10 ≡ false
       → has (if b then digit_glyph false (n % 10) ∷ acc else digits_onto k 10 false (n / 10) (digit_glyph false (n % 10) ∷ acc)) 10 ≡ false
   by_test true rest = more

@@ -74,6 +74,7 @@ parted_lacks c (b ∷ bs) h = by_test (b == c) refl h (λ e. parted_lacks c bs e
   by_rest : (r : Option (List ℕ × List ℕ)) → and_then {B = List ℕ × List ℕ} r (λ q. Some (b ∷ q.0, q.1)) ≡ None → r ≡ None
   by_rest None e = refl
   by_rest (Some q) e = absurd (cc e)
+
   by_test : (t : Bool) → (b == c) ≡ t → (if t then Some ([], bs) else and_then {B = List ℕ × List ℕ} (parted c bs) (λ q. Some (b ∷ q.0, q.1))) ≡ None → (parted c bs ≡ None → has bs c ≡ false) → has (b ∷ bs) c ≡ false
   by_test true e is lacks = absurd (cc is)
   by_test false e is lacks = rw (other_way b c e, lacks (by_rest (parted c bs) is)) refl

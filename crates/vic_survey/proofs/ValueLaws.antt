@@ -45,10 +45,10 @@ decoded_text count w n (Err e) h = cc
 hex_text : (count : ℕ) (w : List ℕ) (n : ℕ) → hex_number_in count w ≡ Some n → w ≡ hex_bytes count n
 hex_text count w n h = decoded_text count w n (decode_sized w count) h
 
-uid_is : (u : ℕ) → is_uid u ≡ true → IsUid u
+pub uid_is : (u : ℕ) → is_uid u ≡ true → IsUid u
 uid_is u h = grind (arith, nat_tests)
 
-is_uid_back : (u : ℕ) → IsUid u → is_uid u ≡ true
+pub is_uid_back : (u : ℕ) → IsUid u → is_uid u ≡ true
 is_uid_back u h = rw (le-leb (0xE0 * 2 ^ UID_BITS) u h.0, lt-ltb u (0xE1 * 2 ^ UID_BITS) h.1) refl
 
 pub uid_text_of : (w : List ℕ) (u : ℕ) → uid_in w ≡ Some u → (w ≡ uid_text u) × IsUid u
@@ -108,6 +108,6 @@ mask_text_of w m h =
 pub mask_back : (m : BitMask) → IsShort m → mask_in (mask_text m) ≡ Some m
 mask_back m h =
     let cut : parted (byte " ") (mask_text m) ≡ Some (decimal m.len, value_text m) =
-        ap (parted (byte " ")) (append_assoc (decimal m.len) (codes " ") (value_text m)) ∙ parted_back (byte " ") (decimal m.len) (value_text m) (no_digit 32 (λ d lt. grind (arith, nat_tests)) m.len (omega (arith, h.0))) in
+    ap (parted (byte " ")) (append_assoc (decimal m.len) (codes " ") (value_text m)) ∙ parted_back (byte " ") (decimal m.len) (value_text m) (no_digit 32 (λ d lt. grind (arith, nat_tests)) m.len (omega (arith, h.0))) in
     let fits = lt-ltb m.value (2 ^ m.len) h.1 in
     rw (cut, number_found UID_BITS (decimal m.len) m.len (omega (arith, h.0)) h.0 refl, value_back m.len m.value h.0 h.1, fits) refl

@@ -66,7 +66,6 @@ no_rest st rest reached single one unfinished b =
     let st_is = only_read st ss reached single b.1 (b.2 ∙ ap (λ xs. joined (so_far st) ++ xs) empty ∙ append-nil (joined (so_far st))) in
     unfinished empty (ap (λ (x : State). x.begun) st_is)
 
-
 -- ---- what a call of the reader returned
 
 -- one more line, in the text

@@ -4,4 +4,5 @@ pub mod Surveys
 pub mod Digits
 pub mod SurveyText
 pub mod SurveyReading
+pub mod Making
 pub mod inner

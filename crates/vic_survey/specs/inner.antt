@@ -1,5 +1,6 @@
 -- Definitions that only private contracts and proofs cite.
 pub mod Rising
+pub mod Kept
 pub mod Values
 pub mod Steps
 pub mod States

@@ -11,6 +11,7 @@ mod digits;
 mod fault;
 mod faults;
 pub mod laws;
+mod making;
 mod name;
 mod read;
 mod rising;

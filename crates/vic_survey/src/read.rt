@@ -60,12 +60,7 @@ fn seal_of(count: u64, before: &[u8]) -> ArrayVec<u8, SEAL_ROOM>
 }
 
 /// Takes one more line, where the lines before it of its survey have these bytes.
-fn take_line(
-    alloc: Global,
-    reading: Reading,
-    line: &[u8],
-    before: &[u8],
-) -> Result<Reading, Unread>
+fn take_line(alloc: Global, reading: Reading, line: &[u8], before: &[u8]) -> Result<Reading, Unread>
     requires valid { spec.IsBegun reading.begun }
     requires before { before.now ≡ joined (spec.lines_of reading.begun) }
     requires counted { reading.count ≡ length (spec.lines_of reading.begun) }

@@ -1,6 +1,6 @@
 //! Certain UIDs with their lines, and masks, in rising order.
 
-ghost use Rattle.std.specs.Prelude.{◌≡◌, ◌==◌, ◌++◌, ◌∷◌, [], OnOk, length, true};
+ghost use Rattle.std.specs.Prelude.{◌≡◌, ◌==◌, ◌++◌, ◌∷◌, [], IfOk, OnOk, length, true};
 ghost use Rattle.vic_frame.specs.Uids.{IsUid};
 ghost use Rattle.vic_survey.specs.Parts.{AreCertain, AreOpen, IsLineNumber, IsShort};
 ghost use Rattle.vic_survey.specs.inner.Rising.{comes_before, is_above, is_behind};
@@ -43,6 +43,22 @@ impl CertainUids {
         CertainUids {
             uids: Vec::new(alloc),
         }
+    }
+
+    /// Some, if they rise and their lines are in range: those of a log always do, and memory is
+    /// refused otherwise, which only spares the proof.
+    pub(crate) fn of(alloc: Global, uids: &[ShownUid]) -> Result<CertainUids, AllocError>
+        ensures { IfOk result (λ v. v ≡ uids.now) }
+    {
+        let mut certain = CertainUids::none(alloc);
+        for one in uids {
+            let _number = one.uid.number();
+            if one.line < 1 || one.line > MAX_LINE_NUMBER || !certain.is_above(one.uid) {
+                return Err(AllocError);
+            }
+            certain.push(*one)?;
+        }
+        Ok(certain)
     }
 
     /// Whether a UID is above all of them.

@@ -47,12 +47,7 @@ pub(crate) fn after_name(alloc: Global, name: Name, line: &[u8]) -> Result<Begun
 }
 
 /// What a line makes of what a possible log says.
-pub(crate) fn next_part(
-    name: Name,
-    seen: Seen,
-    part: Part,
-    line: &[u8],
-) -> Result<Begun, Unread>
+pub(crate) fn next_part(name: Name, seen: Seen, part: Part, line: &[u8]) -> Result<Begun, Unread>
     requires name { IsName name }
     requires seen { IsSeen seen }
     requires at { spec.IsAt part seen }

@@ -44,50 +44,90 @@ found_after words line = and_then (after words line) found_in
 -- nothing yet
 abbrev pub nothing : Seen
 nothing = record {
-  answers = 0; certain = []; «open» = []; margin = 0; weakest = record { len = 0; value = 0 };
-  hidden = None; deaf = None
+  answers = 0;
+  certain = [];
+  «open» = [];
+  margin = 0;
+  weakest = record { len = 0; value = 0 };
+  hidden = None;
+  deaf = None;
 }
 
 abbrev pub with_answers : Seen → ℕ → Seen
 with_answers s n = record {
-  answers = n; certain = s.certain; «open» = s.«open»; margin = s.margin; weakest = s.weakest;
-  hidden = s.hidden; deaf = s.deaf
+  answers = n;
+  certain = s.certain;
+  «open» = s.«open»;
+  margin = s.margin;
+  weakest = s.weakest;
+  hidden = s.hidden;
+  deaf = s.deaf;
 }
 
 abbrev pub with_certain : Seen → ShownUid → Seen
 with_certain s u = record {
-  answers = s.answers; certain = s.certain ++ u ∷ []; «open» = s.«open»; margin = s.margin;
-  weakest = s.weakest; hidden = s.hidden; deaf = s.deaf
+  answers = s.answers;
+  certain = s.certain ++ u ∷ [];
+  «open» = s.«open»;
+  margin = s.margin;
+  weakest = s.weakest;
+  hidden = s.hidden;
+  deaf = s.deaf;
 }
 
 abbrev pub with_open : Seen → BitMask → Seen
 with_open s m = record {
-  answers = s.answers; certain = s.certain; «open» = s.«open» ++ m ∷ []; margin = s.margin;
-  weakest = s.weakest; hidden = s.hidden; deaf = s.deaf
+  answers = s.answers;
+  certain = s.certain;
+  «open» = s.«open» ++ m ∷ [];
+  margin = s.margin;
+  weakest = s.weakest;
+  hidden = s.hidden;
+  deaf = s.deaf;
 }
 
 abbrev pub with_margin : Seen → ℕ → Seen
 with_margin s n = record {
-  answers = s.answers; certain = s.certain; «open» = s.«open»; margin = n; weakest = s.weakest;
-  hidden = s.hidden; deaf = s.deaf
+  answers = s.answers;
+  certain = s.certain;
+  «open» = s.«open»;
+  margin = n;
+  weakest = s.weakest;
+  hidden = s.hidden;
+  deaf = s.deaf;
 }
 
 abbrev pub with_weakest : Seen → BitMask → Seen
 with_weakest s m = record {
-  answers = s.answers; certain = s.certain; «open» = s.«open»; margin = s.margin; weakest = m;
-  hidden = s.hidden; deaf = s.deaf
+  answers = s.answers;
+  certain = s.certain;
+  «open» = s.«open»;
+  margin = s.margin;
+  weakest = m;
+  hidden = s.hidden;
+  deaf = s.deaf;
 }
 
 abbrev pub with_hidden : Seen → Option BitMask → Seen
 with_hidden s m = record {
-  answers = s.answers; certain = s.certain; «open» = s.«open»; margin = s.margin;
-  weakest = s.weakest; hidden = m; deaf = s.deaf
+  answers = s.answers;
+  certain = s.certain;
+  «open» = s.«open»;
+  margin = s.margin;
+  weakest = s.weakest;
+  hidden = m;
+  deaf = s.deaf;
 }
 
 abbrev pub with_deaf : Seen → Option BitMask → Seen
 with_deaf s m = record {
-  answers = s.answers; certain = s.certain; «open» = s.«open»; margin = s.margin;
-  weakest = s.weakest; hidden = s.hidden; deaf = m
+  answers = s.answers;
+  certain = s.certain;
+  «open» = s.«open»;
+  margin = s.margin;
+  weakest = s.weakest;
+  hidden = s.hidden;
+  deaf = m;
 }
 
 -- ---- the lines that follow
@@ -103,7 +143,7 @@ abbrev pub after_name : List ℕ → List ℕ → Option Begun
 after_name name line =
     if bytes_eq line (codes "possible") then Some (Telling name nothing part.Possible)
     else and_then (field_in line)
-        (λ field. Some (Told (record { name = name; field = field })))
+    (λ field. Some (Told (record { name = name; field = field })))
 
 abbrev pub certain_after : List ℕ → Option ShownUid
 certain_after line = and_then (after (codes "certain ") line) certain_in
@@ -125,8 +165,8 @@ next_part name s part.Possible line = and_then (count_after (codes "answers ") l
     (λ n. Some (Telling name (with_answers s n) part.Lists))
 next_part name s part.Lists line =
     or_else (more_certain name s line) (or_else (more_open name s line)
-        (and_then (count_after (codes "margin ") line)
-            (λ n. Some (Telling name (with_margin s n) part.Margin))))
+    (and_then (count_after (codes "margin ") line)
+    (λ n. Some (Telling name (with_margin s n) part.Margin))))
 next_part name s part.Margin line = and_then (mask_after (codes "weakest ") line)
     (λ m. Some (Telling name (with_weakest s m) part.Weakest))
 next_part name s part.Weakest line = and_then (found_after (codes "hidden ") line)

@@ -95,7 +95,7 @@ abbrev pub certain_in : List ℕ → Option ShownUid
 certain_in w =
     if nat_lt (length w) 16 then None
     else and_then (uid_in (take 16 w)) (λ u. and_then (after (codes " by line ") (drop 16 w))
-        (λ digits. and_then (line_number_in digits) (λ n. Some (record { uid = u; line = n }))))
+    (λ digits. and_then (line_number_in digits) (λ n. Some (record { uid = u; line = n }))))
 
 -- the first of some faults with this name
 abbrev pub fault_among : List LineFault → List ℕ → Option LineFault

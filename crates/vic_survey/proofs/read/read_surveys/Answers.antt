@@ -47,8 +47,8 @@ lines-preserved c =
       single = single_more st c.in-Some.line.now next inv.reached.0 inv.single one c.in-Ok.ensures.taken;
       number = omega (arith, inv.number, ap length more.0, length-append (so_far st) (c.in-Some.line.now ∷ []));
       first = elim c.if-is_none.branch [
-        then-is_none w ↦ rw w.first-is (first_none c.in-Ok.next.begun c.in-Some.more.now (cc (c.is_none.ensures, w.if-is_none.true)))
-      | else-is_none w ↦ rw w.first-is (first_some c.in-Ok.next.begun c.lines.first.now c.lines.rest.now c.in-Some.line.now c.in-Some.more.now (lines_of c.lines.reading.begun) (cc (c.is_none.ensures, w.if-is_none.false)) c.in-Ok.ensures.more inv.first split)
+        | then-is_none w ↦ rw w.first-is (first_none c.in-Ok.next.begun c.in-Some.more.now (cc (c.is_none.ensures, w.if-is_none.true)))
+        | else-is_none w ↦ rw w.first-is (first_some c.in-Ok.next.begun c.lines.first.now c.lines.rest.now c.in-Some.line.now c.in-Some.more.now (lines_of c.lines.reading.begun) (cc (c.is_none.ensures, w.if-is_none.false)) c.in-Ok.ensures.more inv.first split)
       ];
       room = omega (arith, inv.room, ap length split, length-append c.in-Some.line.now (10 ∷ c.in-Some.more.now));
       counted = c.in-Ok.ensures.counted;
@@ -70,6 +70,6 @@ returns-else-is_empty-clause-refused c =
     let inv = c.lines.invariant in
     ends_early c.args.text.now c.lines.rest.now (state_of c.lines.reading) c.lines.number inv.text (parted_lacks 10 c.lines.rest.now c.in_default.ensures) inv.reached inv.single inv.number (λ empty none.
     elim c.else-is_empty.branch [
-      else-is_empty-via-then-is_empty+else-is_none-2 w ↦ none_there c.lines.reading.begun w.is_none-then-is_empty.result w.is_none-then-is_empty.ensures w.if-is_none-2.false none
-    | else-is_empty-via-else-is_empty w ↦ some_left c.lines.rest.now c.is_empty.result c.is_empty.ensures w.if-is_empty.false empty
+      | else-is_empty-via-then-is_empty+else-is_none-2 w ↦ none_there c.lines.reading.begun w.is_none-then-is_empty.result w.is_none-then-is_empty.ensures w.if-is_none-2.false none
+      | else-is_empty-via-else-is_empty w ↦ some_left c.lines.rest.now c.is_empty.result c.is_empty.ensures w.if-is_empty.false empty
     ])

@@ -1,0 +1,162 @@
+-- What a log says of its field is what its facts say.
+use Rattle.vic_survey.proofs.ValueWords.{All, Bool, List, None, Some, [], ap, arith, eqb-true, eq-eqb, ne_eqb, false, get_or, length, not, refl, subst, sym, true, ℕ, ◌&&◌, ◌++◌, ◌<◌, ◌+◌, ◌==◌, ◌∙◌, ◌∷◌, ◌≡◌, and_parts, BitMask, IsUid, is_uid, has, nat_eq, nat_tests}
+use Rattle.std.proofs.Common.{◌↔◌, ◌⊎◌, inl, inr, ⊎_elim}
+use Rattle.std.proofs.lemmas.Bool.{and_from, both_ways}
+use Rattle.std.specs.List.{AllPairs, Contains}
+use Rattle.std.proofs.lemmas.List.Elements.{All-contains, Contains-get_or, Contains-push, Contains-push_cases}
+use Rattle.std.proofs.lemmas.List.{take_all, length_push, get_or_append_left}
+use Rattle.std.proofs.Common.{take, add-one}
+use Rattle.std.specs.Prelude.{Result, Ok, Err, IfOk, IfSome, Option}
+use Rattle.vic_verdict.specs.Rising.{IsListOf}
+use Rattle.vic_margin.specs.Readings.{IsFirstOpened}
+use Rattle.vic_survey.specs.Parts.{IsShort}
+use Rattle.std.proofs.Math.Seq.{take-suc}
+use Rattle.vic_frame.specs.Masks.{lies_in}
+use Rattle.vic_log.specs.Slots.{is_open, slots_of}
+use Rattle.vic_log.specs.declared.entry.Entry.{Entry}
+use Rattle.vic_tree.specs.Keys.{AreKeysOf}
+use Rattle.vic_tree.specs.OpenMasks.{AreAll, ComesBefore, IsOpenMask}
+use Rattle.vic_tree.specs.OpenSet.{SameUids, UpToThree, has_key, in_mask, without_keys}
+use Rattle.vic_tree.specs.Ranges.{is_open_in}
+use Rattle.vic_verdict.specs.Facts.{AreFactsOf}
+use Rattle.vic_verdict.specs.Possible.{IsCertainUid, IsPossibleUid}
+use Rattle.vic_verdict.specs.declared.facts.Met.{Met}
+use Rattle.vic_verdict.proofs.Decide.{IsCertainUid-iff, IsPossibleUid-iff}
+use Rattle.vic_survey.proofs.ValueLaws.{uid_is, is_uid_back}
+use Rattle.vic_log.specs.Deaf.{answers, deaf_entries, hidden_entries}
+use Rattle.vic_log.specs.Order.{entries}
+use Rattle.vic_log.specs.declared.entry.LogLine.{LogLine}
+use Rattle.vic_report.specs.Findings.{IsShownCertain, uids_of}
+use Rattle.vic_margin.specs.Margins.{IsWeakestBesides}
+use Rattle.vic_survey.proofs.ValueWords.{ShownUid}
+use Rattle.vic_survey.specs.declared.survey.Seen.{Seen}
+use Rattle.vic_survey.specs.Making.{AreOpenOf, HasUncertain, IsSeenOf, weakest_of}
+use Rattle.vic_survey.specs.inner.Kept.{AreKeptOf, HasUidIn}
+
+not_both : (b : Bool) → b ≡ true → not b ≡ true → ⊥
+not_both true h k = absurd (cc k)
+not_both false h k = absurd (cc h)
+
+-- ---- whether a set has a UID in a mask
+
+pub uid_in_iff : (set : ℕ → Bool) (m : BitMask) (us : List ℕ) (b : Bool) → UpToThree (in_mask set m []) us → b ≡ (length us == 0) → (not b ≡ true) ↔ HasUidIn set m
+uid_in_iff set m [] b t e = (λ h. absurd (not_both b (e ∙ eq-eqb 0 0 refl) h), λ w. absurd (cc (t.all (omega arith) w.0 (inside w.0 w.1 w.2 w.3)))) where
+  inside : (u : ℕ) → IsUid u → lies_in m u ≡ true → set u ≡ true → in_mask set m [] u ≡ true
+  inside u i l s = rw (is_uid_back u i, l, s) refl
+uid_in_iff set m (u ∷ us) b t e =
+    let here : has (u ∷ us) u ≡ true = rw (eq-eqb u u refl) refl in
+    let p = and_parts (is_uid u && set u) (lies_in m u && not (has [] u)) (t.members u here) in
+    let q = and_parts (is_uid u) (set u) p.0 in
+    let r = and_parts (lies_in m u) (not (has [] u)) p.1 in
+    (λ h. (u, uid_is u q.0, r.0, q.1), λ w. rw (e ∙ ne_eqb (length (u ∷ us)) 0 (λ k. omega (arith, k))) refl)
+
+-- ---- the open masks
+
+-- a UID that is left is possible and not certain
+left_is : (es : List Entry) (ranges : List (ℕ × ℕ)) (met : Met) (certain keys : List ℕ) (left : List (ℕ × ℕ)) (u : ℕ) → AreFactsOf es (is_open_in ranges) met certain → AreKeysOf keys certain
+    → SameUids (is_open_in left) (without_keys (is_open_in ranges) keys) → IsUid u → is_open_in left u ≡ true → IsCertainUid es u → ⊥
+left_is es ranges met certain keys left u f k s i h c =
+    let p = and_parts (is_open_in ranges u) (not (has_key keys u)) (sym (s u i) ∙ h) in
+    let there : has certain u ≡ true = (f.told.forced.members u).1 ((IsCertainUid-iff es u f.told.possible).0 c) in
+    let key : has_key keys u ≡ true = k.members u i ∙ there in
+    not_both (has_key keys u) key p.1
+
+not_there : (b : Bool) → (b ≡ true → ⊥) → b ≡ false
+not_there true h = absurd (h refl)
+not_there false h = refl
+
+-- a UID that is open and not certain is left
+is_left : (es : List Entry) (ranges : List (ℕ × ℕ)) (met : Met) (certain keys : List ℕ) (left : List (ℕ × ℕ)) (u : ℕ) → AreFactsOf es (is_open_in ranges) met certain → AreKeysOf keys certain
+    → SameUids (is_open_in left) (without_keys (is_open_in ranges) keys) → IsUid u → is_open_in ranges u ≡ true → (IsCertainUid es u → ⊥) → is_open_in left u ≡ true
+is_left es ranges met certain keys left u f k s i open_there uncertain =
+    let absent : has certain u ≡ false = not_there (has certain u) (λ there. uncertain ((IsCertainUid-iff es u f.told.possible).1 ((f.told.forced.members u).0 there))) in
+    let key : has_key keys u ≡ false = k.members u i ∙ absent in
+    s u i ∙ rw (open_there, key) refl
+
+pub masks_of : (es : List Entry) (ranges : List (ℕ × ℕ)) (met : Met) (certain keys : List ℕ) (left : List (ℕ × ℕ)) (masks ms : List BitMask) → AreFactsOf es (is_open_in ranges) met certain → AreKeysOf keys certain
+    → SameUids (is_open_in left) (without_keys (is_open_in ranges) keys) → AreAll (IsOpenMask (without_keys (is_open_in ranges) [])) masks → AreKeptOf (HasUidIn (is_open_in left)) masks ms → AreOpenOf es ms
+masks_of es ranges met certain keys left masks ms f k s a kept = record {
+  set = set;
+  uids = λ u i. (
+    λ h. (IsPossibleUid-iff es u f.told.possible).1 (sym (f.told.uids_open u i) ∙ (and_parts (is_open_in ranges u) true h).0),
+    λ p. rw (f.told.uids_open u i ∙ (IsPossibleUid-iff es u f.told.possible).0 p) refl,
+  );
+  all = record {
+    rising = kept.rising;
+    wanted = λ i d lt. one (get_or ms i d) (Contains-get_or ms i d lt);
+    others = λ m w.
+        let u = w.1.0 in
+        let inside : set u ≡ true = w.0.open_throughout u w.1.1 w.1.2 in
+        (kept.members m).1 (a.others m w.0, (u, w.1.1, w.1.2, is_left es ranges met certain keys left u f k s w.1.1 (and_parts (is_open_in ranges u) true inside).0 w.1.3));
+  };
+} where
+  set : ℕ → Bool
+  set = without_keys (is_open_in ranges) []
+
+  one : (m : BitMask) → Contains ms m → IsOpenMask set m × HasUncertain es m
+  one m c =
+      let t = (kept.members m).0 c in
+      let u = t.1.0 in
+      (All-contains (IsOpenMask set) masks m a.wanted t.0, (u, t.1.1, t.1.2, left_is es ranges met certain keys left u f k s t.1.1 t.1.3))
+
+-- ---- which masks are kept
+
+contains_left : (xs : List BitMask) (y m : BitMask) → Contains xs m → Contains (xs ++ y ∷ []) m
+contains_left xs y m c = (c.0, omega (arith, c.1, length_push xs y), get_or_append_left xs (y ∷ []) m c.0 c.1 ∙ c.2)
+
+-- one more mask, which is kept
+pub keeps_one : (P : BitMask → Type 0) (kept ms : List BitMask) (i : ℕ) (y : BitMask) → i < length ms → y ≡ get_or ms i y → P y
+    → ((m : BitMask) → Contains kept m ↔ (Contains (take i ms) m × P m)) → (m : BitMask) → Contains (kept ++ y ∷ []) m ↔ (Contains (take (i + 1) ms) m × P m)
+keeps_one P kept ms i y h is p w m =
+    let next : take (i + 1) ms ≡ take i ms ++ y ∷ [] = rw add-one (take-suc ms i y h ∙ ap (λ x. take i ms ++ x ∷ []) (sym is)) in
+    rw next (
+      (λ c. ⊎_elim (λ old. let o = (w m).0 old in (contains_left (take i ms) y m o.0, o.1)) (λ e. (subst (Contains (take i ms ++ y ∷ [])) e (Contains-push (take i ms) y), subst P e p)) (Contains-push_cases kept y m c)),
+      (λ c. ⊎_elim (λ old. contains_left kept y m ((w m).1 (old, c.1))) (λ e. subst (Contains (kept ++ y ∷ [])) e (Contains-push kept y)) (Contains-push_cases (take i ms) y m c.0)),
+    )
+
+-- one more mask, which isn't
+pub keeps_none : (P : BitMask → Type 0) (kept ms : List BitMask) (i : ℕ) (y : BitMask) → i < length ms → y ≡ get_or ms i y → (P y → ⊥)
+    → ((m : BitMask) → Contains kept m ↔ (Contains (take i ms) m × P m)) → (m : BitMask) → Contains kept m ↔ (Contains (take (i + 1) ms) m × P m)
+keeps_none P kept ms i y h is none w m =
+    let next : take (i + 1) ms ≡ take i ms ++ y ∷ [] = rw add-one (take-suc ms i y h ∙ ap (λ x. take i ms ++ x ∷ []) (sym is)) in
+    rw next (
+      (λ c. let o = (w m).0 c in (contains_left (take i ms) y m o.0, o.1)),
+      (λ c. ⊎_elim (λ old. (w m).1 (old, c.1)) (λ e. absurd (none (subst P (sym e) c.1))) (Contains-push_cases (take i ms) y m c.0)),
+    )
+
+pub if_ok_more : {A E : Type 0} (P Q : A → Type 0) (r : Result A E) → ((x : A) → P x → Q x) → IfOk r P → IfOk r Q
+if_ok_more P Q (Ok x) f h = f x h
+if_ok_more P Q (Err e) f h = tt
+
+-- ---- the parts of a survey
+
+pub certain_told : (es : List Entry) (set : ℕ → Bool) (met : Met) (certain : List ℕ) → AreFactsOf es set met certain → (u : ℕ) → has certain u ≡ true → IsCertainUid es u
+certain_told es set met certain f u h = (IsCertainUid-iff es u f.told.possible).1 ((f.told.forced.members u).0 h)
+
+pub certain_listed : (es : List Entry) (set : ℕ → Bool) (met : Met) (certain : List ℕ) → AreFactsOf es set met certain → IsListOf (IsCertainUid es) certain
+certain_listed es set met certain f = record {
+  rising = f.told.forced.rising;
+  members = λ u. (certain_told es set met certain f u, λ h. (f.told.forced.members u).1 ((IsCertainUid-iff es u f.told.possible).0 h));
+}
+
+pub opened_short : (ds es : List Entry) (m : Option BitMask) → IsFirstOpened ds es m → IfSome m IsShort
+opened_short ds es None h = tt
+opened_short ds es (Some m) h = (h.0.short, h.0.fits)
+
+-- what a possible log says, from what the calls returned
+pub seen_made : (lines : List LogLine) (set : ℕ → Bool) (met : Met) (certain : List ℕ) (told : List ShownUid) (s : Seen) → AreFactsOf (entries lines) set met certain
+    → uids_of told ≡ certain → All (IsShownCertain lines) told → s.certain ≡ told → ((es : List Entry) → AreFactsOf es set met certain → AreOpenOf es s.«open»)
+    → s.answers ≡ answers (entries lines) → IsWeakestBesides (entries lines) certain (weakest_of s)
+    → IsFirstOpened (hidden_entries (entries lines)) (entries lines) s.hidden → IsFirstOpened (deaf_entries (entries lines)) (entries lines) s.deaf → IsSeenOf lines s
+seen_made lines set met certain told s f uids shown is masks count weakest hidden deaf =
+    let same : uids_of s.certain ≡ certain = ap uids_of is ∙ uids in
+    record {
+      possible = f.told.possible;
+      answers_are = count;
+      certain = subst (IsListOf (IsCertainUid (entries lines))) (sym same) (certain_listed (entries lines) set met certain f);
+      shown = subst (All (IsShownCertain lines)) (sym is) shown;
+      masks = masks (entries lines) f;
+      weakest = subst (λ us. IsWeakestBesides (entries lines) us (weakest_of s)) (sym same) weakest;
+      hidden = hidden;
+      deaf = deaf;
+    }

@@ -1,0 +1,175 @@
+//! The survey of a log.
+
+ghost use Rattle.std.specs.Prelude.{◌≡◌, ◌≢◌, ◌↔◌, ℕ, ◌≤◌, true, IfOk, IfSome, List, length, OnOk, MatchResult};
+ghost use Rattle.std.specs.List.{All, Contains};
+ghost use Rattle.vic_frame.specs.declared.fault.FrameFault.TheVariants.{NotVicinity};
+ghost use Rattle.vic_frame.specs.Masks.{BitMask, lies_in};
+ghost use Rattle.vic_frame.specs.Uids.{IsUid};
+ghost use Rattle.vic_log.specs.Names.{line_fault_name};
+ghost use Rattle.vic_log.specs.Order.{entries};
+ghost use Rattle.vic_log.specs.declared.entry.Entry.{Entry as EntryValue};
+ghost use Rattle.vic_log.specs.declared.fault.LineFault.TheVariants.{Frame};
+ghost use Rattle.vic_tree.specs.OpenMasks.{AreAll, IsOpenMask};
+ghost use Rattle.vic_tree.specs.OpenSet.{without_keys};
+ghost use Rattle.vic_tree.specs.Ranges.{is_open_in};
+ghost use Rattle.vic_walk.specs.Steps.{AreLogParts};
+ghost use Rattle.vic_verdict.specs.Facts.{AreFactsOf};
+ghost use Rattle.vic_verdict.specs.Verdict.{IsVerdict};
+ghost use Rattle.vic_verdict.specs.declared.judging.Verdict.TheVariants.{Impossible};
+ghost use Rattle.vic_survey.specs.Making.{AreOpenOf, IsFieldOf, IsSeenOf};
+ghost use Rattle.vic_survey.specs.Surveys.{IsField, IsSeen};
+ghost use Rattle.vic_survey.specs.inner.Kept.{AreKeptOf, HasUidIn};
+
+use crate::name::Name;
+use crate::rising::{CertainUids, MAX_LINE_NUMBER, RisingMasks};
+use crate::survey::{Field, MAX_COUNT, Seen, Survey};
+use std::alloc::{AllocError, Global};
+use vic_frame::{FrameFault, Mask, UID_BITS};
+use vic_log::{LineFault, Log, LogFault, read_log};
+use vic_margin::{Readings, Weakest, readings, weakest_besides};
+use vic_report::lines_of_certain;
+use vic_tree::{OpenSet, RangeSet, SortedKeys};
+use vic_verdict::{Facts, facts_and_parts_of};
+use vic_walk::LogParts;
+
+impl Survey {
+    /// The survey of the text of a log, under a name. It fails only if memory is refused.
+    pub fn of(alloc: Global, name: Name, text: &[u8]) -> Result<Survey, AllocError>
+        ensures name { IfOk result (λ s. s.name ≡ name) }
+        ensures field { IfOk result (λ s. IsFieldOf text.now s.field) }
+    {
+        let field = field_of(alloc, text)?;
+        Ok(Survey::new(name, field))
+    }
+}
+
+/// What the text of a log says.
+fn field_of(alloc: Global, text: &[u8]) -> Result<Field, AllocError>
+    ensures field { IfOk result (IsFieldOf text.now) }
+    ensures valid { IfOk result IsField }
+{
+    let log = match read_log(alloc, text) {
+        Ok(log) => log,
+        Err(LogFault::Line { line, fault }) => {
+            let fault = named_once(fault);
+            check(is_line_number(line))?;
+            return Ok(Field::Refused { line, fault });
+        }
+        Err(LogFault::Memory) => return Err(AllocError),
+        Err(LogFault::Read | LogFault::Spent) => unreachable!(),
+    };
+    match facts_and_parts_of::<RangeSet>(alloc, &log)? {
+        Ok((facts, log_parts)) => Ok(Field::Possible(seen_of(alloc, log, facts, log_parts)?)),
+        Err(line) => {
+            check(is_line_number(line))?;
+            Ok(Field::Impossible { line })
+        }
+    }
+}
+
+/// The fault of a line, where it is one of a frame that has the same name.
+fn named_once(fault: LineFault) -> LineFault
+    ensures name { line_fault_name fault ≡ line_fault_name result }
+    ensures once { result ≢ Frame NotVicinity }
+{
+    match fault {
+        LineFault::Frame(FrameFault::NotVicinity) => LineFault::NotVicinity,
+        fault => fault,
+    }
+}
+
+/// Whether a number is that of a line.
+fn is_line_number(line: u32) -> bool
+    ensures { result ≡ true → (1 ≤ line) × (line ≤ MAX_LINE_NUMBER) }
+{
+    1 <= line && line <= MAX_LINE_NUMBER
+}
+
+/// Whether the counts and the weakest mask of a log are in their ranges.
+fn are_in_range(answers: u32, margin: u32, mask: &Mask) -> bool
+    ensures { result ≡ true
+        → (answers ≤ MAX_COUNT) × (margin ≤ MAX_COUNT) × (mask.now.len ≤ UID_BITS) }
+{
+    answers <= MAX_COUNT && margin <= MAX_COUNT && mask.len() <= UID_BITS
+}
+
+/// What is always so: this only spares the proof of it.
+fn check(holds: bool) -> Result<(), AllocError>
+    ensures { OnOk result (holds ≡ true) }
+{
+    if holds { Ok(()) } else { Err(AllocError) }
+}
+
+/// What a possible log says.
+fn seen_of(
+    alloc: Global,
+    log: Log,
+    facts: Facts<RangeSet>,
+    log_parts: LogParts,
+) -> Result<Seen, AllocError>
+    requires facts { AreFactsOf (entries log.lines) (is_open_in facts.«open») facts.met
+        facts.certain }
+    requires parts { AreLogParts (entries log.lines) log_parts }
+    ensures seen { IfOk result (IsSeenOf log.lines) }
+    ensures valid { IfOk result IsSeen }
+{
+    let told = lines_of_certain(alloc, log.lines(), &facts.met, &facts.certain)?;
+    let certain = CertainUids::of(alloc, &told)?;
+    let open = open_masks(alloc, &facts)?;
+    let answers = log.answers();
+    let Weakest { margin, mask } = weakest_besides(
+        alloc,
+        &log,
+        log_parts,
+        facts.certain.as_slice(),
+    )?;
+    check(are_in_range(answers, margin, &mask))?;
+    let _uids = certain.as_slice();
+    let _masks = open.as_slice();
+    let Readings { hidden, deaf } = readings(alloc, log, facts.open.ranges())?;
+    Ok(Seen {
+        answers,
+        certain,
+        open,
+        margin,
+        weakest: mask,
+        hidden,
+        deaf,
+    })
+}
+
+/// The open masks of the UIDs that a log leaves open, without those all of whose UIDs are certain.
+fn open_masks(alloc: Global, facts: &Facts<RangeSet>) -> Result<RisingMasks, AllocError>
+    ensures { IfOk result (λ ms. (es : List EntryValue) → AreFactsOf es
+        (is_open_in facts.now.«open») facts.now.met facts.now.certain → AreOpenOf es ms) }
+{
+    let keys = SortedKeys::of(alloc, facts.certain.as_slice())?;
+    let left = facts.open.besides(alloc, &keys)?;
+    let masks = facts
+        .open
+        .all_open_masks_besides(alloc, &SortedKeys::none(alloc))?;
+    kept_masks(alloc, &left, &masks)
+}
+
+/// The masks in which a set has a UID, in their order.
+fn kept_masks(alloc: Global, set: &RangeSet, masks: &[Mask]) -> Result<RisingMasks, AllocError>
+    ensures { IfOk result (λ ms. AreKeptOf (HasUidIn (is_open_in set.now)) masks.now ms) }
+{
+    let mut kept = RisingMasks::none(alloc);
+    for mask in masks {
+        if has_uid_in(set, mask) {
+            check(mask.len() <= UID_BITS && kept.is_behind(mask))?;
+            kept.push(*mask)?;
+        }
+    }
+    let _masks = kept.as_slice();
+    Ok(kept)
+}
+
+/// Whether a set has a UID in a mask.
+fn has_uid_in(set: &RangeSet, mask: &Mask) -> bool
+    ensures { (result ≡ true) ↔ HasUidIn (is_open_in set.now) mask.now }
+{
+    let uids = set.up_to_three(mask, &[]);
+    !uids.as_slice().is_empty()
+}
