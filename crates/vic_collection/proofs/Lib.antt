@@ -1,0 +1,9 @@
+mod Words
+mod Elements
+mod Names
+mod NameSets
+mod Confusing
+mod Leading
+mod Telling
+mod Placing
+mod AnyOrder

@@ -1,0 +1,4 @@
+-- Definitions that private contracts alone cite.
+pub mod NameSets
+pub mod Told
+pub mod Placed

@@ -1,0 +1,231 @@
+//! A collection, and the state of each of its items.
+
+ghost use Rattle.std.specs.Prelude.{◌≡◌, ℕ, true, Option, List, ◌<◌, is_some, length, map, slice_get, IfOk, IsSomeAnd};
+ghost use Rattle.std.specs.List.{list_any};
+ghost use Rattle.std.specs.Option.{option_map};
+ghost use Rattle.vic_collection.specs.Collections.{is_certain_somewhere, is_possible_somewhere};
+ghost use Rattle.vic_collection.specs.Joins.{is_text};
+ghost use Rattle.vic_collection.specs.States.{is_certain_at, state_of};
+ghost use Rattle.vic_collection.specs.inner.NameSets.{has_name};
+ghost use Rattle.vic_collection.specs.inner.Placed.{is_lacking, is_placed, state_by_place};
+
+use crate::joins::places_of_logs;
+use crate::state::State;
+use crate::told::Told;
+use std::alloc::{AllocError, Global};
+use std::collections::BTreeSet;
+use std::marker::Model;
+use vic_frame::Uid;
+use vic_survey::Survey;
+use vic_table::{Catalogue, Places};
+use vic_tree::OpenSet;
+
+/// A catalogue, a table of places if there is one, and a survey of each log.
+#[derive(Drop)]
+pub struct Collection {
+    catalogue: Catalogue,
+    rows: Option<Places>,
+    surveys: Vec<Survey>,
+    /// The place of each log.
+    places: Vec<Option<Vec<u8>>>,
+    /// For each item whether no log is of its place, where places are asked for.
+    lacking: Vec<bool>,
+    told: Told,
+}
+
+impl Model for Collection {
+    ghost use Rattle.std.specs.Prelude.{◌≡◌, map};
+    ghost use Rattle.std.specs.Option.{option_map};
+    ghost use Rattle.vic_collection.specs.Collections.{CollectionValue, asks_for_places};
+    ghost use Rattle.vic_collection.specs.Joins.{place_of_log};
+    ghost use Rattle.vic_collection.specs.inner.Placed.{is_lacking};
+    ghost use Rattle.vic_collection.specs.inner.Told.{IsToldBy};
+
+    ghost Value = { CollectionValue };
+
+    ghost view = { λ a. record {
+      catalogue = a.catalogue;
+      rows = a.rows;
+      surveys = a.surveys.items;
+    } };
+
+    ghost invariant = { λ a.
+        let c : CollectionValue = record {
+          catalogue = a.catalogue;
+          rows = a.rows;
+          surveys = a.surveys.items;
+        } in
+        (map (option_map (λ place. place.items)) a.places.items
+        ≡ map (place_of_log c) a.surveys.items)
+        × (a.lacking.items ≡ map (λ item. is_lacking (asks_for_places c)
+        (map (option_map (λ place. place.items)) a.places.items) item.place) c.catalogue.items)
+        × IsToldBy a.surveys.items a.told };
+}
+
+impl Collection {
+    /// The collection of these.
+    pub fn new(
+        alloc: Global,
+        catalogue: Catalogue,
+        rows: Option<Places>,
+        surveys: Vec<Survey>,
+    ) -> Result<Collection, AllocError>
+        ensures { IfOk result (λ c. c ≡ record {
+          catalogue = catalogue;
+          rows = rows;
+          surveys = surveys.items;
+        }) }
+    {
+        let places = places_of_logs(alloc, &catalogue, &rows, &surveys)?;
+        let lacking = all_lacking(alloc, &catalogue, &places)?;
+        let told = Told::by(alloc, &surveys)?;
+        Ok(Collection {
+            catalogue,
+            rows,
+            surveys,
+            places,
+            lacking,
+            told,
+        })
+    }
+
+    /// The state of an item of the catalogue.
+    pub fn state(&self, index: usize) -> State
+        requires { index < length self.now.catalogue.items }
+        ensures { IsSomeAnd (slice_get self.now.catalogue.items index)
+            (λ item. result ≡ state_of self.now item) }
+    {
+        match self.catalogue.uid(index) {
+            Some(uid) => {
+                let place = self.catalogue.place(index);
+                self.state_by_place(
+                    place,
+                    self.catalogue.is_away(index),
+                    self.lacking[index],
+                    uid,
+                )
+            }
+            None => State::NoTag,
+        }
+    }
+
+    /// The state of an item of a place with a UID.
+    fn state_by_place(&self, place: Option<&[u8]>, away: bool, lacking: bool, uid: Uid) -> State
+        ensures { result ≡ state_by_place self.now (option_map (λ p. p.now) place.entry)
+            away lacking uid }
+    {
+        let certain = self.is_certain_somewhere(uid);
+        if away && certain {
+            return State::Returned;
+        }
+        if self.is_certain_at(place, uid) {
+            return State::InPlace;
+        }
+        if certain {
+            return if place.is_some() {
+                State::Misplaced
+            } else {
+                State::There
+            };
+        }
+        if self.is_possible_somewhere(uid) {
+            return State::NotProvable;
+        }
+        if away {
+            return State::Away;
+        }
+        if lacking {
+            State::NotCounted
+        } else {
+            State::Missing
+        }
+    }
+
+    /// Whether a UID is certain in some log.
+    fn is_certain_somewhere(&self, uid: Uid) -> bool
+        ensures { result ≡ is_certain_somewhere self.now uid }
+    {
+        !self.told.logs_of(uid).is_empty()
+    }
+
+    /// Whether a UID is possible in some log.
+    fn is_possible_somewhere(&self, uid: Uid) -> bool
+        ensures { result ≡ is_possible_somewhere self.now uid }
+    {
+        self.is_certain_somewhere(uid) || self.told.may_have(uid)
+    }
+
+    /// Whether a UID is certain in a log of a place.
+    fn is_certain_at(&self, place: Option<&[u8]>, uid: Uid) -> bool
+        ensures { result ≡ is_certain_at self.now (option_map (λ p. p.now) place.entry) uid }
+    {
+        match place {
+            Some(place) => any_placed(&self.places, place, self.told.logs_of(uid)),
+            None => false,
+        }
+    }
+}
+
+/// Whether one of the logs at some positions is of a place.
+fn any_placed(places: &[Option<Vec<u8>>], place: &[u8], logs: &[usize]) -> bool
+    ensures { result ≡ list_any
+        (is_placed (map (option_map (λ p. p.items)) places.now) place.now) logs.now }
+{
+    logs.iter().any(|log| is_placed(places, place, *log))
+}
+
+/// Whether the log at a position is of a place.
+fn is_placed(places: &[Option<Vec<u8>>], place: &[u8], log: usize) -> bool
+    ensures { result ≡ is_placed (map (option_map (λ p. p.items)) places.now) place.now log }
+{
+    match places.get(log) {
+        Some(Some(other)) => other.as_slice() == place,
+        _ => false,
+    }
+}
+
+/// For each item whether no log is of its place, where places are asked for.
+fn all_lacking(
+    alloc: Global,
+    catalogue: &Catalogue,
+    places: &[Option<Vec<u8>>],
+) -> Result<Vec<bool>, AllocError>
+    ensures { IfOk result (λ lacking. lacking.items ≡ map (λ item. is_lacking
+        (is_some catalogue.now.columns.place)
+        (map (option_map (λ p. p.items)) places.now) item.place) catalogue.now.items) }
+{
+    let asks = catalogue.columns().place.is_some();
+    let counted = places_of(alloc, places)?;
+    let mut lacking = Vec::with_capacity(alloc, catalogue.len())?;
+    for index in 0..catalogue.len() {
+        let lacks = asks && is_lacking(&counted, catalogue.place(index));
+        lacking.push(lacks)?;
+    }
+    Ok(lacking)
+}
+
+/// Whether a place isn't among some.
+fn is_lacking(places: &BTreeSet<&[u8]>, place: Option<&[u8]>) -> bool
+    ensures { (all : List (Option (List ℕ)))
+        → ((q : List ℕ) → has_name places.now q ≡ list_any (is_text q) all)
+        → result ≡ is_lacking true all (option_map (λ p. p.now) place.entry) }
+{
+    match place {
+        Some(place) => !places.contains(place),
+        None => false,
+    }
+}
+
+/// The places of which there is a log.
+fn places_of(alloc: Global, places: &[Option<Vec<u8>>]) -> Result<BTreeSet<&[u8]>, AllocError>
+    ensures { IfOk result (λ set. (q : List ℕ) → has_name set q
+        ≡ list_any (is_text q) (map (option_map (λ p. p.items)) places.now)) }
+{
+    let mut set = BTreeSet::new(alloc);
+    for place in places {
+        if let Some(place) = place {
+            set.insert(place.as_slice())?;
+        }
+    }
+    Ok(set)
+}

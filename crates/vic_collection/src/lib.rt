@@ -1,0 +1,20 @@
+//! A catalogue against what many logs say of their fields: which log is of which place, and the
+//! state of each item.
+//!
+//! A `Collection` has a catalogue, a table of places if there is one, and a survey of each log. The
+//! state of an item is the first of nine that applies. A log that is refused or impossible tells
+//! nothing: any tag may have been in its field.
+#![tactic(auto)]
+
+mod collection;
+mod confused;
+mod found;
+mod joins;
+pub mod laws;
+mod state;
+mod told;
+
+pub use collection::Collection;
+pub use confused::first_confused;
+pub use found::{base_of, stem_of};
+pub use state::State;
