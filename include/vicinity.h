@@ -5,10 +5,10 @@
  * header.
  *
  * What the caller has to ensure, since nothing checks it:
- * - `text` points to `text_len` readable bytes, `bytes` to `len`, at most PTRDIFF_MAX. No NUL is
- *   needed at the end, and one inside is an ordinary byte.
- * - `uids` and `expected` point to `count` readable numbers. Where vicinity_reconcile reads
- *   `certain` and `masks`, they point to `certain_count` numbers and `mask_count` structs.
+ * - `text` points to `text_len` readable bytes, `bytes` to `len`, at most PTRDIFF_MAX, and so for
+ *   `names` and `texts`. No NUL is needed at the end, and one inside is an ordinary byte.
+ * - `uids`, `expected` and `lengths` point to `count` readable numbers. Where vicinity_reconcile
+ *   reads `certain` and `masks`, they point to `certain_count` numbers and `mask_count` structs.
  * - A buffer is passed before its `room`, the number of its writable elements: numbers, structs or
  *   bytes. `needed` points to one number, and any other pointer to a struct to one struct.
  * - All pointers are aligned, and none is NULL. Only one that is passed before a length, count or
@@ -20,9 +20,9 @@
  * - An x86-64 processor has x86-64-v2 (SSE4.2, POPCNT).
  * - The stack has 64 KiB left.
  * Calls share nothing: any number of threads may call at the same time. Only the calls that judge a
- * text, reconcile or fill in slots take memory. They can't be stopped. They take about a quarter of
- * a second and 40 MB for a session of 1,000,000 lines, and up to 2.5 seconds and 165 MB for the
- * worst logs that are known: bound the length of untrusted input.
+ * text, reconcile, fill in slots or run a command take memory. They can't be stopped. They take
+ * about a quarter of a second and 40 MB for a session of 1,000,000 lines, and up to 2.5 seconds and
+ * 165 MB for the worst logs that are known: bound the length of untrusted input.
  */
 #ifndef VICINITY_H
 #define VICINITY_H
@@ -45,7 +45,8 @@ extern "C" {
 /*
  * What a call that judges returns: the exit status of `vicinity check`. It is neither true nor
  * false, nor a kind of answer: gcc -Wall warns if the two are compared, and so do compilers of C++.
- * vicinity_listed and vicinity_simulate judge no list: of them 0 is VICINITY_STATUS_DONE.
+ * vicinity_listed and vicinity_simulate judge no list: of them 0 is VICINITY_STATUS_DONE, and so it
+ * is of vicinity_run for a command that judges none.
  */
 enum vicinity_status {
     VICINITY_STATUS_COMPLETE = 0, /* the list is complete */
@@ -53,7 +54,7 @@ enum vicinity_status {
     VICINITY_STATUS_NOT_COMPLETE = 1, /* the log is possible, and its list isn't complete */
     VICINITY_STATUS_IMPOSSIBLE = 2, /* no tags could have produced the log */
     VICINITY_STATUS_REFUSED = 3, /* the text is not a log, or not a list */
-    VICINITY_STATUS_NO_ANSWER = 4 /* memory was refused */
+    VICINITY_STATUS_NO_ANSWER = 4 /* memory was refused; of vicinity_run also a wrong use */
 };
 
 /* The kinds of answers, for the field `kind`. */
@@ -110,6 +111,18 @@ enum vicinity_refusal {
     VICINITY_WRONG_REPLY = 205, /* flags or DSFID above 255, Error_flag 1, or a UID without E0 */
     VICINITY_TOO_LONG = 206, /* more bytes than fit */
     VICINITY_WRONG_LETTER = 207 /* no line begins with it */
+};
+
+/* The commands of the program, for vicinity_run, which says what texts each takes. */
+enum vicinity_command {
+    VICINITY_COMMAND_CHECK = 1, /* a log */
+    VICINITY_COMMAND_EXPLAIN = 2, /* a log */
+    VICINITY_COMMAND_REPORT = 3, /* a log */
+    VICINITY_COMMAND_MARGIN = 4, /* a log */
+    VICINITY_COMMAND_SIMULATE = 5, /* a log without slots */
+    VICINITY_COMMAND_RECONCILE = 6, /* a list of what is expected, then logs */
+    VICINITY_COMMAND_FRAME = 7, /* a word */
+    VICINITY_COMMAND_SPELL = 8 /* words, at least one */
 };
 
 /*
@@ -422,6 +435,31 @@ enum vicinity_status vicinity_overlooked(const uint8_t *text, size_t text_len, c
  */
 enum vicinity_status vicinity_simulate(const uint8_t *text, size_t text_len, uint8_t *filled,
                                        size_t room, size_t *needed);
+
+/*
+ * Does what the program does for a command: writes what it writes to standard output about texts in
+ * memory, and returns its status. For `vicinity reconcile list day night`:
+ *
+ *     static const char names[] = "list\nday\nnight\n";
+ *     size_t lengths[] = {list_len, day_len, night_len};
+ *     vicinity_run(VICINITY_COMMAND_RECONCILE, (const uint8_t *)names, sizeof names - 1,
+ *                  texts, list_len + day_len + night_len, lengths, 3, written, room, &needed);
+ *
+ * The `count` texts stand one behind the other in `texts`, and `lengths` has the length of each.
+ * `names` has a line for each, its name in UTF-8 and LF; `reconcile` alone writes names. `*needed`
+ * is how many bytes are written. If `room` is at least that, they are at the start of `written`,
+ * with no NUL after them; otherwise nothing is written there: call again with a larger buffer.
+ *
+ * If the texts are not what the command takes, as two logs for `check`, or a word that is not
+ * UTF-8, the result is VICINITY_STATUS_NO_ANSWER, and the line `vicinity: usage` is written, which
+ * the program writes to standard error. If memory was refused, no command has the number, `names`
+ * has not `count` lines, or the lengths do not add up to `texts_len`, the result is the same, and
+ * `*needed` is 0.
+ */
+enum vicinity_status vicinity_run(enum vicinity_command command, const uint8_t *names,
+                                  size_t names_len, const uint8_t *texts, size_t texts_len,
+                                  const size_t *lengths, size_t count, uint8_t *written,
+                                  size_t room, size_t *needed);
 
 /* The calls below take no memory. */
 

@@ -19,11 +19,11 @@ sys.dont_write_bytecode = True
 os.environ["PYTHONDONTWRITEBYTECODE"] = "1"
 
 from helpers.chips import OVER_A_CHIP, loop_with  # noqa: E402
-from helpers.library import Library  # noqa: E402
+from helpers.library import Library, OneCall  # noqa: E402
 from helpers.lines import biglog  # noqa: E402
 from helpers.program import (  # noqa: E402
     MAKE, TOP, Commands, Program, build, linked, many, needs, program_of)
-from helpers.rows import LIBRARIES, OfLibrary, OfProgram  # noqa: E402
+from helpers.rows import LIBRARIES, MODULES, OfLibrary, OfProgram  # noqa: E402
 from helpers.texts import texts as all_texts  # noqa: E402
 from helpers.wasm import WasmLibrary  # noqa: E402
 from helpers.wine import wine_in  # noqa: E402
@@ -121,9 +121,31 @@ def library_rattle(pytestconfig):
     return Library(OUT / "release-rattle/libvicinity.so")
 
 
+@pytest.fixture(scope="session")
+def library_by_one_call(library):
+    """The program, by the library's call that does what it does."""
+    return OneCall(library)
+
+
+@pytest.fixture(scope="session")
+def library_rattle_by_one_call(library_rattle):
+    return OneCall(library_rattle)
+
+
+@pytest.fixture(scope="session")
+def wasm_by_one_call(wasm):
+    return OneCall(wasm)
+
+
 @pytest.fixture(scope="session", params=LIBRARIES)
 def native(request):
     """The library by each compiler."""
+    return request.getfixturevalue(request.param)
+
+
+@pytest.fixture(scope="session", params=MODULES)
+def library_of(request):
+    """The library by each compiler, and as WebAssembly."""
     return request.getfixturevalue(request.param)
 
 

@@ -13,7 +13,6 @@ from helpers.frames import hex_of, inventory, reply, stay_quiet, with_crc
 from helpers.library import SIZE, U32, U64, answer_to, findings_of, masks, uids
 from helpers.lines import log_of, reconciled_rows
 from helpers.program import TOP
-from helpers.rows import MODULES
 
 LINK, SLOTS, MASK, SLOT, REPLY, TOO_LONG, LETTER = range(201, 208)
 KINDS = "complete absent unlisted unsettled doubtful impossible refused".split()
@@ -51,12 +50,6 @@ class Calls:
             fields = (getattr(told, field) for field, _ in told._fields_)
             return tuple(bytes(it) if isinstance(it, ctypes.Array) else it for it in fields)
         return call
-
-
-@pytest.fixture(scope="session", params=MODULES)
-def library_of(request):
-    """The library by each compiler, and as WebAssembly."""
-    return request.getfixturevalue(request.param)
 
 
 @pytest.fixture(scope="session")
@@ -370,6 +363,13 @@ def test_nothing_at_a_pointer(native, nothing):
     beside, weakest = (SILENT, SIZE(len(SILENT)), *empty, ctypes.byref(told)), WeakestStruct()
     assert calls.vicinity_margin_listed(*beside, ctypes.byref(weakest)) == 0
     assert calls.vicinity_overlooked(*beside, *empty) == 0
+    for command, lengths, wanted in (1, [0], WITHOUT_TEXT), (6, [], "vicinity: usage"):
+        names = (b"\n", SIZE(1)) if lengths else empty
+        lengths = (uids(lengths), SIZE(1)) if lengths else empty
+        status = calls.vicinity_run(U32(command), *names, *empty, *lengths, room, SIZE(64),
+                                    ctypes.byref(number))
+        assert status == (3 if command == 1 else 4)
+        assert room.raw[:number.value] == f"{wanted}\n".encode()
     frame = ctypes.byref((U64 * 32)())
     assert [calls.vicinity_add_crc(*empty, frame), calls.vicinity_read_request(*empty, frame),
             calls.vicinity_read_response(*empty, frame),

@@ -4,9 +4,9 @@ compilers, the commands in C, those for ARM and for Windows, and the module for 
 import pytest
 
 from helpers.lines import log_of
-from helpers.rows import MODULES, PROGRAMS, all_rows
+from helpers.rows import BY_ONE_CALL, MODULES, PROGRAMS, all_rows
 
-EVERYBODY = (*PROGRAMS, "windows", *MODULES)
+EVERYBODY = (*PROGRAMS, "windows", *BY_ONE_CALL, *MODULES)
 COMPLETE = "I16 S RA RB S13 UA UB"
 # A log that is impossible from its second tag in a round on; and how it begins, which is possible.
 IMPOSSIBLE, POSSIBLE = "I16 S C S14 N1 S10 RA S S4 UA", "I16 S C S14 N1 S10 RA S4"

@@ -9,7 +9,7 @@ import re
 import pytest
 from vicinity._native import AnswerStruct, WeakestStruct
 
-from helpers.library import CALLS, LISTING, U32, masks, uids
+from helpers.library import CALLS, LISTING, U32, WRITING, masks, run_of, uids
 from helpers.lines import log_of
 from helpers.program import MAKE, TOP, Program, told
 from helpers.wasm import WasmLibrary
@@ -181,14 +181,14 @@ class Growing(WasmLibrary):
             told, *written = self.told(AnswerStruct, name, *given), 0, b""
         else:
             told, *written = self.into(ROOM // ctypes.sizeof(LISTING[name]), name, *given)
-        told = told if name == "simulate" else bytes(told)
+        told = told if name in WRITING else bytes(told)
         return told, *map(bytes, written[1:]), written[0], self.module.test_grown()
 
     def refuse_each(self, name, *given):
         """Refuses each allocation of a call in turn: there is no answer, nothing else is written,
         no memory is kept, and the same call answers right afterwards."""
         held, right = self.module.test_held(), self.result(name, 0, *given)
-        none = REFUSED if name == "simulate" else bytes(AnswerStruct(status=REFUSED))
+        none = REFUSED if name in WRITING else bytes(AnswerStruct(status=REFUSED))
         written = b"\7" * ROOM if name in LISTING else NO_MARGIN if name in MEASURING else b""
         wanted = none, written, 0
         assert right[0] != none and right[-1] > 0
@@ -219,3 +219,5 @@ def test_each_growth_is_refused(growing, names):
     growing.refuse_each("reconcile", listed, uids([UID_A]), masks([]))
     growing.refuse_each("listed", log_of("UA UB"))
     growing.refuse_each("simulate", log_of("I1 QA I1 UA UB"))
+    growing.refuse_each("run", *run_of("report", [log_of(names)]))
+    growing.refuse_each("run", *run_of("reconcile", [log_of("UA UB"), log_of(names)]))

@@ -24,6 +24,9 @@ enum which {
     MARGIN_LISTED,
     SIMULATE,
     LISTED,
+    RUN_REPORT,
+    RUN_RECONCILE,
+    RUN_SPELL,
     CALLS
 };
 
@@ -73,6 +76,27 @@ struct given {
     uint32_t places[PLACES];
     uint8_t filled[ROOM];
 };
+
+/* Makes the call for a command: over a log, a list with the log twice, or words. */
+static uint32_t run(enum which which, const uint8_t *log, size_t len, struct given *given)
+{
+    static const char names[] = "list\nlog\nlog\n", words[] = "responseflags00dsfid00uidE0040100000000A1";
+    static const char list[] = "vicinity-log 1\nU E0040100000000A1\n";
+    static uint8_t texts[3 * ROOM];
+    size_t listed = sizeof list - 1;
+    if (which == RUN_SPELL)
+        return vicinity_run(VICINITY_COMMAND_SPELL, (const uint8_t *)"\n\n\n\n\n\n\n", 7, (const uint8_t *)words,
+                            sizeof words - 1, (const size_t[]){8, 5, 2, 5, 2, 3, 16}, 7, given->filled, ROOM,
+                            &given->needed);
+    if (which == RUN_REPORT)
+        return vicinity_run(VICINITY_COMMAND_REPORT, (const uint8_t *)names + 5, 4, log, len, &len, 1, given->filled,
+                            ROOM, &given->needed);
+    memcpy(texts, list, listed);
+    memcpy(texts + listed, log, len);
+    memcpy(texts + listed + len, log, len);
+    return vicinity_run(VICINITY_COMMAND_RECONCILE, (const uint8_t *)names, sizeof names - 1, texts, listed + 2 * len,
+                        (const size_t[]){listed, len, len}, 3, given->filled, ROOM, &given->needed);
+}
 
 /* Makes a call whose allocation with this number is refused; none is if it is 0. */
 static void call(enum which which, const uint8_t *text, size_t len, size_t number, struct given *given)
@@ -129,6 +153,11 @@ static void call(enum which which, const uint8_t *text, size_t len, size_t numbe
     case LISTED:
         given->status = vicinity_listed(text, len, &given->answer, given->room, PLACES, &given->needed);
         break;
+    case RUN_REPORT:
+    case RUN_RECONCILE:
+    case RUN_SPELL:
+        given->status = run(which, text, len, given);
+        break;
     default:
         given->status = vicinity_check(text, len, &given->answer);
     }
@@ -148,7 +177,7 @@ static int survey(const uint8_t *text, size_t len)
 static void none(enum which which, struct given *given)
 {
     memset(given, UNWRITTEN, sizeof *given);
-    if (which != SIMULATE) {
+    if (which < SIMULATE || which == LISTED) {
         memset(&given->answer, 0, sizeof given->answer);
         given->answer.status = 4;
     }
@@ -205,6 +234,7 @@ int main(int argc, char **argv)
             /* a text to fill in has no slot lines, a list only UIDs, a text with a separate list none */
             const char *letters = which == SIMULATE       ? "SRCD"
                                   : which == LISTED       ? "TSRCDF"
+                                  : which >= RUN_REPORT   ? ""
                                   : which >= CHECK_LISTED ? "U"
                                                           : "";
             size_t refusals = refuse_each((enum which)which, changed, without(letters, changed, len));

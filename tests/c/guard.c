@@ -9,7 +9,7 @@
 #include <sys/mman.h>
 
 enum { PAGE = 4096, COUNT = 2 };
-enum { TEXT, BUFFER, CERTAIN, MASKS, EXPECTED, ENDS };
+enum { TEXT, BUFFER, CERTAIN, MASKS, EXPECTED, NAMES, ENDS };
 
 typedef struct vicinity_answer answer;
 typedef uint32_t list_call(const uint8_t *, size_t, answer *, void *, size_t, size_t *);
@@ -86,6 +86,21 @@ static uint32_t simulate(const uint8_t *text, size_t len, answer *told, void *ro
     return told->status = vicinity_simulate(text, len, room, places, needed);
 }
 
+/* What the program writes of a list and of a text, with the lengths and the names where memory ends, too. */
+static uint32_t reconcile_by_name(const uint8_t *text, size_t len, answer *told, void *room, size_t places, size_t *needed)
+{
+    static const char list[] = "vicinity-log 1\nU E0040100000000A1\n", names[] = "list\nlog\n";
+    size_t listed = sizeof list - 1, *lengths = (size_t *)ends[CERTAIN] - 2, named = sizeof names - 1;
+    uint8_t *texts = ends[MASKS] - listed - len;
+    memcpy(texts, list, listed);
+    memcpy(texts + listed, text, len);
+    lengths[0] = listed;
+    lengths[1] = len;
+    memset(told, 0, sizeof *told);
+    return told->status = vicinity_run(VICINITY_COMMAND_RECONCILE, memcpy(ends[NAMES] - named, names, named), named, texts,
+                                       listed + len, lengths, 2, room, places, needed);
+}
+
 /* What a log is measured by, into structs and buffers that end where memory ends, the last with too few places. */
 static int measures(const uint8_t *text, size_t len)
 {
@@ -110,6 +125,7 @@ static int judges(const uint8_t *text, size_t len)
            lists(explain_beside, sizeof(uint64_t), text, len) &&
            lists(report_beside, sizeof(struct vicinity_finding), text, len) &&
            lists(reconcile, sizeof(struct vicinity_finding), text, len) && lists(simulate, 1, text, len) &&
+           lists(reconcile_by_name, 1, text, len) &&
            measures(text, len);
 }
 

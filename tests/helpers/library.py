@@ -9,7 +9,7 @@ import vicinity
 from vicinity import Kind, _native
 from vicinity._native import AnswerStruct, FindingStruct, MaskStruct
 
-from helpers.program import TOP
+from helpers.program import TOP, Said
 
 # The calls that the header declares, without what it defines itself.
 CALLS = re.findall(r"^(?!static )[a-z][a-z0-9_ *]*[ *](vicinity_[a-z_]+)\(",
@@ -20,7 +20,10 @@ UNSETTLED, OPEN, MORE, CONFLICT, SILENCED = 4, 8, 9, 10, 11
 # The calls that list something, with its elements.
 LISTING = {"explain": U64, "certain": U64, "listed": U64, "explain_listed": U64,
            "open_masks": MaskStruct, "report": FindingStruct, "report_listed": FindingStruct,
-           "reconcile": FindingStruct, "simulate": U8}
+           "reconcile": FindingStruct, "simulate": U8, "run": U8}
+# Of these, the calls that fill no struct in: they return a status alone.
+WRITING = ("simulate", "run")
+COMMANDS = "check explain report margin simulate reconcile frame spell".split()
 
 
 def answer_to(line, fault=0):
@@ -94,7 +97,7 @@ class Library:
     def call(self, name, *given):
         """What a call returns. A text, and each array, is given with its length."""
         words = [part for it in given for part in
-                 ((it, len(it)) if isinstance(it, (bytes, ctypes.Array)) else (it,))]
+                 ((it, SIZE(len(it))) if isinstance(it, (bytes, ctypes.Array)) else (it,))]
         return getattr(self.calls, f"vicinity_{name}")(*words)
 
     def told(self, kind, name, *given):
@@ -111,7 +114,7 @@ class Library:
         told = AnswerStruct.from_buffer_copy(b"\x09" * ctypes.sizeof(AnswerStruct))
         room, needed = (LISTING[name] * room_len)(), SIZE(9)
         ctypes.memset(room, 7, ctypes.sizeof(room))
-        answer = [] if name == "simulate" else [ctypes.byref(told)]
+        answer = [] if name in WRITING else [ctypes.byref(told)]
         status = self.call(name, *given, *answer, room, ctypes.byref(needed))
         assert not answer or status == told.status
         return told if answer else status, needed.value, room
@@ -125,3 +128,35 @@ class Library:
             held = elements if len(wanted) <= room_len else b""
             assert (needed, bytes(room)) == (len(wanted), held.ljust(ctypes.sizeof(room), b"\7"))
         return told
+
+
+def run_of(command, texts, names=None):
+    """What `run` is given for a command over texts, by the header."""
+    names = [b"" for _ in texts] if names is None else names
+    return (U32(1 + COMMANDS.index(command)), b"".join(name + b"\n" for name in names),
+            b"".join(texts), (SIZE * len(texts))(*map(len, texts)))
+
+
+class OneCall:
+    """The program as the call `run` of a library does it, over files that are read here."""
+
+    USAGE, OUT_OF_MEMORY = b"vicinity: usage\n", b"vicinity: out of memory\n"
+
+    def __init__(self, library):
+        self.library = library
+
+    def run(self, command, *words, given=b"", name="vicinity", cwd=TOP, **_):
+        """What the program `name` writes and its status, by a buffer that is first too small."""
+        assert name == "vicinity"
+        names = [os.fsencode(word) for word in words]
+        texts = names
+        if command not in ("frame", "spell"):
+            texts = [(cwd / word).read_bytes() for word in words]
+            if not words:
+                names, texts = [b""], [given]
+        told = run_of(command, texts, names if command == "reconcile" else None)
+        status, needed, _ = self.library.into(0, "run", *told)
+        again, same, room = self.library.into(needed, "run", *told)
+        assert (again, same) == (status, needed)
+        said = bytes(room)
+        return Said(b"", said or self.OUT_OF_MEMORY, 4) if status == 4 else Said(said, b"", status)

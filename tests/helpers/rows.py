@@ -26,6 +26,8 @@ from helpers.lines import NAMES, log_of, rows, spelled, text_of
 PROGRAMS = ("program", "commands", "arm")
 LIBRARIES = ("library", "library_rattle")
 MODULES = (*LIBRARIES, "wasm")
+# The same, by the call that does what the program does.
+BY_ONE_CALL = tuple(f"{name}_by_one_call" for name in MODULES)
 FILES = ("verdicts", "texts", "populations", "reports", "margins", "simulations", "frames",
          "spelled")
 

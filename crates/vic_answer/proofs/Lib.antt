@@ -5,6 +5,7 @@ mod CompleteRuns
 mod Standing
 mod Waiting
 mod Numbered
+mod TextsSoFar
 mod Turns
 mod SpelledWords
 mod SpellLaws

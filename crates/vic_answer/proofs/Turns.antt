@@ -43,7 +43,7 @@ pub within_same : {R : Type 0} (reads : R → ℕ) (has_failed : R → Bool) (s 
 within_same reads has_failed s = record { at_most = omega arith; untouched = λ _. refl }
 
 -- where no log was read, no log has ended the run
-none_before : (list : List ℕ) (begun : Progress) → IsProgress list [] begun → 0 ≡ logs_read_by begun 0
+pub none_before : (list : List ℕ) (begun : Progress) → IsProgress list [] begun → 0 ≡ logs_read_by begun 0
 none_before list (state.Joined r) h = refl
 none_before list (state.Ended (ListRefusedAt line fault)) h = refl
 none_before list (state.Ended (NotListedAt line)) h = refl

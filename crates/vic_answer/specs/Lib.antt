@@ -24,4 +24,5 @@ pub mod ReconcileRun
 pub mod SurveyNumbers
 pub mod Listing
 pub mod UidMargins
+pub mod Texts
 pub mod inner

@@ -33,6 +33,7 @@ mod survey;
 mod survey_numbers;
 mod task;
 mod text;
+mod texts;
 
 pub use answered::{
     Answer, Answered, HasVerdict, Judgement, Reading, answer_of, answer_text, read_text,
@@ -50,9 +51,11 @@ pub use numbers::{NO_ANSWER, VicinityAnswer, numbers_of, refusal_numbers};
 pub use overlooked::{UidMargins, overlooked_text};
 pub use reconcile_run::run_reconcile;
 pub use report::run_report;
-pub use simulate::{SimulatedText, run_simulate, simulate_text};
+pub use run::WrittenText;
+pub use simulate::{run_simulate, simulate_text};
 pub use spell::run_spell;
 pub use status::{RunFault, Status, fault_text};
 pub use survey::{certain_of, open_masks_of};
 pub use survey_numbers::{plain_answer, plain_findings};
 pub use task::{Task, do_task};
+pub use texts::{Command, Told, told_of};

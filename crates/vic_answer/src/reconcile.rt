@@ -54,7 +54,7 @@ pub(crate) fn read_expected<R: Source>(alloc: Global, source: &mut R) -> Result<
 }
 
 /// What the list says.
-fn begin(alloc: Global, reading: Reading) -> Result<Progress, AllocError>
+pub(crate) fn begin(alloc: Global, reading: Reading) -> Result<Progress, AllocError>
     ensures { IfOk result (λ progress. (text : List ℕ)
         → IsReading text reading → IsProgress text [] progress) }
 {
@@ -90,7 +90,7 @@ pub(crate) fn read_next<R: Source>(
 }
 
 /// Joins the next log, or says that it ends the run.
-fn join(joined: Reconciliation, reading: Reading) -> Result<Progress, AllocError>
+pub(crate) fn join(joined: Reconciliation, reading: Reading) -> Result<Progress, AllocError>
     ensures text { IfOk result (λ progress. (text list : List ℕ) (texts : List (List ℕ))
         → IsReading text reading → AreJoined list texts joined
         → IsProgress list (texts ++ text ∷ []) progress) }
@@ -136,7 +136,7 @@ pub(crate) fn reconciled_answer(progress: &Progress) -> Result<Reconciled, Alloc
 }
 
 /// The text of an answer, with the names of the list and of the logs.
-fn reconciled_text(
+pub(crate) fn reconciled_text(
     alloc: Global,
     answer: &Reconciled,
     list_name: &str,
@@ -156,7 +156,7 @@ fn reconciled_text(
 }
 
 /// The status of an answer.
-fn reconciled_status(answer: &Reconciled) -> Status
+pub(crate) fn reconciled_status(answer: &Reconciled) -> Status
     ensures { result ≡ spec.reconciled_status answer.now }
 {
     match answer {

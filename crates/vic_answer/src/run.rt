@@ -6,12 +6,12 @@ ghost use Rattle.vic_answer.specs.CheckText.{IsAnswerText, answer_status};
 ghost use Rattle.vic_answer.specs.Runs.{LeavesSink, LeavesSource, RunsOver, RunsOverRevealed, Writes};
 ghost use Rattle.vic_answer.specs.declared.answered.Answered.{Answered as AnsweredValue};
 
-use crate::answered::{Answered, Judgement, answer_of, answer_reading};
+use crate::answered::{Answered, Judgement, answer_of, answer_reading, answer_text};
 use crate::input::read_source;
 use crate::lines::answer_status;
 use crate::status::{RunFault, Status};
-use std::alloc::Global;
-use vic_log::{Sink, Source};
+use std::alloc::{AllocError, Global};
+use vic_log::{Sink, Source, ToWrite};
 
 /// What a command finds in a log, and how it writes an answer.
 pub(crate) trait Written: Judgement + Drop {
@@ -56,4 +56,31 @@ fn write_answered<J: Written, W: Sink>(
 {
     J::write(answered, sink)?;
     Ok(answer_status(&answer_of(answered)))
+}
+
+/// What a command writes, and its status.
+#[derive(Drop)]
+pub struct WrittenText {
+    pub text: Vec<u8>,
+    pub status: Status,
+}
+
+/// What a command writes for a text in memory. It fails only if memory is refused.
+pub(crate) fn written_text<J: Written>(
+    alloc: Global,
+    text: &[u8],
+) -> Result<WrittenText, AllocError>
+    ensures { IfOk result (λ w. IsAnswerText J.IsOf J.verdict_of J.text_of
+        text.now w.text.items w.status) }
+{
+    let answered = answer_text::<J>(alloc, text)?;
+    let mut sink = ToWrite::new(Vec::new(alloc));
+    match write_answered(&answered, &mut sink) {
+        Ok(status) => Ok(WrittenText {
+            text: sink.into_inner(),
+            status,
+        }),
+        // a write to memory fails only if memory is refused
+        Err(_) => Err(AllocError),
+    }
 }

@@ -9,6 +9,7 @@ use crate::answered::{Answered, Reading, read_text};
 use crate::input::read_source;
 use crate::lines::{refusal_line, refused_at};
 use crate::output::write_and_flush;
+use crate::run::WrittenText;
 use crate::status::{RunFault, Status};
 use crate::text::Text;
 use std::alloc::{AllocError, Global};
@@ -29,25 +30,16 @@ pub(crate) enum Simulated {
     TooManyLines,
 }
 
-/// What `simulate` answers to a text.
-#[derive(Drop)]
-pub struct SimulatedText {
-    /// The text of the log with its slots filled in, or the line of a refusal.
-    pub text: Vec<u8>,
-    /// `Whole`, or `Refused`.
-    pub status: Status,
-}
-
 /// The log of a text, with its slots filled in as the listed tags would answer: what `run_simulate`
 /// writes for it. It fails only if memory is refused.
-pub fn simulate_text(alloc: Global, text: &[u8]) -> Result<SimulatedText, AllocError>
+pub fn simulate_text(alloc: Global, text: &[u8]) -> Result<WrittenText, AllocError>
     ensures { IfOk result (λ s. IsSimulationOf text.now s.text.items s.status) }
 {
     let reading = read_text(alloc, text)?;
     let simulated = simulate_reading(alloc, reading)?;
     let mut sink = ToWrite::new(Vec::new(alloc));
     match write_simulated(simulated, &mut sink) {
-        Ok(status) => Ok(SimulatedText {
+        Ok(status) => Ok(WrittenText {
             text: sink.into_inner(),
             status,
         }),

@@ -5,3 +5,5 @@ pub mod Beside
 mod ArrayFaults
 mod Answered
 mod GoTogether
+mod NamesInLines
+mod TextsInBytes

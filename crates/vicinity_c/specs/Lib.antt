@@ -4,6 +4,7 @@ pub mod Inventory
 pub mod Lines
 pub mod Names
 pub mod Simulated
+pub mod Run
 pub mod Arrays
 pub mod Reconciled
 pub mod Margins

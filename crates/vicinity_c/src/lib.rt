@@ -11,6 +11,7 @@ ghost use Rattle.vicinity_c.specs.Beside.{ListsBeside, with_listed};
 mod arrays;
 mod fields;
 mod frames;
+mod given;
 mod inventory;
 mod laws;
 mod lines;
@@ -19,6 +20,7 @@ mod margins;
 mod names;
 mod reconciled;
 mod report;
+mod run;
 mod simulated;
 mod surveys;
 

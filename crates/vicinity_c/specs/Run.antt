@@ -1,0 +1,81 @@
+-- What a command of the program writes for texts, in a caller's buffer.
+use Rattle.std.specs.Prelude.{◌≡◌, ◌≢◌, ℕ, ◌==◌, if◌then◌else◌, Option, Some, None, List, [], ◌∷◌, ◌++◌, codes, length, map}
+use Rattle.std.specs.List.{All, flat_map}
+use Rattle.std.specs.Str.{IsUtf8}
+use Rattle.vic_log.specs.Lines.{lf}
+use Rattle.vic_answer.specs.Buffers.{IsReturned}
+use Rattle.vic_answer.specs.Status.{status_code}
+use Rattle.vic_answer.specs.Texts.{IsToldBy, Writes}
+use Rattle.vic_answer.specs.declared.status.Status.{Status}
+use Rattle.vic_answer.specs.declared.texts.Command.{Command}
+use Rattle.vic_answer.specs.declared.texts.Told.{Told}
+use Rattle.vic_answer.specs.declared.texts.Command.TheVariants.{Check, Explain, Report, Margin, Simulate, Reconcile, Frame, Spell}
+
+-- the command that has a number
+abbrev pub command_of : ℕ → Option Command
+command_of n =
+    if n == 1 then Some Check else if n == 2 then Some Explain
+    else if n == 3 then Some Report else if n == 4 then Some Margin
+    else if n == 5 then Some Simulate else if n == 6 then Some Reconcile
+    else if n == 7 then Some Frame else if n == 8 then Some Spell
+    else None
+
+-- these bytes are lines: one for each name, which is UTF-8 and has no LF, with LF after it
+pub record AreNames (bytes : List ℕ) (names : List (List ℕ)) : Type 0 where
+  pub lines : bytes ≡ flat_map (λ name. name ++ lf ∷ []) names
+  pub utf8 : All IsUtf8 names
+  pub single : All (λ name. All (λ byte. byte ≢ lf) name) names
+
+-- these bytes are texts of these lengths, one behind the other
+pub record AreTexts (bytes : List ℕ) (lengths : List ℕ) (texts : List (List ℕ)) : Type 0 where
+  pub joined : bytes ≡ flat_map (λ text. text) texts
+  pub measured : map length texts ≡ lengths
+
+-- what a caller hands over: texts, and a name for each
+pub record AreGiven (names texts lengths : List ℕ) (ns ts : List (List ℕ)) : Type 0 where
+  pub are_names : AreNames names ns
+  pub are_texts : AreTexts texts lengths ts
+  pub as_many : length ns ≡ length ts
+
+-- this command has the number, and it is given these texts with these names
+pub record IsAsked (number : ℕ) (names texts lengths : List ℕ) (command : Command)
+    (ns ts : List (List ℕ)) : Type 0 where
+  pub named : command_of number ≡ Some command
+  pub given : AreGiven names texts lengths ns ts
+
+-- this is the status of what the command writes for what is given, it has `count` bytes, and this
+-- is what becomes of the buffer for it
+pub record IsRunInto (number : ℕ) (names texts lengths : List ℕ) (code count : ℕ)
+    (room room' : List ℕ) : Type 0 where
+  pub command : Command
+  pub ns : List (List ℕ)
+  pub ts : List (List ℕ)
+  pub asked : IsAsked number names texts lengths command ns ts
+  pub answer : List ℕ
+  pub status : Status
+  pub right : Writes command ns ts answer status
+  pub code_is : code ≡ status_code status
+  pub returned : IsReturned answer room room' count
+
+-- the line that the program writes to standard error where words are no command with its operands
+abbrev pub usage_line : List ℕ
+usage_line = codes "vicinity: usage\n"
+
+-- what is given isn't what the command takes, this line has `count` bytes, and this is what becomes
+-- of the buffer for it
+pub record IsUsageInto (number : ℕ) (names texts lengths : List ℕ) (count : ℕ)
+    (room room' : List ℕ) : Type 0 where
+  pub command : Command
+  pub ns : List (List ℕ)
+  pub ts : List (List ℕ)
+  pub asked : IsAsked number names texts lengths command ns ts
+  pub nothing : (answer : List ℕ) (status : Status) → Writes command ns ts answer status → ⊥
+  pub returned : IsReturned usage_line room room' count
+
+-- what is told of what is given
+pub record IsToldOf (number : ℕ) (names texts lengths : List ℕ) (told : Told) : Type 0 where
+  pub command : Command
+  pub ns : List (List ℕ)
+  pub ts : List (List ℕ)
+  pub asked : IsAsked number names texts lengths command ns ts
+  pub right : IsToldBy (Writes command ns ts) told
