@@ -68,20 +68,19 @@ logs_added shown i s base log u up lt is =
 
 -- ---- of one log more
 
-module _ {X : Type 0} where
-  positions_from-push : (test : X → Bool) (k : ℕ) (xs : List X) (x : X) → positions_from test k (xs ++ x ∷ []) ≡ positions_from test k xs ++ cond (test x) ((k + length xs) ∷ []) []
-  positions_from-push test k [] x = let e : k + 0 ≡ k = omega arith in rw e refl
-  positions_from-push test k (first ∷ xs) x = let e : k + length (first ∷ xs) ≡ (k + 1) + length xs = omega arith in rw (e, positions_from-push test (k + 1) xs x) (go (test first)) where
-    go : (b : Bool) → cond b (k ∷ (positions_from test (k + 1) xs ++ cond (test x) (((k + 1) + length xs) ∷ []) [])) (positions_from test (k + 1) xs ++ cond (test x) (((k + 1) + length xs) ∷ []) [])
-        ≡ cond b (k ∷ positions_from test (k + 1) xs) (positions_from test (k + 1) xs) ++ cond (test x) (((k + 1) + length xs) ∷ []) []
-    go true = refl
-    go false = refl
+positions_from-push : (test : SurveyValue → Bool) (k : ℕ) (xs : List SurveyValue) (x : SurveyValue) → positions_from test k (xs ++ x ∷ []) ≡ positions_from test k xs ++ cond (test x) ((k + length xs) ∷ []) []
+positions_from-push test k [] x = let e : k + 0 ≡ k = omega arith in rw e refl
+positions_from-push test k (first ∷ xs) x = let e : k + length (first ∷ xs) ≡ (k + 1) + length xs = omega arith in rw (e, positions_from-push test (k + 1) xs x) (go (test first)) where
+  go : (b : Bool) → cond b (k ∷ (positions_from test (k + 1) xs ++ cond (test x) (((k + 1) + length xs) ∷ []) [])) (positions_from test (k + 1) xs ++ cond (test x) (((k + 1) + length xs) ∷ []) [])
+      ≡ cond b (k ∷ positions_from test (k + 1) xs) (positions_from test (k + 1) xs) ++ cond (test x) (((k + 1) + length xs) ∷ []) []
+  go true = refl
+  go false = refl
 
-  pub positions_from-more : (test : X → Bool) (xs : List X) (i : ℕ) (x : X) → slice_get xs i ≡ Some x → positions_from test 0 (take (i + 1) xs) ≡ positions_from test 0 (take i xs) ++ cond (test x) (i ∷ []) []
-  positions_from-more test xs i x at =
-      let lt : i < length xs = slice_get_within xs i x at in
-      let e : 0 + length (take i xs) ≡ i = omega (arith, length-take-le i xs (omega arith)) in
-      ap (positions_from test 0) (take_more xs i x lt ∙ ap (λ y. take i xs ++ y ∷ []) (get_or_from_slice_get xs i x x at)) ∙ (positions_from-push test 0 (take i xs) x ∙ rw e refl)
+pub positions_from-more : (test : SurveyValue → Bool) (xs : List SurveyValue) (i : ℕ) (x : SurveyValue) → slice_get xs i ≡ Some x → positions_from test 0 (take (i + 1) xs) ≡ positions_from test 0 (take i xs) ++ cond (test x) (i ∷ []) []
+positions_from-more test xs i x at =
+    let lt : i < length xs = slice_get_within xs i x at in
+    let e : 0 + length (take i xs) ≡ i = omega (arith, length-take-le i xs (omega arith)) in
+    ap (positions_from test 0) (take_more xs i x lt ∙ ap (λ y. take i xs ++ y ∷ []) (get_or_from_slice_get xs i x x at)) ∙ (positions_from-push test 0 (take i xs) x ∙ rw e refl)
 
 -- a log that isn't possible makes no UID certain
 pub nothing_certain : (f : Field) (u : ℕ) → ((s : Seen) → f ≡ Possible s → ⊥) → is_certain_by f u ≡ false
@@ -91,29 +90,28 @@ nothing_certain (Impossible n) u never = refl
 
 -- ---- the positions themselves
 
-module _ {X : Type 0} where
-  -- a test of positions, where it says of each what another says of its element
-  pub any_position : (test other : X → Bool) (at_position : ℕ → Bool) (k : ℕ) (xs : List X) → ((i : ℕ) (x : X) → slice_get xs i ≡ Some x → at_position (k + i) ≡ other x)
-      → list_any at_position (positions_from test k xs) ≡ list_any (λ x. other x && test x) xs
-  any_position test other at_position k [] same = refl
-  any_position test other at_position k (x ∷ xs) same =
-      let here : at_position k ≡ other x = let e : k + 0 ≡ k = omega arith in ap at_position (sym e) ∙ same 0 x refl in
-      let rest = any_position test other at_position (k + 1) xs (λ i y at. let e : (k + 1) + i ≡ k + suc i = omega arith in ap at_position e ∙ same (suc i) y at) in
-      go (test x) (other x) here rest where
-        go : (t o : Bool) → at_position k ≡ o → list_any at_position (positions_from test (k + 1) xs) ≡ list_any (λ y. other y && test y) xs
-            → list_any at_position (cond t (k ∷ positions_from test (k + 1) xs) (positions_from test (k + 1) xs)) ≡ ((o && t) || list_any (λ y. other y && test y) xs)
-        go true true here rest = rw here refl
-        go true false here rest = rw here rest
-        go false true here rest = rest
-        go false false here rest = rest
+-- a test of positions, where it says of each what another says of its element
+pub any_position : (test other : SurveyValue → Bool) (at_position : ℕ → Bool) (k : ℕ) (xs : List SurveyValue) → ((i : ℕ) (x : SurveyValue) → slice_get xs i ≡ Some x → at_position (k + i) ≡ other x)
+    → list_any at_position (positions_from test k xs) ≡ list_any (λ x. other x && test x) xs
+any_position test other at_position k [] same = refl
+any_position test other at_position k (x ∷ xs) same =
+    let here : at_position k ≡ other x = let e : k + 0 ≡ k = omega arith in ap at_position (sym e) ∙ same 0 x refl in
+    let rest = any_position test other at_position (k + 1) xs (λ i y at. let e : (k + 1) + i ≡ k + suc i = omega arith in ap at_position e ∙ same (suc i) y at) in
+    go (test x) (other x) here rest where
+      go : (t o : Bool) → at_position k ≡ o → list_any at_position (positions_from test (k + 1) xs) ≡ list_any (λ y. other y && test y) xs
+          → list_any at_position (cond t (k ∷ positions_from test (k + 1) xs) (positions_from test (k + 1) xs)) ≡ ((o && t) || list_any (λ y. other y && test y) xs)
+      go true true here rest = rw here refl
+      go true false here rest = rw here rest
+      go false true here rest = rest
+      go false false here rest = rest
 
-  -- there is a position where an element passes
-  pub some_position : (test : X → Bool) (k : ℕ) (xs : List X) → not (nat_eq (length (positions_from test k xs)) 0) ≡ list_any test xs
-  some_position test k [] = refl
-  some_position test k (x ∷ xs) = go (test x) (some_position test (k + 1) xs) where
-    go : (t : Bool) → not (nat_eq (length (positions_from test (k + 1) xs)) 0) ≡ list_any test xs → not (nat_eq (length (cond t (k ∷ positions_from test (k + 1) xs) (positions_from test (k + 1) xs))) 0) ≡ (t || list_any test xs)
-    go true rest = ap not (ne_eqb (suc (length (positions_from test (k + 1) xs))) 0 (λ e. omega (arith, e)))
-    go false rest = rest
+-- there is a position where an element passes
+pub some_position : (test : SurveyValue → Bool) (k : ℕ) (xs : List SurveyValue) → not (nat_eq (length (positions_from test k xs)) 0) ≡ list_any test xs
+some_position test k [] = refl
+some_position test k (x ∷ xs) = go (test x) (some_position test (k + 1) xs) where
+  go : (t : Bool) → not (nat_eq (length (positions_from test (k + 1) xs)) 0) ≡ list_any test xs → not (nat_eq (length (cond t (k ∷ positions_from test (k + 1) xs) (positions_from test (k + 1) xs))) 0) ≡ (t || list_any test xs)
+  go true rest = ap not (ne_eqb (suc (length (positions_from test (k + 1) xs))) 0 (λ e. omega (arith, e)))
+  go false rest = rest
 
 -- ---- what all logs say
 

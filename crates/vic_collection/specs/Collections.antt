@@ -43,16 +43,12 @@ is_possible_in s u = is_possible_by s.field u
 
 -- ---- what all logs say of it together
 
--- the positions of the elements that pass a test, where the first one is at position k
-module _ {X : Type 0} where
-  abbrev pub positions_from : (X → Bool) → ℕ → List X → List ℕ
-  positions_from test k [] = []
-  positions_from test k (x ∷ xs) =
-      if test x then k ∷ positions_from test (k + 1) xs else positions_from test (k + 1) xs
-
--- the logs in which the UID is certain, in their order
-abbrev pub certain_logs : CollectionValue → ℕ → List ℕ
-certain_logs c u = positions_from (λ s. is_certain_in s u) 0 c.surveys
+-- the positions of the logs that pass a test, where the first one is at position k
+abbrev pub positions_from : (SurveyValue → Bool) → ℕ → List SurveyValue → List ℕ
+positions_from test k [] = []
+positions_from test k (s ∷ surveys) =
+    if test s then k ∷ positions_from test (k + 1) surveys
+    else positions_from test (k + 1) surveys
 
 abbrev pub is_certain_somewhere : CollectionValue → ℕ → Bool
 is_certain_somewhere c u = list_any (λ s. is_certain_in s u) c.surveys
