@@ -57,12 +57,9 @@ WRONG_TEXT = re.compile(r"\| [^|]* \| `([^`|]*\\[^`|]*)` \| `(refused at [^`|]*)
 OLD_WORDS = re.compile(r"\b([Ww]hole|could have given|tells? against|[Nn]obody|[Rr]ooms?|"
                        r"[Gg]rowths?|strangers?|[Dd]ear(er|est)?|"
                        r"wrong bod(y|ies)|[Mm]end(s|ed|ing)?|[Mm]akers?|[Hh]eadline|statements of "
-                       r"std|gives|[Rr]esponses?|"
-                       r"(?<!in )(?<!in its )(?<!takes )[Pp]laces?)\b")
-# The standard's and a chip's own words, where items belong, and pages that quote the comments of
-# definitions.
+                       r"std|gives|[Rr]esponses?)\b")
+# The standard's and a chip's own words, and pages that quote the comments of definitions.
 THEIR_WORDS = {"docs/GLOSSARY.md": r"response", "docs/READERS.md": r"response",
-               "docs/COLLECTIONS.md": r"[Pp]laces?", "docs/COMMANDS.md": r"[Pp]laces?",
                "docs/HEADLINE.md": r".*", "docs/DEFINITIONS.md": r".*"}
 
 
