@@ -184,16 +184,19 @@ class Growing(WasmLibrary):
         told = told if name in WRITING else bytes(told)
         return told, *map(bytes, written[1:]), written[0], self.module.test_grown()
 
-    def refuse_each(self, name, *given):
+    def refuse_each(self, name, *given, or_right=False):
         """Refuses each allocation of a call in turn: there is no answer, nothing else is written,
-        no memory is kept, and the same call answers right afterwards."""
+        no memory is kept, and the same call answers right afterwards. `or_right`: it may also
+        answer right, without what only saves it time."""
         held, right = self.module.test_held(), self.result(name, 0, *given)
         none = REFUSED if name in WRITING else bytes(AnswerStruct(status=REFUSED))
         written = b"\7" * ROOM if name in LISTING else NO_MARGIN if name in MEASURING else b""
         wanted = none, written, 0
         assert right[0] != none and right[-1] > 0
         for number in range(1, right[-1] + 1):
-            assert self.result(name, number, *given)[:-1] == wanted, f"{name}, allocation {number}"
+            told = self.result(name, number, *given)[:-1]
+            is_right = or_right and told == right[:-1]
+            assert told == wanted or is_right, f"{name}, allocation {number}"
             assert self.module.test_held() == held, f"{name}, allocation {number}: memory is kept"
         assert self.result(name, 0, *given) == right
 
@@ -220,4 +223,5 @@ def test_each_growth_is_refused(growing, names):
     growing.refuse_each("listed", log_of("UA UB"))
     growing.refuse_each("simulate", log_of("I1 QA I1 UA UB"))
     growing.refuse_each("run", *run_of("report", [log_of(names)]))
-    growing.refuse_each("run", *run_of("reconcile", [log_of("UA UB"), log_of(names)]))
+    reconciled = run_of("reconcile", [log_of("UA UB"), log_of(names)])
+    growing.refuse_each("run", *reconciled, or_right=True)

@@ -214,7 +214,9 @@ static size_t refuse_each(enum which which, const uint8_t *text, size_t len)
     size_t most = growths;
     for (size_t number = 1; number <= most; number++) {
         call(which, text, len, number, &given);
-        if (memcmp(&given, &memory, sizeof given) || held != before)
+        /* `reconcile` goes on without what only saves it time */
+        int is_right = which == RUN_RECONCILE && memcmp(&given, &right, sizeof given) == 0;
+        if ((memcmp(&given, &memory, sizeof given) && !is_right) || held != before)
             return 0;
     }
     call(which, text, len, 0, &given);
