@@ -1,107 +1,187 @@
-/* The commands of vicinity, in C over the calls of its library:
- *
- *     vicinity check|explain|report|margin|simulate [FILE]
- *     vicinity reconcile EXPECTED [LOG ..]
- *     vicinity frame HEX
- *     vicinity spell WORDS..
- *
- * A text is read to its end, one call judges it, and the answer is written. Only the library knows what logs and frames
- * mean; these files have the words, the reading and the writing, in C99 over POSIX. This one reads the command line. */
-#include "commands.h"
+/* The commands of vicinity, in C over the call of its library that does what the program does. Only the library knows what
+ * texts and words mean, and what is written: here are the command line, the reading and the writing, in C99 over POSIX. */
+#define _POSIX_C_SOURCE 200112L
+#include "vicinity.h"
 
-#include <limits.h>
+#include <errno.h>
+#include <fcntl.h>
 #include <signal.h>
+#include <stdbool.h>
+#include <stdio.h>
 #include <stdlib.h>
 #include <string.h>
+#include <unistd.h>
 
-enum { NO_OPERANDS = INT_MAX };
+enum {
+    PIECE = 1 << 16,                /* bytes that an array begins with, and that are read at once */
+    MOST_BYTES = 1000000 * 130 + 1, /* a text of this length has a line that is too long, or one too many */
+    AN_OPTION = -1
+};
 
-/* Whether a word is UTF-8; others aren't accepted. */
-static bool is_utf8(const char *word)
+/* By their numbers: one log, or standard input; a list and logs; words. */
+static const char *const COMMANDS[] = {NULL, "check", "explain", "report", "margin", "simulate", "reconcile", "frame", "spell"};
+static const char OUT_OF_MEMORY[] = "out of memory", CANNOT_OPEN[] = "cannot open ", USAGE[] = "usage";
+
+struct array {
+    char *bytes;
+    size_t len, room;
+};
+
+/* What the call is given: texts, one behind the other, their names, and their lengths, which are size_t. */
+struct given {
+    struct array texts, names, lengths;
+    size_t count;
+};
+
+static int no_answer(const char *why, const char *file)
 {
-    static const uint32_t least[] = {0, 0x80, 0x800, 0x10000};
-    for (const unsigned char *at = (const unsigned char *)word; *at;) {
-        unsigned char first = *at++;
-        int more = first < 0xC0 ? 0 : first < 0xE0 ? 1 : first < 0xF0 ? 2 : 3;
-        uint32_t letter = more ? first & (0x3Fu >> more) : first;
-        if ((first >= 0x80 && first < 0xC0) || first >= 0xF8)
-            return false;
-        for (int i = 0; i < more; i++, at++) {
-            if (*at >> 6 != 2)
-                return false;
-            letter = letter << 6 | (*at & 0x3F);
-        }
-        if (letter < least[more] || letter > 0x10FFFF || letter >> 11 == 0xD800 >> 11)
-            return false;
-    }
+    fprintf(stderr, "vicinity: %s%s\n", why, file);
+    return VICINITY_STATUS_NO_ANSWER;
+}
+
+static bool make_room(struct array *array, size_t more)
+{
+    size_t room = array->room ? array->room : PIECE;
+    while (room - array->len < more)
+        room *= 2;
+    char *bytes = room == array->room ? array->bytes : realloc(array->bytes, room);
+    array->bytes = bytes ? bytes : array->bytes;
+    array->room = bytes ? room : array->room;
+    return bytes;
+}
+
+static bool append(struct array *array, const void *bytes, size_t len)
+{
+    if (!make_room(array, len))
+        return false;
+    memcpy(array->bytes + array->len, bytes, len);
+    array->len += len;
     return true;
 }
 
-/* Leaves only the operands of the words after a command. Returns how many there are; NO_OPERANDS if a word is an
- * option. */
-static int find_operands(char **words, int count)
+/* Adds a text behind those that `texts` has, where it may stand already. The functions that return a text say why they
+ * failed; NULL if they didn't. */
+static const char *add(struct given *given, const char *name, const char *text, size_t len)
+{
+    bool is_added = append(&given->texts, text ? text : "", text ? len : 0) && append(&given->names, name, strlen(name)) &&
+                    append(&given->names, "\n", 1) && append(&given->lengths, &len, sizeof len);
+    given->count += is_added;
+    return is_added ? NULL : OUT_OF_MEMORY;
+}
+
+static const char *add_words(struct given *given, char **words, int count)
+{
+    const char *why = NULL;
+    for (int i = 0; i < count && !why; i++)
+        why = add(given, "", words[i], strlen(words[i]));
+    return why;
+}
+
+/* Adds a file, or standard input: to its end, or more of it than a log can have. */
+static const char *add_file(struct given *given, const char *file, const char *name)
+{
+    struct array *texts = &given->texts;
+    size_t start = texts->len;
+    const char *why = strchr(name, '\n') ? USAGE : NULL;
+    int from = file ? open(file, O_RDONLY) : STDIN_FILENO;
+    if (from < 0)
+        return CANNOT_OPEN;
+    for (ssize_t got = 1; got && !why && texts->len - start < MOST_BYTES; texts->len += got > 0 ? (size_t)got : 0) {
+        bool has_room = make_room(texts, PIECE);
+        got = has_room ? read(from, texts->bytes + texts->len, texts->room - texts->len) : 0;
+        why = !has_room ? OUT_OF_MEMORY : got < 0 && errno != EINTR ? "read failed" : NULL;
+    }
+    if (file)
+        close(from);
+    why = why ? why : add(given, name, NULL, texts->len - start);
+    texts->len = why ? start : texts->len;
+    return why;
+}
+
+static const char *write_out(const struct array *written)
+{
+    for (size_t done = 0; done < written->len;) {
+        ssize_t taken = write(STDOUT_FILENO, written->bytes + done, written->len - done);
+        if (taken == 0 || (taken < 0 && errno != EINTR))
+            return "write failed";
+        done += taken > 0 ? (size_t)taken : 0;
+    }
+    return NULL;
+}
+
+/* Makes the call. It returns why there is no answer. */
+static const char *run(int command, const struct given *given, struct array *written, int *status)
+{
+    size_t needed = written->len = 0;
+    do {
+        if (!make_room(written, needed + 1))
+            return OUT_OF_MEMORY;
+        *status = (int)vicinity_run((enum vicinity_command)command, (const uint8_t *)given->names.bytes, given->names.len,
+                                    (const uint8_t *)given->texts.bytes, given->texts.len,
+                                    (const size_t *)given->lengths.bytes, given->count, (uint8_t *)written->bytes,
+                                    written->room, &needed);
+    } while (needed > written->room);
+    written->len = needed;
+    return *status != VICINITY_STATUS_NO_ANSWER ? NULL : needed ? USAGE : OUT_OF_MEMORY;
+}
+
+/* Leaves only the operands of the words after a command. Returns how many there are; AN_OPTION if a word is an option, which
+ * none of `spell` is. */
+static int find_operands(int command, char **words, int count)
 {
     int operands = 0;
-    bool ended = false;
-    for (int i = 0; i < count; i++) {
-        if (!ended && strcmp(words[i], "--") == 0)
+    bool ended = false, spells = command == VICINITY_COMMAND_SPELL;
+    for (int i = 0; i < count; i++, ended |= spells) {
+        const char *word = words[i];
+        if (!ended && strcmp(word, "--") == 0)
             ended = true;
-        else if (!ended && words[i][0] == '-' && words[i][1])
-            return NO_OPERANDS;
+        else if (!ended && !spells && word[0] == '-' && word[1])
+            return AN_OPTION;
         else
             words[operands++] = words[i];
     }
     return operands;
 }
 
-/* A command over FILE, or over standard input if none is named. */
-static int run_over(const char *file, enum vicinity_status (*judge)(const struct text *log, struct text *answered))
+/* Ends with the answer to a command, or says why there is none. */
+static int answer(int command, char **words, int count, struct given *given, struct array *written)
 {
-    struct text log = {0}, answered = {0};
-    int status = read_file(file, &log) ? end_with(judge(&log, &answered), &answered) : VICINITY_STATUS_NO_ANSWER;
-    free(log.bytes);
-    return status;
-}
-
-static int run_spell(char **words, int count)
-{
-    struct text answered = {0};
-    int ended = count > 0 && strcmp(words[0], "--") == 0;
-    if (count == ended)
-        return no_answer("usage");
-    return end_with(spell(words + ended, count - ended, &answered), &answered);
-}
-
-static const struct {
-    const char *name;
-    enum vicinity_status (*judge)(const struct text *log, struct text *answered);
-} OVER_TEXTS[] = {{"check", check}, {"explain", explain}, {"report", report}, {"margin", margin}, {"simulate", simulate}};
-
-static int run(const char *command, char **words, int count)
-{
-    struct text answered = {0};
-    if (strcmp(command, "spell") == 0)
-        return run_spell(words, count);
-    count = find_operands(words, count);
-    for (size_t i = 0; i < sizeof OVER_TEXTS / sizeof *OVER_TEXTS; i++)
-        if (count <= 1 && strcmp(command, OVER_TEXTS[i].name) == 0)
-            return run_over(count ? words[0] : NULL, OVER_TEXTS[i].judge);
-    if (count >= 1 && count < NO_OPERANDS && strcmp(command, "reconcile") == 0)
-        return reconcile_files(words, count);
-    if (count == 1 && strcmp(command, "frame") == 0)
-        return end_with(frame(words[0], &answered), &answered);
-    return no_answer("usage");
+    bool is_many = command == VICINITY_COMMAND_RECONCILE, reads = command <= VICINITY_COMMAND_RECONCILE;
+    int status = VICINITY_STATUS_NO_ANSWER, i = 0;
+    if (count == AN_OPTION || (reads && (is_many ? count < 1 : count > 1)))
+        return no_answer(USAGE, "");
+    const char *why = !reads ? add_words(given, words, count) : count ? NULL : add_file(given, NULL, "");
+    for (; reads && i < count && !why; i++)
+        why = add_file(given, words[i], is_many ? words[i] : "");
+    const char *failed = !why || given->count ? run(command, given, written, &status) : why;
+    if (why && status != VICINITY_STATUS_IMPOSSIBLE && status != VICINITY_STATUS_REFUSED) /* which end the run before */
+        return no_answer(why, why == CANNOT_OPEN ? words[i - 1] : "");
+    failed = failed ? failed : write_out(written);
+    return failed ? no_answer(failed, "") : status;
 }
 
 int main(int argc, char **argv)
 {
+    struct given given = {0};
+    struct array written = {0};
+    int command = VICINITY_COMMAND_SPELL, status;
 #ifdef SIGPIPE
     signal(SIGPIPE, SIG_IGN); /* so that a write into a closed pipe fails */
 #endif
-    for (int i = 0; i < argc; i++)
-        if (!is_utf8(argv[i]))
-            return no_answer("usage");
-    if (vicinity_interface() != VICINITY_INTERFACE)
-        return no_answer("another library");
-    return argc < 2 ? no_answer("usage") : run(argv[1], argv + 2, argc - 2);
+    /* words that aren't UTF-8 aren't accepted: not even `spell` takes them */
+    const char *why = vicinity_interface() != VICINITY_INTERFACE ? "another library" : add_words(&given, argv, argc);
+    why = why ? why : run(command, &given, &written, &status);
+    while (command && (argc < 2 || strcmp(argv[1], COMMANDS[command]) != 0))
+        command--;
+    why = why || command ? why : USAGE;
+    given.texts.len = given.names.len = given.lengths.len = given.count = 0;
+    if (why)
+        status = no_answer(why, "");
+    else
+        status = answer(command, argv + 2, find_operands(command, argv + 2, argc - 2), &given, &written);
+    free(given.texts.bytes);
+    free(given.names.bytes);
+    free(given.lengths.bytes);
+    free(written.bytes);
+    return status;
 }

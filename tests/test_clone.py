@@ -196,7 +196,7 @@ def test_the_commands_were_changed_since_the_release(clone, odd):
     arm = Program(clone.top / "release/packaged",
                   PATH=f"{odd('aarch64')}{os.pathsep}{os.environ['PATH']}")
     assert b", of the same code;" in arm.run().err
-    clone.change("commands/reconcile.c")
+    clone.change("commands/vicinity.c")
     assert b", NOT of this code;" in arm.run().err
     is_packaged(clone.ask(), "of the same code")
 

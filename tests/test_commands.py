@@ -230,8 +230,10 @@ def refusing(request, release, tmp_path_factory):
 
 @pytest.mark.parametrize("words", REFUSED, ids=lambda words: " ".join(map(os.path.basename, words)))
 def test_each_allocation_is_refused(refusing, tmp_path, words):
-    """It says so and writes nothing else."""
+    """It says so and writes nothing else; `reconcile` may go on without what only saves it time."""
+    right = set()
     if words == ["reconcile"]:
         logs = "UA UZ UB", "I1 C MA RA", "QA I1 RB", "M55 C QZ QY I1 S"
         words = [*words, *written(tmp_path, "log", map(log_of, logs))]
-    assert set(refused(*refusing, *words)) == {WANT}
+        right = {refusing[0].run(*words)}
+    assert set(refused(*refusing, *words)) - right == {WANT}
