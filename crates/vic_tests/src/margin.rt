@@ -8,7 +8,7 @@ use std::test::Fail;
 use vic_frame::Mask;
 use vic_log::read_log;
 use vic_margin::{Margin, margin, overlooked};
-use vic_verdict::{Verdict, judge};
+use vic_verdict::judge;
 
 /// Logs, each with its margin and the length and the value of its weakest mask.
 const MARGINS: [(&str, u32, u8, u64); 7] = [
@@ -87,21 +87,6 @@ fn readings_of_logs(rt: HostRuntime) -> Result<(), Fail> {
     for row in &READINGS {
         has_readings(&rt, rt.alloc(), row)?;
     }
-    Ok(())
-}
-
-#[test]
-fn no_margin_of_an_impossible_log(rt: HostRuntime) -> Result<(), Fail> {
-    let text = text_of(rt.alloc(), "I1 RA QA I1 RB QB I1 S UA UB")?;
-    let log = read_log(rt.alloc(), text.as_bytes())?;
-    let Margin {
-        verdict,
-        weakest,
-        readings,
-    } = margin(rt.alloc(), log)?;
-    assert!(&rt; verdict == Verdict::Impossible { line: 6 });
-    assert!(&rt; weakest.is_none());
-    assert!(&rt; readings.is_none());
     Ok(())
 }
 
