@@ -340,7 +340,7 @@ class Calls(unittest.TestCase):
     def test_numbers_are_those_of_the_header(self):
         with open(os.path.join(TOP, "include/vicinity.h")) as file:
             header = file.read()
-        of_kinds = r"VICINITY_(?!FINDING_|STATUS_)([A-Z_]+) = (\d),? /\*"
+        of_kinds = r"VICINITY_(?!FINDING_|STATUS_|COMMAND_)([A-Z_]+) = (\d),? /\*"
         kinds = {name: int(it) for name, it in re.findall(of_kinds, header)}
         of_faults = r"VICINITY_(?:FAULT_(?=\w)|(?=WRONG_MASK))(\w+) = (\d+)"
         faults = {name: int(it) for name, it in re.findall(of_faults, header)}
