@@ -56,7 +56,9 @@ def test_the_page_says_the_same():
     (b"uid\n%s\n" % A.encode() + b"\n" * (LINES - 2), f"catalogue 2:{A}:any:here"),
     (b"uid\n%s\n" % A.encode() + b"\n" * (LINES - 1), "refused 1000001 TooManyLines"),
     (b"uid\n" + b"\n" * (LINES - 1), "refused 1000001 NoItems"),
-])
+], ids=["a line of the greatest length", "its end doesn't count", "a line too long",
+        "a mark doesn't count", "as many lines as there may be", "a line too many",
+        "as many lines without an item"])
 def test_the_limits(read, text, told):
     assert read([text]) == [told]
 

@@ -20,8 +20,8 @@ __attribute__((constructor)) static void end_with_no_answer(void)
 	sigaction(SIGABRT, &action, NULL);
 }
 
-// What Go calls when C refuses it memory.
-void abort(void)
+// What Go calls when C refuses it memory; weak, since a static C library has one, too.
+__attribute__((weak)) void abort(void)
 {
 	_exit(NO_ANSWER);
 }
