@@ -71,7 +71,7 @@ pub use Rattle.vic_reconcile.specs.declared.reconciliation.Reconciliation.{Recon
 pub use Rattle.vic_reconcile.specs.declared.surveys.Survey.{Survey}
 pub use Rattle.vic_answer.specs.Answered.{answer_of, HasLog, IsAnswered, IsReading}
 pub use Rattle.vic_answer.specs.CheckText.{BeginsAsCheck, IsAnswer, IsAnswerText, IsCheckOf, HasCompleteList, answer_line, answer_status, verdict_line}
-pub use Rattle.vic_answer.specs.Digits.{hex_bytes, value_text}
+pub use Rattle.vic_text.specs.Digits.{hex_bytes, value_text}
 pub use Rattle.vic_answer.specs.ExplainText.{IsExplanationOf, explained_text, population_line, population_of}
 pub use Rattle.vic_answer.specs.FrameText.{reply_words, request_words}
 pub use Rattle.vic_answer.specs.ReconcileRun.{AreRead, HasReadText, HoldsAt, IsReadEnough, IsLast, ReadsListAndLogs, ReadsTexts, Reconciles, StopsBy, WritesAnswer, logs_for, logs_up_to}

@@ -10,7 +10,7 @@ use Rattle.vic_verdict.specs.declared.judging.Verdict.TheVariants.{Impossible, A
 use Rattle.vic_log.specs.SecondVersion.{AreOfSecondVersion}
 use Rattle.vic_verdict.specs.Versions.{IsWholeSecond, IsWholeThird}
 use Rattle.vic_verdict.specs.Verdict.{IsVerdict, IsWhole}
-use Rattle.vic_answer.specs.Digits.{mask_text, uid_text}
+use Rattle.vic_text.specs.Digits.{mask_text, uid_text}
 use Rattle.vic_answer.specs.Refusals.{refusal_line}
 use Rattle.vic_answer.specs.declared.status.Status.{Status}
 use Rattle.vic_answer.specs.declared.status.Status.TheVariants.{Whole, NotWhole, Refused}

@@ -10,7 +10,7 @@ use Rattle.vic_frame.specs.Replies.{Reply}
 use Rattle.vic_frame.specs.Names.{fault_name}
 use Rattle.vic_frame.specs.Reading.{request_reading, reply_reading}
 use Rattle.vic_log.specs.declared.entry.TheConstants.{MAX_LINE_LEN}
-use Rattle.vic_answer.specs.Digits.{hex_bytes, uid_text, value_text}
+use Rattle.vic_text.specs.Digits.{hex_bytes, uid_text, value_text}
 use Rattle.vic_answer.specs.Refusals.{refused_word}
 use Rattle.vic_answer.specs.declared.status.Status.{Status}
 use Rattle.vic_answer.specs.declared.status.Status.TheVariants.{Whole, Refused}

@@ -1,5 +1,4 @@
 pub mod Status
-pub mod Digits
 pub mod FrameText
 pub mod SpellText
 pub mod Refusals

@@ -15,7 +15,7 @@ use Rattle.vic_margin.specs.Margins.{IsWeakest}
 use Rattle.vic_margin.specs.Readings.{AreReadingsIfComplete}
 use Rattle.vic_answer.specs.Answered.{answer_of}
 use Rattle.vic_answer.specs.CheckText.{IsAnswerText, answer_line}
-use Rattle.vic_answer.specs.Digits.{mask_text}
+use Rattle.vic_text.specs.Digits.{mask_text}
 use Rattle.vic_answer.specs.declared.answered.Answered.{Answered}
 use Rattle.vic_answer.specs.declared.answered.Answered.TheVariants.{Found, RefusedAt}
 use Rattle.vic_answer.specs.declared.status.Status.{Status}

@@ -12,7 +12,7 @@ use Rattle.vic_reconcile.specs.declared.findings.Findings.{Findings}
 use Rattle.vic_reconcile.specs.declared.findings.UnlistedUid.{UnlistedUid}
 use Rattle.vic_reconcile.specs.declared.findings.Unsettled.{Unsettled as LeftToAsk}
 use Rattle.vic_answer.specs.CheckText.{verdict_line}
-use Rattle.vic_answer.specs.Digits.{mask_text, uid_text}
+use Rattle.vic_text.specs.Digits.{mask_text, uid_text}
 use Rattle.vic_answer.specs.declared.ending.Ending.{Ending}
 use Rattle.vic_answer.specs.declared.ending.Ending.TheVariants.{ListRefusedAt, NotListedAt, RefusedAt, ImpossibleAt}
 use Rattle.vic_answer.specs.declared.reconcile.Reconciled.{Reconciled}

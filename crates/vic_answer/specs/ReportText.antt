@@ -7,7 +7,7 @@ use Rattle.vic_report.specs.declared.reporting.LogReport.TheVariants as report
 use Rattle.vic_verdict.specs.declared.judging.Verdict.TheVariants as verdict
 use Rattle.vic_report.specs.Reports.{IsReport, verdict_of}
 use Rattle.vic_answer.specs.CheckText.{IsAnswerText, verdict_line}
-use Rattle.vic_answer.specs.Digits.{mask_text}
+use Rattle.vic_text.specs.Digits.{mask_text}
 use Rattle.vic_answer.specs.Findings.{report_findings}
 use Rattle.vic_answer.specs.Refusals.{refusal_line}
 use Rattle.vic_answer.specs.declared.answered.Answered.{Answered}

@@ -13,7 +13,7 @@ use Rattle.vic_frame.specs.Masks.{BitMask}
 use Rattle.vic_frame.specs.Replies.{Reply, reply_spelling}
 use Rattle.vic_frame.specs.Requests.{IsValid, byte_count, request_spelling}
 use Rattle.vic_frame.specs.Uids.{is_uid}
-use Rattle.vic_answer.specs.Digits.{hex_bytes}
+use Rattle.vic_text.specs.Digits.{hex_bytes}
 use Rattle.vic_answer.specs.FrameText.{reply_words, request_words}
 use Rattle.vic_answer.specs.Refusals.{refused_word}
 use Rattle.vic_answer.specs.declared.spell.TheConstants.{MAX_LINK}

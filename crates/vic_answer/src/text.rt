@@ -2,7 +2,7 @@
 
 ghost use Rattle.std.specs.Prelude.{◌≡◌, ◌+◌, ◌≤◌, ◌++◌, length, decimal};
 ghost use Rattle.arrayvec.specs.ArrayVec.{array_vec_len};
-ghost use Rattle.vic_answer.specs.Digits.{hex_bytes, mask_text, uid_text, value_text};
+ghost use Rattle.vic_text.specs.Digits.{hex_bytes, mask_text, uid_text, value_text};
 
 use arrayvec::ArrayVec;
 use itoa::Buffer;

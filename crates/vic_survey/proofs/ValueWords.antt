@@ -24,7 +24,7 @@ pub use Rattle.vic_frame.specs.declared.uid.TheConstants.{UID_BITS}
 pub use Rattle.vic_frame.specs.declared.fault.FrameFault.{FrameFault}
 pub use Rattle.vic_frame.specs.declared.fault.FrameFault.TheVariants.{Short, Crc, Extension, Reserved, OptionFlag, OtherCommand, InventoryFlag, Afi, Length, MaskTooLong, MaskPadding, SelectFlag, NotAddressed, ErrorFlag}
 pub use Rattle.vic_log.specs.declared.fault.LineFault.{LineFault}
-pub use Rattle.vic_survey.specs.Digits.{value_text}
+pub use Rattle.vic_text.specs.Digits.{value_text}
 pub use Rattle.vic_survey.specs.Names.{IsName, IsVisible}
 pub use Rattle.vic_survey.specs.Parts.{IsLineNumber, IsShort}
 pub use Rattle.vic_survey.specs.Surveys.{IsField}

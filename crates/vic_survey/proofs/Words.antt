@@ -8,7 +8,7 @@ pub use Rattle.vic_log.specs.Lines.{lf}
 pub use Rattle.vic_log.specs.Writing.{joined}
 pub use Rattle.vic_frame.specs.Masks.{BitMask}
 pub use Rattle.vic_report.specs.declared.shown.ShownUid.{ShownUid}
-pub use Rattle.vic_survey.specs.Digits.{hex_bytes, mask_text, uid_text}
+pub use Rattle.vic_text.specs.Digits.{hex_bytes, mask_text, uid_text}
 pub use Rattle.vic_survey.specs.Surveys.{SurveyValue}
 pub use Rattle.vic_survey.specs.SurveyText.{certain_line, open_line, found_text, seen_lines, field_lines, lines_before, seal, survey_lines, text_of}
 pub use Rattle.vic_survey.specs.declared.survey.Seen.{Seen}

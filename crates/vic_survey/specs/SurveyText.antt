@@ -7,7 +7,7 @@ use Rattle.vic_frame.specs.Masks.{BitMask}
 use Rattle.vic_log.specs.Names.{line_fault_name}
 use Rattle.vic_log.specs.Writing.{joined}
 use Rattle.vic_report.specs.declared.shown.ShownUid.{ShownUid}
-use Rattle.vic_survey.specs.Digits.{hex_bytes, mask_text, uid_text}
+use Rattle.vic_text.specs.Digits.{hex_bytes, mask_text, uid_text}
 use Rattle.vic_survey.specs.Surveys.{SurveyValue}
 use Rattle.vic_survey.specs.declared.survey.Field.{Field}
 use Rattle.vic_survey.specs.declared.survey.Field.TheVariants.{Refused, Impossible, Possible}

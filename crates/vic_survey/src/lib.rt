@@ -7,7 +7,6 @@
 #![tactic(auto)]
 
 mod begun;
-mod digits;
 mod fault;
 mod faults;
 pub mod laws;

@@ -4,7 +4,7 @@ ghost use Rattle.std.specs.Prelude.{◌≡◌, ◌+◌, ◌^◌, ◌<◌, ◌≤
 ghost use Rattle.arrayvec.specs.ArrayVec.{array_vec_len};
 ghost use Rattle.vic_frame.specs.Crc.{crc};
 ghost use Rattle.vic_log.specs.Writing.{joined};
-ghost use Rattle.vic_survey.specs.Digits.{hex_bytes};
+ghost use Rattle.vic_text.specs.Digits.{hex_bytes};
 ghost use Rattle.vic_survey.specs.Surveys.{AreSurveys, SurveyValue};
 ghost use Rattle.vic_survey.specs.SurveyReading as texts;
 ghost use Rattle.vic_survey.specs.SurveyText.{lines_before, text_of};
@@ -13,7 +13,6 @@ ghost use Rattle.vic_survey.specs.inner.States.{GivesState, state_of};
 ghost use Rattle.vic_survey.specs.inner.Steps as spec;
 
 use crate::begun::{Begun, Unread};
-use crate::digits::hex_digits;
 use crate::fault::SurveysFault;
 use crate::steps::{after_name, next_part, read_name};
 use crate::survey::Survey;
@@ -22,6 +21,7 @@ use arrayvec::ArrayVec;
 use itoa::Buffer;
 use std::alloc::Global;
 use vic_frame::crc;
+use vic_text::hex_digits;
 
 /// The greatest length of a seal.
 const SEAL_ROOM: usize = 48;

@@ -4,7 +4,6 @@ ghost use Rattle.std.specs.Prelude.{◌≡◌, ◌≤◌, None, Some, MatchOptio
 ghost use Rattle.vic_survey.specs.inner.Values as spec;
 ghost use Rattle.vic_survey.specs.inner.Steps as steps;
 
-use crate::digits::hex_digits;
 use crate::faults::fault_named;
 use crate::rising::MAX_LINE_NUMBER;
 use crate::survey::{Field, MAX_COUNT};
@@ -12,6 +11,7 @@ use bstr::ByteSlice;
 use itoa::Buffer;
 use vic_frame::{Mask, UID_BITS, Uid};
 use vic_report::ShownUid;
+use vic_text::hex_digits;
 
 /// How many digits a UID has.
 const UID_LEN: usize = 16;

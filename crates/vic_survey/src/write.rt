@@ -3,14 +3,14 @@
 ghost use Rattle.std.specs.Prelude.{◌≡◌, ◌+◌, ◌^◌, ◌<◌, ◌++◌, ◌∷◌, [], OnOk, IfOk, codes, decimal, length, map};
 ghost use Rattle.vic_log.specs.Lines.{lf};
 ghost use Rattle.vic_log.specs.Writing.{joined};
-ghost use Rattle.vic_survey.specs.Digits.{hex_bytes, mask_text};
+ghost use Rattle.vic_text.specs.Digits.{hex_bytes, mask_text};
 ghost use Rattle.vic_survey.specs.SurveyText as spec;
 
-use crate::digits::{push_bytes, push_decimal, push_mask, push_uid};
 use crate::survey::{Field, Seen, Survey};
 use std::alloc::{AllocError, Global};
 use vic_frame::{Mask, crc};
 use vic_report::ShownUid;
+use vic_text::{push_bytes, push_decimal, push_mask, push_uid};
 
 /// The text of surveys.
 pub fn surveys_text(alloc: Global, surveys: &[Survey]) -> Result<Vec<u8>, AllocError>

@@ -6,7 +6,7 @@ use Rattle.vic_report.specs.declared.shown.ShownUid.{ShownUid}
 use Rattle.vic_survey.specs.Names.{IsName}
 use Rattle.vic_survey.specs.Surveys.{SurveyValue, AreSurveys, IsSeen, IsSurvey}
 use Rattle.vic_survey.specs.SurveyText.{certain_line, open_line, found_text, lines_before, name_line, seal, survey_lines}
-use Rattle.vic_survey.specs.Digits.{mask_text}
+use Rattle.vic_text.specs.Digits.{mask_text}
 use Rattle.vic_survey.specs.declared.begun.Begun.{Begun}
 use Rattle.vic_survey.specs.declared.begun.Begun.TheVariants.{Named, Telling, Told}
 use Rattle.vic_survey.specs.declared.begun.Part.{Part}

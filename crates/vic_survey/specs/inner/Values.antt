@@ -13,7 +13,7 @@ use Rattle.vic_frame.specs.Uids.{is_uid}
 use Rattle.vic_log.specs.Names.{line_fault_name}
 use Rattle.vic_log.specs.declared.fault.LineFault.{LineFault}
 use Rattle.vic_report.specs.declared.shown.ShownUid.{ShownUid}
-use Rattle.vic_survey.specs.Digits.{hex_bytes}
+use Rattle.vic_text.specs.Digits.{hex_bytes}
 use Rattle.vic_survey.specs.declared.faults.TheConstants.{FAULTS}
 use Rattle.vic_survey.specs.declared.name.TheConstants.{MAX_NAME_LEN}
 use Rattle.vic_survey.specs.declared.rising.TheConstants.{MAX_LINE_NUMBER}

@@ -2,7 +2,7 @@
 
 ghost use Rattle.std.specs.Prelude.{◌≡◌, ◌≤◌, ◌++◌, OnOk, decimal};
 ghost use Rattle.arrayvec.specs.ArrayVec.{array_vec_len};
-ghost use Rattle.vic_survey.specs.Digits.{hex_bytes, mask_text, uid_text, value_text};
+ghost use Rattle.vic_text.specs.Digits.{hex_bytes, mask_text, uid_text, value_text};
 
 use arrayvec::ArrayVec;
 use itoa::Buffer;
@@ -11,17 +11,17 @@ use vic_frame::{Mask, Uid};
 use vic_log::push_hex;
 
 /// How many digits eight bytes have in hex.
-const HEX_LEN: usize = 16;
+pub const HEX_LEN: usize = 16;
 
 /// Appends a number, in decimal digits.
-pub(crate) fn push_decimal(text: &mut Vec<u8>, number: u64) -> Result<(), AllocError>
+pub fn push_decimal(text: &mut Vec<u8>, number: u64) -> Result<(), AllocError>
     ensures { OnOk result (text.new.items ≡ text.old.items ++ decimal number) }
 {
     text.extend_from_slice(Buffer::new().format(number).as_bytes())
 }
 
 /// Appends the last `count` bytes of a number, most significant first, in hex digits.
-pub(crate) fn push_bytes(text: &mut Vec<u8>, count: usize, number: u64) -> Result<(), AllocError>
+pub fn push_bytes(text: &mut Vec<u8>, count: usize, number: u64) -> Result<(), AllocError>
     requires { count ≤ 8 }
     ensures { OnOk result (text.new.items ≡ text.old.items ++ hex_bytes count number) }
 {
@@ -30,7 +30,7 @@ pub(crate) fn push_bytes(text: &mut Vec<u8>, count: usize, number: u64) -> Resul
 }
 
 /// The last `count` bytes of a number, most significant first, in hex digits.
-pub(crate) fn hex_digits(count: usize, number: u64) -> ArrayVec<u8, HEX_LEN>
+pub fn hex_digits(count: usize, number: u64) -> ArrayVec<u8, HEX_LEN>
     requires { count ≤ 8 }
     ensures items { result.items ≡ hex_bytes count number }
     ensures len { array_vec_len result ≤ HEX_LEN }
@@ -42,14 +42,14 @@ pub(crate) fn hex_digits(count: usize, number: u64) -> ArrayVec<u8, HEX_LEN>
 }
 
 /// Appends a UID, in hex digits.
-pub(crate) fn push_uid(text: &mut Vec<u8>, uid: Uid) -> Result<(), AllocError>
+pub fn push_uid(text: &mut Vec<u8>, uid: Uid) -> Result<(), AllocError>
     ensures { OnOk result (text.new.items ≡ text.old.items ++ uid_text uid) }
 {
     push_bytes(text, 8, uid.number())
 }
 
 /// Appends a mask: its length and its value.
-pub(crate) fn push_mask(text: &mut Vec<u8>, mask: &Mask) -> Result<(), AllocError>
+pub fn push_mask(text: &mut Vec<u8>, mask: &Mask) -> Result<(), AllocError>
     ensures { OnOk result (text.new.items ≡ text.old.items ++ mask_text mask.now) }
 {
     push_decimal(text, u64::from(mask.len()))?;
@@ -58,7 +58,7 @@ pub(crate) fn push_mask(text: &mut Vec<u8>, mask: &Mask) -> Result<(), AllocErro
 }
 
 /// Appends the value of a mask.
-fn push_value(text: &mut Vec<u8>, mask: &Mask) -> Result<(), AllocError>
+pub fn push_value(text: &mut Vec<u8>, mask: &Mask) -> Result<(), AllocError>
     ensures { OnOk result (text.new.items ≡ text.old.items ++ value_text mask.now) }
 {
     let len = mask.len();
