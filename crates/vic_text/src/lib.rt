@@ -1,6 +1,8 @@
-//! How numbers, UIDs and masks are written behind a text.
+//! How numbers, UIDs, masks and JSON values are written behind a text.
 #![tactic(auto)]
 
 mod digits;
+mod json;
 
 pub use digits::{HEX_LEN, hex_digits, push_bytes, push_decimal, push_mask, push_uid, push_value};
+pub use json::{ToJson, push_json_list, push_json_string, push_mask_members};
