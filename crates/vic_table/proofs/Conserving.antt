@@ -19,23 +19,10 @@ use Rattle.vic_table.specs.declared.columns.Separator.{Separator}
 use Rattle.vic_table.specs.declared.columns.Separator.TheVariants.{Comma, Semicolon, Tab}
 use Rattle.vic_table.specs.declared.fault.TableLineFault.TheVariants as fault
 use Rattle.vic_table.specs.inner.Faults.{shape_fault, rest_fault}
+use Rattle.vic_table.proofs.Faultless.{none_of_two, if_none}
 use Rattle.vic_table.proofs.Elements.{list_any_holds, list_all_fails, slice_get-take, slice_get-drop_at}
 use Rattle.vic_table.proofs.Rows.{item_fault-parts, behind_shape}
 use Rattle.vic_table.proofs.Telling.{HasDigits, told_has, told_tells, blank_has_none, word_is_short}
-
--- ---- what no fault means
-
-none_of_two : {F : Type 0} (a b : Option F) → option_or a b ≡ None → b ≡ None
-none_of_two None b h = h
-none_of_two (Some x) b h = cc
-
-first_none : {F : Type 0} (a b : Option F) → option_or a b ≡ None → a ≡ None
-first_none None b h = refl
-first_none (Some x) b h = cc
-
-if_none : {F : Type 0} (b : Bool) (f : F) (o : Option F) → (if b then Some f else o) ≡ None → (b ≡ false) × (o ≡ None)
-if_none true f o h = cc
-if_none false f o h = (refl, h)
 
 is_true : (b : Bool) → (true && not b) ≡ false → b ≡ true
 is_true true k = refl
@@ -179,7 +166,7 @@ module _ (c : CatalogueColumns) (lines : List (List ℕ)) (clean : HasNoFault li
   line_clean : (k : ℕ) (line : List ℕ) → slice_get lines (suc k) ≡ Some line → item_line_fault c (item_uids (items_upto c lines (suc k))) line ≡ None
   line_clean k line at =
       sym (ap (cells_fault lines (suc k) line) columns_are)
-      ∙ none_of_two (bytes_fault (suc k) line) (line_fault lines (suc k) line) (sym (ap (fault_of lines (suc k)) at) ∙ clean (suc k))
+      ∙ (none_of_two (bytes_fault (suc k) line) (line_fault lines (suc k) line) (sym (ap (fault_of lines (suc k)) at) ∙ clean (suc k))).1
 
   row_clean : (k : ℕ) (line : List ℕ) (cells : List (List ℕ)) → slice_get lines (suc k) ≡ Some line → cells_of (separator_byte c.separator) line ≡ Some cells → is_blank_line cells ≡ false → item_fault c (item_uids (items_upto c lines (suc k))) cells ≡ None
   row_clean k line cells at split full =
@@ -211,7 +198,7 @@ module _ (c : CatalogueColumns) (lines : List (List ℕ)) (clean : HasNoFault li
     named = sym (ap (option_and_then columns_of) at) ∙ columns_are
 
     right : columns_fault line (columns_of line) ≡ None
-    right = (if_none (is_misquoted line) fault.Quote (columns_fault line (columns_of line)) (none_of_two (bytes_fault 0 line) (first_line_fault line) (sym (ap (fault_of lines 0) at) ∙ clean 0))).1
+    right = (if_none (is_misquoted line) fault.Quote (columns_fault line (columns_of line)) (none_of_two (bytes_fault 0 line) (first_line_fault line) (sym (ap (fault_of lines 0) at) ∙ clean 0)).1).1
 
     names_right : names_fault (Catalogue c) cells ≡ None
     names_right = sym (ap (option_and_then (names_fault (Catalogue c))) split) ∙ (sym (ap (columns_fault line) named) ∙ right)
@@ -250,7 +237,7 @@ module _ (c : CatalogueColumns) (lines : List (List ℕ)) (clean : HasNoFault li
     own : is_blank_line cells ≡ false → spelled_uid (cell_at cells c.uid) ≡ Some u
     own full =
         let none = row_clean k line cells at split full in
-        let shape = first_none (shape_fault c cells) (behind_shape c (item_uids (items_upto c lines (suc k))) cells) (sym (item_fault-parts c (item_uids (items_upto c lines (suc k))) cells) ∙ none) in
+        let shape = (none_of_two (shape_fault c cells) (behind_shape c (item_uids (items_upto c lines (suc k))) cells) (sym (item_fault-parts c (item_uids (items_upto c lines (suc k))) cells) ∙ none)).0 in
         let sized = if_none (not (length cells == c.count)) fault.Cells (if is_no_uid (cell_at cells c.uid) then Some fault.Uid else (if tells_elsewhere c cells then Some fault.UidElsewhere else None)) shape in
         let uid_right = if_none (is_no_uid (cell_at cells c.uid)) fault.Uid (if tells_elsewhere c cells then Some fault.UidElsewhere else None) sized.1 in
         let else_right = if_none (tells_elsewhere c cells) fault.UidElsewhere None uid_right.1 in
@@ -264,7 +251,7 @@ module _ (c : CatalogueColumns) (lines : List (List ℕ)) (clean : HasNoFault li
   row_once j line cells at split full d None e = no_more_uids (items_upto c lines (suc j)) (item_of c (suc (suc j)) line cells ∷ []) (no_item (item_of c (suc (suc j)) line cells) (sym e)) d
   row_once j line cells at split full d (Some u) e =
       let before = item_uids (items_upto c lines (suc j)) in
-      let behind = none_of_two (shape_fault c cells) (behind_shape c before cells) (sym (item_fault-parts c before cells) ∙ row_clean j line cells at split full) in
+      let behind = (none_of_two (shape_fault c cells) (behind_shape c before cells) (sym (item_fault-parts c before cells) ∙ row_clean j line cells at split full)).1 in
       let not_given = (if_none (is_given before (spelled_uid (cell_at cells c.uid))) fault.DuplicateUid (rest_fault c cells) behind).0 in
       one_more_uid (items_upto c lines (suc j)) (item_of c (suc (suc j)) line cells ∷ []) u (one_item (item_of c (suc (suc j)) line cells) u (sym e)) (ap (is_given before) e ∙ not_given) d
 

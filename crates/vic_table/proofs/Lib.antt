@@ -11,5 +11,10 @@ mod Rows
 mod PlaceRows
 mod Whole
 mod Telling
+mod Faultless
 mod Conserving
+mod Counting
 mod Reordering
+mod Moving
+mod Clashing
+mod Order

@@ -1,61 +1,78 @@
--- The same lines in another order.
-use Rattle.vic_table.proofs.Words.{◌≡◌, ℕ, zero, suc, ◌+◌, ◌<◌, ◌≤◌, Bool, Option, Some, None, List, [], ◌∷◌, ◌++◌, length, take, get_or, map, slice_get, refl, sym, ap, ap₂, ◌∙◌, arith, cond-true, cond-false, cases_Bool, inl, inr, map-append, take_all, slice_get-get_or, add-one, if◌then◌else◌}
-use Rattle.std.specs.List.{count_by, sum_by}
+-- The same rows of the same lines in another order.
+use Rattle.vic_table.proofs.Words.{◌≡◌, ℕ, suc, Bool, true, false, Option, Some, None, List, [], ◌∷◌, ◌++◌, length, map, refl, sym, ap, ◌∙◌, if◌then◌else◌}
+use Rattle.std.specs.List.{sum_by}
 use Rattle.std.proofs.lemmas.List.Sorted.{sum_by-IsPermutation}
-use Rattle.std.proofs.lemmas.List.Sums.{sum_by_more, sum_by-append}
+use Rattle.vic_table.proofs.Counting.{passing, Adds, passing_all}
 use Rattle.vic_table.specs.Cells.{cells_of}
 use Rattle.vic_table.specs.Columns.{separator_byte}
 use Rattle.vic_table.specs.Lines.{table_lines}
-use Rattle.vic_table.specs.Rows.{is_blank_line, item_of, line_item, cells_item}
-use Rattle.vic_table.specs.Reordered.{unnumbered, OrderIsFree}
-use Rattle.vic_table.specs.Table.{columns_named, item_on, items_upto}
-use Rattle.vic_table.specs.Values.{ItemValue}
+use Rattle.vic_table.specs.Rows.{is_blank_line, item_of, line_item, cells_item, place_row_of, line_place_row, cells_place_row}
+use Rattle.vic_table.specs.Reordered.{unnumbered, unnumbered_row, AreReordered, OrderIsFree, OrderOfPlacesIsFree}
+use Rattle.vic_table.specs.Table.{columns_named, item_on, items_upto, place_row_on, place_rows_upto}
 use Rattle.vic_table.specs.declared.columns.CatalogueColumns.{CatalogueColumns}
+use Rattle.vic_table.specs.declared.columns.PlacesColumns.{PlacesColumns}
 use Rattle.vic_table.specs.declared.columns.Columns.{Columns}
-use Rattle.vic_table.specs.declared.columns.Columns.TheVariants.{Catalogue}
+use Rattle.vic_table.specs.declared.columns.Columns.TheVariants.{Catalogue, Places}
 
-module _ (c : CatalogueColumns) (test : ItemValue → Bool) where
-  same_items : (n : ℕ) (line : List ℕ) (o : Option (List (List ℕ))) → map unnumbered (cells_item c n line o) ≡ map unnumbered (cells_item c 0 line o)
-  same_items n line None = refl
-  same_items n line (Some cells) = elim (cases_Bool (is_blank_line cells)) [
-    | inl blank ↦ ap (map unnumbered) (cond-true (is_blank_line cells) [] (item_of c n line cells ∷ []) blank ∙ sym (cond-true (is_blank_line cells) [] (item_of c 0 line cells ∷ []) blank))
-    | inr full ↦ ap (map unnumbered) (cond-false (is_blank_line cells) [] (item_of c n line cells ∷ []) full) ∙ ap (map unnumbered) (sym (cond-false (is_blank_line cells) [] (item_of c 0 line cells ∷ []) full))
-  ]
+same_if : {A : Type 0} (b : Bool) (bare : A → A) (x y : A) → bare x ≡ bare y → map bare (if b then [] else x ∷ []) ≡ map bare (if b then [] else y ∷ [])
+same_if true bare x y e = refl
+same_if false bare x y e = ap (λ z. z ∷ []) e
 
-  passing-append : (xs ys : List ItemValue) → count_by test (map unnumbered (xs ++ ys)) ≡ count_by test (map unnumbered xs) + count_by test (map unnumbered ys)
-  passing-append xs ys = ap (count_by test) (map-append unnumbered xs ys) ∙ sum_by-append (λ x. if test x then 1 else 0) (map unnumbered xs) (map unnumbered ys)
+pub items_add : (c : CatalogueColumns) → Adds unnumbered (line_item c) (items_upto c)
+items_add c = record {
+  same = λ n line. same n line (cells_of (separator_byte c.separator) line);
+  none = λ lines. refl;
+  more = λ lines n line at. ap (λ o. items_upto c lines (suc n) ++ item_on c (suc n) o) at;
+} where
+  same : (n : ℕ) (line : List ℕ) (o : Option (List (List ℕ))) → map unnumbered (cells_item c n line o) ≡ map unnumbered (cells_item c 0 line o)
+  same n line None = refl
+  same n line (Some cells) = same_if (is_blank_line cells) unnumbered (item_of c n line cells) (item_of c 0 line cells) refl
 
-  counted : (head : List ℕ) (rest : List (List ℕ)) (n : ℕ) → n ≤ length rest → count_by test (map unnumbered (items_upto c (head ∷ rest) (suc n))) ≡ sum_by (λ line. count_by test (map unnumbered (line_item c 0 line))) (take n rest)
-  counted head rest zero low = refl
-  counted head rest (suc n) low =
-      let at : slice_get rest n ≡ Some (get_or rest n []) = slice_get-get_or rest n [] (omega arith) in
-      passing-append (items_upto c (head ∷ rest) (suc n)) (item_on c (suc n) (slice_get rest n))
-      ∙ (ap₂ (λ a b. a + b) (counted head rest n (omega arith))
-      (ap (λ o. count_by test (map unnumbered (item_on c (suc n) o))) at
-      ∙ ap (count_by test) (same_items (suc (suc n)) (get_or rest n []) (cells_of (separator_byte c.separator) (get_or rest n []))))
-      ∙ sym (more n (omega arith))) where
-        more : (n : ℕ) → n < length rest → sum_by (λ line. count_by test (map unnumbered (line_item c 0 line))) (take (suc n) rest) ≡ sum_by (λ line. count_by test (map unnumbered (line_item c 0 line))) (take n rest) + count_by test (map unnumbered (line_item c 0 (get_or rest n [])))
-        more n low = rw add-one at (sum_by_more (λ line. count_by test (map unnumbered (line_item c 0 line))) rest n [] low)
+pub places_add : (c : PlacesColumns) → Adds unnumbered_row (line_place_row c) (place_rows_upto c)
+places_add c = record {
+  same = λ n line. same n (cells_of (separator_byte c.separator) line);
+  none = λ lines. refl;
+  more = λ lines n line at. ap (λ o. place_rows_upto c lines (suc n) ++ place_row_on c (suc n) o) at;
+} where
+  same : (n : ℕ) (o : Option (List (List ℕ))) → map unnumbered_row (cells_place_row c n o) ≡ map unnumbered_row (cells_place_row c 0 o)
+  same n None = refl
+  same n (Some cells) = same_if (is_blank_line cells) unnumbered_row (place_row_of c n cells) (place_row_of c 0 cells) refl
 
-  whole : (head : List ℕ) (rest : List (List ℕ)) → count_by test (map unnumbered (items_upto c (head ∷ rest) (length (head ∷ rest)))) ≡ sum_by (λ line. count_by test (map unnumbered (line_item c 0 line))) rest
-  whole head rest =
-      let e : length (head ∷ rest) ≡ suc (length rest) = omega arith in
-      ap (λ n. count_by test (map unnumbered (items_upto c (head ∷ rest) n))) e
-      ∙ (counted head rest (length rest) (omega arith) ∙ ap (sum_by (λ line. count_by test (map unnumbered (line_item c 0 line)))) (take_all (length rest) rest (omega arith)))
+-- the rows of lines, and those of the lines in another order
+module _ {A : Type 0} (bare : A → A) (row : ℕ → List ℕ → List A) (upto : List (List ℕ) → ℕ → List A) (a : Adds bare row upto) (test : A → Bool) (lines others : List (List ℕ)) (r : AreReordered lines others) where
+  abbrev of_line : List ℕ → ℕ
+  of_line line = passing bare test (row 0 line)
 
-  in_all : (lines : List (List ℕ)) (items : List ItemValue) (head : List ℕ) (rest : List (List ℕ)) → items ≡ items_upto c lines (length lines) → lines ≡ head ∷ rest → count_by test (map unnumbered items) ≡ sum_by (λ line. count_by test (map unnumbered (line_item c 0 line))) rest
-  in_all lines items head rest items_are lines_are = ap (λ xs. count_by test (map unnumbered xs)) (items_are ∙ ap (λ ls. items_upto c ls (length ls)) lines_are) ∙ whole head rest
+  passing_in : (lines rest : List (List ℕ)) → lines ≡ r.head ∷ rest → passing bare test (upto lines (length lines)) ≡ sum_by of_line rest
+  passing_in lines rest e = ap (λ ls. passing bare test (upto ls (length ls))) e ∙ passing_all bare row upto a test r.head rest
 
-same_columns : (c d : CatalogueColumns) (o : Option Columns) → o ≡ Some (Catalogue c) → o ≡ Some (Catalogue d) → d ≡ c
-same_columns c d o e f = let both = sym f ∙ e in cc
+  pub passing_same : passing bare test (upto lines (length lines)) ≡ passing bare test (upto others (length others))
+  passing_same = passing_in lines r.rest r.lines_are ∙ (sym (sum_by-IsPermutation of_line r.rest r.moved r.same) ∙ sym (passing_in others r.moved r.others_are))
 
-pub order : OrderIsFree
-order text other catalogue reordered is also r test =
+-- the columns of both
+pub columns_same : (lines others : List (List ℕ)) → AreReordered lines others → columns_named others ≡ columns_named lines
+columns_same lines others r = ap columns_named r.others_are ∙ sym (ap columns_named r.lines_are)
+
+same_catalogue : (c d : CatalogueColumns) (o p : Option Columns) → o ≡ Some (Catalogue c) → p ≡ Some (Catalogue d) → p ≡ o → d ≡ c
+same_catalogue c d o p e f g = let both = sym f ∙ (g ∙ e) in cc
+
+same_places : (c d : PlacesColumns) (o p : Option Columns) → o ≡ Some (Places c) → p ≡ Some (Places d) → p ≡ o → d ≡ c
+same_places c d o p e f g = let both = sym f ∙ (g ∙ e) in cc
+
+pub items_same : OrderIsFree
+items_same text other catalogue reordered is also r test =
     let c = catalogue.columns in
-    let named = sym (ap columns_named r.lines_are) ∙ is.columns in
-    let named_too = sym (ap columns_named r.others_are) ∙ also.columns in
-    let same = same_columns c reordered.columns (columns_named (r.head ∷ r.rest)) named named_too in
+    let same = same_catalogue c reordered.columns _ _ is.columns also.columns (columns_same (table_lines text) (table_lines other) r) in
     let items_too : reordered.items ≡ items_upto c (table_lines other) (length (table_lines other)) = also.items ∙ ap (λ d. items_upto d (table_lines other) (length (table_lines other))) same in
-    in_all c test (table_lines text) catalogue.items r.head r.rest is.items r.lines_are
-    ∙ (sym (sum_by-IsPermutation (λ line. count_by test (map unnumbered (line_item c 0 line))) r.rest r.moved r.same)
-    ∙ sym (in_all c test (table_lines other) reordered.items r.head r.moved items_too r.others_are))
+    ap (passing unnumbered test) is.items
+    ∙ (passing_same unnumbered (line_item c) (items_upto c) (items_add c) test (table_lines text) (table_lines other) r
+    ∙ sym (ap (passing unnumbered test) items_too))
+
+pub places_same : OrderOfPlacesIsFree
+places_same text other rows reordered are also r test =
+    let c = are.columns in
+    let same = same_places c also.columns _ _ are.columns_are also.columns_are (columns_same (table_lines text) (table_lines other) r) in
+    let rows_too : reordered ≡ place_rows_upto c (table_lines other) (length (table_lines other)) = also.rows_are ∙ ap (λ d. place_rows_upto d (table_lines other) (length (table_lines other))) same in
+    ap (passing unnumbered_row test) are.rows_are
+    ∙ (passing_same unnumbered_row (line_place_row c) (place_rows_upto c) (places_add c) test (table_lines text) (table_lines other) r
+    ∙ sym (ap (passing unnumbered_row test) rows_too))
