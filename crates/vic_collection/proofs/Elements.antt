@@ -1,7 +1,7 @@
 -- Lists read element by element.
 use Rattle.std.specs.Option.{option_map}
 use Rattle.std.proofs.lemmas.Option.{slice_get-map}
-use Rattle.vic_collection.proofs.Words.{◌<◌, length, arith, slice_get-get_or, ◌++◌, sym, subst, map, get_or, take_more, map_push, ◌≡◌, Option, None, ℕ, ◌+◌, List, [], ◌∷◌, Bool, ◌||◌, Some, refl, ap, ◌∙◌, take, slice_get, list_any, list_any_more, slice_get_within, get_or_from_slice_get, IsSomeAnd}
+use Rattle.vic_collection.proofs.Words.{suc, zero, ◌<◌, length, arith, slice_get-get_or, ◌++◌, sym, subst, map, get_or, take_more, map_push, ◌≡◌, Option, None, ℕ, ◌+◌, List, [], ◌∷◌, Bool, ◌||◌, Some, refl, ap, ◌∙◌, take, slice_get, list_any, list_any_more, slice_get_within, get_or_from_slice_get, IsSomeAnd}
 
 pub list_any-same : {X : Type 0} (p q : X → Bool) → ((x : X) → p x ≡ q x) → (xs : List X) → list_any p xs ≡ list_any q xs
 list_any-same p q h [] = refl
@@ -22,10 +22,14 @@ some_at o P x e h = subst (λ p. IsSomeAnd p P) e h
 pub some_and : {X : Type 0} (o : Option X) (P : X → Type 0) (x : X) → o ≡ Some x → P x → IsSomeAnd o P
 some_and o P x e h = subst (λ p. IsSomeAnd p P) (sym e) h
 
+-- the elements before the next one, and it
+pub taken_more : {X : Type 0} (xs : List X) (i : ℕ) (x : X) → slice_get xs i ≡ Some x → take (i + 1) xs ≡ take i xs ++ x ∷ []
+taken_more xs i x at = take_more xs i x (slice_get_within xs i x at) ∙ ap (λ y. take i xs ++ y ∷ []) (get_or_from_slice_get xs i x x at)
+
 -- ---- of a list that is mapped
 
 pub map_next : {X Y : Type 0} (f : X → Y) (xs : List X) (i : ℕ) (x : X) → slice_get xs i ≡ Some x → map f (take (i + 1) xs) ≡ map f (take i xs) ++ f x ∷ []
-map_next f xs i x at = ap (map f) (take_more xs i x (slice_get_within xs i x at) ∙ ap (λ y. take i xs ++ y ∷ []) (get_or_from_slice_get xs i x x at)) ∙ map_push f (take i xs) x
+map_next f xs i x at = ap (map f) (taken_more xs i x at) ∙ map_push f (take i xs) x
 
 pub map_at : {X Y : Type 0} (f : X → Y) (xs : List X) (i : ℕ) (x : X) (d : Y) → slice_get xs i ≡ Some x → get_or (map f xs) i d ≡ f x
 map_at f xs i x d at = get_or_from_slice_get (map f xs) i (f x) d (slice_get-map f xs i ∙ ap (option_map f) at)
@@ -41,3 +45,11 @@ list_any-map_next test f xs i x at = list_any-map test f (take (i + 1) xs) ∙ (
 pub item_at : {X : Type 0} (xs : List X) (i : ℕ) → i < length xs → (x : X) × (slice_get xs i ≡ Some x)
 item_at [] i lt = absurd (omega (arith, lt))
 item_at (x ∷ xs) i lt = (get_or (x ∷ xs) i x, slice_get-get_or (x ∷ xs) i x lt)
+
+-- two lists with the same values, element by element
+pub same_at : {X Y Z : Type 0} (f : X → Z) (g : Y → Z) (xs : List X) (ys : List Y) (i : ℕ) (x : X) (y : Y) → map f xs ≡ map g ys → x ≡ get_or xs i x → slice_get ys i ≡ Some y → f x ≡ g y
+same_at f g [] [] i x y e is at = absurd (omega (arith, slice_get_within [] i y at))
+same_at f g [] (z ∷ ys) i x y e is at = absurd cc
+same_at f g (w ∷ xs) [] i x y e is at = absurd cc
+same_at f g (w ∷ xs) (z ∷ ys) zero x y e is at = let first : w ≡ x = sym is in let other : z ≡ y = cc in let both : f w ≡ g z = cc in cc
+same_at f g (w ∷ xs) (z ∷ ys) (suc i) x y e is at = let rest : map f xs ≡ map g ys = cc in same_at f g xs ys i x y rest is at

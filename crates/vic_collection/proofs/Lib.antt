@@ -6,4 +6,5 @@ mod Confusing
 mod Leading
 mod Telling
 mod Placing
+mod Without
 mod AnyOrder

@@ -68,7 +68,7 @@ logs_added shown i s base log u up lt is =
 
 -- ---- of one log more
 
-positions_from-push : (test : SurveyValue → Bool) (k : ℕ) (xs : List SurveyValue) (x : SurveyValue) → positions_from test k (xs ++ x ∷ []) ≡ positions_from test k xs ++ cond (test x) ((k + length xs) ∷ []) []
+positions_from-push : {X : Type 0} (test : X → Bool) (k : ℕ) (xs : List X) (x : X) → positions_from test k (xs ++ x ∷ []) ≡ positions_from test k xs ++ cond (test x) ((k + length xs) ∷ []) []
 positions_from-push test k [] x = let e : k + 0 ≡ k = omega arith in rw e refl
 positions_from-push test k (first ∷ xs) x = let e : k + length (first ∷ xs) ≡ (k + 1) + length xs = omega arith in rw (e, positions_from-push test (k + 1) xs x) (go (test first)) where
   go : (b : Bool) → cond b (k ∷ (positions_from test (k + 1) xs ++ cond (test x) (((k + 1) + length xs) ∷ []) [])) (positions_from test (k + 1) xs ++ cond (test x) (((k + 1) + length xs) ∷ []) [])
@@ -76,7 +76,7 @@ positions_from-push test k (first ∷ xs) x = let e : k + length (first ∷ xs) 
   go true = refl
   go false = refl
 
-pub positions_from-more : (test : SurveyValue → Bool) (xs : List SurveyValue) (i : ℕ) (x : SurveyValue) → slice_get xs i ≡ Some x → positions_from test 0 (take (i + 1) xs) ≡ positions_from test 0 (take i xs) ++ cond (test x) (i ∷ []) []
+pub positions_from-more : {X : Type 0} (test : X → Bool) (xs : List X) (i : ℕ) (x : X) → slice_get xs i ≡ Some x → positions_from test 0 (take (i + 1) xs) ≡ positions_from test 0 (take i xs) ++ cond (test x) (i ∷ []) []
 positions_from-more test xs i x at =
     let lt : i < length xs = slice_get_within xs i x at in
     let e : 0 + length (take i xs) ≡ i = omega (arith, length-take-le i xs (omega arith)) in

@@ -1,6 +1,6 @@
 -- A collection: what should be there, which log is of which place, and what the logs say of their
 -- fields (profile).
-use Rattle.std.specs.Prelude.{ℕ, ◌+◌, Bool, true, false, ◌||◌, if◌then◌else◌, is_some, Option, List, [], ◌∷◌}
+use Rattle.std.specs.Prelude.{ℕ, ◌+◌, Bool, true, false, ◌&&◌, ◌||◌, not, nat_eq, if◌then◌else◌, is_some, Option, Some, None, List, [], ◌∷◌}
 use Rattle.std.specs.List.{list_any}
 use Rattle.vic_frame.specs.Masks.{lies_in}
 use Rattle.vic_frame.specs.Uids.{has}
@@ -43,15 +43,44 @@ is_possible_in s u = is_possible_by s.field u
 
 -- ---- what all logs say of it together
 
--- the positions of the logs that pass a test, where the first one is at position k
-abbrev pub positions_from : (SurveyValue → Bool) → ℕ → List SurveyValue → List ℕ
+-- the positions of what passes a test, where the first one is at position k
+abbrev pub positions_from : {X : Type 0} → (X → Bool) → ℕ → List X → List ℕ
 positions_from test k [] = []
-positions_from test k (s ∷ surveys) =
-    if test s then k ∷ positions_from test (k + 1) surveys
-    else positions_from test (k + 1) surveys
+positions_from test k (x ∷ xs) =
+    if test x then k ∷ positions_from test (k + 1) xs else positions_from test (k + 1) xs
+
+-- the logs in which a UID is certain, by their positions
+abbrev pub certain_logs : CollectionValue → ℕ → List ℕ
+certain_logs c u = positions_from (λ s. is_certain_in s u) 0 c.surveys
+
+-- a tag with the UID may have been in the field or not
+abbrev pub is_undecided_in : SurveyValue → ℕ → Bool
+is_undecided_in s u = is_possible_in s u && not (is_certain_in s u)
+
+-- the logs in which a UID is possible and not certain
+abbrev pub possible_logs : CollectionValue → ℕ → List ℕ
+possible_logs c u = positions_from (λ s. is_undecided_in s u) 0 c.surveys
 
 abbrev pub is_certain_somewhere : CollectionValue → ℕ → Bool
 is_certain_somewhere c u = list_any (λ s. is_certain_in s u) c.surveys
 
 abbrev pub is_possible_somewhere : CollectionValue → ℕ → Bool
 is_possible_somewhere c u = list_any (λ s. is_possible_in s u) c.surveys
+
+-- ---- what should be there
+
+abbrev pub is_number : ℕ → Option ℕ → Bool
+is_number u None = false
+is_number u (Some v) = nat_eq u v
+
+-- the UID of an item
+abbrev pub is_of_item : CollectionValue → ℕ → Bool
+is_of_item c u = list_any (λ item. is_number u item.uid) c.catalogue.items
+
+-- a UID that is certain in some log, and of no item
+abbrev pub is_unexpected : CollectionValue → ℕ → Bool
+is_unexpected c u = is_certain_somewhere c u && not (is_of_item c u)
+
+-- a UID that is certain in some log, or of an item
+abbrev pub is_named : CollectionValue → ℕ → Bool
+is_named c u = is_certain_somewhere c u || is_of_item c u

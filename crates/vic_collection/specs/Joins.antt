@@ -1,6 +1,6 @@
 -- Which log is of which place, and what is left over on either side (profile).
-use Rattle.std.specs.Prelude.{ℕ, Bool, false, ◌&&◌, ◌||◌, not, if◌then◌else◌, is_some, is_none, Option, Some, None, List, [], ◌∷◌}
-use Rattle.std.specs.List.{list_any}
+use Rattle.std.specs.Prelude.{ℕ, Bool, false, ◌&&◌, ◌||◌, not, if◌then◌else◌, is_some, is_none, map, option_to_list, Option, Some, None, List, [], ◌∷◌, ◌++◌}
+use Rattle.std.specs.List.{filter, flat_map, list_any}
 use Rattle.std.specs.Option.{option_or}
 use Rattle.std.specs.Str.{bytes_eq}
 use Rattle.vic_survey.specs.Surveys.{SurveyValue}
@@ -74,3 +74,27 @@ is_asked_for c place =
 -- a log of the place is asked for, and there is none
 abbrev pub is_without_log : CollectionValue → List ℕ → Bool
 is_without_log c place = is_asked_for c place && not (list_any (is_of_place c place) c.surveys)
+
+-- ---- the places without a log, in their order
+
+abbrev pub place_if_expected : ItemValue → List (List ℕ)
+place_if_expected item = if is_expected item then option_to_list item.place else []
+
+abbrev pub places_of_rows : Option (List PlaceRowValue) → List (List ℕ)
+places_of_rows None = []
+places_of_rows (Some rows) = map (λ row. row.place) rows
+
+-- the places of which a log is asked for, where places are: of items by their rows, then of the
+-- table of places
+abbrev pub places_asked_for : CollectionValue → List (List ℕ)
+places_asked_for c = flat_map place_if_expected c.catalogue.items ++ places_of_rows c.rows
+
+-- each of some texts once, where it comes first
+abbrev pub each_once : List (List ℕ) → List (List ℕ)
+each_once [] = []
+each_once (text ∷ texts) =
+    text ∷ filter (λ other. not (bytes_eq text other)) (each_once texts)
+
+-- the places without a log, each once
+abbrev pub places_without_log : CollectionValue → List (List ℕ)
+places_without_log c = filter (is_without_log c) (each_once (places_asked_for c))

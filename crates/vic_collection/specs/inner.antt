@@ -2,3 +2,4 @@
 pub mod NameSets
 pub mod Told
 pub mod Placed
+pub mod Without

@@ -1,19 +1,18 @@
 //! A collection, and the state of each of its items.
 
-ghost use Rattle.std.specs.Prelude.{◌≡◌, ℕ, true, Option, List, ◌<◌, is_some, length, map, slice_get, IfOk, IsSomeAnd};
+ghost use Rattle.std.specs.Prelude.{◌≡◌, ◌<◌, length, map, slice_get, IfOk, IsSomeAnd};
 ghost use Rattle.std.specs.List.{list_any};
 ghost use Rattle.std.specs.Option.{option_map};
-ghost use Rattle.vic_collection.specs.Collections.{is_certain_somewhere, is_possible_somewhere};
-ghost use Rattle.vic_collection.specs.Joins.{is_text};
+ghost use Rattle.vic_collection.specs.Collections.{certain_logs, is_certain_somewhere, is_possible_somewhere};
+ghost use Rattle.vic_collection.specs.Joins.{is_left_over, place_of_log};
 ghost use Rattle.vic_collection.specs.States.{is_certain_at, state_of};
-ghost use Rattle.vic_collection.specs.inner.NameSets.{has_name};
-ghost use Rattle.vic_collection.specs.inner.Placed.{is_lacking, is_placed, state_by_place};
+ghost use Rattle.vic_collection.specs.inner.Placed.{is_placed, state_by_place};
 
 use crate::joins::places_of_logs;
 use crate::state::State;
 use crate::told::Told;
+use crate::without_log::all_lacking;
 use std::alloc::{AllocError, Global};
-use std::collections::BTreeSet;
 use std::marker::Model;
 use vic_frame::Uid;
 use vic_survey::Survey;
@@ -23,14 +22,14 @@ use vic_tree::OpenSet;
 /// A catalogue, a table of places if there is one, and a survey of each log.
 #[derive(Drop)]
 pub struct Collection {
-    catalogue: Catalogue,
-    rows: Option<Places>,
+    pub(crate) catalogue: Catalogue,
+    pub(crate) rows: Option<Places>,
     surveys: Vec<Survey>,
     /// The place of each log.
-    places: Vec<Option<Vec<u8>>>,
+    pub(crate) places: Vec<Option<Vec<u8>>>,
     /// For each item whether no log is of its place, where places are asked for.
     lacking: Vec<bool>,
-    told: Told,
+    pub(crate) told: Told,
 }
 
 impl Model for Collection {
@@ -87,6 +86,56 @@ impl Collection {
             lacking,
             told,
         })
+    }
+
+    /// The catalogue.
+    pub fn catalogue(&self) -> &Catalogue
+        ensures { result.now ≡ self.now.catalogue }
+    {
+        &self.catalogue
+    }
+
+    /// The table of places, if there is one.
+    pub fn rows(&self) -> Option<&Places>
+        ensures { option_map (λ rows. rows.now) result ≡ self.now.rows }
+    {
+        self.rows.as_ref()
+    }
+
+    /// A survey of each log.
+    pub fn surveys(&self) -> &[Survey]
+        ensures { result.now ≡ self.now.surveys }
+    {
+        &self.surveys
+    }
+
+    /// The place of a log; `None` if it is of no place, or places aren't asked for.
+    pub fn place_of_log(&self, index: usize) -> Option<&[u8]>
+        requires { index < length self.now.surveys }
+        ensures { IsSomeAnd (slice_get self.now.surveys index)
+            (λ s. option_map (λ place. place.now) result ≡ place_of_log self.now s) }
+    {
+        match &self.places[index] {
+            Some(place) => Some(place.as_slice()),
+            None => None,
+        }
+    }
+
+    /// Whether a log is of no place, where places are asked for.
+    pub fn is_left_over(&self, index: usize) -> bool
+        requires { index < length self.now.surveys }
+        ensures { IsSomeAnd (slice_get self.now.surveys index)
+            (λ s. result ≡ is_left_over self.now s) }
+    {
+        let place = self.place_of_log(index);
+        self.catalogue.columns().place.is_some() && place.is_none()
+    }
+
+    /// The logs in which a UID is certain, by their positions, in their order.
+    pub fn certain_in(&self, uid: Uid) -> &[usize]
+        ensures { result.now ≡ certain_logs self.now uid }
+    {
+        self.told.logs_of(uid)
     }
 
     /// The state of an item of the catalogue.
@@ -182,50 +231,4 @@ fn is_placed(places: &[Option<Vec<u8>>], place: &[u8], log: usize) -> bool
         Some(Some(other)) => other.as_slice() == place,
         _ => false,
     }
-}
-
-/// For each item whether no log is of its place, where places are asked for.
-fn all_lacking(
-    alloc: Global,
-    catalogue: &Catalogue,
-    places: &[Option<Vec<u8>>],
-) -> Result<Vec<bool>, AllocError>
-    ensures { IfOk result (λ lacking. lacking.items ≡ map (λ item. is_lacking
-        (is_some catalogue.now.columns.place)
-        (map (option_map (λ p. p.items)) places.now) item.place) catalogue.now.items) }
-{
-    let asks = catalogue.columns().place.is_some();
-    let counted = places_of(alloc, places)?;
-    let mut lacking = Vec::with_capacity(alloc, catalogue.len())?;
-    for index in 0..catalogue.len() {
-        let lacks = asks && is_lacking(&counted, catalogue.place(index));
-        lacking.push(lacks)?;
-    }
-    Ok(lacking)
-}
-
-/// Whether a place isn't among some.
-fn is_lacking(places: &BTreeSet<&[u8]>, place: Option<&[u8]>) -> bool
-    ensures { (all : List (Option (List ℕ)))
-        → ((q : List ℕ) → has_name places.now q ≡ list_any (is_text q) all)
-        → result ≡ is_lacking true all (option_map (λ p. p.now) place.entry) }
-{
-    match place {
-        Some(place) => !places.contains(place),
-        None => false,
-    }
-}
-
-/// The places of which there is a log.
-fn places_of(alloc: Global, places: &[Option<Vec<u8>>]) -> Result<BTreeSet<&[u8]>, AllocError>
-    ensures { IfOk result (λ set. (q : List ℕ) → has_name set q
-        ≡ list_any (is_text q) (map (option_map (λ p. p.items)) places.now)) }
-{
-    let mut set = BTreeSet::new(alloc);
-    for place in places {
-        if let Some(place) = place {
-            set.insert(place.as_slice())?;
-        }
-    }
-    Ok(set)
 }

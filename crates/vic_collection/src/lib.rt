@@ -13,6 +13,7 @@ mod joins;
 pub mod laws;
 mod state;
 mod told;
+mod without_log;
 
 pub use collection::Collection;
 pub use confused::first_confused;
