@@ -10,6 +10,7 @@ pub mod Differing
 pub mod LawLemmas
 pub mod More
 pub mod Opened
+pub mod Reopened
 mod SamePopulations
 mod OneMore
 mod Always

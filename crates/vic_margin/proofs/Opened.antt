@@ -55,24 +55,28 @@ widest_opened s t (Some m) same some none = record {
   least = λ n mask short all. some.least n mask short (λ u is lies. same u is ∙ all u is lies);
 }
 
+pub widest_same : (s t : ℕ → Bool) (m : Option BitMask) → SameUids s t → IsWidestOpened s m → IsWidestOpened t m
+widest_same s t None same h = widest_opened s t None same tt h
+widest_same s t (Some m) same h = widest_opened s t (Some m) same h tt
+
 -- ---- by its UIDs
 
-is_there : (ds : List Entry) (rs : List (ℕ × ℕ)) (u : ℕ) → IsPossible ds → is_opened ds rs u ≡ true → IsPossibleUid ds u
+is_there : (ds : List Entry) (rs : List (ℕ × ℕ)) (u : ℕ) → IsPossible ds → is_opened ds (length ds) rs u ≡ true → IsPossibleUid ds u
 is_there ds rs u possible h = (IsPossibleUid-iff ds u possible).1 (and_parts _ _ h).0
 
-isnt_other : (es ds : List Entry) (rs : List (ℕ × ℕ)) (u : ℕ) → IsPossible es → IsUid u → SameUids (is_open_in rs) (is_open (slots_of es)) → is_opened ds rs u ≡ true → IsPossibleUid es u → ⊥
+isnt_other : (es ds : List Entry) (rs : List (ℕ × ℕ)) (u : ℕ) → IsPossible es → IsUid u → SameUids (is_open_in rs) (is_open (slots_of es)) → is_opened ds (length ds) rs u ≡ true → IsPossibleUid es u → ⊥
 isnt_other es ds rs u possible is same h may =
     let out = (and_parts (is_open (slots_of ds) u) (not (is_open_in rs u)) h).1 in
     let it = same u is ∙ (IsPossibleUid-iff es u possible).0 may in
     grind (arith, nat_tests, out, it)
 
-is_opened_by : (es ds : List Entry) (rs : List (ℕ × ℕ)) (u : ℕ) → IsPossible es → IsPossible ds → IsUid u → SameUids (is_open_in rs) (is_open (slots_of es)) → IsPossibleUid ds u → (IsPossibleUid es u → ⊥) → is_opened ds rs u ≡ true
+is_opened_by : (es ds : List Entry) (rs : List (ℕ × ℕ)) (u : ℕ) → IsPossible es → IsPossible ds → IsUid u → SameUids (is_open_in rs) (is_open (slots_of es)) → IsPossibleUid ds u → (IsPossibleUid es u → ⊥) → is_opened ds (length ds) rs u ≡ true
 is_opened_by es ds rs u pe pd is same may none = elim (cases_Bool (is_open_in rs u)) [
   | inl it ↦ absurd (none ((IsPossibleUid-iff es u pe).1 (sym (same u is) ∙ it)))
   | inr out ↦ let here = (IsPossibleUid-iff ds u pd).0 may in rw (here, out) refl
 ]
 
-pub first_opened : (es ds : List Entry) (rs : List (ℕ × ℕ)) (m : Option BitMask) → IsPossible es → IsPossible ds → SameUids (is_open_in rs) (is_open (slots_of es)) → IsWidestOpened (is_opened ds rs) m → IsFirstOpened ds es m
+pub first_opened : (es ds : List Entry) (rs : List (ℕ × ℕ)) (m : Option BitMask) → IsPossible es → IsPossible ds → SameUids (is_open_in rs) (is_open (slots_of es)) → IsWidestOpened (is_opened ds (length ds) rs) m → IsFirstOpened ds es m
 first_opened es ds rs None pe pd same h = λ u may.
     let is = IsUid-member may.0 u may.1 may.3 in
     elim (cases_Bool (is_open_in rs u)) [

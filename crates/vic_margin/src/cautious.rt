@@ -1,16 +1,19 @@
 //! What a log leaves open beside itself if it is read more cautiously.
 
-ghost use Rattle.std.specs.Prelude.{◌≡◌, ℕ, IfOk, false};
+ghost use Rattle.std.specs.Prelude.{◌≡◌, ℕ, IfOk, List, false, length, slice_index};
 ghost use Rattle.vic_frame.specs.Uids.{has};
+ghost use Rattle.vic_log.specs.declared.entry.Entry.{Entry as EntryValue};
 ghost use Rattle.vic_log.specs.Order.{entries, listed};
-ghost use Rattle.vic_log.specs.Slots.{is_open, slots_of};
+ghost use Rattle.vic_log.specs.Slots.{is_open, slots_before, slots_of};
 ghost use Rattle.vic_tree.specs.Keys.{AreKeysOf};
 ghost use Rattle.vic_tree.specs.OpenSet.{SameUids};
 ghost use Rattle.vic_tree.specs.Ranges.{in_ranges, is_open_in};
 ghost use Rattle.vic_verdict.specs.Possible.{IsPossible};
 ghost use Rattle.vic_verdict.specs.Verdict.{IsVerdict};
+ghost use Rattle.vic_walk.specs.Borders.{part_count};
+ghost use Rattle.vic_walk.specs.Walk.{AreEndsAt};
 ghost use Rattle.vic_margin.specs.Readings.{AreReadings, AreReadingsIfComplete};
-ghost use Rattle.vic_margin.specs.inner.Opened.{IsWidestOpened, is_opened};
+ghost use Rattle.vic_margin.specs.inner.Opened.{IsBehindAnswers, IsWidestOpened, end_before, is_opened};
 
 use crate::answer::Readings;
 use std::alloc::{AllocError, Global};
@@ -18,11 +21,11 @@ use vic_frame::Mask;
 use vic_log::Log;
 use vic_tree::{KeyRange, OpenSet, RangeSet, SortedKeys};
 use vic_verdict::Verdict;
-use vic_walk::{LogLines, closed_keys, walk_log};
+use vic_walk::{LogLines, LogWalk, Parts, closed_keys, walk_log};
 
 /// What the hidden and the deaf reading of a possible log leave open beside the log, whose open
-/// UIDs are handed in as the ranges of their keys. It judges once more for each reading that can
-/// differ from the log. It fails only if memory is refused.
+/// UIDs are handed in as the ranges of their keys. If a reading can differ from the log, it walks
+/// over the log once more. It fails only if memory is refused.
 pub fn readings(alloc: Global, log: Log, ranges: &[KeyRange]) -> Result<Readings, AllocError>
     requires possible { IsPossible (entries log.lines) }
     requires open { SameUids (is_open_in ranges.now) (is_open (slots_of (entries log.lines))) }
@@ -30,43 +33,88 @@ pub fn readings(alloc: Global, log: Log, ranges: &[KeyRange]) -> Result<Readings
 {
     let hides = log.has_heard();
     let falls_silent = log.ends_silent();
+    if !hides && !falls_silent {
+        return Ok(Readings {
+            hidden: None,
+            deaf: None,
+        });
+    }
+    let answered = behind_answers(&LogLines::of(&log));
     let hidden_log = log.into_hidden();
-    let hidden = opened_if(alloc, hides, &hidden_log, ranges)?;
+    let LogWalk {
+        log_parts,
+        mut ends,
+        ..
+    } = walk_log(alloc, &LogLines::of(&hidden_log))?;
+    let hidden = opened_if(alloc, hides, &log_parts.parts, &ends, ranges)?;
     if !falls_silent {
         let deaf = hidden;
         return Ok(Readings { hidden, deaf });
     }
-    let deaf_log = hidden_log.into_deaf();
-    let deaf = opened(alloc, &deaf_log, ranges)?;
+    // what the deaf reading leaves open is what was open behind the last answer
+    reopen(&mut ends, answered);
+    let deaf = opened(alloc, &log_parts.parts, &ends, ranges)?;
     Ok(Readings { hidden, deaf })
 }
 
-/// `opened`, if the log differs from the one that leaves these UIDs open.
+/// The position behind the last answer; 0 if there is none.
+fn behind_answers(lines: &LogLines) -> usize
+    ensures { IsBehindAnswers (entries lines.now) result }
+{
+    let mut behind = lines.len();
+    while behind > 0 && !lines.entry(behind - 1).is_answer() {
+        behind -= 1;
+    }
+    behind
+}
+
+/// Of the ends of parts makes 0 each that an entry from this position on gave.
+fn reopen(ends: &mut Vec<u32>, position: usize)
+    ensures size { length ends.new.items ≡ length ends.old.items }
+    ensures each { (p : ℕ) → slice_index ends.new.items p
+        ≡ end_before position (slice_index ends.old.items p) }
+{
+    for index in 0..ends.len() {
+        if ends[index] as usize > position {
+            ends[index] = 0;
+        }
+    }
+}
+
+/// `opened`, if some UID may be; none is if all that are open have a key in the ranges.
 fn opened_if(
     alloc: Global,
     differs: bool,
-    log: &Log,
+    parts: &Parts,
+    ends: &[u32],
     ranges: &[KeyRange],
 ) -> Result<Option<Mask>, AllocError>
-    requires possible { IsPossible (entries log.now.lines) }
-    requires same { differs ≡ false
-        → SameUids (is_open_in ranges.now) (is_open (slots_of (entries log.now.lines))) }
-    ensures { IfOk result (IsWidestOpened (is_opened (entries log.now.lines) ranges.now)) }
+    requires { length ends.now ≡ part_count parts.now }
+    ensures { IfOk result (λ mask. (es : List EntryValue) (i : ℕ)
+        → AreEndsAt parts.now es i ends.now
+        → (differs ≡ false → SameUids (is_open_in ranges.now) (is_open (slots_before es i)))
+        → IsWidestOpened (is_opened es i ranges.now) mask) }
 {
     if differs {
-        opened(alloc, log, ranges)
+        opened(alloc, parts, ends, ranges)
     } else {
         Ok(None)
     }
 }
 
-/// The first mask of UIDs that a possible log leaves open, and that have no key in some ranges.
-fn opened(alloc: Global, log: &Log, ranges: &[KeyRange]) -> Result<Option<Mask>, AllocError>
-    requires { IsPossible (entries log.now.lines) }
-    ensures { IfOk result (IsWidestOpened (is_opened (entries log.now.lines) ranges.now)) }
+/// By the ends of parts the first mask of UIDs that are open, and have no key in some ranges.
+fn opened(
+    alloc: Global,
+    parts: &Parts,
+    ends: &[u32],
+    ranges: &[KeyRange],
+) -> Result<Option<Mask>, AllocError>
+    requires { length ends.now ≡ part_count parts.now }
+    ensures { IfOk result (λ mask. (es : List EntryValue) (i : ℕ)
+        → AreEndsAt parts.now es i ends.now
+        → IsWidestOpened (is_opened es i ranges.now) mask) }
 {
-    let walk = walk_log(alloc, &LogLines::of(log))?;
-    let mut closed = closed_keys(alloc, &walk.log_parts.parts, &walk.ends)?;
+    let mut closed = closed_keys(alloc, parts, ends)?;
     closed.extend_from_slice(ranges)?;
     let set = RangeSet::without(alloc, closed)?;
     Ok(set.widest())

@@ -1,51 +1,46 @@
-use Rattle.vic_margin.proofs.Words.{◌≡◌, ◌∙◌, List, false, ap, subst, sym, Entry}
-use Rattle.vic_log.proofs.Cautious.{deaf_of_hidden, deaf_same, hidden_same}
-use Rattle.vic_log.specs.Deaf.{deaf_entries, ends_silent, hidden_entries}
+use Rattle.vic_margin.proofs.Words.{◌≡◌, ◌∙◌, ℕ, List, length, slice_index, ap, subst, sym, Entry}
+use Rattle.vic_log.proofs.Cautious.{deaf_same}
+use Rattle.vic_log.specs.Deaf.{deaf_entries, hidden_entries}
 use Rattle.vic_log.specs.Order.{entries}
-use Rattle.vic_log.specs.Slots.{is_open, slots_of}
-use Rattle.vic_tree.specs.OpenSet.{SameUids}
-use Rattle.vic_tree.specs.Ranges.{is_open_in}
 use Rattle.vic_verdict.specs.Possible.{IsPossible}
+use Rattle.vic_walk.specs.Walk.{AreEndsAt}
 use Rattle.vic_margin.specs.Readings.{IsFirstOpened}
-use Rattle.vic_margin.specs.inner.Opened.{IsWidestOpened, is_opened}
-use Rattle.vic_margin.proofs.Opened.{first_opened, possible_deaf, possible_hidden}
+use Rattle.vic_margin.specs.inner.Opened.{IsBehindAnswers, end_before}
+use Rattle.vic_margin.proofs.Opened.{ends_all, possible_hidden}
+use Rattle.vic_margin.proofs.Reopened.{read_deaf, read_hidden, read_none}
 use Rattle.vic_margin.proofs.cautious.readings.Goals as goal
 
-pub opened_if-requires-clause-possible : goal.opened_if-requires-clause-possible
-opened_if-requires-clause-possible c = subst IsPossible (sym c.into_hidden-hidden_log.ensures.items) (possible_hidden (entries c.args.log.lines) c.requires.possible)
-
-pub opened_if-requires-clause-same : goal.opened_if-requires-clause-same
-opened_if-requires-clause-same c none =
-    let es : List Entry = entries c.args.log.lines in
-    let same : entries c.into_hidden-hidden_log.result.lines ≡ es = c.into_hidden-hidden_log.ensures.items ∙ hidden_same es (sym c.has_heard-hides.ensures ∙ none) in
-    subst (λ ds. SameUids (is_open_in c.args.ranges.now) (is_open (slots_of ds))) (sym same) c.requires.«open»
-
 pub returns-then-not-falls_silent : goal.returns-then-not-falls_silent
-returns-then-not-falls_silent c =
-    let es : List Entry = entries c.args.log.lines in
-    let ranges = c.args.ranges.now in
-    let m = c.in_ok-hidden.hidden in
-    let set : IsWidestOpened (is_opened (hidden_entries es) ranges) m = subst (λ ds. IsWidestOpened (is_opened ds ranges) m) c.into_hidden-hidden_log.ensures.items c.in_ok-hidden.ensures in
-    let hidden : IsFirstOpened (hidden_entries es) es m = first_opened es (hidden_entries es) ranges m c.requires.possible (possible_hidden es c.requires.possible) c.requires.«open» set in
-    let loud : ends_silent es ≡ false = sym c.if-not-falls_silent.ensures in
-    record { hidden = hidden; deaf = subst (λ ds. IsFirstOpened ds es m) (sym (deaf_same es loud)) hidden }
+returns-then-not-falls_silent c = read_none (entries c.args.log.lines) (sym c.has_heard-hides.ensures ∙ c.if-not-hides.true) (sym c.ends_silent-falls_silent.ensures ∙ c.if-not-falls_silent.true)
 
-pub opened-requires : goal.opened-requires
-opened-requires c =
+pub returns-then-not-falls_silent-2 : goal.returns-then-not-falls_silent-2
+returns-then-not-falls_silent-2 c =
     let es : List Entry = entries c.args.log.lines in
-    let is : entries c.into_deaf-deaf_log.result.lines ≡ deaf_entries es = c.into_deaf-deaf_log.ensures.items ∙ (ap deaf_entries c.into_hidden-hidden_log.ensures.items ∙ deaf_of_hidden es) in
-    subst IsPossible (sym is) (possible_deaf es c.requires.possible)
+    let hs : List Entry = entries c.into_hidden-hidden_log.result.lines in
+    let w = c.in_ok-log_parts.field-0 in
+    let is : hs ≡ hidden_entries es = c.into_hidden-hidden_log.ensures.items in
+    let possible : IsPossible hs = subst IsPossible (sym is) (possible_hidden es c.requires.possible) in
+    let walked : AreEndsAt w.log_parts.parts hs (length hs) w.ends.items = ends_all hs w (rw c.of-2.ensures.value at c.in_ok-log_parts.ensures) possible in
+    let ends : AreEndsAt w.log_parts.parts hs (length hs) c.deref.result.now = rw c.deref.ensures.value walked in
+    let hidden : IsFirstOpened (hidden_entries es) es c.in_ok-hidden.hidden = read_hidden es hs w.log_parts.parts c.deref.result.now c.args.ranges.now c.in_ok-hidden.hidden c.has_heard-hides.result c.requires.possible c.requires.«open» is c.has_heard-hides.ensures ends c.in_ok-hidden.ensures in
+    let loud = sym c.ends_silent-falls_silent.ensures ∙ c.if-not-falls_silent-2.true in
+    record { hidden = hidden; deaf = subst (λ ds. IsFirstOpened ds es c.in_ok-hidden.hidden) (sym (deaf_same es loud)) hidden }
 
 pub returns : goal.returns
 returns c =
     let es : List Entry = entries c.args.log.lines in
-    let ranges = c.args.ranges.now in
-    let m = c.in_ok-hidden.hidden in
-    let n = c.in_ok-deaf.deaf in
-    let is : entries c.into_deaf-deaf_log.result.lines ≡ deaf_entries es = c.into_deaf-deaf_log.ensures.items ∙ (ap deaf_entries c.into_hidden-hidden_log.ensures.items ∙ deaf_of_hidden es) in
-    let hidden : IsWidestOpened (is_opened (hidden_entries es) ranges) m = subst (λ ds. IsWidestOpened (is_opened ds ranges) m) c.into_hidden-hidden_log.ensures.items c.in_ok-hidden.ensures in
-    let deaf : IsWidestOpened (is_opened (deaf_entries es) ranges) n = subst (λ ds. IsWidestOpened (is_opened ds ranges) n) is c.in_ok-deaf.ensures in
+    let hs : List Entry = entries c.into_hidden-hidden_log.result.lines in
+    let w = c.in_ok-log_parts.field-0 in
+    let is : hs ≡ hidden_entries es = c.into_hidden-hidden_log.ensures.items in
+    let possible : IsPossible hs = subst IsPossible (sym is) (possible_hidden es c.requires.possible) in
+    let walked : AreEndsAt w.log_parts.parts hs (length hs) w.ends.items = ends_all hs w (rw c.of-2.ensures.value at c.in_ok-log_parts.ensures) possible in
+    let ends : AreEndsAt w.log_parts.parts hs (length hs) c.deref.result.now = rw c.deref.ensures.value walked in
+    let before : w.ends.items ≡ c.deref.result.now = sym c.deref.ensures.value in
+    let after : c.deref-2.result.now ≡ c.reopen.new.ends.items = c.deref-2.ensures.value in
+    let size : length c.deref-2.result.now ≡ length c.deref.result.now = ap length after ∙ (c.reopen.ensures.size ∙ ap length before) in
+    let each : (p : ℕ) → slice_index c.deref-2.result.now p ≡ end_before c.behind_answers-answered.result (slice_index c.deref.result.now p) = λ p. ap (λ xs. slice_index xs p) after ∙ (c.reopen.ensures.each p ∙ ap (λ xs. end_before c.behind_answers-answered.result (slice_index xs p)) before) in
+    let behind : IsBehindAnswers es c.behind_answers-answered.result = rw c.of.ensures.value at c.behind_answers-answered.ensures in
     record {
-      hidden = first_opened es (hidden_entries es) ranges m c.requires.possible (possible_hidden es c.requires.possible) c.requires.«open» hidden;
-      deaf = first_opened es (deaf_entries es) ranges n c.requires.possible (possible_deaf es c.requires.possible) c.requires.«open» deaf;
+      hidden = read_hidden es hs w.log_parts.parts c.deref.result.now c.args.ranges.now c.in_ok-hidden.hidden c.has_heard-hides.result c.requires.possible c.requires.«open» is c.has_heard-hides.ensures ends c.in_ok-hidden.ensures;
+      deaf = read_deaf es hs w.log_parts.parts c.deref.result.now c.deref-2.result.now c.behind_answers-answered.result c.args.ranges.now c.in_ok-deaf.deaf c.requires.possible c.requires.«open» is behind ends size each c.in_ok-deaf.ensures;
     }
