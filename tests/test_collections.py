@@ -6,14 +6,21 @@ status, and what it says on standard error. `object` is what it writes as JSON. 
 lines, of some of which several are right. A text is a string, or parts, where `["x", 3]` is xxx.
 """
 import json
+import random
 
 import pytest
 
-from helpers import collections
+from helpers import collections, surveys
 from helpers.lines import log_of
 from helpers.program import TOP
+from helpers.random_collections import case_of, changed, sealed_anew
 
 FOLDER = TOP / "tests/data/collections"
+# At least one changed text in so many is one of surveys again.
+ONE_IN = 50
+# How many random collections there are, and how many changed texts of surveys, in how many parts;
+# and of how many texts these are made.
+NUMBER, CHANGED, PARTS, SEED, SEEDS = 2000, 20_000, 5, 15699, 40
 
 
 def text_of(parts):
@@ -74,10 +81,44 @@ def is_right(answer, said):
 @pytest.mark.parametrize(("command", "files", "row", "answer"), rows())
 def test_the_pages_say_the_same(command, files, row, answer):
     """The model, which is written from the pages."""
-    texts = texts_of(row)
+    said = collections.told(command, files, reader(texts_of(row)))
+    assert is_right(answer, said), said
 
+
+def reader(texts):
+    """What has the text of each of these files, and of no other."""
     def read(name):
         if name not in texts:
             raise collections.NoAnswer(f"cannot open {name}")
         return texts[name]
-    assert is_right(answer, said := collections.told(command, files, read)), said
+    return read
+
+
+def seed_texts(rng):
+    """Texts of surveys of random logs."""
+    for _ in range(SEEDS):
+        logs = [(name, text) for name, text in case_of(rng).files.items()
+                if collections.kind_of(text) == "log"]
+        yield surveys.text_of([surveys.of(*log) for log in logs])
+
+
+def changed_texts(rng, number):
+    """Of the changed ones some have their ends put right."""
+    texts = [text for text in seed_texts(rng) if text]
+    for _ in range(number):
+        text = changed(rng, texts)
+        yield sealed_anew(text) if rng.random() < 0.7 else text
+
+
+@pytest.mark.parametrize("part", range(PARTS))
+def test_the_model_reads_surveys_exactly(logs, part):
+    """What is read of a text is written as this text."""
+    read = 0
+    for text in changed_texts(random.Random(f"{logs[1]} {part}"), CHANGED // PARTS):
+        found = surveys.read(text)
+        if isinstance(found, list):
+            read += 1
+            assert surveys.text_of(found) == text
+        else:
+            assert 1 <= found <= text.count(b"\n") + 1
+    assert read > CHANGED // PARTS // ONE_IN

@@ -323,34 +323,33 @@ def read_surveys(name, text):
     return found
 
 
-def gathered(files):
+def gathered(files, survey):
     """The collection of some files, each with its name and its text."""
-    parts = {"catalogue": [], "places": [], "logs": []}
+    catalogues, places, logs = [], [], []
     for name, text in files:
-        kind, rest = kind_of(text), None
+        kind = kind_of(text)
         if kind == "table":
             kind, *rest = tables.read(text)
             if kind == "refused":
                 raise Refused(rest[0], name, rest[1])
-            parts[kind].append((name, text, *rest))
+            (catalogues if kind == "catalogue" else places).append((name, text, *rest))
         else:
-            parts["logs"] += read_surveys(name, text) if kind == "surveys" else [(name, text)]
-    if len(parts["catalogue"]) != 1 or len(parts["places"]) > 1:
+            logs += read_surveys(name, text) if kind == "surveys" else [(name, text)]
+    if len(catalogues) != 1 or len(places) > 1:
         raise NoAnswer("usage")
-    logs = [one if isinstance(one, surveys.Survey) else surveys.of(*one) for one in parts["logs"]]
-    (name, text, rows), = parts["catalogue"]
-    collection = Collection(catalogue_of(text, rows), parts["places"][0][2] if parts["places"]
-                            else None, logs)
+    (name, text, rows), = catalogues
+    logs = [one if isinstance(one, surveys.Survey) else survey(*one) for one in logs]
+    collection = Collection(catalogue_of(text, rows), places[0][2] if places else None, logs)
     collection.check(name)
     return collection
 
 
-def by_list(name, text, files):
-    """The lines of logs against a list; none is read behind one that ends the run."""
+def by_list(name, text, files, survey):
+    """Logs and a list; none is read behind one that ends the run."""
     catalogue, logs = list_of(name, text), []
     for name, text in files:
         is_surveys = kind_of(text) == "surveys"
-        for log in read_surveys(name, text) if is_surveys else [surveys.of(name, text)]:
+        for log in read_surveys(name, text) if is_surveys else [survey(name, text)]:
             logs.append(log)
             if not log.is_possible:
                 return Collection(catalogue, None, logs)
@@ -359,11 +358,11 @@ def by_list(name, text, files):
 
 # The commands.
 
-def told(command, words, read):
+def told(command, words, read, survey=surveys.of):
     """What a command writes on standard output and error, and its status. `read` has the text of a
-    file."""
+    file, `survey` what a log says."""
     try:
-        return written(command, words, read)
+        return written(command, words, read, survey)
     except Refused as refused:
         return f"{refused}\n".encode(), b"", 3
     except NoAnswer as why:
@@ -376,28 +375,25 @@ def named(words):
     return words
 
 
-def written(command, words, read):
+def written(command, words, read, survey):
     if command == "reconcile":
-        if not words:
-            raise NoAnswer("usage")
-        first = read(words[0])
+        first = read((words or named(words))[0])
         if not first or first.startswith(b"vicinity-"):
-            collection = by_list(words[0], first, ((name, read(name)) for name in words[1:]))
-            return as_lines(collection)
+            files = ((name, read(name)) for name in words[1:])
+            return as_lines(by_list(words[0], first, files, survey))
     files = [(name, read(name)) for name in named(words)]
     if command == "survey":
-        logs = [surveys.of(*one) for one in files]
-        return surveys.text_of(logs), b"", max({"p": 0, "i": 2, "r": 3}[log.field[0]]
-                                               for log in logs)
-    collection = gathered(files)
-    status = collection.answer()[1]
+        logs = [survey(*one) for one in files]
+        statuses = {"p": 0, "i": 2, "r": 3}
+        return surveys.text_of(logs), b"", max(statuses[log.field[0]] for log in logs)
+    collection = gathered(files, survey)
     if command == "reconcile":
         return as_lines(collection)
-    if command == "collection":
-        return collection.table(), b"", status
-    return f"{json_of(collection.object())}\n".encode(), b"", status
+    text = collection.table() if command == "collection" else (
+        json_of(collection.object()) + "\n").encode()
+    return text, b"", collection.answer()[1]
 
 
 def as_lines(collection):
-    return ("".join(f"{line}\n" for line in collection.lines()).encode(), b"",
-            collection.answer()[1])
+    text = "".join(f"{line}\n" for line in collection.lines())
+    return text.encode(), b"", collection.answer()[1]

@@ -55,8 +55,8 @@ def stay_quiet(flags, frame):
 
 
 def reply(frame, captured):
-    first([("Length", len(frame) != 12), ("Crc", not is_right(frame)), ("ErrorFlag", frame[0] & 1),
-           ("NotVicinity", frame[9] != 0xE0)])
+    first([("Length", len(frame) != 12), ("Crc", not is_right(frame))])
+    first([("ErrorFlag", frame[0] & 1), ("NotVicinity", frame[9] != 0xE0)])
     return Reply(int.from_bytes(frame[2:10], "little"), captured)
 
 
