@@ -6,5 +6,6 @@ mod Confusing
 mod Leading
 mod Telling
 mod Placing
+mod Halves
 mod Without
 mod AnyOrder

@@ -1,10 +1,10 @@
 -- The logs in which UIDs are certain, with one more.
-use Rattle.vic_collection.proofs.Words.{SurveyValue, ◌≡◌, ℕ, ◌+◌, ◌<◌, List, [], ◌∷◌, ◌++◌, Bool, true, false, ◌||◌, cond, Option, Some, None, refl, sym, ap, ◌∙◌, arith, nat_tests, nat_eq, has, length, take, get_or, slice_get, append-nil, take_more, map_push, length-take-le, list_any-append, eqb-true, IsStrictlyIncreasing, AllPairs-from_increasing, place_of, slice_get_within, get_or_from_slice_get, list_any, ◌&&◌, not, suc, ne_eqb}
+use Rattle.vic_collection.proofs.Words.{SurveyValue, ◌≡◌, ℕ, ◌+◌, ◌<◌, List, [], ◌∷◌, ◌++◌, Bool, true, false, ◌||◌, cond, Option, Some, None, refl, sym, ap, ◌∙◌, arith, nat_tests, nat_eq, has, length, take, get_or, slice_get, append-nil, take_more, length-take-le, list_any-append, eqb-true, IsStrictlyIncreasing, AllPairs-from_increasing, place_of, slice_get_within, get_or_from_slice_get, list_any, ◌&&◌, not, suc, ne_eqb}
 use Rattle.std.specs.BTreeMap.{BTreeMap, get, is_at}
 use Rattle.std.specs.Option.{option_map_or}
 use Rattle.std.specs.Ordering.{nat_cmp}
 use Rattle.std.specs.declared.vec.Vec.{Vec}
-use Rattle.std.proofs.lemmas.List.{get_or-map, get_or-take, length-map}
+use Rattle.std.proofs.lemmas.List.{get_or-map, get_or-take, get_or_default, length-map, take-map}
 use Rattle.vic_report.specs.Findings.{uids_of}
 use Rattle.vic_report.specs.declared.shown.ShownUid.{ShownUid}
 use Rattle.vic_survey.specs.declared.survey.Field.{Field}
@@ -40,17 +40,14 @@ module _ {A : Type 0} where
 
 -- ---- of rising UIDs
 
-uids_more : (shown : List ShownUid) (i : ℕ) (s : ShownUid) → i < length shown → s ≡ get_or shown i s → uids_of (take (i + 1) shown) ≡ uids_of (take i shown) ++ s.uid ∷ []
-uids_more shown i s lt is = ap uids_of (take_more shown i s lt ∙ ap (λ t. take i shown ++ t ∷ []) (sym is)) ∙ map_push (λ t. t.uid) (take i shown) s
-
 -- a UID of a rising list isn't among those before it
-not_before : (shown : List ShownUid) (i : ℕ) (s : ShownUid) → IsStrictlyIncreasing (uids_of shown) → i < length shown → s ≡ get_or shown i s → has (uids_of (take i shown)) s.uid ≡ true → ⊥
-not_before shown i s up lt is h =
-    let p = place_of (uids_of (take i shown)) s.uid 0 h in
-    let low : p.0 < i = omega (arith, p.1, length-map (take i shown) (λ (t : ShownUid). t.uid), length-take-le i shown (omega arith)) in
-    let here : get_or (uids_of shown) i 0 ≡ s.uid = get_or-map (λ (t : ShownUid). t.uid) shown i s 0 lt ∙ ap (λ t. t.uid) (sym is) in
-    let there : get_or (uids_of shown) p.0 0 ≡ s.uid = get_or-map (λ (t : ShownUid). t.uid) shown p.0 s 0 (omega arith) ∙ (ap (λ t. t.uid) (sym (get_or-take i shown p.0 s low)) ∙ (sym (get_or-map (λ (t : ShownUid). t.uid) (take i shown) p.0 s 0 (omega (arith, low, length-take-le i shown (omega arith)))) ∙ p.2)) in
-    let below = AllPairs-from_increasing (uids_of shown) up p.0 i 0 low (omega (arith, length-map shown (λ (t : ShownUid). t.uid))) in
+not_before : (us : List ℕ) (i uid : ℕ) → IsStrictlyIncreasing us → i < length us → uid ≡ get_or us i uid → has (take i us) uid ≡ true → ⊥
+not_before us i uid up lt is h =
+    let p = place_of (take i us) uid 0 h in
+    let low : p.0 < i = omega (arith, p.1, length-take-le i us (omega arith)) in
+    let there : get_or us p.0 0 ≡ uid = sym (get_or-take i us p.0 0 low) ∙ p.2 in
+    let here : get_or us i 0 ≡ uid = get_or_default us i 0 uid lt ∙ sym is in
+    let below = AllPairs-from_increasing us up p.0 i 0 low lt in
     absurd (omega (arith, below, here, there))
 
 one_more : (base : List ℕ) (log : ℕ) (before now : Bool) → (before ≡ true → now ≡ true → ⊥) → (base ++ cond before (log ∷ []) []) ++ cond now (log ∷ []) [] ≡ base ++ cond (before || (now || false)) (log ∷ []) []
@@ -59,12 +56,19 @@ one_more base log true false once = append-nil (base ++ log ∷ [])
 one_more base log false true once = ap (λ l. l ++ log ∷ []) (append-nil base)
 one_more base log false false once = ap (λ l. l ++ []) (append-nil base)
 
-pub logs_added : (shown : List ShownUid) (i : ℕ) (s : ShownUid) (base : List ℕ) (log u : ℕ) → IsStrictlyIncreasing (uids_of shown) → i < length shown → s ≡ get_or shown i s
+pub logs_added : (us : List ℕ) (i uid : ℕ) (base : List ℕ) (log u : ℕ) → IsStrictlyIncreasing us → i < length us → uid ≡ get_or us i uid
+    → (base ++ cond (has (take i us) u) (log ∷ []) []) ++ cond (nat_eq u uid) (log ∷ []) [] ≡ base ++ cond (has (take (i + 1) us) u) (log ∷ []) []
+logs_added us i uid base log u up lt is =
+    let once : has (take i us) u ≡ true → nat_eq u uid ≡ true → ⊥ = λ before now. not_before us i uid up lt is (ap (has (take i us)) (sym (eqb-true u uid now)) ∙ before) in
+    let both = ap (λ vs. has vs u) (take_more us i uid lt ∙ ap (λ v. take i us ++ v ∷ []) (sym is)) ∙ list_any-append (nat_eq u) (take i us) (uid ∷ []) in
+    one_more base log (has (take i us) u) (nat_eq u uid) once ∙ ap (λ (b : Bool). base ++ cond b (log ∷ []) []) (sym both)
+
+-- the same of UIDs with their lines
+pub shown_added : (shown : List ShownUid) (i : ℕ) (s : ShownUid) (base : List ℕ) (log u : ℕ) → IsStrictlyIncreasing (uids_of shown) → i < length shown → s ≡ get_or shown i s
     → (base ++ cond (has (uids_of (take i shown)) u) (log ∷ []) []) ++ cond (nat_eq u s.uid) (log ∷ []) [] ≡ base ++ cond (has (uids_of (take (i + 1) shown)) u) (log ∷ []) []
-logs_added shown i s base log u up lt is =
-    let once : has (uids_of (take i shown)) u ≡ true → nat_eq u s.uid ≡ true → ⊥ = λ before now. not_before shown i s up lt is (ap (has (uids_of (take i shown))) (sym (eqb-true u s.uid now)) ∙ before) in
-    let both = ap (λ us. has us u) (uids_more shown i s lt is) ∙ list_any-append (nat_eq u) (uids_of (take i shown)) (s.uid ∷ []) in
-    one_more base log (has (uids_of (take i shown)) u) (nat_eq u s.uid) once ∙ ap (λ (b : Bool). base ++ cond b (log ∷ []) []) (sym both)
+shown_added shown i s base log u up lt is =
+    let here : s.uid ≡ get_or (uids_of shown) i s.uid = ap (λ t. t.uid) is ∙ sym (get_or-map (λ (t : ShownUid). t.uid) shown i s s.uid lt) in
+    rw (← take-map (λ (t : ShownUid). t.uid) i shown, ← take-map (λ (t : ShownUid). t.uid) (i + 1) shown) (logs_added (uids_of shown) i s.uid base log u up (omega (arith, length-map shown (λ (t : ShownUid). t.uid))) here)
 
 -- ---- of one log more
 

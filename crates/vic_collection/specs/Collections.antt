@@ -61,6 +61,11 @@ is_undecided_in s u = is_possible_in s u && not (is_certain_in s u)
 abbrev pub possible_logs : CollectionValue → ℕ → List ℕ
 possible_logs c u = positions_from (λ s. is_undecided_in s u) 0 c.surveys
 
+-- the logs that a list of UIDs with their logs has for one
+abbrev pub logs_in : List (ℕ × List ℕ) → ℕ → List ℕ
+logs_in [] u = []
+logs_in (entry ∷ entries) u = if nat_eq u entry.0 then entry.1 else logs_in entries u
+
 abbrev pub is_certain_somewhere : CollectionValue → ℕ → Bool
 is_certain_somewhere c u = list_any (λ s. is_certain_in s u) c.surveys
 

@@ -11,11 +11,14 @@ mod confused;
 mod found;
 mod joins;
 pub mod laws;
+mod possible_logs;
 mod state;
 mod told;
+mod uids;
 mod without_log;
 
 pub use collection::Collection;
 pub use confused::first_confused;
 pub use found::{base_of, stem_of};
+pub use possible_logs::PossibleLogs;
 pub use state::State;

@@ -124,7 +124,7 @@ fn add_all(
 }
 
 /// Adds a log to those of a UID.
-fn add(
+pub(crate) fn add(
     alloc: Global,
     certain: &mut BTreeMap<Uid, Vec<usize>>,
     uid: Uid,

@@ -1,0 +1,106 @@
+-- The logs in which UIDs are possible and not certain, by the halves of the logs.
+use Rattle.vic_collection.proofs.Words.{◌≡◌, ℕ, ◌+◌, ◌<◌, List, [], ◌∷◌, ◌++◌, Bool, true, false, ◌&&◌, ◌||◌, cond, Some, refl, sym, ap, ◌∙◌, arith, nat_eq, length, map, list_any, has, eqb-true, false≢true, nat_tests, or-false}
+use Rattle.std.specs.BTreeMap.{BTreeMap, is_at}
+use Rattle.std.specs.List.{filter}
+use Rattle.std.specs.Map.{lookup}
+use Rattle.std.specs.Ordering.{nat_cmp}
+use Rattle.std.specs.Option.{option_map_or}
+use Rattle.std.specs.declared.vec.Vec.{Vec}
+use Rattle.vic_tree.specs.Ranges.{is_open_in}
+use Rattle.vic_collection.specs.Collections.{logs_in, positions_from}
+use Rattle.vic_collection.specs.inner.Told.{logs_at}
+
+-- ---- positions
+
+pub positions_from-append : {X : Type 0} (test : X → Bool) (k : ℕ) (xs ys : List X) → positions_from test k (xs ++ ys) ≡ positions_from test k xs ++ positions_from test (k + length xs) ys
+positions_from-append test k [] ys = let e : k ≡ k + 0 = omega arith in ap (λ n. positions_from test n ys) e
+positions_from-append {X} test k (x ∷ xs) ys = let e : (k + 1) + length xs ≡ k + length (x ∷ xs) = omega arith in rw (positions_from-append test (k + 1) xs ys, e) (go (test x)) where
+  go : (b : Bool) → cond b (k ∷ (positions_from test (k + 1) xs ++ positions_from test (k + length (x ∷ xs)) ys)) (positions_from test (k + 1) xs ++ positions_from test (k + length (x ∷ xs)) ys)
+      ≡ cond b (k ∷ positions_from test (k + 1) xs) (positions_from test (k + 1) xs) ++ positions_from test (k + length (x ∷ xs)) ys
+  go true = refl
+  go false = refl
+
+pub positions_from-none : {X : Type 0} (test : X → Bool) (k : ℕ) (xs : List X) → list_any test xs ≡ false → positions_from test k xs ≡ []
+positions_from-none test k [] none = refl
+positions_from-none test k (x ∷ xs) none = go (test x) none (positions_from-none test (k + 1) xs) where
+  go : (b : Bool) → (b || list_any test xs) ≡ false → (list_any test xs ≡ false → positions_from test (k + 1) xs ≡ []) → cond b (k ∷ positions_from test (k + 1) xs) (positions_from test (k + 1) xs) ≡ []
+  go true e rest = absurd (false≢true (sym e))
+  go false e rest = rest e
+
+-- they depend on what the test says of each element alone
+pub positions_from-map : {X : Type 0} (test : X → Bool) (k : ℕ) (xs : List X) → positions_from test k xs ≡ positions_from (λ (b : Bool). b) k (map test xs)
+positions_from-map test k [] = refl
+positions_from-map test k (x ∷ xs) = rw (positions_from-map test (k + 1) xs) refl
+
+-- ---- UIDs that pass
+
+pub has-filter : (p : ℕ → Bool) (us : List ℕ) (u : ℕ) → has (filter p us) u ≡ (has us u && p u)
+has-filter p [] u = refl
+has-filter p (v ∷ us) u = go (p v) (nat_eq u v) refl refl (has-filter p us u) where
+  and_no : (b : Bool) → (b && false) ≡ false
+  and_no true = refl
+  and_no false = refl
+
+  go : (b d : Bool) → p v ≡ b → nat_eq u v ≡ d → has (filter p us) u ≡ (has us u && p u) → has (cond b (v ∷ filter p us) (filter p us)) u ≡ ((d || has us u) && p u)
+  go true true passes same rest = rw same (sym (ap p (eqb-true u v same) ∙ passes))
+  go true false passes same rest = rw same rest
+  go false true passes same rest = rest ∙ rw (ap p (eqb-true u v same) ∙ passes) (and_no (has us u))
+  go false false passes same rest = rest
+
+-- ---- what is noted
+
+-- the logs of a UID among some, where it is looked for
+abbrev pub noted : List (List (ℕ × ℕ)) → ℕ → List ℕ → ℕ → List ℕ
+noted sets from us u = cond (has us u) (positions_from (λ set. is_open_in set u) from sets) []
+
+pub none_noted : (sets : List (List (ℕ × ℕ))) (from : ℕ) (u : ℕ) → noted sets from [] u ≡ []
+none_noted sets from u = refl
+
+pub noted_in_none : (from : ℕ) (us : List ℕ) (u : ℕ) → noted [] from us u ≡ []
+noted_in_none from us u = go (has us u) where
+  go : (b : Bool) → cond {A = List ℕ} b [] [] ≡ []
+  go true = refl
+  go false = refl
+
+-- those that are inside have the same, and the others have none
+pub noted_inside : (sets : List (List (ℕ × ℕ))) (from : ℕ) (us : List ℕ) (p : ℕ → Bool) (u : ℕ) → p u ≡ list_any (λ set. is_open_in set u) sets → noted sets from (filter p us) u ≡ noted sets from us u
+noted_inside sets from us p u is = rw (has-filter p us u) (go (p u) (has us u) refl) where
+  go : (b d : Bool) → p u ≡ b → cond (d && b) (positions_from (λ set. is_open_in set u) from sets) [] ≡ cond d (positions_from (λ set. is_open_in set u) from sets) []
+  go true true e = refl
+  go true false e = refl
+  go false true e = sym (positions_from-none (λ set. is_open_in set u) from sets (sym is ∙ e))
+  go false false e = refl
+
+-- of one set at most
+pub noted_one : (sets : List (List (ℕ × ℕ))) (from : ℕ) (us : List ℕ) (p : ℕ → Bool) (u : ℕ) → length sets < 2 → p u ≡ list_any (λ set. is_open_in set u) sets → cond (has (filter p us) u) (from ∷ []) [] ≡ noted sets from us u
+noted_one [] from us p u few is = rw (has-filter p us u, is) (go (has us u)) where
+  go : (d : Bool) → cond (d && false) (from ∷ []) [] ≡ cond {A = List ℕ} d [] []
+  go true = refl
+  go false = refl
+noted_one (set ∷ []) from us p u few is = rw (has-filter p us u, is, or-false (is_open_in set u)) (go (has us u) (is_open_in set u)) where
+  go : (d b : Bool) → cond (d && b) (from ∷ []) [] ≡ cond d (cond b (from ∷ []) []) []
+  go true b = refl
+  go false b = refl
+noted_one (set ∷ other ∷ sets) from us p u few is = absurd (omega (arith, few))
+
+pub noted_both : (front back : List (List (ℕ × ℕ))) (from : ℕ) (us : List ℕ) (u : ℕ) → noted front from us u ++ noted back (from + length front) us u ≡ noted (front ++ back) from us u
+noted_both front back from us u = rw (positions_from-append (λ set. is_open_in set u) from front back) (go (has us u)) where
+  go : (b : Bool) → cond b (positions_from (λ set. is_open_in set u) from front) [] ++ cond b (positions_from (λ set. is_open_in set u) (from + length front) back) [] ≡ cond b (positions_from (λ set. is_open_in set u) from front ++ positions_from (λ set. is_open_in set u) (from + length front) back) []
+  go true = refl
+  go false = refl
+
+-- ---- what is kept
+
+at_same : (a b : ℕ) → is_at (nat_cmp a) b ≡ nat_eq a b
+at_same a b = grind (arith, nat_tests)
+
+module _ {A : Type 0} where
+  of_entries : (entries : List (ℕ × Vec ℕ A)) (u : ℕ) → logs_in (map (λ e. (e.0, e.1.items)) entries) u ≡ option_map_or (λ logs. logs.items) (lookup (is_at (nat_cmp u)) entries) []
+  of_entries [] u = refl
+  of_entries (e ∷ entries) u = rw (at_same u e.0, of_entries entries u) (step (nat_eq u e.0)) where
+    step : (b : Bool) → cond b e.1.items (option_map_or (λ logs. logs.items) (lookup (is_at (nat_cmp u)) entries) []) ≡ option_map_or (λ logs. logs.items) (cond b (Some e.1) (lookup (is_at (nat_cmp u)) entries)) []
+    step true = refl
+    step false = refl
+
+  pub logs_in-entries : (m : BTreeMap ℕ (Vec ℕ A)) (u : ℕ) → logs_in (map (λ e. (e.0, e.1.items)) m.entries) u ≡ logs_at m u
+  logs_in-entries m u = of_entries m.entries u
