@@ -24,6 +24,7 @@ from helpers.lines import biglog  # noqa: E402
 from helpers.program import (  # noqa: E402
     MAKE, TOP, Commands, Program, build, linked, many, needs, program_of)
 from helpers.rows import LIBRARIES, MODULES, OfLibrary, OfProgram  # noqa: E402
+from helpers.tables import behind_lengths  # noqa: E402
 from helpers.texts import texts as all_texts  # noqa: E402
 from helpers.wasm import WasmLibrary  # noqa: E402
 from helpers.wine import wine_in  # noqa: E402
@@ -173,6 +174,13 @@ def once(tmp_path_factory):
                 new.rename(folder)
         return folder
     return make_in
+
+
+@pytest.fixture(scope="session")
+def read_tables(pytestconfig):
+    """What crates/tables prints of texts, a line each."""
+    program = program_of(pytestconfig, "tables")
+    return lambda texts: program.told(given=behind_lengths(texts)).splitlines()
 
 
 @pytest.fixture(scope="session")

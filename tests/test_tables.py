@@ -6,13 +6,12 @@ and what is read of one is searched for each UID that stands in its bytes."""
 import json
 import random
 import re
-import time
 
 import pytest
 
 from helpers import tables
 from helpers.memory import refused, shim
-from helpers.program import TOP, program_of
+from helpers.program import TOP, Program, needs, program_of
 
 ROWS = json.loads((TOP / "tests/data/tables.json").read_text())
 # How many catalogues are damaged, in how many parts.
@@ -24,20 +23,9 @@ SMALL = (f"uid,place,away\n{A},a,\n{B},\"b\"\"c\",away\nnone,any,\n", "place;log
          "uid,t\n,x\n")
 
 
-@pytest.fixture(scope="session")
-def read(pytestconfig):
-    """What the program prints of texts, a line each."""
-    program = program_of(pytestconfig, "tables")
-    return lambda texts: program.told(given=given(texts)).splitlines()
-
-
-def given(texts):
-    return b"".join(b"%d\n%s" % (len(text), text) for text in texts)
-
-
-def test_the_texts(read):
+def test_the_texts(read_tables):
     texts = [row["text"].encode("latin-1") for row in ROWS]
-    assert read(texts) == [row["told"] for row in ROWS]
+    assert read_tables(texts) == [row["told"] for row in ROWS]
 
 
 def test_the_page_says_the_same():
@@ -59,8 +47,8 @@ def test_the_page_says_the_same():
 ], ids=["a line of the greatest length", "its end doesn't count", "a line too long",
         "a mark doesn't count", "as many lines as there may be", "a line too many",
         "as many lines without an item"])
-def test_the_limits(read, text, told):
-    assert read([text]) == [told]
+def test_the_limits(read_tables, text, told):
+    assert read_tables([text]) == [told]
 
 
 def catalogue(chance):
@@ -99,12 +87,12 @@ def damaged(chance, text):
 
 @pytest.mark.slow
 @pytest.mark.parametrize("part", range(PARTS))
-def test_damaged_catalogues(read, logs, part):
+def test_damaged_catalogues(read_tables, logs, part):
     number, seed = logs
     chance = random.Random(seed + part)
     texts = [damaged(chance, catalogue(chance)) for _ in range(number)]
     kinds = set()
-    for text, told in zip(texts, read(texts), strict=True):
+    for text, told in zip(texts, read_tables(texts), strict=True):
         assert told == tables.line_of(tables.read(text)), text
         kinds.add(told.split()[0])
         if told.startswith("catalogue"):
@@ -122,7 +110,7 @@ def without_numbers(told):
     return sorted(word.partition(":")[2] for word in told.split()[1:])
 
 
-def test_the_order_of_lines(read, logs):
+def test_the_order_of_lines(read_tables, logs):
     """Changes nothing but their numbers, nor whether a catalogue is refused."""
     chance = random.Random(logs[1])
     pairs = []
@@ -130,22 +118,47 @@ def test_the_order_of_lines(read, logs):
         first, *lines = re.findall(rb"[^\n]*\n", catalogue(chance) + b"\n")
         moved = chance.sample(lines, len(lines))
         pairs += [b"".join([first, *lines]), b"".join([first, *moved])]
-    told = read(pairs)
+    told = read_tables(pairs)
     assert any(one.startswith("catalogue") for one in told)
     for one, other in zip(told[::2], told[1::2], strict=True):
         assert one.split()[0] == other.split()[0]
         assert one.startswith("refused") or without_numbers(one) == without_numbers(other)
 
 
-def test_a_million_lines(read):
-    """A million lines take about a second; a quadratic reader would take hours."""
-    text = b"uid,title,place\n" + b"".join(
-        b"E0%014X,a title,shelf %d\n" % (number * 0x9E3779B97F4A7C15 % 2**56, number % 997)
-        for number in range(LINES - 1))
-    begin = time.monotonic()
-    told = read([text])[0]
+def a_million(names, line):
+    """A text of as many lines as there may be, each for a number that is like none before."""
+    return names + b"".join(line(number * 0x9E3779B97F4A7C15 % 2**56, number)
+                            for number in range(LINES - 1))
+
+
+MILLION = {
+    "a catalogue": (b"uid,title,author,place,away\n", lambda uid, number: (
+        b"E0%014X,\"A title, volume %d\",An Author,shelf %d,\n" % (uid, number, number % 997))),
+    "a catalogue in order": (b"uid\n", lambda _, number: b"E0%014X\n" % number),
+}
+
+
+def test_a_million_items(read_tables):
+    told = read_tables([a_million(*MILLION["a catalogue"])])[0]
+    assert told.startswith("catalogue 2:E000000000000000:7368656C662030:here 3:E03779B97F4A7C15:")
     assert told.count(" ") == LINES - 1
-    assert time.monotonic() - begin < 60
+
+
+@pytest.mark.parametrize("name", MILLION)
+def test_the_cost_of_a_million_lines(pytestconfig, tmp_path, name):
+    """At most a second, or three where the machine has other work, and 200 MB, the text included.
+    The last line is refused, so that nothing but reading takes time."""
+    needs("time")
+    given, took = tmp_path / "given", tmp_path / "took"
+    text = a_million(*MILLION[name])
+    given.write_bytes(tables.behind_lengths([text[:text.rindex(b"\n", 0, -1)] + b"\n\"\n"]))
+    program = Program("time", "-q", "-f", "%U %S %M", "-o", took,
+                      *program_of(pytestconfig, "tables").words)
+    with open(given, "rb") as stdin:
+        assert program.told(stdin=stdin) == f"refused {LINES} Quote\n"
+    user, system, peak = map(float, took.read_text().split())
+    assert user + system < 3
+    assert peak * 1024 < 200_000_000
 
 
 def test_each_allocation_is_refused(pytestconfig, tmp_path):
@@ -153,11 +166,11 @@ def test_each_allocation_is_refused(pytestconfig, tmp_path):
     texts = [text.encode() for text in SMALL]
     right = [tables.line_of(tables.read(text)) for text in texts]
     seen = set()
-    for said in refused(program, shim("refuse", tmp_path), given=given(texts)):
+    for said in refused(program, shim("refuse", tmp_path), given=tables.behind_lengths(texts)):
         told = said.out.decode().splitlines()
-        if not told:
-            # the program itself had no memory, and wrote nothing
-            assert said.status
+        if said.status:
+            # the program itself had no memory, and wrote at most what was read before
+            assert all(a in (b, "memory") for a, b in zip(told, right))
             continue
         assert all(a in (b, "memory") for a, b in zip(told, right, strict=True))
         seen |= set(told)

@@ -182,3 +182,8 @@ def line_of(table):
         f"{number}:{'none' if uid is None else f'{uid:016X}'}:"
         f"{'any' if place is None else hexed(place)}:{'away' if away else 'here'}"
         for number, uid, place, away in table[1]])
+
+
+def behind_lengths(texts):
+    """Texts as crates/tables reads them, each behind a line with its length."""
+    return b"".join(b"%d\n%s" % (len(text), text) for text in texts)

@@ -2,37 +2,36 @@
 //! it is, in one line: its items, its rows, or its first fault. `tests/test_tables.py` runs it.
 #![tactic(auto)]
 
-use bstr::ByteSlice;
 use std::alloc::Global;
 use std::io;
-use std::io::Write;
-use vic_log::{FromRead, read_whole};
+use std::io::{BufRead, BufReader, BufWriter, Read, Write};
 use vic_table::{Catalogue, Places, Table, TableFault, read_table};
 
-/// How many bytes of standard input are read at most.
-const MAX_INPUT: usize = 4_000_000_000;
-
-/// The contents of standard input.
-fn read_input(rt: &HostRuntime, alloc: Global) -> io::Result<Vec<u8>> {
-    match read_whole(alloc, &mut FromRead::new(rt.stdin()), MAX_INPUT) {
-        Ok(input) => Ok(input),
-        Err(_) => Err(io::ErrorKind::Other.into()),
+/// The length of the text that is next; `None` at the end of the input.
+fn next_len<R: BufRead>(input: &mut R, alloc: Global) -> io::Result<Option<usize>> {
+    let mut line = Vec::new(alloc);
+    input.read_until(b'\n', &mut line)?;
+    let Some(digits) = line.as_slice().strip_suffix(b"\n") else {
+        return Ok(None);
+    };
+    match std::str::from_utf8(digits) {
+        Ok(digits) => Ok(digits.parse().ok()),
+        Err(_) => Ok(None),
     }
 }
 
-/// The first text of some bytes, and what is behind it.
-fn next_text(bytes: &[u8]) -> Option<(&[u8], &[u8])> {
-    let place = bytes.find_byte(b'\n')?;
-    let len: usize = std::str::from_utf8(&bytes[..place]).ok()?.parse().ok()?;
-    let rest = &bytes[place + 1..];
-    if len > rest.len() {
-        return None;
-    }
-    Some((&rest[..len], &rest[len..]))
+/// The text that is next, in memory of its length alone.
+fn next_text<R: BufRead>(input: &mut R, alloc: Global) -> io::Result<Option<Vec<u8>>> {
+    let Some(len) = next_len(input, alloc)? else {
+        return Ok(None);
+    };
+    let mut text = vec![in alloc; 0; len]?;
+    input.read_exact(text.as_mut_slice())?;
+    Ok(Some(text))
 }
 
 /// Bytes as hex digits.
-fn put_hex(out: &mut Vec<u8>, bytes: &[u8]) -> io::Result<()> {
+fn put_hex<W: Write>(out: &mut W, bytes: &[u8]) -> io::Result<()> {
     for byte in bytes {
         write!(out, "{byte:02X}")?;
     }
@@ -40,7 +39,7 @@ fn put_hex(out: &mut Vec<u8>, bytes: &[u8]) -> io::Result<()> {
 }
 
 /// An item: its line, its UID, its place, whether it is away.
-fn put_item(out: &mut Vec<u8>, catalogue: &Catalogue, index: usize) -> io::Result<()> {
+fn put_item<W: Write>(out: &mut W, catalogue: &Catalogue, index: usize) -> io::Result<()> {
     if index >= catalogue.len() {
         return Ok(());
     }
@@ -64,7 +63,7 @@ fn put_item(out: &mut Vec<u8>, catalogue: &Catalogue, index: usize) -> io::Resul
     })
 }
 
-fn put_catalogue(out: &mut Vec<u8>, catalogue: &Catalogue) -> io::Result<()> {
+fn put_catalogue<W: Write>(out: &mut W, catalogue: &Catalogue) -> io::Result<()> {
     out.write_all(b"catalogue")?;
     for index in 0..catalogue.len() {
         put_item(out, catalogue, index)?;
@@ -72,7 +71,7 @@ fn put_catalogue(out: &mut Vec<u8>, catalogue: &Catalogue) -> io::Result<()> {
     Ok(())
 }
 
-fn put_places(out: &mut Vec<u8>, places: &Places) -> io::Result<()> {
+fn put_places<W: Write>(out: &mut W, places: &Places) -> io::Result<()> {
     out.write_all(b"places")?;
     for index in 0..places.len() {
         let line = places.line(index);
@@ -85,7 +84,7 @@ fn put_places(out: &mut Vec<u8>, places: &Places) -> io::Result<()> {
 }
 
 /// What a text is.
-fn put_table(out: &mut Vec<u8>, text: Vec<u8>) -> io::Result<()> {
+fn put_table<W: Write>(out: &mut W, text: Vec<u8>) -> io::Result<()> {
     match read_table(text) {
         Ok(Table::Catalogue(catalogue)) => put_catalogue(out, &catalogue)?,
         Ok(Table::Places(places)) => put_places(out, &places)?,
@@ -96,15 +95,13 @@ fn put_table(out: &mut Vec<u8>, text: Vec<u8>) -> io::Result<()> {
 }
 
 fn main(rt: HostRuntime) -> io::Result<()> {
-    let input = read_input(&rt, rt.alloc())?;
-    let mut rest = input.as_slice();
-    let mut out = Vec::new(rt.alloc());
+    let mut input = BufReader::new(rt.alloc(), rt.stdin())?;
+    let mut out = BufWriter::new(rt.alloc(), rt.stdout())?;
     for _ in 0..u64::MAX {
-        let Some((text, behind)) = next_text(rest) else {
+        let Some(text) = next_text(&mut input, rt.alloc())? else {
             break;
         };
-        put_table(&mut out, text.to_vec(rt.alloc())?)?;
-        rest = behind;
+        put_table(&mut out, text)?;
     }
-    rt.stdout().write_all(out.as_slice())
+    out.flush()
 }
