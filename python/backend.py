@@ -16,6 +16,8 @@ ABOUT = ("README.md", *LICENSES)
 SCRIPTS = "[console_scripts]\nvicinity-logs = vicinity.__main__:entry\n"
 #: The page that the package fills in; in the repository this makes it.
 PAGE, BUILD = "vicinity/pages/page.html", os.path.join(HERE, "../web/build")
+#: What the page and the package both say: a module of the page.
+SENTENCES, SOURCE = "vicinity/sentences.mjs", os.path.join(HERE, "../web/sentences.mjs")
 #: The library in a wheel of its own for a kind of machine; on Windows it has another name.
 LIBRARY, DLL = "vicinity/libvicinity.so.1", "vicinity/vicinity.dll"
 EXECUTABLE, PLAIN = 0o755, 0o644
@@ -45,7 +47,8 @@ def _package():
     """The files of the package."""
     is_made = os.path.exists(os.path.join(HERE, PAGE))
     page = _content(PAGE) if is_made else runpy.run_path(BUILD)["record"]().encode()
-    return {**{name: _content(name) for name in _modules()}, PAGE: page}
+    sentences = _content(SENTENCES if os.path.exists(os.path.join(HERE, SENTENCES)) else SOURCE)
+    return {**{name: _content(name) for name in _modules()}, PAGE: page, SENTENCES: sentences}
 
 
 def _wheel(folder, files, tag="any"):

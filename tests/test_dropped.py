@@ -433,17 +433,3 @@ def test_the_share_of_what_is_open_is_that_of_python(drop, vicinity, ruled_out):
     of_python = page_object("shelf.log", Told(log))
     shares = {it["open"]["share"] for it in (logs[0]["object"], of_python)}
     assert shares == {float(exact)}
-
-
-def test_what_is_wrong_with_a_line_is_said_as_in_python(vicinity):
-    """Whether a line is a reply matters to the page alone, which has the line."""
-    faults = [fault for fault in vicinity.Fault
-              if fault and fault.name not in ("NOT_LISTED", "WRONG_MASK")]
-    asked = [[fault.word, "R " if fault is vicinity.Fault.FRAME_NOT_VICINITY else "T "]
-             for fault in faults]
-    said = told("node", "--input-type=module", "-e", """
-import { advice } from "./web/faults.mjs";
-const asked = JSON.parse(process.argv[1]);
-console.log(JSON.stringify(asked.map((words) => advice(...words).wrong)));""", json.dumps(asked))
-    assert len(faults) == 25
-    assert json.loads(said) == [fault.wrong for fault in faults]

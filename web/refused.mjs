@@ -2,6 +2,7 @@
 import { advice } from "./faults.mjs";
 import { crcOf, CRC_DIGITS } from "./frames.mjs";
 import { KIND } from "./kinds.mjs";
+import { SENTENCES } from "./sentences.mjs";
 import { isSpreadsheet, SAVE_AS_CSV, TABLE } from "./tables.mjs";
 
 /** @typedef {import("./told.mjs").Told} Told */
@@ -37,7 +38,7 @@ export function refused(told) {
   if (foreign && isTable(told.faulty)) {
     return { headline: "This file isn't a log, but a table.", shelf: HAS_UID.test(told.faulty) ? BOTH : NAMED, causes: [] };
   }
-  return { headline: `${line > 1 ? "This log can't be used" : "This text isn't a log"}. Line ${line}: ${wrong}.`,
+  return { headline: `${line > 1 ? SENTENCES.answers.cannotBeUsed : SENTENCES.answers.noLog}. Line ${line}: ${wrong}.`,
     shelf: foreign ? [ANOTHER] : last ? [COPY, COUNT] : [COUNT],
     causes: [...last && !ended ? ["The file may end in the middle of this line: it was cut off, or the software was still writing."] : [],
       ...line === 1 ? ofFirst(told.faulty) : [], ...fault === "Crc" ? [rightCrc(told.faulty)] : [], fix] };

@@ -3,7 +3,8 @@ import { contradiction, HIDDEN } from "./contradiction.mjs";
 import { KIND } from "./kinds.mjs";
 import { MOST_NOTES } from "./notes.mjs";
 import { refused } from "./refused.mjs";
-import { count, listing } from "./words.mjs";
+import { SENTENCES } from "./sentences.mjs";
+import { count, listing, numbered } from "./words.mjs";
 import { mainly, whyOpen } from "./why.mjs";
 
 /** @typedef {import("./told.mjs").Told} Told */
@@ -58,10 +59,9 @@ const NOT_CLAIMED = "If the reader wrote the list, its software has to write a U
 
 const NO_LINES = "The log lists no UIDs: the reader's software has to write a U line for each UID that it heard.";
 
-const IF_THERE = "; others may be, if stronger replies hid them.", NONE_PROVED = "no tag is proved to be here, but some may be";
-const TAGS_HERE = "tags are here, but none was read";
+/** What an answer means. */
+const ANSWERS = SENTENCES.answers;
 const ALONE_AGAIN = "To know, switch the field off and on, and ask for it alone, in a new log.";
-const NO_LIST_GIVEN = " The log has no list to compare with.";
 const NO_CONFLICT = `${HIDDEN} Read so, the log doesn't contradict itself.`;
 /**
  * @param {Told} told
@@ -74,7 +74,7 @@ export function say(told, isAlone = true) {
   if (!told.conflict) return possible(told, isAlone);
   const { sentence: found, causes, test, ask = [], shelf = NEW_LOG } = contradiction(told.conflict);
   const isExplained = (told.object.captured?.kind ?? KIND.IMPOSSIBLE) !== KIND.IMPOSSIBLE;
-  return { ...none, look: "broken", sign: "≠", headline: `This count can't be used. The log contradicts itself: ${found}`, shelf: [shelf, STAYS],
+  return { ...none, look: "broken", sign: "≠", headline: `${ANSWERS.contradicts}${found}`, shelf: [shelf, STAYS],
     lights: lightsOf(told, isAlone, { value: NOT_KNOWN, look: "plain" }, { value: NOT_KNOWN, look: "plain" }),
     lead: `Usually it is one of these${told.conflict.silencer ? "" : "; other lines may contradict each other too"}:`, ask, test,
     causes: isExplained ? [NO_CONFLICT, ...causes.filter((it) => it !== HIDDEN)] : causes };
@@ -153,22 +153,22 @@ const lookFor = (number) => number === 1 ? `look on this shelf for the item belo
  * @param {boolean} isAlone
  */
 function headline({ object: { kind, count: number = 0, found, certain, open, captured }, counts, silenced, quiet, isMore }, isAlone) {
-  const { listed } = counts, only = open.count > 0 && quiet === open.count, without = listed || !isAlone ? "" : NO_LIST_GIVEN;
-  const others = only ? unproved(silenced.length, found.doubtful) : isMore ? "others are too" : "others may be too";
-  const left = open.count && !only ? "Not finished: " : "";
+  const { listed } = counts, only = open.count > 0 && quiet === open.count, without = listed || !isAlone ? "" : ANSWERS.noList;
+  const others = only ? unproved(silenced.length, found.doubtful) : isMore ? ANSWERS.othersAre : ANSWERS.othersMayBe;
+  const left = open.count && !only ? ANSWERS.notFinished : "";
   // what else a catalogue says of it stands above
-  if (kind === KIND.COMPLETE && !isAlone) return number ? tagsHere(number, captured?.holds === false) : "The field is empty.";
+  if (kind === KIND.COMPLETE && !isAlone) return number ? tagsHere(number, captured?.holds === false) : ANSWERS.emptyField;
   if (kind === KIND.COMPLETE) return whole(number, captured?.holds === false);
   if (!open.count && !listed) return `${tagsHere(certain.count, captured?.settled === false)}${without}`;
   if (!listed) {
-    const here = certain.count ? `${count(certain.count, "tag is", "tags are")} here; ${others}` : only ? others : isMore ? TAGS_HERE : NONE_PROVED;
+    const here = certain.count ? `${numbered(ANSWERS.tagsHere, certain.count)}; ${others}` : only ? others : isMore ? ANSWERS.noneRead : ANSWERS.noneProved;
     return `${left}${here}.${without}`;
   }
   if (!found.absent && !found.unlisted && !found.doubtful) return `${allListed(listed)}; ${others}.`;
   const here = listed - found.absent - found.doubtful;
-  const parts = [...found.absent ? [`${found.absent.toLocaleString("en")} didn't answer`] : [],
-    ...found.unlisted ? [count(found.unlisted, "tag here isn't listed", "tags here aren't listed")] : [],
-    ...only ? [others] : found.doubtful ? [`${found.doubtful.toLocaleString("en")} ${found.doubtful === 1 ? "isn't" : "aren't"} proved`] : []];
+  const parts = [...found.absent ? [numbered(ANSWERS.absent, found.absent)] : [],
+    ...found.unlisted ? [numbered(ANSWERS.unlisted, found.unlisted)] : [],
+    ...only ? [others] : found.doubtful ? [numbered(ANSWERS.doubtful, found.doubtful)] : []];
   return `${left}${here.toLocaleString("en")} of ${count(listed, "listed tag")} ${here === 1 || listed === 1 ? "is" : "are"} here; ${listing(parts)}.`;
 }
 
@@ -177,34 +177,29 @@ function headline({ object: { kind, count: number = 0, found, certain, open, cap
  * @param {number} number
  * @param {boolean} isHiding whether others may be there if their replies were hidden
  */
-export const noOthers = (number, isHiding) => isHiding ? IF_THERE : number === 1 ? ", and no other." : ", and no others.";
+export const noOthers = (number, isHiding) => isHiding ? ANSWERS.ifHidden : numbered(ANSWERS.noOthers, number);
 
 /**
  * The tags of a log without a list in which nothing is left to ask.
  * @param {number} number
  * @param {boolean} isHiding
  */
-const tagsHere = (number, isHiding) => `${count(number, "tag is", "tags are")} here${noOthers(number, isHiding)}`;
+const tagsHere = (number, isHiding) => numbered(ANSWERS.tagsHere, number) + noOthers(number, isHiding);
 
 /**
  * Of tags that are open only since they were silenced before they were heard.
  * @param {number} number
  * @param {number} listed
  */
-function unproved(number, listed) {
-  const which = number > listed ? count(number, "tag may be here or not", "tags may be here or not")
-    : count(number, "listed tag isn't proved", "listed tags aren't proved");
-  return `${which}: ${number === 1 ? "it was silenced before it was" : "they were silenced before they were"} heard`;
-}
+const unproved = (number, listed) => numbered(number > listed ? ANSWERS.silenced : ANSWERS.silencedListed, number);
 
 /**
  * @param {number} number
  * @param {boolean} isHiding
  */
 function whole(number, isHiding) {
-  if (number === 0) return "The field is empty, and nothing is listed.";
-  return `${allListed(number)}${noOthers(number, isHiding)}`;
+  return number ? allListed(number) + noOthers(number, isHiding) : ANSWERS.empty;
 }
 
 /** @param {number} number */
-const allListed = (number) => number === 1 ? "The one listed tag is here" : `All ${count(number, "listed tag")} are here`;
+const allListed = (number) => numbered(ANSWERS.allListed, number);

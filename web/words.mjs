@@ -30,6 +30,16 @@ export function count(number, one, many = `${one}s`) {
 }
 
 /**
+ * A sentence with a number in it.
+ * @param {string | string[]} sentence or two, of which the first is that for one
+ * @param {number} number
+ */
+export function numbered(sentence, number) {
+  const said = typeof sentence === "string" ? sentence : sentence[number === 1 ? 0 : 1];
+  return said.replace("{}", number.toLocaleString("en"));
+}
+
+/**
  * a, b and c.
  * @param {string[]} items
  * @param {string} [last]

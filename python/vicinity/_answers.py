@@ -5,6 +5,7 @@ import enum
 from typing import NamedTuple, Optional
 
 from ._native import name_of
+from ._sentences import advice
 
 
 class Mask(NamedTuple):
@@ -52,42 +53,40 @@ class Fault(enum.IntEnum):
     """Why a text isn't a log. Those that begin with FRAME are about the frame of a T or R line,
     NOT_LISTED about a log that should only list UIDs, WRONG_MASK about a mask of a survey."""
 
-    wrong: str
-    """What is wrong, in words."""
-
-    def __new__(cls, number: int, wrong: str = "") -> Fault:
-        self = int.__new__(cls, number)
-        self._value_, self.wrong = number, wrong
-        return self
-
     NONE = 0
-    TOO_MANY_LINES = 1, "a log has at most 1,000,000 lines"
-    LINE_TOO_LONG = 2, "a line has at most 128 bytes"
-    HEADER = 3, "the first line isn't 'vicinity-log 1', 'vicinity-log 2' or 'vicinity-log 3'"
-    UNKNOWN_ENTRY = 4, "not a log entry"
-    HEX = 5, "the letter isn't followed by bytes in hex"
-    LISTED_LENGTH = 6, "a UID has sixteen digits"
-    NOT_VICINITY = 7, "a UID begins with E0"
-    SLOT_OUTSIDE_ROUND = 8, "no slot of a round is left for this line"
-    ENTRY_AFTER_LIST = 9, "a T or F line can't follow a U line"
-    DUPLICATE_LISTED = 10, "an earlier U line has the same UID"
-    NOT_LISTED = 11, "a list of what is expected has U lines alone"
-    FRAME_SHORT = 101, "the frame is too short for a request"
-    FRAME_CRC = 102, "the CRC doesn't match the bytes before it"
-    FRAME_EXTENSION = 103, "the request has the protocol extension flag set"
-    FRAME_RESERVED = 104, "the request has its reserved flag, bit 8, set"
-    FRAME_OPTION_FLAG = 105, "the request has the Option_flag set"
-    FRAME_OTHER_COMMAND = 106, "the request is neither Inventory nor Stay Quiet"
-    FRAME_INVENTORY_FLAG = 107, "the Inventory_flag doesn't fit the command"
-    FRAME_AFI = 108, "the request asks only one family of tags (AFI)"
-    FRAME_LENGTH = 109, "the frame doesn't have the length that its fields require"
-    FRAME_MASK_TOO_LONG = 110, "the mask is longer than 64 bits, or than 60 with sixteen slots"
-    FRAME_MASK_PADDING = 111, "bits above the mask's length aren't 0"
-    FRAME_SELECT_FLAG = 112, "the Stay Quiet request has the Select_flag set"
-    FRAME_NOT_ADDRESSED = 113, "the Stay Quiet request has no UID"
-    FRAME_ERROR_FLAG = 114, "the reply reports an error"
-    FRAME_NOT_VICINITY = 115, "the UID of the reply doesn't begin with E0"
-    WRONG_MASK = 203, "there is no such mask"
+    TOO_MANY_LINES = 1
+    LINE_TOO_LONG = 2
+    HEADER = 3
+    UNKNOWN_ENTRY = 4
+    HEX = 5
+    LISTED_LENGTH = 6
+    NOT_VICINITY = 7
+    SLOT_OUTSIDE_ROUND = 8
+    ENTRY_AFTER_LIST = 9
+    DUPLICATE_LISTED = 10
+    NOT_LISTED = 11
+    FRAME_SHORT = 101
+    FRAME_CRC = 102
+    FRAME_EXTENSION = 103
+    FRAME_RESERVED = 104
+    FRAME_OPTION_FLAG = 105
+    FRAME_OTHER_COMMAND = 106
+    FRAME_INVENTORY_FLAG = 107
+    FRAME_AFI = 108
+    FRAME_LENGTH = 109
+    FRAME_MASK_TOO_LONG = 110
+    FRAME_MASK_PADDING = 111
+    FRAME_SELECT_FLAG = 112
+    FRAME_NOT_ADDRESSED = 113
+    FRAME_ERROR_FLAG = 114
+    FRAME_NOT_VICINITY = 115
+    WRONG_MASK = 203
+
+    @property
+    def wrong(self) -> str:
+        """What is wrong, in words; empty if nothing is."""
+        of = "replies" if self is Fault.FRAME_NOT_VICINITY else "faults"
+        return advice(self.word, of).wrong if self else ""
 
     @property
     def word(self) -> str:
