@@ -5,7 +5,7 @@ mod CompleteRuns
 mod Standing
 mod Waiting
 mod Numbered
-mod TextsSoFar
+pub mod TextsSoFar
 mod Turns
 mod SpelledWords
 mod SpellLaws

@@ -23,5 +23,5 @@ pub mod ReconcileRun
 pub mod SurveyNumbers
 pub mod Listing
 pub mod UidMargins
-pub mod Texts
+pub mod InMemory
 pub mod inner

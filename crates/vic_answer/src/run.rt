@@ -14,7 +14,7 @@ use std::alloc::{AllocError, Global};
 use vic_log::{Sink, Source, ToWrite};
 
 /// What a command finds in a log, and how it writes an answer.
-pub(crate) trait Written: Judgement + Drop {
+pub trait Written: Judgement + Drop {
     // the text of an answer
     ghost text_of: { AnsweredValue Self → List ℕ };
 
@@ -66,10 +66,7 @@ pub struct WrittenText {
 }
 
 /// What a command writes for a text in memory. It fails only if memory is refused.
-pub(crate) fn written_text<J: Written>(
-    alloc: Global,
-    text: &[u8],
-) -> Result<WrittenText, AllocError>
+pub fn written_text<J: Written>(alloc: Global, text: &[u8]) -> Result<WrittenText, AllocError>
     ensures { IfOk result (λ w. IsAnswerText J.IsOf J.verdict_of J.text_of
         text.now w.text.items w.status) }
 {

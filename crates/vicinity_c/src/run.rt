@@ -5,7 +5,8 @@ ghost use Rattle.vicinity_c.specs.Run as spec;
 
 use crate::given::{names_in, texts_in};
 use std::alloc::{AllocError, Global};
-use vic_answer::{Command, NO_ANSWER, Told, copy_list, told_of};
+use vic_answer::{NO_ANSWER, copy_list};
+use vic_commands::{Command, Told, told_of};
 
 /// The line that the program writes to standard error where words are no command with its operands.
 const USAGE_LINE: &str = "vicinity: usage\n";
@@ -23,6 +24,7 @@ fn command_of(number: u32) -> Option<Command>
         6 => Some(Command::Reconcile),
         7 => Some(Command::Frame),
         8 => Some(Command::Spell),
+        9 => Some(Command::Survey),
         _ => None,
     }
 }

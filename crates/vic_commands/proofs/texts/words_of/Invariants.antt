@@ -1,6 +1,6 @@
-use Rattle.vic_answer.proofs.Words.{◌≡◌, All, map, string_bytes, take}
+use Rattle.std.proofs.Common.{◌≡◌, All, map, string_bytes, take}
 use Rattle.std.specs.Str.{IsUtf8}
-use Rattle.vic_answer.proofs.texts.words_of.Given as goal
+use Rattle.vic_commands.proofs.texts.words_of.Given as goal
 
 -- the words so far are the texts so far
 abbrev pub invariant-loop-text : goal.invariant-loop-text

@@ -1,6 +1,6 @@
 use Rattle.vic_answer.proofs.Words.{◌≡◌, ℕ, List, length, length-map, logs_for, logs_read_by, map, rules}
 use Rattle.vic_answer.proofs.TextsSoFar.{logs_for-read}
-use Rattle.vic_answer.proofs.texts.reconciliation_of.Goals as goal
+use Rattle.vic_answer.proofs.in_memory.reconciliation_of.Goals as goal
 use denote.Ref.{Bor}
 
 pub returns : goal.returns

@@ -1,52 +1,24 @@
 //! What the program writes for texts in memory, and their names.
 
-ghost use Rattle.std.specs.Prelude.{◌≡◌, ◌≤◌, [], ◌∷◌, ℕ, List, IfOk, MatchOption, length, map, string_bytes, take};
+ghost use Rattle.std.specs.Prelude.{◌≡◌, ◌≤◌, [], ◌∷◌, ℕ, List, IfOk, MatchOption, length, map, string_bytes};
 ghost use Rattle.std.specs.List.{All};
 ghost use Rattle.std.specs.Str.{IsUtf8};
 ghost use Rattle.vic_answer.specs.CheckText.{IsAnswerText};
 ghost use Rattle.vic_answer.specs.SimulateText.{IsSimulationOf};
-ghost use Rattle.vic_answer.specs.Texts as spec;
-ghost use Rattle.vic_answer.specs.inner.Progress.{IsProgress, logs_read_by};
+ghost use Rattle.vic_commands.specs.Commands as spec;
 
-use crate::answered::read_text;
-use crate::frame::run_frame;
-use crate::reconcile::{
-    Progress, begin, join, reconciled_answer, reconciled_status, reconciled_text,
-};
-use crate::run::{Written, WrittenText, written_text};
-use crate::simulate::simulate_text;
-use crate::spell::run_spell;
-use crate::status::{RunFault, Status};
+use crate::commands::{Command, Told};
+use crate::gathering::Gather;
+use crate::surveyed::TakenLogs;
 use std::alloc::{AllocError, Global};
+use vic_answer::{
+    RunFault, Status, Written, WrittenText, reconciliation_of, run_frame, run_spell, simulate_text,
+    written_text,
+};
 use vic_log::ToWrite;
 use vic_margin::Margin;
 use vic_report::LogReport;
 use vic_verdict::{Explanation, Verdict};
-
-/// The commands of the program.
-#[derive(Clone, Copy, Debug, PartialEq, Eq)]
-pub enum Command {
-    Check,
-    Explain,
-    Report,
-    Margin,
-    Simulate,
-    /// A list of what is expected, and then logs.
-    Reconcile,
-    /// The text is a word.
-    Frame,
-    /// The texts are words.
-    Spell,
-}
-
-/// What is told of a command and texts.
-#[derive(Drop)]
-pub enum Told {
-    /// What it writes for them, and its status.
-    Answer(WrittenText),
-    /// They aren't operands of it.
-    Usage,
-}
 
 /// What the program writes for texts in memory, which have these names: the bytes of its standard
 /// output, and its status. It fails only if memory is refused.
@@ -68,6 +40,7 @@ pub fn told_of(
         Command::Reconcile => reconciled(alloc, names, texts),
         Command::Frame => framed(alloc, texts),
         Command::Spell => spelled(alloc, texts),
+        Command::Survey => gathered::<TakenLogs>(alloc, names, texts),
     }
 }
 
@@ -145,24 +118,19 @@ fn reconciled(alloc: Global, names: &[String], texts: &[&[u8]]) -> Result<Told, 
     Ok(Told::Answer(written))
 }
 
-/// What `reconcile` writes for a list and logs with these names.
-fn reconciliation_of(
-    alloc: Global,
-    list_name: &str,
-    log_names: &[String],
-    list: &[u8],
-    logs: &[&[u8]],
-) -> Result<WrittenText, AllocError>
-    ensures { IfOk result (λ w. spec.IsReconciliationOf list_name.now
-        (map string_bytes log_names.now) list.now (map (λ t. t.now) logs.now)
-        w.text.items w.status) }
+/// What a command over many files tells of texts with these names.
+fn gathered<G: Gather>(alloc: Global, names: &[String], texts: &[&[u8]]) -> Result<Told, AllocError>
+    ensures { IfOk result (spec.IsToldBy (spec.OfNamed G.Writes
+        (map string_bytes names.now) (map (λ t. t.now) texts.now))) }
 {
-    let progress = progress_of(alloc, list, logs)?;
-    let answer = reconciled_answer(&progress)?;
-    Ok(WrittenText {
-        text: reconciled_text(alloc, &answer, list_name, log_names)?,
-        status: reconciled_status(&answer),
-    })
+    if names.len() != texts.len() {
+        return Ok(Told::Usage);
+    }
+    let mut taken = G::begin(alloc);
+    for (i, text) in texts.iter().enumerate() {
+        taken = taken.add(alloc, names[i].as_str(), Vec::from_slice(alloc, text)?)?;
+    }
+    taken.finish(alloc)
 }
 
 /// The only one of texts.
@@ -203,21 +171,4 @@ fn words_of(alloc: Global, texts: &[&[u8]]) -> Result<Option<Vec<String>>, Alloc
         words.push(String::from_str(alloc, word)?)?;
     }
     Ok(Some(words))
-}
-
-/// What a list and logs say, up to the first log that is refused or impossible.
-fn progress_of(alloc: Global, list: &[u8], logs: &[&[u8]]) -> Result<Progress, AllocError>
-    ensures { IfOk result (λ progress.
-        let read = logs_read_by progress (length logs.now) in
-        (read ≤ length logs.now)
-        × IsProgress list.now (take read (map (λ t. t.now) logs.now)) progress) }
-{
-    let mut progress = begin(alloc, read_text(alloc, list)?)?;
-    for log in logs {
-        progress = match progress {
-            Progress::Joined(joined) => join(joined, read_text(alloc, log)?)?,
-            Progress::Ended(ending) => return Ok(Progress::Ended(ending)),
-        };
-    }
-    Ok(progress)
 }

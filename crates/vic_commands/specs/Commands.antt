@@ -1,23 +1,21 @@
 -- What the program writes for texts in memory, and their names.
-use Rattle.std.specs.Prelude.{◌≡◌, ◌<◌, ◌≤◌, ℕ, List, [], ◌∷◌, length, take}
+use Rattle.std.specs.Prelude.{◌≡◌, ◌<◌, ℕ, List, [], ◌∷◌, length}
 use Rattle.std.specs.List.{All}
 use Rattle.std.specs.Str.{IsUtf8}
 use Rattle.vic_answer.specs.CheckText.{IsCheckOf}
 use Rattle.vic_answer.specs.ExplainText.{IsExplanationOf}
 use Rattle.vic_answer.specs.FrameText.{frame_text, frame_status}
+use Rattle.vic_answer.specs.InMemory.{IsReconciliationOf}
 use Rattle.vic_answer.specs.MarginText.{IsMarginOf}
-use Rattle.vic_answer.specs.ReconcileRun.{logs_for}
-use Rattle.vic_answer.specs.ReconcileText.{reconciled_status, reconciled_text}
-use Rattle.vic_answer.specs.Reconciled.{IsReconciled}
 use Rattle.vic_answer.specs.ReportText.{IsReportOf}
 use Rattle.vic_answer.specs.SimulateText.{IsSimulationOf}
 use Rattle.vic_answer.specs.SpellText.{spell_text, spell_status}
-use Rattle.vic_answer.specs.declared.reconcile.Reconciled.{Reconciled}
 use Rattle.vic_answer.specs.declared.status.Status.{Status}
-use Rattle.vic_answer.specs.declared.texts.Command.{Command}
-use Rattle.vic_answer.specs.declared.texts.Command.TheVariants.{Check, Explain, Report, Margin, Simulate, Reconcile, Frame, Spell}
-use Rattle.vic_answer.specs.declared.texts.Told.{Told}
-use Rattle.vic_answer.specs.declared.texts.Told.TheVariants.{Answer, Usage}
+use Rattle.vic_commands.specs.Surveyed.{IsSurveying}
+use Rattle.vic_commands.specs.declared.commands.Command.{Command}
+use Rattle.vic_commands.specs.declared.commands.Command.TheVariants.{Check, Explain, Report, Margin, Simulate, Reconcile, Frame, Spell, Survey}
+use Rattle.vic_commands.specs.declared.commands.Told.{Told}
+use Rattle.vic_commands.specs.declared.commands.Told.TheVariants.{Answer, Usage}
 
 -- ---- what is written, for one text
 
@@ -42,22 +40,18 @@ pub record IsSpellingOf (words : List (List ℕ)) (answer : List ℕ) (status : 
   pub text : answer ≡ spell_text words
   pub status_is : status ≡ spell_status words
 
--- what `reconcile` writes for a list of what is expected and logs with these names: it looks at the
--- logs up to the first that is refused or impossible
-pub record IsReconciliationOf (list_name : List ℕ) (names : List (List ℕ)) (list : List ℕ)
-    (logs : List (List ℕ)) (answer : List ℕ) (status : Status) : Type 0 where
-  pub reconciled : Reconciled
-  pub within : logs_for reconciled (length logs) ≤ length logs
-  pub right : IsReconciled list (take (logs_for reconciled (length logs)) logs) reconciled
-  pub text : answer ≡ reconciled_text list_name names reconciled
-  pub status_is : status ≡ reconciled_status reconciled
-
 -- the list is the first text
 abbrev pub OfListAndLogs : List (List ℕ) → List (List ℕ) → List ℕ → Status → Type 0
 OfListAndLogs (name ∷ names) (list ∷ logs) answer status =
     IsReconciliationOf name names list logs answer status
 OfListAndLogs [] texts answer status = ⊥
 OfListAndLogs (name ∷ names) [] answer status = ⊥
+
+-- P holds of texts that have a name each
+abbrev pub OfNamed : (List (List ℕ) → List (List ℕ) → List ℕ → Status → Type 0)
+    → List (List ℕ) → List (List ℕ) → List ℕ → Status → Type 0
+OfNamed P names texts answer status =
+    (length names ≡ length texts) × P names texts answer status
 
 -- ---- for each command
 
@@ -71,6 +65,7 @@ Writes Simulate names texts = OfOnly IsSimulationOf texts
 Writes Reconcile names texts = OfListAndLogs names texts
 Writes Frame names texts = OfOnly IsFrameOf texts
 Writes Spell names texts = IsSpellingOf texts
+Writes Survey names texts = OfNamed IsSurveying names texts
 
 -- an answer is one that W allows; where there is none, W allows none
 abbrev pub IsToldBy : (List ℕ → Status → Type 0) → Told → Type 0

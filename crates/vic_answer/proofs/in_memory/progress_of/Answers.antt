@@ -2,7 +2,7 @@ use Rattle.vic_answer.proofs.Words.{◌≡◌, ap, arith, length, length-map, le
 use Rattle.vic_answer.specs.declared.reconcile.Progress.TheVariants.{Ended}
 use Rattle.vic_answer.proofs.TextsSoFar.{logs_read_by-same, take_now-more}
 use Rattle.vic_answer.proofs.Turns.{none_before}
-use Rattle.vic_answer.proofs.texts.progress_of.Goals as goal
+use Rattle.vic_answer.proofs.in_memory.progress_of.Goals as goal
 
 pub loop-log-init : goal.loop-log-init
 loop-log-init c =

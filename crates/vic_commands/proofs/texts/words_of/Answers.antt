@@ -1,11 +1,11 @@
-use Rattle.vic_answer.proofs.Words.{◌≡◌, ℕ, All-cons, All-nil, List, [], arith, length-map, map, map-append, take}
+use Rattle.std.proofs.Common.{◌≡◌, ℕ, List, [], arith, map, take}
 use Rattle.vic_answer.proofs.TextsSoFar.{take_now-more}
 use Rattle.std.proofs.lemmas.Grind.{common_steps}
-use Rattle.std.proofs.lemmas.List.{get_or-map, take_all}
-use Rattle.std.proofs.lemmas.List.Elements.{All-append}
+use Rattle.std.proofs.lemmas.List.{get_or-map, length-map, map-append, take_all}
+use Rattle.std.proofs.lemmas.List.Elements.{All-append, All-cons, All-nil}
 use denote.Ref.{Bor}
 use Rattle.std.specs.Str.{IsUtf8}
-use Rattle.vic_answer.proofs.texts.words_of.Goals as goal
+use Rattle.vic_commands.proofs.texts.words_of.Goals as goal
 
 pub loop-text-preserved : goal.loop-text-preserved
 loop-text-preserved c =

@@ -1,5 +1,5 @@
 use Rattle.vic_answer.proofs.Words.{◌≡◌, map, take, IsProgress, logs_read_by}
-use Rattle.vic_answer.proofs.texts.progress_of.Given as goal
+use Rattle.vic_answer.proofs.in_memory.progress_of.Given as goal
 
 -- this is what the list and the logs so far say, and none of those before the last ends the run
 abbrev pub invariant-loop-log : goal.invariant-loop-log

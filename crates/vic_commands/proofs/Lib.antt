@@ -1,0 +1,2 @@
+mod SurveyLaws
+mod Tellings

@@ -1,0 +1,3 @@
+pub mod Surveyed
+pub mod Commands
+pub mod Taken

@@ -1,0 +1,30 @@
+//! The commands of the program.
+
+use vic_answer::WrittenText;
+
+/// The commands of the program.
+#[derive(Clone, Copy, Debug, PartialEq, Eq)]
+pub enum Command {
+    Check,
+    Explain,
+    Report,
+    Margin,
+    Simulate,
+    /// A list of what is expected, and then logs.
+    Reconcile,
+    /// The text is a word.
+    Frame,
+    /// The texts are words.
+    Spell,
+    /// The texts are logs.
+    Survey,
+}
+
+/// What is told of a command and texts.
+#[derive(Drop)]
+pub enum Told {
+    /// What it writes for them, and its status.
+    Answer(WrittenText),
+    /// They aren't operands of it.
+    Usage,
+}

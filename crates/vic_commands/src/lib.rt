@@ -1,0 +1,14 @@
+//! The commands of the program over texts in memory, and their names: what the program would write
+//! for files with these names and bytes, and its status. A command over many files takes one after
+//! the other (`Gather`), so that the program needs to have only one of them in memory.
+#![tactic(auto)]
+
+mod commands;
+mod gathering;
+mod surveyed;
+mod texts;
+
+pub use commands::{Command, Told};
+pub use gathering::Gather;
+pub use surveyed::TakenLogs;
+pub use texts::told_of;
