@@ -135,6 +135,7 @@ MILLION = {
     "a catalogue": (b"uid,title,author,place,away\n", lambda uid, number: (
         b"E0%014X,\"A title, volume %d\",An Author,shelf %d,\n" % (uid, number, number % 997))),
     "a catalogue in order": (b"uid\n", lambda _, number: b"E0%014X\n" % number),
+    "places": (b"place,log\n", lambda _, number: b"shelf %d,C%d.log\n" % (number % 997, number)),
 }
 
 

@@ -13,9 +13,7 @@ use Rattle.vic_table.specs.declared.columns.PlacesColumns.{PlacesColumns}
 use Rattle.vic_table.specs.declared.fault.TableLineFault.TheVariants as fault
 use Rattle.vic_table.specs.declared.fault.TableFault.{TableFault}
 use Rattle.vic_table.specs.declared.fault.TableFault.TheVariants.{Line, Memory}
-use Rattle.vic_table.specs.declared.place_rows.PlaceRow.{PlaceRow}
 use Rattle.vic_table.specs.inner.Faults.{RefusesAt}
-use Rattle.vic_table.specs.inner.Kept.{place_row_value}
 use Rattle.vic_table.specs.inner.Sets.{AreLogsOf, IsPlaceRowOf, TellsNewLog}
 
 not_named : (b : Bool) → true ≡ not b → b ≡ false
@@ -26,14 +24,14 @@ no_fault : (a p l n : Bool) → a ≡ true → p ≡ false → l ≡ false → n
 no_fault a p l n ea ep el en = rw (ea, ep, el, en) refl
 
 -- a row without a fault
-pub place_row_done : (c : PlacesColumns) (before : List PlaceRowValue) (cells : List (List ℕ)) (number : ℕ) (row : PlaceRow) (set : BTreeSet (Vec ℕ Global))
+pub place_row_done : (c : PlacesColumns) (before : List PlaceRowValue) (cells : List (List ℕ)) (number : ℕ) (row : PlaceRowValue) (set : BTreeSet (Vec ℕ Global))
     → length cells ≡ c.count → is_blank (cell_at cells c.place) ≡ false → is_blank (cell_at cells c.log) ≡ false → TellsNewLog before (trimmed (cell_at cells c.log)) true set
-    → row.line ≡ number → row.place.items ≡ trimmed (cell_at cells c.place) → row.log.items ≡ trimmed (cell_at cells c.log)
-    → (place_fault c before cells ≡ None) × (place_row_value row ≡ place_row_of c number cells) × AreLogsOf (before ++ place_row_value row ∷ []) set
+    → row.line ≡ number → row.place ≡ trimmed (cell_at cells c.place) → row.log ≡ trimmed (cell_at cells c.log)
+    → (place_fault c before cells ≡ None) × (row ≡ place_row_of c number cells) × AreLogsOf (before ++ row ∷ []) set
 place_row_done c before cells number row set size place log new l p g = (
   no_fault (length cells == c.count) (is_blank (cell_at cells c.place)) (is_blank (cell_at cells c.log)) (is_named before (trimmed (cell_at cells c.log))) (eq-eqb _ _ size) place log (not_named _ new.is_new),
   rw (l, p, g) refl,
-  new.set_is refl (place_row_value row) g,
+  new.set_is refl row g,
 )
 
 -- ---- a line that is a row
@@ -49,10 +47,10 @@ module _ (c : PlacesColumns) (given : List PlaceRowValue) (line : List ℕ) (bef
   place_refused (Line n f) r = (r.0, fault_is ∙ r.1)
   place_refused Memory r = tt
 
-  pub place_taken : (set : BTreeSet (Vec ℕ Global)) (row : PlaceRow) → place_fault c given cells ≡ None → place_row_value row ≡ place_row_of c (suc before) cells
-      → AreLogsOf (given ++ place_row_value row ∷ []) set → IsPlaceRowOf c given before line set (Some row)
+  pub place_taken : (set : BTreeSet (Vec ℕ Global)) (row : PlaceRowValue) → place_fault c given cells ≡ None → row ≡ place_row_of c (suc before) cells
+      → AreLogsOf (given ++ row ∷ []) set → IsPlaceRowOf c given before line set (Some row)
   place_taken set row none is s =
-      let same : place_row_value row ∷ [] ≡ line_place_row c (suc before) line = ap (λ r. r ∷ []) is ∙ sym row_is in
+      let same : row ∷ [] ≡ line_place_row c (suc before) line = ap (λ r. r ∷ []) is ∙ sym row_is in
       record {
         no_fault = fault_is ∙ none;
         row_is = same;

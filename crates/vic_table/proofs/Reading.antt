@@ -14,9 +14,8 @@ use Rattle.vic_table.specs.declared.fault.TableLineFault.TheVariants as fault
 use Rattle.vic_table.specs.declared.fault.TableFault.{TableFault}
 use Rattle.vic_table.specs.declared.fault.TableFault.TheVariants.{Line, Memory}
 use Rattle.vic_table.specs.declared.items.Item.{Item}
-use Rattle.vic_table.specs.declared.place_rows.PlaceRow.{PlaceRow}
 use Rattle.vic_table.specs.inner.Faults.{RefusesAt}
-use Rattle.vic_table.specs.inner.Kept.{item_values, item_or_none, place_row_or_none}
+use Rattle.vic_table.specs.inner.Kept.{item_values, item_or_none, row_or_none}
 use Rattle.vic_table.specs.inner.Reading.{AreClean, RefusesLines}
 use Rattle.vic_table.specs.inner.Sets.{IsSetOf, IsItemOf, AreLogsOf, IsPlaceRowOf}
 
@@ -158,7 +157,7 @@ module _ {A : Type 0} {c : PlacesColumns} {lines : List (List ℕ)} {n : ℕ} {r
   row_at : slice_get lines n ≡ Some line
   row_at = line_next more a.clean cuts
 
-  pub rows_next : (set : BTreeSet (Vec ℕ A)) (row : Option PlaceRow) → IsPlaceRowOf c rows n line set row → AreRowsUpto c lines (suc n) more (rows ++ place_row_or_none row) set
+  pub rows_next : (set : BTreeSet (Vec ℕ A)) (row : Option PlaceRowValue) → IsPlaceRowOf c rows n line set row → AreRowsUpto c lines (suc n) more (rows ++ row_or_none row) set
   rows_next set row is = record {
     clean = clean_next more a.clean cuts (row_fault_behind a some line row_at ∙ is.no_fault);
     columns_are = a.columns_are;

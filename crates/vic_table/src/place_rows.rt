@@ -1,6 +1,6 @@
 //! The rows of a table of places, line by line.
 
-ghost use Rattle.std.specs.Prelude.{◌≡◌, ◌<◌, ◌≤◌, ◌-◌, ◌^◌, ◌++◌, ◌∷◌, [], ℕ, List, suc, length, drop, IfOk, OnOk, MatchResult};
+ghost use Rattle.std.specs.Prelude.{◌≡◌, ◌<◌, ◌≤◌, ◌-◌, ◌^◌, ◌++◌, ◌∷◌, [], ℕ, List, suc, length, take, drop, IfOk, OnOk, MatchResult};
 ghost use Rattle.std.specs.Option.{option_or};
 ghost use Rattle.vic_table.specs.Lines.{bytes_fault};
 ghost use Rattle.vic_table.specs.Rows.{place_fault, place_row_of, place_line_fault};
@@ -9,7 +9,7 @@ ghost use Rattle.vic_table.specs.Values.{PlaceRowValue};
 ghost use Rattle.vic_table.specs.declared.columns.Columns.TheVariants.{Places};
 ghost use Rattle.vic_table.specs.declared.lines.TheConstants.{MAX_TABLE_LINES};
 ghost use Rattle.vic_table.specs.inner.Faults.{RefusesAt};
-ghost use Rattle.vic_table.specs.inner.Kept.{place_row_value, place_row_values, place_row_or_none};
+ghost use Rattle.vic_table.specs.inner.Kept.{row_or_none};
 ghost use Rattle.vic_table.specs.inner.Reading.{FollowsFirst, RefusesLines};
 ghost use Rattle.vic_table.specs.inner.Sets.{AreLogsOf, IsPlaceRowOf, TellsNewLog};
 
@@ -21,14 +21,66 @@ use crate::items::{cell_at, is_blank_line};
 use crate::lines::{LineAt, bytes_fault, line_at};
 use std::alloc::{AllocError, Global};
 use std::collections::BTreeSet;
+use std::marker::Model;
 
 /// A row of a table of places: this log is of this place.
 #[derive(Drop)]
 pub(crate) struct PlaceRow {
     /// The number of its line.
-    pub(crate) line: u32,
-    pub(crate) place: Vec<u8>,
-    pub(crate) log: Vec<u8>,
+    line: u32,
+    /// How many bytes its place has.
+    place_len: usize,
+    /// Its place, and behind it its log.
+    bytes: Vec<u8>,
+}
+
+impl Model for PlaceRow {
+    ghost Value = { PlaceRowValue };
+
+    ghost view = { λ r. record {
+      line = r.line;
+      place = take r.place_len r.bytes.items;
+      log = drop r.place_len r.bytes.items;
+    } };
+
+    ghost invariant = { λ r. r.place_len ≤ length r.bytes.items };
+}
+
+impl PlaceRow {
+    fn new(alloc: Global, line: u32, place: &[u8], log: &[u8]) -> Result<PlaceRow, AllocError>
+        ensures { IfOk result (λ row.
+            row ≡ record { line = line; place = place.now; log = log.now }) }
+    {
+        let mut bytes = Vec::with_capacity(alloc, place.len() + log.len())?;
+        bytes.extend_from_slice(place)?;
+        bytes.extend_from_slice(log)?;
+        Ok(PlaceRow {
+            line,
+            place_len: place.len(),
+            bytes,
+        })
+    }
+
+    /// The number of its line.
+    pub(crate) fn line(&self) -> u32
+        ensures { result ≡ self.now.line }
+    {
+        self.line
+    }
+
+    /// Its place.
+    pub(crate) fn place(&self) -> &[u8]
+        ensures { result.now ≡ self.now.place }
+    {
+        &self.bytes[..self.place_len]
+    }
+
+    /// Its log.
+    pub(crate) fn log(&self) -> &[u8]
+        ensures { result.now ≡ self.now.log }
+    {
+        &self.bytes[self.place_len..]
+    }
 }
 
 /// Whether a log is new, which is then put into the set of those before.
@@ -49,8 +101,8 @@ fn row_of(
 ) -> Result<PlaceRow, TableFault>
     ensures { (before : List PlaceRowValue) → AreLogsOf before logs.old → MatchResult result
         (λ row. (place_fault columns.now before cells.now ≡ None)
-        × (place_row_value row ≡ place_row_of columns.now line cells.now)
-        × AreLogsOf (before ++ place_row_value row ∷ []) logs.new)
+        × (row ≡ place_row_of columns.now line cells.now)
+        × AreLogsOf (before ++ row ∷ []) logs.new)
         (RefusesAt line (place_fault columns.now before cells.now)) }
 {
     if cells.len() != columns.count {
@@ -74,11 +126,7 @@ fn row_of(
             fault: TableLineFault::DuplicateLog,
         });
     }
-    Ok(PlaceRow {
-        line,
-        place: trimmed(place).to_vec(alloc)?,
-        log: log.to_vec(alloc)?,
-    })
+    Ok(PlaceRow::new(alloc, line, trimmed(place), log)?)
 }
 
 /// The row of the line behind so many lines, unless it is blank.
@@ -121,8 +169,7 @@ fn line_row(
 
 /// Adds a row, if there is one.
 fn push_some(rows: &mut Vec<PlaceRow>, row: Option<PlaceRow>) -> Result<(), AllocError>
-    ensures { OnOk result (place_row_values rows.new.items
-        ≡ place_row_values rows.old.items ++ place_row_or_none row) }
+    ensures { OnOk result (rows.new.items ≡ rows.old.items ++ row_or_none row) }
 {
     match row {
         Some(row) => Ok(rows.push(row)?),
@@ -141,7 +188,7 @@ pub(crate) fn read_place_rows(
     ensures { (lines : List (List ℕ))
         → FollowsFirst lines (Places columns.now) (drop start text.now) → MatchResult result
         (λ rows. HasNoFault lines
-        × (place_row_values rows.items ≡ place_rows_upto columns.now lines (length lines)))
+        × (rows.items ≡ place_rows_upto columns.now lines (length lines)))
         (RefusesLines lines) }
 {
     let mut cells = LineCells::new(alloc);

@@ -2,7 +2,6 @@
 
 ghost use Rattle.std.specs.Prelude.{◌≡◌, ◌<◌, List, length, slice_get, IsSomeAnd};
 ghost use Rattle.vic_table.specs.Values.{PlaceRowValue};
-ghost use Rattle.vic_table.specs.inner.Kept.{place_row_values};
 
 use crate::place_rows::PlaceRow;
 use std::marker::Model;
@@ -16,12 +15,12 @@ pub struct Places {
 impl Model for Places {
     ghost Value = { List PlaceRowValue };
 
-    ghost view = { λ p. place_row_values p.rows.items };
+    ghost view = { λ p. p.rows.items };
 }
 
 impl Places {
     pub(crate) fn new(rows: Vec<PlaceRow>) -> Places
-        ensures { result ≡ place_row_values rows.items }
+        ensures { result ≡ rows.items }
     {
         Places { rows }
     }
@@ -38,7 +37,7 @@ impl Places {
         requires { index < length self.now }
         ensures { IsSomeAnd (slice_get self.now index) (λ row. result ≡ row.line) }
     {
-        self.rows[index].line
+        self.rows[index].line()
     }
 
     /// The place of a row.
@@ -46,7 +45,7 @@ impl Places {
         requires { index < length self.now }
         ensures { IsSomeAnd (slice_get self.now index) (λ row. result.now ≡ row.place) }
     {
-        self.rows[index].place.as_slice()
+        self.rows[index].place()
     }
 
     /// The log of a row.
@@ -54,6 +53,6 @@ impl Places {
         requires { index < length self.now }
         ensures { IsSomeAnd (slice_get self.now index) (λ row. result.now ≡ row.log) }
     {
-        self.rows[index].log.as_slice()
+        self.rows[index].log()
     }
 }

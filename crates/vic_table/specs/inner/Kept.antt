@@ -1,9 +1,8 @@
--- Items and rows as they are kept: with places in the text.
+-- Items as they are kept, with places in the text; an item or a row, if there is one.
 use Rattle.std.specs.Prelude.{ℕ, ◌≤◌, Option, Some, None, List, [], ◌∷◌, map, slice_range}
 use Rattle.std.specs.Option.{option_map}
 use Rattle.vic_table.specs.Values.{ItemValue, PlaceRowValue}
 use Rattle.vic_table.specs.declared.items.Item.{Item}
-use Rattle.vic_table.specs.declared.place_rows.PlaceRow.{PlaceRow}
 
 -- what an item in a text says
 abbrev pub item_value : List ℕ → Item → ItemValue
@@ -27,13 +26,7 @@ pub record IsWithinText (len : ℕ) (item : Item) : Type 0 where
   pub low : item.start ≤ item.end
   pub high : item.end ≤ len
 
--- what a row says
-abbrev pub place_row_value : PlaceRow → PlaceRowValue
-place_row_value row = record { line = row.line; place = row.place.items; log = row.log.items }
-
-abbrev pub place_row_values : List PlaceRow → List PlaceRowValue
-place_row_values rows = map place_row_value rows
-
-abbrev pub place_row_or_none : Option PlaceRow → List PlaceRowValue
-place_row_or_none None = []
-place_row_or_none (Some row) = place_row_value row ∷ []
+-- the row of a table of places, if there is one
+abbrev pub row_or_none : Option PlaceRowValue → List PlaceRowValue
+row_or_none None = []
+row_or_none (Some row) = row ∷ []

@@ -12,8 +12,7 @@ use Rattle.vic_table.specs.Values.{PlaceRowValue}
 use Rattle.vic_table.specs.declared.columns.CatalogueColumns.{CatalogueColumns}
 use Rattle.vic_table.specs.declared.columns.PlacesColumns.{PlacesColumns}
 use Rattle.vic_table.specs.declared.items.Item.{Item}
-use Rattle.vic_table.specs.declared.place_rows.PlaceRow.{PlaceRow}
-use Rattle.vic_table.specs.inner.Kept.{item_or_none, place_row_or_none}
+use Rattle.vic_table.specs.inner.Kept.{item_or_none, row_or_none}
 
 -- ---- UIDs
 
@@ -53,7 +52,7 @@ module _ {A : Type 0} where
 
   -- the line behind so many lines has no fault, this is its row, and this set has its log too
   pub record IsPlaceRowOf (c : PlacesColumns) (given : List PlaceRowValue) (before : ℕ)
-      (line : List ℕ) (set : BTreeSet (Vec ℕ A)) (row : Option PlaceRow) : Type 0 where
+      (line : List ℕ) (set : BTreeSet (Vec ℕ A)) (row : Option PlaceRowValue) : Type 0 where
     pub no_fault : option_or (bytes_fault before line) (place_line_fault c given line) ≡ None
-    pub row_is : place_row_or_none row ≡ line_place_row c (suc before) line
+    pub row_is : row_or_none row ≡ line_place_row c (suc before) line
     pub set_is : AreLogsOf (given ++ line_place_row c (suc before) line) set

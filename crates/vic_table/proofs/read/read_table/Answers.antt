@@ -1,6 +1,6 @@
 use Rattle.vic_table.specs.Lines.{table_lines}
 use Rattle.vic_table.specs.declared.columns.Columns.TheVariants.{Catalogue, Places}
-use Rattle.vic_table.specs.inner.Kept.{item_values, place_row_values}
+use Rattle.vic_table.specs.inner.Kept.{item_values}
 use Rattle.vic_table.proofs.Whole.{refuses_text, follows, catalogue_whole, places_whole}
 use Rattle.vic_table.proofs.read.read_table.Goals as goal
 
@@ -32,7 +32,7 @@ returns-in-Ok-read_place_rows c =
     let named = rw (c.as_slice-3.ensures.value, c.in-Places.is) at c.in_ok-columns.ensures in
     let f = follows text c.first_start.result c.in-Some.head l marked (Places c.in-Places.columns) named.0 named.1 in
     let read = rw c.as_slice-in-Places.ensures.value at c.in-Ok-read_place_rows.ensures in
-    rw c.new-in-Ok-read_place_rows.ensures (places_whole text c.first_start.result c.in-Some.head l marked c.in-Places.columns (place_row_values c.in-Ok-read_place_rows.rows.items) f (read (table_lines text) f))
+    rw c.new-in-Ok-read_place_rows.ensures (places_whole text c.first_start.result c.in-Some.head l marked c.in-Places.columns c.in-Ok-read_place_rows.rows.items f (read (table_lines text) f))
 
 pub returns : goal.returns
 returns c =
