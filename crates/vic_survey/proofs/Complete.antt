@@ -1,5 +1,5 @@
 -- The lines of surveys are read, and those that were read so far can be completed.
-use Rattle.vic_survey.proofs.RunWords.{All, All-from_recursion, AllByRecursion, recursion_from_All, Bool, List, None, Option, Some, [], ap, arith, append_assoc, append-nil, false, if◌then◌else◌, length, map, map-append, flat_map, refl, subst, sym, true, ℕ, ◌&&◌, ◌++◌, ◌+◌, ◌<◌, ◌==◌, ◌∙◌, ◌∷◌, ◌≡◌, ◌≢◌, ◌≤◌, ◌^◌, codes, decimal, BitMask, ShownUid, mask_text, found_text, certain_line, bytes_eq, bytes_eq-Decides, IsShort, IsLineNumber, IsField, IsName, and_then, or_else, Field, Refused, Impossible, Possible, joined, SurveyValue, Seen, open_line, seen_lines, field_lines, lines_before, seal, survey_lines, text_of, IfSome, name_line, BeginsSome, AreSurveys, All-push, IsSeen, IsSurvey, AreCertain, AreOpen, Begun, Named, Telling, Told, Part, State, step, run, start, lists_of, lines_of, so_far, IsAt, IsBegun, IsState}
+use Rattle.vic_survey.proofs.RunWords.{AllByRecursion, List, None, Option, Some, [], ap, arith, append_assoc, append-nil, map, flat_map, refl, sym, ℕ, ◌++◌, ◌∙◌, ◌∷◌, ◌≡◌, codes, decimal, BitMask, ShownUid, mask_text, found_text, certain_line, bytes_eq-Decides, IsField, IsName, Field, Refused, Impossible, Possible, joined, SurveyValue, Seen, open_line, seen_lines, field_lines, lines_before, seal, survey_lines, name_line, BeginsSome, AreSurveys, All-push, IsSeen, IsSurvey, AreCertain, AreOpen, Begun, Named, Telling, Told, Part, State, run, lists_of, lines_of, so_far, IsBegun, IsState}
 use Rattle.vic_survey.specs.declared.begun.Part.TheVariants as part
 use Rattle.vic_survey.proofs.Joined.{joined-append}
 use Rattle.vic_survey.proofs.Spelled.{number_found}

@@ -12,3 +12,4 @@ pub mod Runs
 pub mod Complete
 pub mod Wrong
 pub mod Made
+pub mod Ranges

@@ -1,11 +1,11 @@
 -- The lines of surveys are read back, and nothing else is read.
-use Rattle.vic_survey.proofs.ValueWords.{All, All-from_recursion, AllByRecursion, recursion_from_All, Bool, List, None, Option, Some, [], ap, arith, append_assoc, length-append, eq-eqb, eqb-true, false, if◌then◌else◌, length, nat_lt, nat_le, nat_eq, not, refl, subst, suc, sym, take, drop, take_at, drop_at, true, ℕ, ◌&&◌, ◌||◌, ◌++◌, ◌+◌, ◌-◌, ◌<◌, ◌==◌, ◌∙◌, ◌∷◌, ◌≡◌, ◌≢◌, ◌≤◌, nat_tests, common_steps, codes, decimal, BitMask, ShownUid, mask_text, uid_text, line_fault_name, found_text, certain_line, bytes_eq, bytes_eq-Decides, le-leb, lt-ltb, ltb-true, ltb-false, leb-true, ne_eqb, and_parts, IsUid, IsShort, IsLineNumber, IsField, IsName, IsVisible, IsUtf8-from_is_utf8, is_utf8-from_IsUtf8, is_utf8, list_all, byte, take-append-drop, and_then, or_else, after, parted, line_number_in, uid_in, mask_in, found_in, certain_in, refused_in, is_visible, is_name, name_in, LineFault, fault_among, FAULTS, Field, Refused, Impossible, Possible, Frame, NotVicinity}
-use Rattle.std.specs.Prelude.{IfSome, ⊤}
+use Rattle.vic_survey.proofs.ValueWords.{All-from_recursion, AllByRecursion, recursion_from_All, Bool, List, None, Option, Some, [], ap, arith, append_assoc, length-append, false, length, nat_lt, nat_le, refl, subst, sym, take, drop, take_at, drop_at, true, ℕ, ◌&&◌, ◌++◌, ◌∙◌, ◌∷◌, ◌≡◌, ◌≢◌, ◌≤◌, nat_tests, codes, decimal, BitMask, ShownUid, mask_text, uid_text, line_fault_name, found_text, certain_line, bytes_eq, le-leb, lt-ltb, ltb-true, leb-true, ne_eqb, and_parts, IsUid, IsShort, IsLineNumber, IsField, IsName, IsVisible, IsUtf8-from_is_utf8, is_utf8-from_IsUtf8, is_utf8, list_all, byte, take-append-drop, and_then, after, parted, line_number_in, uid_in, mask_in, found_in, certain_in, refused_in, is_visible, is_name, name_in, LineFault, fault_among, FAULTS, Field, Refused, Impossible, Frame, NotVicinity}
+use Rattle.std.specs.Prelude.{IfSome}
 use Rattle.vic_log.specs.declared.fault.LineFault.TheVariants as fault
 use Rattle.vic_frame.specs.declared.fault.FrameFault.TheVariants as frame
 use Rattle.vic_survey.proofs.Spelled.{same, then_some, if_some, if_cases, parted_text}
 use Rattle.vic_survey.proofs.HexBack.{length_hex}
-use Rattle.vic_survey.proofs.ValueLaws.{after_text, after_back, line_number_text, line_number_back, uid_text_of, uid_back, mask_text_of, mask_back, parted_back, no_digit}
+use Rattle.vic_survey.proofs.ValueLaws.{after_text, line_number_text, line_number_back, uid_text_of, uid_back, mask_text_of, mask_back, parted_back, no_digit}
 use Rattle.vic_survey.specs.inner.Steps.{line_after, field_in, certain_after}
 use Rattle.vic_survey.specs.SurveyText.{field_lines, name_line}
 

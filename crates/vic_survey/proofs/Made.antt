@@ -1,25 +1,24 @@
 -- What a log says of its field is what its facts say.
-use Rattle.vic_survey.proofs.ValueWords.{All, Bool, List, None, Some, [], ap, arith, eqb-true, eq-eqb, ne_eqb, false, get_or, length, not, refl, subst, sym, true, ℕ, ◌&&◌, ◌++◌, ◌<◌, ◌+◌, ◌==◌, ◌∙◌, ◌∷◌, ◌≡◌, and_parts, BitMask, IsUid, is_uid, has, nat_eq, nat_tests}
-use Rattle.std.proofs.Common.{◌↔◌, ◌⊎◌, inl, inr, ⊎_elim}
-use Rattle.std.proofs.lemmas.Bool.{and_from, both_ways}
-use Rattle.std.specs.List.{AllPairs, Contains}
-use Rattle.std.proofs.lemmas.List.Elements.{All-contains, Contains-get_or, Contains-push, Contains-push_cases}
-use Rattle.std.proofs.lemmas.List.{take_all, length_push, get_or_append_left}
+use Rattle.vic_survey.proofs.ValueWords.{All, Bool, List, None, Some, [], ap, arith, eq-eqb, ne_eqb, false, get_or, length, not, refl, subst, sym, true, ℕ, ◌&&◌, ◌++◌, ◌<◌, ◌+◌, ◌==◌, ◌∙◌, ◌∷◌, ◌≡◌, and_parts, BitMask, IsUid, is_uid, has}
+use Rattle.std.proofs.Common.{◌↔◌, ⊎_elim}
+use Rattle.std.specs.List.{Contains}
+use Rattle.std.proofs.lemmas.List.Elements.{All-contains, All-push, Contains-get_or, Contains-push, Contains-push_cases}
+use Rattle.std.proofs.lemmas.List.Quantifiers.{all_pairs_push}
+use Rattle.std.proofs.lemmas.List.{length_push, get_or_append_left, get_or_default, get_or-take, length-take-le}
 use Rattle.std.proofs.Common.{take, add-one}
 use Rattle.std.specs.Prelude.{Result, Ok, Err, IfOk, IfSome, Option}
 use Rattle.vic_verdict.specs.Rising.{IsListOf}
 use Rattle.vic_margin.specs.Readings.{IsFirstOpened}
-use Rattle.vic_survey.specs.Parts.{IsShort}
+use Rattle.vic_survey.specs.Parts.{AreOpen, IsShort}
 use Rattle.std.proofs.Math.Seq.{take-suc}
 use Rattle.vic_frame.specs.Masks.{lies_in}
-use Rattle.vic_log.specs.Slots.{is_open, slots_of}
 use Rattle.vic_log.specs.declared.entry.Entry.{Entry}
 use Rattle.vic_tree.specs.Keys.{AreKeysOf}
 use Rattle.vic_tree.specs.OpenMasks.{AreAll, ComesBefore, IsOpenMask}
 use Rattle.vic_tree.specs.OpenSet.{SameUids, UpToThree, has_key, in_mask, without_keys}
 use Rattle.vic_tree.specs.Ranges.{is_open_in}
 use Rattle.vic_verdict.specs.Facts.{AreFactsOf}
-use Rattle.vic_verdict.specs.Possible.{IsCertainUid, IsPossibleUid}
+use Rattle.vic_verdict.specs.Possible.{IsCertainUid}
 use Rattle.vic_verdict.specs.declared.facts.Met.{Met}
 use Rattle.vic_verdict.proofs.Decide.{IsCertainUid-iff, IsPossibleUid-iff}
 use Rattle.vic_survey.proofs.ValueLaws.{uid_is, is_uid_back}
@@ -123,6 +122,29 @@ keeps_none P kept ms i y h is none w m =
       (λ c. let o = (w m).0 c in (contains_left (take i ms) y m o.0, o.1)),
       (λ c. ⊎_elim (λ old. (w m).1 (old, c.1)) (λ e. absurd (none (subst P (sym e) c.1))) (Contains-push_cases (take i ms) y m c.0)),
     )
+
+-- it comes behind those that are kept
+pub keeps_order : (P : BitMask → Type 0) (kept ms : List BitMask) (i : ℕ) (y : BitMask) → AreOpen ms → i < length ms → y ≡ get_or ms i y → AreOpen kept
+    → ((m : BitMask) → Contains kept m ↔ (Contains (take i ms) m × P m)) → AreOpen (kept ++ y ∷ [])
+keeps_order P kept ms i y o h is valid w = record {
+  rising = all_pairs_push ComesBefore kept y valid.rising before;
+  short = All-push IsShort kept y valid.short (subst IsShort (sym is) (o.short i y h));
+} where
+  before : (k : ℕ) (d : BitMask) → k < length kept → ComesBefore (get_or kept k d) y
+  before k d lt =
+      let x = get_or kept k d in
+      let c = ((w x).0 (Contains-get_or kept k d lt)).0 in
+      let few : c.0 < i = omega (arith, c.1, length-take-le i ms (omega (arith, h))) in
+      let there : get_or ms c.0 x ≡ x = sym (get_or-take i ms c.0 x few) ∙ c.2 in
+      let next : get_or ms i x ≡ y = get_or_default ms i x y h ∙ sym is in
+      subst (λ a. ComesBefore a y) there (subst (λ b. ComesBefore (get_or ms c.0 x) b) next (o.rising c.0 i x few h))
+
+-- all open masks of a set are masks in order
+pub all_open : (set : ℕ → Bool) (ms : List BitMask) → AreAll (IsOpenMask set) ms → AreOpen ms
+all_open set ms a = record {
+  rising = a.rising;
+  short = λ k d lt. let one = a.wanted k d lt in (one.short, one.is_mask.1);
+}
 
 pub if_ok_more : {A E : Type 0} (P Q : A → Type 0) (r : Result A E) → ((x : A) → P x → Q x) → IfOk r P → IfOk r Q
 if_ok_more P Q (Ok x) f h = f x h

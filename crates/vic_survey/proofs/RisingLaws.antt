@@ -1,6 +1,6 @@
 -- Lists in rising order, one longer.
-use Rattle.vic_survey.proofs.ValueWords.{All, Bool, List, None, Option, Some, [], ap, arith, length, length-append, map, get_or, refl, slice_get, slice_index, subst, suc, sym, true, false, zero, ℕ, ◌++◌, ◌+◌, ◌-◌, ◌<◌, ◌==◌, ◌∙◌, ◌∷◌, ◌≡◌, ◌≤◌, nat_lt, nat_tests, common_steps, BitMask, ShownUid, IsUid, IsLineNumber, IsShort, if◌then◌else◌, lt-ltb, ltb-true, ltb-false, eqb-true, ne_eqb, eq-eqb}
-use Rattle.std.proofs.lemmas.List.{length-map, map-append, length_push, get_or_append_left, get_or-map}
+use Rattle.vic_survey.proofs.ValueWords.{Bool, List, Some, [], ap, arith, length, length-append, get_or, refl, slice_get, subst, suc, sym, true, false, ℕ, ◌++◌, ◌+◌, ◌-◌, ◌<◌, ◌∙◌, ◌∷◌, ◌≡◌, nat_lt, nat_tests, BitMask, ShownUid, IsUid, IsLineNumber, IsShort, lt-ltb, ltb-true, ltb-false}
+use Rattle.std.proofs.lemmas.List.{map-append, length_push, get_or_append_left, get_or-map}
 use Rattle.std.proofs.lemmas.List.Elements.{All-push}
 use Rattle.std.proofs.lemmas.List.Quantifiers.{all_pairs_push}
 use Rattle.std.proofs.lemmas.Option.{slice_get-get_or}

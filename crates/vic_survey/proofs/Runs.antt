@@ -1,13 +1,13 @@
 -- Reading line by line: what is read so, and which lines can follow.
-use Rattle.vic_survey.proofs.RunWords.{All, All-from_recursion, AllByRecursion, recursion_from_All, Bool, List, None, Option, Some, [], ap, arith, append_assoc, append-nil, length-append, eqb-true, false, if◌then◌else◌, length, map, map-append, flat_map, refl, subst, suc, sym, true, zero, ℕ, ◌&&◌, ◌++◌, ◌+◌, ◌<◌, ◌==◌, ◌∙◌, ◌∷◌, ◌≡◌, ◌≢◌, ◌≤◌, ◌^◌, nat_tests, codes, decimal, BitMask, ShownUid, mask_text, found_text, certain_line, bytes_eq, bytes_eq-Decides, and_parts, IsUid, IsShort, IsLineNumber, IsField, IsName, and_then, or_else, after, number_in, mask_in, found_in, certain_in, name_in, Field, Refused, Impossible, Possible, lf, joined, SurveyValue, Seen, open_line, seen_lines, field_lines, lines_before, seal, survey_lines, text_of, IfSome, ⊤, name_line, AreSurveys, All-push, IsSeen, IsSurvey, AreCertain, AreOpen, Begun, Named, Telling, Told, Part, is_above, is_behind, count_after, mask_after, found_after, nothing, with_answers, with_certain, with_open, with_margin, with_weakest, with_hidden, with_deaf, field_in, after_name, certain_after, more_certain, more_open, next_part, State, step_of, step, run, start, lists_of, lines_of_part, lines_of, so_far, IsAt, IsBegun, IsState}
+use Rattle.vic_survey.proofs.RunWords.{List, None, Option, Some, [], ap, arith, append_assoc, append-nil, eqb-true, length, map, map-append, flat_map, refl, subst, sym, true, ℕ, ◌&&◌, ◌++◌, ◌==◌, ◌∙◌, ◌∷◌, ◌≡◌, ◌≤◌, codes, decimal, BitMask, ShownUid, mask_text, found_text, certain_line, bytes_eq, and_parts, IsShort, IsName, and_then, or_else, after, number_in, mask_in, found_in, certain_in, name_in, Possible, SurveyValue, Seen, open_line, lines_before, seal, survey_lines, IfSome, name_line, AreSurveys, All-push, IsSeen, IsSurvey, Begun, Named, Telling, Told, Part, is_above, is_behind, count_after, mask_after, found_after, nothing, with_answers, with_certain, with_open, with_margin, with_weakest, with_hidden, with_deaf, field_in, after_name, certain_after, more_certain, more_open, next_part, State, step_of, step, run, lists_of, lines_of, so_far, IsAt, IsBegun, IsState}
 use Rattle.std.specs.Prelude.{Result, Ok, Err, IfOk}
 use Rattle.vic_survey.specs.declared.begun.Unread.{Unread}
 use Rattle.vic_survey.specs.inner.Steps.{Gives}
 use Rattle.vic_survey.specs.declared.begun.Part.TheVariants as part
-use Rattle.vic_survey.proofs.Spelled.{same, then_some, if_some, if_cases, number_found, number_text}
-use Rattle.vic_survey.proofs.ValueLaws.{after_text, mask_text_of, mask_back}
-use Rattle.vic_survey.proofs.LineLaws.{found_text_of, found_back, certain_text_of, certain_back, field_text_of, impossible_back, refused_back, name_text_of, name_back}
-use Rattle.vic_survey.proofs.RisingLaws.{certain_push, open_push, certain_next, certain_at, open_next, open_at}
+use Rattle.vic_survey.proofs.Spelled.{same, then_some, if_some, if_cases, number_text}
+use Rattle.vic_survey.proofs.ValueLaws.{after_text, mask_text_of}
+use Rattle.vic_survey.proofs.LineLaws.{found_text_of, certain_text_of, field_text_of, name_text_of}
+use Rattle.vic_survey.proofs.RisingLaws.{certain_push, open_push}
 
 -- ---- what one more line makes of a survey that was begun
 

@@ -1,5 +1,5 @@
 -- Lines of surveys have no LF, so lines that are joined can be told apart.
-use Rattle.vic_survey.proofs.RunWords.{All, AllByRecursion, recursion_from_All, Bool, List, None, Option, Some, [], ap, arith, append_assoc, false, length, length-append, map, nat_eq, refl, subst, suc, sym, true, zero, ℕ, ◌||◌, ◌++◌, ◌+◌, ◌-◌, ◌^◌, ◌/◌, ◌%◌, ◌<◌, ◌∙◌, ◌∷◌, ◌≡◌, ◌≤◌, nat_tests, codes, decimal, BitMask, ShownUid, hex_bytes, mask_text, uid_text, line_fault_name, found_text, certain_line, or_parts, IsShort, IsLineNumber, IsName, IsVisible, has, encode_upper, upper_digits, to_be_bytes, w64, drop, slice_index, value_text, byte_count, lf, joined, SurveyValue, Seen, open_line, seen_lines, field_lines, lines_before, seal, survey_lines, name_line, IsOneLine, IsField, ne_eqb, lt-ltb, IsSeen, IsSurvey, AreCertain, AreOpen, IfSome, LineFault, Frame, FrameFault, Field, Refused, Impossible, Possible, ◌==◌, if◌then◌else◌, IsUid}
+use Rattle.vic_survey.proofs.RunWords.{AllByRecursion, recursion_from_All, Bool, List, None, Option, Some, [], ap, arith, append_assoc, false, length, length-append, map, nat_eq, refl, suc, true, zero, ℕ, ◌++◌, ◌+◌, ◌-◌, ◌^◌, ◌/◌, ◌%◌, ◌<◌, ◌∙◌, ◌∷◌, ◌≡◌, ◌≤◌, nat_tests, codes, decimal, BitMask, ShownUid, hex_bytes, mask_text, uid_text, line_fault_name, found_text, certain_line, or_parts, IsShort, IsLineNumber, IsVisible, has, encode_upper, upper_digits, to_be_bytes, w64, drop, slice_index, value_text, byte_count, joined, SurveyValue, Seen, open_line, seen_lines, field_lines, lines_before, seal, IsOneLine, IsField, ne_eqb, lt-ltb, IsSeen, IsSurvey, IfSome, LineFault, Frame, Field, Refused, Impossible, Possible, ◌==◌, if◌then◌else◌, IsUid}
 use Rattle.hex.specs.Hex.{encode_with}
 use Rattle.std.specs.Fmt.{digits, digits_onto, digit_glyph}
 use Rattle.vic_frame.specs.Crc.{crc}

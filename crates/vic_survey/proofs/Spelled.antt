@@ -1,5 +1,5 @@
 -- Values that are read are spelled so.
-use Rattle.vic_survey.proofs.ValueWords.{Bool, List, None, Option, Some, [], ap, arith, append_assoc, eq-eqb, eqb-true, false, if◌then◌else◌, length, nat_lt, nat_le, nat_eq, has, ltb-true, leb-true, refl, slice_index, subst, suc, sym, take, drop, drop-cons, add-one, get_or, take_all, true, zero, ℕ, ◌&&◌, ◌++◌, ◌+◌, ◌-◌, ◌^◌, ◌<◌, ◌==◌, ◌∙◌, ◌∷◌, ◌≡◌, ◌≢◌, ◌≤◌, nat_tests, common_steps, codes, decimal, BitMask, ShownUid, hex_bytes, mask_text, uid_text, line_fault_name, found_text, bytes_eq, Ok, Err, Result, le-leb, lt-ltb, ne_eqb, and_parts, decimal_is_IsNumeral, parse-decimal, bytes_eq-Decides, IsUtf8-from_ascii, IsAscii-decimal, IsUtf8, ParsesUnsigned, digits_value, decode_sized, FromHexError, IsUid, is_uid, value_text, IsShort, IsLineNumber, byte, and_then, or_else, after, parted, number_in, line_number_in, number_ending, hex_decoded, hex_number_in, uid_in, value_in, mask_of, mask_in, found_in, certain_in, LineFault, fault_among}
+use Rattle.vic_survey.proofs.ValueWords.{Bool, List, None, Option, Some, [], ap, arith, eqb-true, false, if◌then◌else◌, length, nat_lt, nat_le, nat_eq, has, ltb-true, leb-true, refl, slice_index, subst, suc, sym, take, drop, drop-cons, add-one, get_or, take_all, true, zero, ℕ, ◌&&◌, ◌++◌, ◌+◌, ◌-◌, ◌^◌, ◌<◌, ◌==◌, ◌∙◌, ◌∷◌, ◌≡◌, ◌≤◌, nat_tests, decimal, line_fault_name, bytes_eq, Ok, Result, le-leb, lt-ltb, and_parts, decimal_is_IsNumeral, parse-decimal, bytes_eq-Decides, IsUtf8-from_ascii, IsAscii-decimal, IsUtf8, ParsesUnsigned, digits_value, and_then, parted, number_in, LineFault, fault_among}
 
 pub same : (v w : List ℕ) → bytes_eq v w ≡ true → v ≡ w
 same v w h = (bytes_eq-Decides v w).0 h

@@ -1,7 +1,7 @@
 -- Values are read back from their texts, and nothing else is read.
-use Rattle.vic_survey.proofs.ValueWords.{All, All-from_recursion, AllByRecursion, recursion_from_All, Bool, List, None, Option, Some, [], ap, arith, append_assoc, length-append, eq-eqb, eqb-true, false, if◌then◌else◌, length, nat_lt, nat_eq, refl, slice_index, subst, suc, sym, take, drop, take_at, drop_at, true, zero, ℕ, ◌&&◌, ◌||◌, ◌++◌, ◌+◌, ◌-◌, ◌*◌, ◌%◌, ◌^◌, ◌<◌, ◌==◌, ◌∙◌, ◌∷◌, ◌≡◌, ◌≢◌, ◌≤◌, nat_tests, common_steps, codes, decimal, decimal_by_steps, BitMask, ShownUid, hex_bytes, mask_text, uid_text, line_fault_name, found_text, certain_line, bytes_eq, bytes_eq-Decides, Ok, Err, Result, le-leb, lt-ltb, ne_eqb, and_parts, or_parts, ltb-true, take-append-drop, decode_sized, FromHexError, IsUid, is_uid, UID_BITS, value_text, byte_count, holds_bits, IsShort, IsLineNumber, IsField, byte, has, and_then, or_else, after, parted, number_in, line_number_in, number_ending, hex_decoded, hex_number_in, uid_in, value_in, mask_of, mask_in, found_in, certain_in, refused_in, LineFault, fault_among, FAULTS, Field, Refused, Impossible, Possible}
+use Rattle.vic_survey.proofs.ValueWords.{List, Some, [], ap, arith, append_assoc, eq-eqb, false, length, nat_lt, nat_eq, refl, subst, suc, sym, take, drop, take_at, drop_at, true, zero, ℕ, ◌++◌, ◌+◌, ◌*◌, ◌%◌, ◌^◌, ◌<◌, ◌==◌, ◌∙◌, ◌∷◌, ◌≡◌, ◌≤◌, nat_tests, codes, decimal, decimal_by_steps, BitMask, hex_bytes, mask_text, uid_text, bytes_eq, bytes_eq-Decides, Ok, Err, Result, le-leb, lt-ltb, ne_eqb, or_parts, ltb-true, take-append-drop, decode_sized, FromHexError, IsUid, is_uid, UID_BITS, value_text, byte_count, holds_bits, IsShort, IsLineNumber, byte, has, after, parted, number_in, line_number_in, number_ending, hex_decoded, hex_number_in, uid_in, value_in, mask_in}
 use Rattle.vic_survey.proofs.Spelled.{same, then_some, if_some, parted_text, number_found, number_text}
-use Rattle.vic_survey.proofs.HexBack.{hex_back, length_hex}
+use Rattle.vic_survey.proofs.HexBack.{hex_back}
 
 -- ---- what follows words
 

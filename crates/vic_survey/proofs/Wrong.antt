@@ -1,5 +1,5 @@
 -- Lines that no surveys have.
-use Rattle.vic_survey.proofs.RunWords.{All, All-from_recursion, AllByRecursion, recursion_from_All, List, None, Option, Some, [], ap, arith, append_assoc, append-nil, false, true, ◌||◌, length, length-append, nat_eq, nat_tests, flat_map, refl, subst, sym, ℕ, ◌++◌, ◌+◌, ◌∙◌, ◌∷◌, ◌≡◌, and_then, lf, joined, SurveyValue, lines_before, seal, survey_lines, text_of, BeginsSome, IsTextOfSome, IsOneLine, IsWrongAfter, IsFirstWrong, AreSurveys, IsSurvey, State, step, run, start, so_far, lines_of, IsState, IsReached, has}
+use Rattle.vic_survey.proofs.RunWords.{All-from_recursion, AllByRecursion, recursion_from_All, List, None, Option, Some, [], ap, arith, append_assoc, append-nil, false, true, length, length-append, nat_tests, flat_map, refl, subst, sym, ℕ, ◌++◌, ◌+◌, ◌∙◌, ◌∷◌, ◌≡◌, and_then, lf, joined, SurveyValue, lines_before, seal, survey_lines, text_of, BeginsSome, IsTextOfSome, IsOneLine, IsWrongAfter, IsFirstWrong, AreSurveys, IsSurvey, State, step, run, start, so_far, lines_of, IsState, IsReached, has}
 use Rattle.vic_survey.proofs.Joined.{joined-append}
 use Rattle.vic_survey.proofs.Spelled.{then_some}
 use Rattle.vic_survey.proofs.Single.{both_single, lines_single, seal_single, joined_front}

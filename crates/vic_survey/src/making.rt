@@ -17,14 +17,15 @@ ghost use Rattle.vic_verdict.specs.Facts.{AreFactsOf};
 ghost use Rattle.vic_verdict.specs.Verdict.{IsVerdict};
 ghost use Rattle.vic_verdict.specs.declared.judging.Verdict.TheVariants.{Impossible};
 ghost use Rattle.vic_survey.specs.Making.{AreOpenOf, IsFieldOf, IsSeenOf};
+ghost use Rattle.vic_survey.specs.Parts.{AreOpen};
 ghost use Rattle.vic_survey.specs.Surveys.{IsField, IsSeen};
 ghost use Rattle.vic_survey.specs.inner.Kept.{AreKeptOf, HasUidIn};
 
 use crate::name::Name;
-use crate::rising::{CertainUids, MAX_LINE_NUMBER, RisingMasks};
-use crate::survey::{Field, MAX_COUNT, Seen, Survey};
+use crate::rising::{CertainUids, RisingMasks};
+use crate::survey::{Field, Seen, Survey};
 use std::alloc::{AllocError, Global};
-use vic_frame::{FrameFault, Mask, UID_BITS};
+use vic_frame::{FrameFault, Mask};
 use vic_log::{LineFault, Log, LogFault, read_log};
 use vic_margin::{Readings, Weakest, readings, weakest_besides};
 use vic_report::lines_of_certain;
@@ -51,9 +52,10 @@ fn field_of(alloc: Global, text: &[u8]) -> Result<Field, AllocError>
     let log = match read_log(alloc, text) {
         Ok(log) => log,
         Err(LogFault::Line { line, fault }) => {
-            let fault = named_once(fault);
-            check(is_line_number(line))?;
-            return Ok(Field::Refused { line, fault });
+            return Ok(Field::Refused {
+                line,
+                fault: named_once(fault),
+            });
         }
         Err(LogFault::Memory) => return Err(AllocError),
         Err(LogFault::Read | LogFault::Spent) => unreachable!(),
@@ -61,7 +63,8 @@ fn field_of(alloc: Global, text: &[u8]) -> Result<Field, AllocError>
     match facts_and_parts_of::<RangeSet>(alloc, &log)? {
         Ok((facts, log_parts)) => Ok(Field::Possible(seen_of(alloc, log, facts, log_parts)?)),
         Err(line) => {
-            check(is_line_number(line))?;
+            // by its clause `log` a proof sees that the number is that of a line
+            let _lines = log.lines();
             Ok(Field::Impossible { line })
         }
     }
@@ -78,28 +81,6 @@ fn named_once(fault: LineFault) -> LineFault
     }
 }
 
-/// Whether a number is that of a line.
-fn is_line_number(line: u32) -> bool
-    ensures { result ≡ true → (1 ≤ line) × (line ≤ MAX_LINE_NUMBER) }
-{
-    1 <= line && line <= MAX_LINE_NUMBER
-}
-
-/// Whether the counts and the weakest mask of a log are in their ranges.
-fn are_in_range(answers: u32, margin: u32, mask: &Mask) -> bool
-    ensures { result ≡ true
-        → (answers ≤ MAX_COUNT) × (margin ≤ MAX_COUNT) × (mask.now.len ≤ UID_BITS) }
-{
-    answers <= MAX_COUNT && margin <= MAX_COUNT && mask.len() <= UID_BITS
-}
-
-/// What is always so: this only spares the proof of it.
-fn check(holds: bool) -> Result<(), AllocError>
-    ensures { OnOk result (holds ≡ true) }
-{
-    if holds { Ok(()) } else { Err(AllocError) }
-}
-
 /// What a possible log says.
 fn seen_of(
     alloc: Global,
@@ -114,7 +95,7 @@ fn seen_of(
     ensures valid { IfOk result IsSeen }
 {
     let told = lines_of_certain(alloc, log.lines(), &facts.met, &facts.certain)?;
-    let certain = CertainUids::of(alloc, &told)?;
+    let certain = CertainUids::of(told);
     let open = open_masks(alloc, &facts)?;
     let answers = log.answers();
     let Weakest { margin, mask } = weakest_besides(
@@ -123,8 +104,6 @@ fn seen_of(
         log_parts,
         facts.certain.as_slice(),
     )?;
-    check(are_in_range(answers, margin, &mask))?;
-    let _uids = certain.as_slice();
     let _masks = open.as_slice();
     let Readings { hidden, deaf } = readings(alloc, log, facts.open.ranges())?;
     Ok(Seen {
@@ -153,17 +132,16 @@ fn open_masks(alloc: Global, facts: &Facts<RangeSet>) -> Result<RisingMasks, All
 
 /// The masks in which a set has a UID, in their order.
 fn kept_masks(alloc: Global, set: &RangeSet, masks: &[Mask]) -> Result<RisingMasks, AllocError>
+    requires { AreOpen masks.now }
     ensures { IfOk result (λ ms. AreKeptOf (HasUidIn (is_open_in set.now)) masks.now ms) }
 {
-    let mut kept = RisingMasks::none(alloc);
+    let mut kept = Vec::new(alloc);
     for mask in masks {
         if has_uid_in(set, mask) {
-            check(mask.len() <= UID_BITS && kept.is_behind(mask))?;
             kept.push(*mask)?;
         }
     }
-    let _masks = kept.as_slice();
-    Ok(kept)
+    Ok(RisingMasks::of(kept))
 }
 
 /// Whether a set has a UID in a mask.

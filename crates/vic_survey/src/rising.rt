@@ -1,6 +1,6 @@
 //! Certain UIDs with their lines, and masks, in rising order.
 
-ghost use Rattle.std.specs.Prelude.{◌≡◌, ◌==◌, ◌++◌, ◌∷◌, [], IfOk, OnOk, length, true};
+ghost use Rattle.std.specs.Prelude.{◌≡◌, ◌==◌, ◌++◌, ◌∷◌, [], OnOk, length, true};
 ghost use Rattle.vic_frame.specs.Uids.{IsUid};
 ghost use Rattle.vic_survey.specs.Parts.{AreCertain, AreOpen, IsLineNumber, IsShort};
 ghost use Rattle.vic_survey.specs.inner.Rising.{comes_before, is_above, is_behind};
@@ -45,20 +45,12 @@ impl CertainUids {
         }
     }
 
-    /// Some, if they rise and their lines are in range: those of a log always do, and memory is
-    /// refused otherwise, which only spares the proof.
-    pub(crate) fn of(alloc: Global, uids: &[ShownUid]) -> Result<CertainUids, AllocError>
-        ensures { IfOk result (λ v. v ≡ uids.now) }
+    /// Some, which rise, with lines that are in range.
+    pub(crate) fn of(uids: Vec<ShownUid>) -> CertainUids
+        requires { AreCertain uids.items }
+        ensures { result ≡ uids.items }
     {
-        let mut certain = CertainUids::none(alloc);
-        for one in uids {
-            let _number = one.uid.number();
-            if one.line < 1 || one.line > MAX_LINE_NUMBER || !certain.is_above(one.uid) {
-                return Err(AllocError);
-            }
-            certain.push(*one)?;
-        }
-        Ok(certain)
+        CertainUids { uids }
     }
 
     /// Whether a UID is above all of them.
@@ -117,6 +109,14 @@ impl RisingMasks {
         RisingMasks {
             masks: Vec::new(alloc),
         }
+    }
+
+    /// Some, which are in order.
+    pub(crate) fn of(masks: Vec<Mask>) -> RisingMasks
+        requires { AreOpen masks.items }
+        ensures { result ≡ masks.items }
+    {
+        RisingMasks { masks }
     }
 
     /// Whether there are none.

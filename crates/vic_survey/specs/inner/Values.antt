@@ -17,7 +17,6 @@ use Rattle.vic_text.specs.Digits.{hex_bytes}
 use Rattle.vic_survey.specs.declared.faults.TheConstants.{FAULTS}
 use Rattle.vic_survey.specs.declared.name.TheConstants.{MAX_NAME_LEN}
 use Rattle.vic_survey.specs.declared.rising.TheConstants.{MAX_LINE_NUMBER}
-use Rattle.vic_survey.specs.declared.survey.TheConstants.{MAX_COUNT}
 use Rattle.vic_survey.specs.declared.survey.Field.{Field}
 use Rattle.vic_survey.specs.declared.survey.Field.TheVariants.{Refused}
 

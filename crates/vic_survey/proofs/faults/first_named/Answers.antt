@@ -1,4 +1,4 @@
-use Rattle.vic_survey.proofs.ValueWords.{◌≡◌, ◌∙◌, sym, ap, bytes_eq, fault_among}
+use Rattle.vic_survey.proofs.ValueWords.{◌∙◌, sym, ap, bytes_eq, fault_among}
 use Rattle.vic_survey.proofs.Spelled.{fault_here, fault_past}
 use Rattle.vic_survey.proofs.faults.first_named.Goals as goal
 

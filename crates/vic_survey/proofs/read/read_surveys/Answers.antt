@@ -1,10 +1,9 @@
-use Rattle.vic_survey.proofs.RunWords.{◌≡◌, ◌∙◌, ◌++◌, ◌+◌, ◌∷◌, ◌≤◌, [], ap, arith, sym, length, length-append, refl, joined, flat_map, survey_lines, text_of, so_far, lines_of, append-nil, None, Some}
+use Rattle.vic_survey.proofs.RunWords.{◌≡◌, ◌∙◌, ◌++◌, ◌∷◌, [], ap, arith, sym, length, length-append, joined, flat_map, survey_lines, text_of, so_far, lines_of, append-nil}
 use Rattle.vic_survey.specs.inner.States.{state_of}
-use Rattle.vic_survey.proofs.Joined.{joined-append}
 use Rattle.vic_survey.proofs.Spelled.{parted_text, parted_no, parted_lacks}
 use Rattle.vic_survey.proofs.Runs.{step_more}
 use Rattle.vic_survey.proofs.Wrong.{nothing_left, none_there, some_left, first_none, first_some, text_more, reached_more, single_more, first_wrong, ends_early, only_read}
-use Rattle.std.specs.Prelude.{is_some, ◌==◌, List, ℕ}
+use Rattle.std.specs.Prelude.{List, ℕ}
 use Rattle.vic_survey.specs.inner.Steps.{State}
 use Rattle.vic_survey.proofs.read.read_surveys.Goals.{then-is_none, else-is_none, else-is_empty-via-then-is_empty+else-is_none-2, else-is_empty-via-else-is_empty}
 use Rattle.vic_survey.proofs.read.read_surveys.Goals as goal

@@ -1,4 +1,4 @@
-use Rattle.vic_survey.proofs.ValueWords.{◌≡◌, ◌∙◌, Some, ap, sym, subst, codes, after, IsName}
+use Rattle.vic_survey.proofs.ValueWords.{◌∙◌, Some, ap, sym, subst, codes, IsName}
 use Rattle.vic_survey.proofs.LineLaws.{name_here, name_not, strip_some}
 use Rattle.vic_survey.proofs.steps.read_name.Goals as goal
 
