@@ -1,5 +1,5 @@
 -- What the UIDs that a cell tells have to do with its digits.
-use Rattle.vic_table.proofs.Words.{◌≡◌, ℕ, ◌+◌, ◌≤◌, Bool, true, false, ◌||◌, Option, Some, None, List, [], ◌∷◌, ◌++◌, length, refl, sym, ap, ◌∙◌, arith, nat_tests, cond-true, cond-false, cases_Bool, inl, inr, append-nil, length-append, length-map, filter, filter-append, nat_eq, has, list_any, list_all, list_any-append, is_some, or-false, or_left, or_right, and_parts, eqb-true}
+use Rattle.vic_table.proofs.Words.{◌≡◌, ℕ, ◌+◌, ◌<◌, ◌≤◌, Bool, true, false, ◌||◌, Option, Some, None, List, [], ◌∷◌, ◌++◌, length, refl, sym, ap, ◌∙◌, arith, nat_tests, cond-true, cond-false, cases_Bool, inl, inr, append-nil, length-append, length-map, filter, filter-append, nat_eq, has, list_any, list_all, list_any-append, is_some, or-false, or_from, or_left, or_right, and_parts, eqb-true}
 use Rattle.std.specs.List.{filter_map, cons_option, onto_first}
 use Rattle.std.proofs.Common.{Result, Ok, Err, IsOk, cond}
 use Rattle.std.proofs.lemmas.Bool.{or_cases}
@@ -10,6 +10,7 @@ use Rattle.std.specs.Str.{bytes_eq}
 use Rattle.std.specs.Char.{to_ascii_lowercase}
 use Rattle.hex.specs.Hex.{decode_sized, is_hex_digit}
 use Rattle.hex.proofs.HexLemmas.{IsOk-decode_sized}
+use Rattle.vic_table.proofs.HexDigits.{hex_uid-len}
 use Rattle.vic_table.specs.Conserved.{as_list, told_uids}
 use Rattle.vic_table.specs.Contents.{is_space, is_blank, trimmed_start, trimmed_end, trimmed, folded, is_word, is_digit_of_uid, is_no_hex_digit, hex_uid, uid_with, hex_runs, has_uid, spelled_uid, tells_uid}
 
@@ -210,3 +211,20 @@ word_is_short word cell h =
     omega (arith, size, ap length kept, filter_short (trimmed cell)) where
       bytes_same : (xs ys : List ℕ) → bytes_eq xs ys ≡ true → xs ≡ ys
       bytes_same xs ys h = grind (arith, nat_tests, bytes_eq-Decides xs ys)
+
+-- a cell of fewer bytes than a UID has digits tells none
+pub short_tells_none : (cell : List ℕ) → length cell < 16 → tells_uid cell ≡ false
+short_tells_none cell short = or_from (has_uid cell) (is_some (spelled_uid cell)) no_run (ap is_some (hex_uid-len (digits cell) (λ e. absurd (omega (arith, filter_short cell))))) where
+  none_in : SomeRun (λ run. is_some (hex_uid run)) cell → ⊥
+  none_in s =
+      let size = omega_size s in
+      let none = ap is_some (hex_uid-len s.run (λ e. absurd (omega (arith, e, size)))) in
+      let is = s.is in cc where
+        omega_size : (s : SomeRun (λ run. is_some (hex_uid run)) cell) → length s.run ≤ length cell
+        omega_size s = omega (arith, ap length s.within.whole, length-append s.within.before (s.run ++ s.within.behind), length-append s.run s.within.behind)
+
+  no_run : has_uid cell ≡ false
+  no_run = elim (cases_Bool (has_uid cell)) [
+    | inl some ↦ absurd (none_in (some_run (λ run. is_some (hex_uid run)) cell refl some))
+    | inr none ↦ none
+  ]

@@ -93,15 +93,19 @@ fn place_at(
     Ok(Some(trimmed(cell).to_vec(alloc)?))
 }
 
-/// The first fault of a row up to those of its UID by itself.
-fn shape_fault(columns: &CatalogueColumns, cells: &LineCells) -> Option<TableLineFault>
+/// The first fault of a row up to those of its UID by itself; the UID that it spells is given.
+fn shape_fault(
+    columns: &CatalogueColumns,
+    cells: &LineCells,
+    uid: Option<Uid>,
+) -> Option<TableLineFault>
+    requires { uid ≡ spelled_uid (cell_at cells.now columns.now.uid) }
     ensures { result ≡ shape_fault columns.now cells.now }
 {
     if cells.len() != columns.count {
         return Some(TableLineFault::Cells);
     }
-    let uid = cell_at(cells, columns.uid);
-    if spelled_uid(uid).is_none() && !is_word(uid, b"none") {
+    if uid.is_none() && !is_word(cell_at(cells, columns.uid), b"none") {
         return Some(TableLineFault::Uid);
     }
     if tells_elsewhere(columns, cells) {
@@ -157,10 +161,10 @@ fn row_item(
         (RefusesAt line (item_fault columns.now before cells.now)) }
     ensures there { IfOk result (λ item. (item.start ≡ at.start) × (item.end ≡ at.end)) }
 {
-    if let Some(fault) = shape_fault(columns, cells) {
+    let uid = spelled_uid(cell_at(cells, columns.uid));
+    if let Some(fault) = shape_fault(columns, cells, uid) {
         return Err(TableFault::Line { line, fault });
     }
-    let uid = spelled_uid(cell_at(cells, columns.uid));
     if !is_new(uids, uid)? {
         return Err(TableFault::Line {
             line,

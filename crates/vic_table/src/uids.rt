@@ -79,9 +79,12 @@ fn has_uid(cell: &[u8]) -> bool
     }
 }
 
-/// Whether a cell has or spells a UID.
+/// Whether a cell has or spells a UID. Most cells are too short.
 pub(crate) fn tells_uid(cell: &[u8]) -> bool
     ensures { result ≡ tells_uid cell.now }
 {
+    if cell.len() < UID_DIGITS {
+        return false;
+    }
     has_uid(cell) || spelled_uid(cell).is_some()
 }
