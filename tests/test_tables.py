@@ -105,26 +105,6 @@ def test_damaged_catalogues(read_tables, logs, part):
     assert kinds >= {"catalogue", "refused"}
 
 
-def without_numbers(told):
-    """Of what is read, the items without the numbers of their lines."""
-    return sorted(word.partition(":")[2] for word in told.split()[1:])
-
-
-def test_the_order_of_lines(read_tables, logs):
-    """Changes nothing but their numbers, nor whether a catalogue is refused."""
-    chance = random.Random(logs[1])
-    pairs = []
-    for _ in range(2000):
-        first, *lines = re.findall(rb"[^\n]*\n", catalogue(chance) + b"\n")
-        moved = chance.sample(lines, len(lines))
-        pairs += [b"".join([first, *lines]), b"".join([first, *moved])]
-    told = read_tables(pairs)
-    assert any(one.startswith("catalogue") for one in told)
-    for one, other in zip(told[::2], told[1::2], strict=True):
-        assert one.split()[0] == other.split()[0]
-        assert one.startswith("refused") or without_numbers(one) == without_numbers(other)
-
-
 def a_million(names, line):
     """A text of as many lines as there may be, each for a number that is like none before."""
     return names + b"".join(line(number * 0x9E3779B97F4A7C15 % 2**56, number)
