@@ -79,7 +79,7 @@ class Words(Command):
         name = self.names[0]
         for words in ([], ["--tabs", "--json", name], ["--other", name], ["show"],
                       ["page", name, name], ["--ascii", name], ["page", "--ascii", name],
-                      ["show", "--json", name], ["margin"], ["margin", name, name],
+                      ["show", "--json", name],
                       *(["--margin", word, name]
                         for word in ("0", "-1", "x", "1000000", "9" * 5000)),
                       ["report", "--margin", "1", name]):
@@ -87,6 +87,17 @@ class Words(Command):
             self.assertEqual((said, status), (b"", 4))
             self.assertTrue(errors.startswith(b"vicinity: "))
             self.assertIn(b"\nusage: ", errors)
+
+    def test_what_was_a_command(self):
+        """One line names what to use instead; a log of that name is still judged."""
+        for name in ("explain", "frame", "margin", "simulate", "spell"):
+            said = f"vicinity: {name} is no command here: it is a command of the program: "
+            for words in ([name], [name, self.names[0]], [name, "--help"]):
+                self.assertEqual(within(*words), (b"", f"{said}vicinity {name}\n".encode(), 4))
+        self.write("frame", COMPLETE)
+        ran = subprocess.run([sys.executable, "-m", "vicinity", "./frame"], cwd=self.folder,
+                             capture_output=True)
+        self.assertEqual((ran.stdout, ran.returncode), (b"./frame: complete 0\n", 0))
 
     def test_options_stand_anywhere(self):
         shown = within("show", "--ascii", self.names[0])

@@ -86,13 +86,6 @@ class Said(Command):
         self.whole = self.write("whole.log", log(TWICE + LIST_A))
         self.absent = self.write("absent.log", log(OFTEN + LIST_A + LIST_B))
 
-    def test_as_the_program_says_it(self):
-        self.assertEqual(within("margin", self.whole),
-                         (b"complete 1\nmargin 2\nweakest 1 00\nhidden -\ndeaf 1 00\n", b"", 0))
-        for name, status in ((self.absent, 1), (self.names[6], 2), (self.names[7], 3)):
-            answer = within("check", name)[0].partition(b": ")[2]
-            self.assertEqual(within("margin", name), (answer, b"", status))
-
     def test_a_margin_that_is_too_small(self):
         """The line doesn't say complete, and the status is 1."""
         small = "margin 2 below 3, weakest 1 00"

@@ -10,7 +10,7 @@ from importlib import import_module
 from typing import Any, Callable, Mapping
 
 from . import __version__
-from ._process import Words, run
+from ._process import NoAnswer, Words, run
 
 ABOUT = """\
 Judges logs of inventories of ISO/IEC 15693 tags. Without a command, a LOG is checked:
@@ -41,6 +41,10 @@ LOOK: Mapping[str, Any] = {"allow_abbrev": False, "formatter_class": Help}
 ANY = sys.maxsize
 #: A log has fewer slots than this.
 MOST_MARGIN = 999_999
+#: What was a command here, and what is used instead.
+OF_PROGRAM = "it is a command of the program: vicinity {}"
+GONE = {name: OF_PROGRAM.format(name)
+        for name in ("explain", "frame", "margin", "simulate", "spell")}
 
 
 def words() -> tuple[Words, Mapping[str, Words]]:
@@ -91,13 +95,6 @@ def words() -> tuple[Words, Mapping[str, Words]]:
     show = add("show", "draw.draw", "draws the rounds of a log for a terminal")
     show.add_argument("--ascii", action="store_true", help="only ASCII characters")
     add("page", "draw.page", "draws a log as one HTML file")
-    add("explain", "answers.explain_one",
-        "the answer to a log, and tags that show it, as the program does")
-    add("margin", "answers.margin_one", "the answer to a log, and how often a tag would have had "
-        "to be missed, as the program does")
-    add("simulate", "answers.simulate_one",
-        "the log that listed tags would produce for given requests, as the program does",
-        ends=WRITTEN)
     misread = add("misread", "misread.misread", "what a reader that misses, hides or mistakes "
                   "replies would have written for a true log", ends=WRITTEN)
     for chance, what in (("capture", "one reply is read over the others of its slot"),
@@ -106,9 +103,6 @@ def words() -> tuple[Words, Mapping[str, Words]]:
                              help=f"the probability that {what}")
     misread.add_argument("--seed", metavar="N", type=int, default=0,
                          help="the seed of the random numbers")
-    add("frame", "frames.frame", "a frame in words, as the program does", "HEX", ends=WRITTEN)
-    add("spell", "frames.spell", "words as a frame, as the program does", "WORD ..", 1, ANY,
-        WRITTEN)
     return top, commands.choices
 
 
@@ -161,6 +155,8 @@ def main() -> int:
     if not given or given[0] in ("-h", "--help", "--version"):
         top.parse_args(given)
         top.error("name a command or a log")
+    if given[0] in GONE:
+        raise NoAnswer(f"{given[0]} is no command here: {GONE[given[0]]}")
     asked = commands[given.pop(0) if given[0] in commands else "check"].parse(given)
     module, _, function = asked.does.partition(".")
     status: int = getattr(import_module(f"vicinity.commands.{module}"), function)(asked)

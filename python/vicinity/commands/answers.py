@@ -1,16 +1,14 @@
-"""`check`, `explain`, `report`, `margin` and `simulate`: what the program says,
-of many logs in one process."""
+"""`check` and `report`: what the program says, of many logs in one process."""
 from __future__ import annotations
 
 import argparse
 import json
 from typing import Any
 
-from .._calls import check, explain, if_captured, margin, simulate
+from .._calls import check, if_captured, margin
 from .._fields import NOT_COMPLETE, object_of, small, small_fields
 from .._native import library
-from .._process import NO_ANSWER, complain, names_of, read_log, shown, tried, write
-from ..frames import uid_text
+from .._process import NO_ANSWER, complain, names_of, shown, tried, write
 
 
 def _judge(name: str, text: bytes, wanted: int, form: str) -> tuple[int, str, dict[str, Any]]:
@@ -60,26 +58,3 @@ def report_all(asked: argparse.Namespace) -> int:
         write(object_of_report(name, found) if asked.form == "json" else
               lines_of_report(shown(name), found))
     return worst
-
-
-def explain_one(asked: argparse.Namespace) -> int:
-    """Writes what `vicinity explain` writes, and returns the status."""
-    answer, population = explain(read_log(asked.names[0]))
-    has_one = answer.status == 1
-    write([f"{answer}\n", f"population {len(population)}\n" * has_one,
-           *(f"U {uid_text(uid)}\n" for uid in population)])
-    return answer.status
-
-
-def margin_one(asked: argparse.Namespace) -> int:
-    """Writes what `vicinity margin` writes, and returns the status."""
-    found = margin(read_log(asked.names[0]))
-    write([f"{found}\n"])
-    return found.answer.status
-
-
-def simulate_one(asked: argparse.Namespace) -> int:
-    """Writes what `vicinity simulate` writes, and returns the status."""
-    made = simulate(read_log(asked.names[0]))
-    write([made.text])
-    return made.status
