@@ -1539,8 +1539,19 @@ def test_a_browser_that_runs_no_script_of_the_page(page, file, tmp_path):
     blocked.write_text(file.read_text().replace(script, script + ";"))
     page.open(blocked)
     page.wait(page.driver.find_element("id", "old").is_displayed)
-    assert "Here that is off or blocked, or the browser is from before" in page.texts("#old")[0]
+    assert "Here that is off or blocked, the browser is from before" in page.texts("#old")[0]
     assert "Content Security Policy" in page.browser.console()[0]
+
+
+@pytest.mark.parametrize("part", ["WORKER", "MODULE", "RECORD"])
+def test_a_page_of_which_a_letter_has_changed_judges_nothing(page, file, tmp_path, part):
+    """As by a bit that was turned over: the answer of another library could be green."""
+    text, damaged = file.read_text(), tmp_path / "damaged.html"
+    at = text.index(f'{part} = "') + 4000
+    damaged.write_text(text[:at] + ("b" if text[at] == "a" else "a") + text[at + 1:])
+    page.open(damaged)
+    page.wait(page.driver.find_element("id", "old").is_displayed)
+    assert "or this file is damaged" in page.texts("#old")[0]
 
 
 def test_a_page_that_was_saved_is_read_without_its_script(page, tmp_path):

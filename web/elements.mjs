@@ -9,10 +9,10 @@
 export const at = (id) => /** @type {HTMLElement} */ (document.getElementById(id));
 
 /**
- * What the element with an id has in base64.
- * @param {string} id
+ * What is written in base64.
+ * @param {string} text
  */
-export const bytesIn = (id) => Uint8Array.from(atob(at(id).textContent ?? ""), (letter) => letter.charCodeAt(0));
+export const bytesOf = (text) => Uint8Array.from(atob(text), (letter) => letter.charCodeAt(0));
 
 /**
  * An element with attributes and children, whose texts need no escaping.

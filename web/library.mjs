@@ -31,6 +31,8 @@ import { FOUND } from "./kinds.mjs";
 const INTERFACE = 2, NO_ANSWER = 4, FIRST_ROOM = 64;
 /** The sizes of the header's structs, in bytes, and where the text of an answer begins. */
 const ANSWER = 104, TEXT = 40, FINDING = 32, MASK = 16, WEAKEST = 48, PLACES = 4, UID = 8, REQUEST = 32, REPLY = 16, FRAME = 24, NAME = 32, NUMBER = 8;
+/** The commands of the program, by the numbers of the header. */
+const COMMAND = Object.freeze({ check: 1, explain: 2, report: 3, margin: 4, simulate: 5, reconcile: 6, frame: 7, spell: 8 });
 /** The mask of all UIDs. @type {Mask} */
 export const ALL = Object.freeze({ fault: 0, len: 0, value: 0n });
 const DECODER = new TextDecoder();
@@ -128,6 +130,23 @@ export class Library {
     const at = take(bytes.length);
     this.#bytes.set(bytes, at);
     return [at, bytes.length];
+  }
+
+  /**
+   * Texts, one behind the other.
+   * @param {Take} take
+   * @param {Uint8Array[]} texts
+   * @returns {[number, number]}
+   */
+  #putAll(take, texts) {
+    if (texts.some((text) => text.BYTES_PER_ELEMENT !== 1)) throw new TypeError("a text is a Uint8Array");
+    const length = texts.reduce((sum, text) => sum + text.length, 0), at = take(length);
+    let to = at;
+    for (const text of texts) {
+      this.#bytes.set(text, to);
+      to += text.length;
+    }
+    return [at, length];
   }
 
   /**
@@ -358,6 +377,32 @@ export class Library {
         room = count;
       }
     });
+  }
+
+  /**
+   * What the program does for a command over texts in memory: what it writes to standard output, and its exit status. Texts that
+   * aren't what the command takes throw RangeError.
+   * @param {keyof typeof COMMAND} command
+   * @param {{name?: string, text: Uint8Array | string}[]} texts
+   * @returns {{status: number, written: Uint8Array}}
+   */
+  run(command, texts) {
+    if (texts.some(({ name = "" }) => name.includes("\n"))) throw new RangeError("a name has no LF");
+    const told = this.#within((take) => {
+      const bytes = texts.map(({ text }) => typeof text === "string" ? ENCODER.encode(text) : text);
+      const names = this.#put(take, texts.map(({ name = "" }) => `${name}\n`).join("")), joined = this.#putAll(take, bytes);
+      const lengths = take(NUMBER * texts.length), needed = take(NUMBER);
+      bytes.forEach(({ length }, i) => this.#view.setBigUint64(lengths + NUMBER * i, BigInt(length), true));
+      for (let room = FIRST_ROOM; ;) {
+        const at = take(room), status = this.#call("run", COMMAND[command], ...names, ...joined, lengths, texts.length, at, room, needed);
+        const count = Number(this.#view.getBigUint64(needed, true));
+        if (status === NO_ANSWER && count === 0) throw new OutOfMemory();
+        if (count <= room) return { status, written: this.#bytes.slice(at, at + count) };
+        room = count;
+      }
+    });
+    if (told.status === NO_ANSWER) throw new RangeError(`these texts aren't what ${command} takes`);
+    return told;
   }
 
   /**

@@ -1,6 +1,6 @@
 /** The page that judges: what is opened or typed is judged, and one of it is shown. */
 import { withRoom } from "./collection.mjs";
-import { at, bytesIn } from "./elements.mjs";
+import { at, bytesOf } from "./elements.mjs";
 import { gathered, isLacking, isUnanswered, read } from "./opened.mjs";
 import { Pane } from "./pane.mjs";
 import { unfold, unfoldOnPaper } from "./printing.mjs";
@@ -44,7 +44,13 @@ let opening = Promise.resolve();
 let pending;
 let stopping = new AbortController();
 
-const work = new Work(at("worker").textContent ?? "", bytesIn("module"));
+/**
+ * The worker's script, and in base64 the library as WebAssembly and the page that is saved. They stand within this script, which
+ * the browser runs only if its hash is right: a page of which a bit was turned over judges nothing.
+ */
+const WORKER = "{{worker}}", MODULE = "{{module}}", RECORD = "{{record}}";
+
+const work = new Work(WORKER, bytesOf(MODULE));
 
 // What is judged
 
@@ -199,7 +205,7 @@ function asBefore() {
 
 saves.addEventListener("click", () => {
   const log = shownLog(), object = log.told?.object ?? (log.collection && withRoom(log.collection));
-  const template = new TextDecoder().decode(bytesIn("record")), fold = unfold(), text = shown.innerText;
+  const template = new TextDecoder().decode(bytesOf(RECORD)), fold = unfold(), text = shown.innerText;
   fold();
   if (object) save(pageOf(template, object, titleOfEntry(log), text), `${log.name}.html`);
 });

@@ -112,6 +112,11 @@ struct NoLogs : std::invalid_argument {
     NoLogs() : std::invalid_argument("no logs") {}
 };
 
+// The texts aren't what a command takes, as two logs for `check`, or a name has LF.
+struct Usage : std::invalid_argument {
+    Usage() : std::invalid_argument("usage") {}
+};
+
 // What `simulate` refuses: the line of the program.
 struct NotSimulated : std::runtime_error {
     explicit NotSimulated(const std::string &line) : std::runtime_error(line) {}
@@ -509,6 +514,48 @@ inline std::string simulate(Text text)
         if (status != VICINITY_STATUS_DONE)
             throw NotSimulated(filled.substr(0, filled.find('\n')));
         return filled;
+    }
+}
+
+// A text with its name, such as that of its file: UTF-8, without LF.
+struct Named {
+    std::string name;
+    Text text;
+};
+
+// What the program writes to standard output, and its exit status.
+struct Written {
+    std::string text;
+    vicinity_status status;
+};
+
+// What the program does for a command over texts in memory. Usage: they aren't what it takes.
+inline Written run(vicinity_command command, const std::vector<Named> &texts)
+{
+    std::string names, joined;
+    std::vector<std::size_t> lengths;
+    for (const Named &one : texts) {
+        if (one.name.find('\n') != std::string::npos)
+            throw Usage();
+        names += one.name + '\n';
+        joined.append(one.text.bytes(), one.text.bytes() + one.text.size());
+        lengths.push_back(one.text.size());
+    }
+    std::vector<std::uint8_t> room(64);
+    for (;;) {
+        std::size_t needed = 0;
+        const vicinity_status status =
+            vicinity_run(command, Text(names).bytes(), names.size(), Text(joined).bytes(),
+                         joined.size(), lengths.data(), lengths.size(), room.data(), room.size(),
+                         &needed);
+        if (status == VICINITY_STATUS_NO_ANSWER && needed > 0)
+            throw Usage();
+        if (status == VICINITY_STATUS_NO_ANSWER)
+            throw std::bad_alloc();
+        bool held = needed <= room.size();
+        room.resize(needed);
+        if (held)
+            return {{room.begin(), room.end()}, status};
     }
 }
 

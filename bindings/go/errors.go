@@ -11,6 +11,9 @@ const noAnswer = 4
 // ErrOutOfMemory means that there is no answer because memory ran out.
 var ErrOutOfMemory = errors.New("vicinity: out of memory")
 
+// ErrUsage means that texts aren't what a command takes, as two logs for CommandCheck, or that a name isn't UTF-8 or has LF.
+var ErrUsage = errors.New("vicinity: usage")
+
 // ErrNoLogs means that there is nothing to reconcile: no survey, or one that isn't of a possible log, or lacks UIDs or masks.
 var ErrNoLogs = errors.New("vicinity: no logs, or a survey of none")
 

@@ -56,6 +56,20 @@ func (kind FindingKind) String() string {
 	return Kind(kind).String()
 }
 
+// Command is a command of the program.
+type Command uint32
+
+const (
+	CommandCheck     Command = C.VICINITY_COMMAND_CHECK     // a log
+	CommandExplain   Command = C.VICINITY_COMMAND_EXPLAIN   // a log
+	CommandReport    Command = C.VICINITY_COMMAND_REPORT    // a log
+	CommandMargin    Command = C.VICINITY_COMMAND_MARGIN    // a log
+	CommandSimulate  Command = C.VICINITY_COMMAND_SIMULATE  // a log without slots
+	CommandReconcile Command = C.VICINITY_COMMAND_RECONCILE // a list of what is expected, then logs
+	CommandFrame     Command = C.VICINITY_COMMAND_FRAME     // a word
+	CommandSpell     Command = C.VICINITY_COMMAND_SPELL     // words, at least one
+)
+
 // Fault is the first fault of a text or a frame, by its number in vicinity.h.
 type Fault uint32
 

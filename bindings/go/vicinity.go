@@ -14,6 +14,7 @@ import "C"
 
 import (
 	"strings"
+	"unicode/utf8"
 	"unsafe"
 )
 
@@ -287,6 +288,42 @@ func Simulate(text []byte) ([]byte, error) {
 		default:
 			return room[:needed], nil
 		}
+	}
+}
+
+// Named is a text with its name, such as that of its file.
+type Named struct {
+	Name string // UTF-8, without LF
+	Text []byte
+}
+
+// Run does what the program does for a command over texts in memory. It returns what the program writes to standard output,
+// and its exit status. ErrUsage means that the texts aren't what the command takes.
+func Run(command Command, texts ...Named) ([]byte, int, error) {
+	var names, joined []byte
+	lengths := make([]C.size_t, len(texts))
+	for i, text := range texts {
+		if !utf8.ValidString(text.Name) || strings.Contains(text.Name, "\n") {
+			return nil, noAnswer, ErrUsage
+		}
+		names = append(append(names, text.Name...), '\n')
+		joined = append(joined, text.Text...)
+		lengths[i] = size(text.Text)
+	}
+	room := make([]byte, firstRoom)
+	for {
+		var needed C.size_t
+		status := int(C.vicinity_run(C.enum_vicinity_command(command), bytes(names), size(names), bytes(joined), size(joined),
+			first(lengths), size(lengths), bytes(room), size(room), &needed))
+		switch {
+		case status == noAnswer && needed > 0:
+			return nil, status, ErrUsage
+		case status == noAnswer:
+			return nil, status, ErrOutOfMemory
+		case int(needed) <= len(room):
+			return room[:needed], status, nil
+		}
+		room = make([]byte, needed)
 	}
 }
 

@@ -18,15 +18,16 @@ from ._answers import (Answer, Explanation, Fault, Finding, FindingKind, Kind, L
 from ._calls import (captured, check, check_listed, explain, explain_into, explain_listed, listed,
                      margin, margin_listed, overlooked, page, reconcile, report, report_listed,
                      simulate, simulate_into, survey)
+from ._run import Written, run
 from .frames import (HEADER_LINE, FrameFault, Reply, Request, add_crc, parse_uid, read_request,
                      read_response, slot_mask, uid_text, write_inventory, write_line,
                      write_response, write_stay_quiet)
 
 __all__ = ["Answer", "Explanation", "Fault", "Finding", "FindingKind", "FrameFault", "HEADER_LINE",
            "Kind", "ListFault", "Margin", "Mask", "Reply", "Report", "Request", "Simulation",
-           "Survey", "Weakest", "add_crc", "captured", "check", "check_listed", "explain",
+           "Survey", "Weakest", "Written", "add_crc", "captured", "check", "check_listed", "explain",
            "explain_into", "explain_listed", "listed", "margin", "margin_listed", "overlooked",
            "page", "parse_uid", "read_request", "read_response", "reconcile", "report",
-           "report_listed", "simulate", "simulate_into", "slot_mask", "survey", "uid_text",
+           "report_listed", "run", "simulate", "simulate_into", "slot_mask", "survey", "uid_text",
            "write_inventory", "write_line", "write_response", "write_stay_quiet"]
 __version__ = "1.4.0.dev0"

@@ -45,6 +45,9 @@ ANSWER, WEAKEST, FRAME = POINTER(AnswerStruct), POINTER(WeakestStruct), POINTER(
 POPULATION = [*UIDS, POINTER(SIZE)]
 FINDINGS = [POINTER(FindingStruct), SIZE, POINTER(SIZE)]
 
+#: The commands of the program, by the numbers of vicinity.h, from 1.
+COMMANDS = ("check", "explain", "report", "margin", "simulate", "reconcile", "frame", "spell")
+
 CALLS = {
     "interface": [],
     "version": [],
@@ -61,6 +64,7 @@ CALLS = {
     "margin_listed": [*TEXT, *UIDS, ANSWER, WEAKEST],
     "overlooked": [*TEXT, *UIDS, ANSWER, POINTER(U32), SIZE],
     "simulate": [*TEXT, POINTER(ctypes.c_uint8), SIZE, POINTER(SIZE)],
+    "run": [U32, *TEXT, *TEXT, POINTER(SIZE), SIZE, POINTER(ctypes.c_uint8), SIZE, POINTER(SIZE)],
     "kind_name": [U32, POINTER(NameStruct)],
     "fault_name": [U32, POINTER(NameStruct)],
     "write_inventory": [U32, U32, U32, U64, FRAME],

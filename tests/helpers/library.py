@@ -7,7 +7,7 @@ from unittest import mock
 
 import vicinity
 from vicinity import Kind, _native
-from vicinity._native import AnswerStruct, FindingStruct, MaskStruct
+from vicinity._native import COMMANDS, AnswerStruct, FindingStruct, MaskStruct
 
 from helpers.program import TOP, Said
 
@@ -23,7 +23,6 @@ LISTING = {"explain": U64, "certain": U64, "listed": U64, "explain_listed": U64,
            "reconcile": FindingStruct, "simulate": U8, "run": U8}
 # Of these, the calls that fill no struct in: they return a status alone.
 WRITING = ("simulate", "run")
-COMMANDS = "check explain report margin simulate reconcile frame spell".split()
 
 
 def answer_to(line, fault=0):

@@ -223,6 +223,18 @@ extern "C" {
         room: usize,
         needed: *mut usize,
     ) -> u32;
+    pub fn vicinity_run(
+        command: u32,
+        names: *const u8,
+        names_len: usize,
+        texts: *const u8,
+        texts_len: usize,
+        lengths: *const usize,
+        count: usize,
+        written: *mut u8,
+        room: usize,
+        needed: *mut usize,
+    ) -> u32;
     pub fn vicinity_kind_name(kind: u32, name: *mut vicinity_name) -> u32;
     pub fn vicinity_fault_name(fault: u32, name: *mut vicinity_name) -> u32;
     pub fn vicinity_write_inventory(

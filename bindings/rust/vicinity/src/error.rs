@@ -42,6 +42,14 @@ pub enum SimulateError {
     Refused(String),
 }
 
+/// Why the program writes nothing.
+#[derive(Clone, Copy, Debug, PartialEq, Eq)]
+pub enum RunError {
+    OutOfMemory,
+    /// The texts aren't what the command takes, as two logs for `check`, or a name has LF.
+    Usage,
+}
+
 /// Why lists of UIDs and surveys aren't reconciled.
 #[derive(Clone, Copy, Debug, PartialEq, Eq)]
 pub enum ReconcileError {
@@ -108,6 +116,15 @@ impl fmt::Display for SimulateError {
     }
 }
 
+impl fmt::Display for RunError {
+    fn fmt(&self, f: &mut fmt::Formatter<'_>) -> fmt::Result {
+        match self {
+            RunError::OutOfMemory => OutOfMemory.fmt(f),
+            RunError::Usage => f.write_str("usage"),
+        }
+    }
+}
+
 impl fmt::Display for ReconcileError {
     fn fmt(&self, f: &mut fmt::Formatter<'_>) -> fmt::Result {
         match self {
@@ -123,5 +140,6 @@ impl fmt::Display for ReconcileError {
 impl Error for OutOfMemory {}
 impl Error for TextError {}
 impl Error for SurveyError {}
+impl Error for RunError {}
 impl Error for SimulateError {}
 impl Error for ReconcileError {}

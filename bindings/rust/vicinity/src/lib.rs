@@ -27,6 +27,7 @@ mod calls;
 mod error;
 mod fault;
 mod frames;
+mod run;
 mod uid;
 
 pub use answers::{Answer, Explained, Finding, Margin, Report, Survey, Verdict, Weakest};
@@ -34,11 +35,12 @@ pub use calls::{
     check, check_listed, explain, explain_listed, fits, listed, margin, margin_listed, overlooked,
     reconcile, report, report_listed, simulate, survey, version,
 };
-pub use error::{OutOfMemory, ReconcileError, SimulateError, SurveyError, TextError};
+pub use error::{OutOfMemory, ReconcileError, RunError, SimulateError, SurveyError, TextError};
 pub use fault::{Fault, Refusal};
 pub use frames::{
     add_crc, read_request, read_response, slot_mask, write_inventory, write_line, write_response,
     write_stay_quiet, Entry, Frame, Reply, Request,
 };
+pub use run::{run, Command, Written};
 pub use uid::{Mask, NotUid, Uid};
 pub use vicinity_sys::VICINITY_HEADER_LINE as HEADER_LINE;

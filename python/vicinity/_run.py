@@ -1,0 +1,52 @@
+"""What the program does, over texts in memory."""
+from __future__ import annotations
+
+import ctypes
+from typing import NamedTuple, Sequence
+
+from ._native import COMMANDS, BytesLike, bytes_of, library
+
+FIRST_ROOM = 4096
+NO_ANSWER = 4
+
+
+class Written(NamedTuple):
+    """What the program writes to standard output, and its exit status."""
+
+    text: bytes
+    status: int
+    """0 to 3, as of the command."""
+
+
+def _names(names: Sequence[str], count: int) -> bytes:
+    """A line for each name; without any, empty ones."""
+    if len(names) not in (0, count) or any("\n" in name for name in names):
+        raise ValueError("there is one name for each text, without LF")
+    return "".join(f"{name}\n" for name in names or [""] * count).encode()
+
+
+def run(command: str, *texts: BytesLike, names: Sequence[str] = ()) -> Written:
+    """What the program does for a command, such as "report", over texts in memory.
+    `names` are those of the texts, in their order, as where the answer names files.
+
+    Raises ValueError if the program has no such command, the texts aren't what it takes, or the
+    names aren't as many, or have LF; TypeError if a text isn't bytes or similar, MemoryError if
+    memory is refused, and OSError if the shared library can't be loaded."""
+    if command not in COMMANDS:
+        raise ValueError(f"no command of the program: {command!r}")
+    given = [bytes_of(text) for text in texts]
+    joined, lines = b"".join(given), _names(names, len(given))
+    lengths = (ctypes.c_size_t * len(given))(*map(len, given))
+    places = FIRST_ROOM
+    while True:
+        room, needed = (ctypes.c_uint8 * places)(), ctypes.c_size_t()
+        status = library().vicinity_run(
+            COMMANDS.index(command) + 1, lines, len(lines), joined, len(joined), lengths,
+            len(given), room, places, ctypes.byref(needed))
+        if status == NO_ANSWER and needed.value:
+            raise ValueError(f"these texts aren't what {command} takes")
+        if status == NO_ANSWER:
+            raise MemoryError("vicinity: out of memory")
+        if needed.value <= places:
+            return Written(bytes(memoryview(room)[:needed.value]), status)
+        places = needed.value

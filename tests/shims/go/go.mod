@@ -1,0 +1,7 @@
+module run
+
+go 1.19
+
+require vicinity v1.4.0
+
+replace vicinity => ../../../bindings/go
