@@ -32,7 +32,7 @@ const INTERFACE = 2, NO_ANSWER = 4, FIRST_ROOM = 64;
 /** The sizes of the header's structs, in bytes, and where the text of an answer begins. */
 const ANSWER = 104, TEXT = 40, FINDING = 32, MASK = 16, WEAKEST = 48, PLACES = 4, UID = 8, REQUEST = 32, REPLY = 16, FRAME = 24, NAME = 32, NUMBER = 8;
 /** The commands of the program, by the numbers of the header. */
-const COMMAND = Object.freeze({ check: 1, explain: 2, report: 3, margin: 4, simulate: 5, reconcile: 6, frame: 7, spell: 8 });
+const COMMAND = Object.freeze({ check: 1, explain: 2, report: 3, margin: 4, simulate: 5, reconcile: 6, frame: 7, spell: 8, survey: 9 });
 /** The mask of all UIDs. @type {Mask} */
 export const ALL = Object.freeze({ fault: 0, len: 0, value: 0n });
 const DECODER = new TextDecoder();

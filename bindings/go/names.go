@@ -68,6 +68,7 @@ const (
 	CommandReconcile Command = C.VICINITY_COMMAND_RECONCILE // a list of what is expected, then logs
 	CommandFrame     Command = C.VICINITY_COMMAND_FRAME     // a word
 	CommandSpell     Command = C.VICINITY_COMMAND_SPELL     // words, at least one
+	CommandSurvey    Command = C.VICINITY_COMMAND_SURVEY    // logs, at least one
 )
 
 // Fault is the first fault of a text or a frame, by its number in vicinity.h.

@@ -46,7 +46,8 @@ POPULATION = [*UIDS, POINTER(SIZE)]
 FINDINGS = [POINTER(FindingStruct), SIZE, POINTER(SIZE)]
 
 #: The commands of the program, by the numbers of vicinity.h, from 1.
-COMMANDS = ("check", "explain", "report", "margin", "simulate", "reconcile", "frame", "spell")
+COMMANDS = ("check", "explain", "report", "margin", "simulate", "reconcile", "frame", "spell",
+            "survey")
 
 CALLS = {
     "interface": [],

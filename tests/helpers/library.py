@@ -153,7 +153,7 @@ class OneCall:
             texts = [(cwd / word).read_bytes() for word in words]
             if not words:
                 names, texts = [b""], [given]
-        told = run_of(command, texts, names if command == "reconcile" else None)
+        told = run_of(command, texts, None if command in ("frame", "spell") else names)
         status, needed, _ = self.library.into(0, "run", *told)
         again, same, room = self.library.into(needed, "run", *told)
         assert (again, same) == (status, needed)

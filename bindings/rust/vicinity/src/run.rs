@@ -29,6 +29,8 @@ pub enum Command {
     Frame = 7,
     /// Of words, at least one.
     Spell = 8,
+    /// Of logs, at least one.
+    Survey = 9,
 }
 
 /// What the program writes to standard output, and its exit status.

@@ -3,10 +3,12 @@
 
 use std::io::Write;
 use std::{env, fs, io, process};
-use vicinity::Command::{Check, Explain, Frame, Margin, Reconcile, Report, Simulate, Spell};
+use vicinity::Command::{
+    Check, Explain, Frame, Margin, Reconcile, Report, Simulate, Spell, Survey,
+};
 
-const COMMANDS: [vicinity::Command; 8] =
-    [Check, Explain, Report, Margin, Simulate, Reconcile, Frame, Spell];
+const COMMANDS: [vicinity::Command; 9] =
+    [Check, Explain, Report, Margin, Simulate, Reconcile, Frame, Spell, Survey];
 
 fn main() {
     let words: Vec<String> = env::args().skip(1).collect();
