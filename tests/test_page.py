@@ -17,7 +17,7 @@ from helpers.program import TOP
 from helpers.records import drawn_in
 from helpers.screen import DROP, PHONE, Screen
 
-MOST_BYTES = 800_000
+MOST_BYTES = 1_000_000
 UNFINISHED = (TOP / "examples/unfinished-count.log").read_bytes()
 LONG = text_of(["vicinity-log 1", *biglog.search(biglog.new_tags(random.Random(1), 400))])
 BITS = text_of(["vicinity-log 1", *[biglog.ask((5, 2), 16), *["S"] * 16] * 20])
@@ -1552,6 +1552,7 @@ def test_a_page_of_which_a_letter_has_changed_judges_nothing(page, file, tmp_pat
     page.open(damaged)
     page.wait(page.driver.find_element("id", "old").is_displayed)
     assert "or this file is damaged" in page.texts("#old")[0]
+    assert "Content Security Policy" in page.browser.console()[0]
 
 
 def test_a_page_that_was_saved_is_read_without_its_script(page, tmp_path):

@@ -394,7 +394,8 @@ export class Library {
       const lengths = take(NUMBER * texts.length), needed = take(NUMBER);
       bytes.forEach(({ length }, i) => this.#view.setBigUint64(lengths + NUMBER * i, BigInt(length), true));
       for (let room = FIRST_ROOM; ;) {
-        const at = take(room), status = this.#call("run", COMMAND[command], ...names, ...joined, lengths, texts.length, at, room, needed);
+        const at = take(room), given = [...names, ...joined, lengths, texts.length, at, room, needed].map(BigInt);
+        const status = Number(this.#calls.vicinity_run(COMMAND[command], ...given));
         const count = Number(this.#view.getBigUint64(needed, true));
         if (status === NO_ANSWER && count === 0) throw new OutOfMemory();
         if (count <= room) return { status, written: this.#bytes.slice(at, at + count) };

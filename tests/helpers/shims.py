@@ -31,7 +31,7 @@ class ByProgram:
 
     def run(self, command, *words, name="vicinity", **how):
         assert name == "vicinity"
-        return self.program.run(1 + COMMANDS.index(command), *words, **how)
+        return self.program.run(str(1 + COMMANDS.index(command)), *words, **how)
 
 
 class ByPython:

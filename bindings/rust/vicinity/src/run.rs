@@ -46,7 +46,7 @@ pub struct Written {
 /// ```
 /// use vicinity::Command;
 /// let list = ("list", &b"vicinity-log 1\nU E0040100000000A1\n"[..]);
-/// let shelf = ("shelf", &b"vicinity-log 1\nT 260100F60A\nN\n"[..]);
+/// let shelf = ("shelf", &b"vicinity-log 3\nT 260100F60A\nN\n"[..]);
 /// let told = vicinity::run(Command::Reconcile, &[list, shelf])?;
 /// assert!(told.text.ends_with(b"doubtful E0040100000000A1 in shelf\n"));
 /// assert_eq!(told.status, 1);
