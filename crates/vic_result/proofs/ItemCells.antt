@@ -1,0 +1,39 @@
+-- The cells of an item, and its logs.
+use Rattle.vic_result.proofs.Words.{not, ◌≡◌, ◌∙◌, ◌||◌, ◌&&◌, ℕ, Bool, true, false, List, [], ◌∷◌, Option, None, Some, ap, refl, slice_get, slice_get_within, get_or_from_slice_get, eq-eqb}
+use Rattle.std.proofs.lemmas.List.Folds.{list_any_at}
+use Rattle.vic_table.specs.Values.{ItemValue}
+use Rattle.vic_collection.specs.Collections.{CollectionValue, certain_logs, is_certain_in, is_certain_somewhere, is_named, is_unexpected, is_number, is_of_item, is_undecided_in, possible_logs}
+use Rattle.vic_result.specs.ResultCells.{names_text}
+use Rattle.vic_result.specs.ResultTable.{cells_by, logs_by, uid_cells}
+use Rattle.vic_result.specs.inner.NamesAt.{names_at}
+use Rattle.vic_result.proofs.NamedLogs.{names_at-positions}
+
+pub uid_cells-at : (c : CollectionValue) (state : List ℕ) (u : ℕ) → (state ∷ names_text (names_at c.surveys (certain_logs c u)) ∷ names_text (names_at c.surveys (possible_logs c u)) ∷ []) ≡ uid_cells c state u
+uid_cells-at c state u = rw (names_at-positions (λ s. is_certain_in s u) c.surveys, names_at-positions (λ s. is_undecided_in s u) c.surveys) refl
+
+pub cells_by-at : (c : CollectionValue) (state : List ℕ) (o : Option ℕ) → (state ∷ names_text (names_at c.surveys (logs_by (certain_logs c) o)) ∷ names_text (names_at c.surveys (logs_by (possible_logs c) o)) ∷ []) ≡ cells_by c state o
+cells_by-at c state None = refl
+cells_by-at c state (Some u) = uid_cells-at c state u
+
+or_true : (a b : Bool) → b ≡ true → a || b ≡ true
+or_true true b e = refl
+or_true false b e = e
+
+-- the UID of an item is named
+pub item_named : (c : CollectionValue) (i : ℕ) (item : ItemValue) (u : ℕ) → slice_get c.catalogue.items i ≡ Some item → item.uid ≡ Some u → is_named c u ≡ true
+item_named c i item u at is = or_true _ (is_of_item c u) (list_any_at (λ (x : ItemValue). is_number u x.uid) c.catalogue.items i item (slice_get_within c.catalogue.items i item at) (ap (λ (x : ItemValue). is_number u x.uid) (get_or_from_slice_get c.catalogue.items i item item at) ∙ (ap (is_number u) is ∙ eq-eqb u u refl)))
+
+-- an unexpected UID is named, and so is each in the list of them
+pub unexpected_named : (c : CollectionValue) (u : ℕ) → is_unexpected c u ≡ true → is_named c u ≡ true
+unexpected_named c u is = front (is_certain_somewhere c u) _ _ is where
+  front : (a b d : Bool) → a && b ≡ true → a || d ≡ true
+  front true b d e = refl
+  front false b d e = absurd cc
+
+pub and_not : (a b : Bool) → a ≡ true → b ≡ false → (a && not b) ≡ true
+and_not a b d e = rw (d, e) refl
+
+pub not_and : (a b : Bool) → (a && not b) ≡ true → (a ≡ true) × (b ≡ false)
+not_and true false e = (refl, refl)
+not_and true true e = absurd cc
+not_and false b e = absurd cc

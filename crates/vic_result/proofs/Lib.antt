@@ -1,0 +1,8 @@
+mod Words
+mod Pushed
+mod Elements
+mod LogParts
+mod ItemCells
+mod Commas
+mod LeftOpenLaws
+mod NamedLogs

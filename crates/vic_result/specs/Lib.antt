@@ -1,0 +1,6 @@
+pub mod StateNames
+pub mod ResultCells
+pub mod ResultTable
+pub mod LeftOpen
+pub mod ResultObject
+pub mod inner

@@ -1,0 +1,5 @@
+-- Definitions that private contracts alone cite.
+pub mod NamesAt
+pub mod ItemLogs
+pub mod Commas
+pub mod Logs
