@@ -1,4 +1,5 @@
 -- Lists read element by element.
+use Rattle.std.specs.List.{AllZip}
 use Rattle.std.specs.Option.{option_map}
 use Rattle.std.proofs.lemmas.Option.{slice_get-map}
 use Rattle.vic_collection.proofs.Words.{suc, zero, ◌<◌, length, arith, slice_get-get_or, ◌++◌, sym, subst, map, get_or, take_more, map_push, ◌≡◌, Option, None, ℕ, ◌+◌, List, [], ◌∷◌, Bool, ◌||◌, Some, refl, ap, ◌∙◌, take, slice_get, list_any, list_any_more, slice_get_within, get_or_from_slice_get, IsSomeAnd}
@@ -53,3 +54,11 @@ same_at f g [] (z ∷ ys) i x y e is at = absurd cc
 same_at f g (w ∷ xs) [] i x y e is at = absurd cc
 same_at f g (w ∷ xs) (z ∷ ys) zero x y e is at = let first : w ≡ x = sym is in let other : z ≡ y = cc in let both : f w ≡ g z = cc in cc
 same_at f g (w ∷ xs) (z ∷ ys) (suc i) x y e is at = let rest : map f xs ≡ map g ys = cc in same_at f g xs ys i x y rest is at
+
+-- ---- of two lists, element by element
+
+pub zipped_more : {X Y : Type 0} (R : X → Y → Type 0) (xs : List X) (ys : List Y) (x : X) (y : Y) → AllZip R xs ys → R x y → AllZip R (xs ++ x ∷ []) (ys ++ y ∷ [])
+zipped_more R [] [] x y all r = (r, tt)
+zipped_more R [] (w ∷ ys) x y all r = absurd all
+zipped_more R (v ∷ xs) [] x y all r = absurd all
+zipped_more R (v ∷ xs) (w ∷ ys) x y all r = (all.0, zipped_more R xs ys x y all.1 r)

@@ -1,5 +1,6 @@
 -- The logs in which UIDs are possible and not certain, by the halves of the logs.
-use Rattle.vic_collection.proofs.Words.{◌≡◌, ℕ, ◌+◌, ◌<◌, List, [], ◌∷◌, ◌++◌, Bool, true, false, ◌&&◌, ◌||◌, cond, Some, refl, sym, ap, ◌∙◌, arith, nat_eq, length, map, list_any, has, eqb-true, false≢true, nat_tests, or-false}
+use Rattle.vic_collection.proofs.Telling.{some_position}
+use Rattle.vic_collection.proofs.Words.{not, get_or, slice_get-get_or, SurveyValue, suc, zero, slice_get, slice_get_within, ◌≡◌, ℕ, ◌+◌, ◌<◌, List, [], ◌∷◌, ◌++◌, Bool, true, false, ◌&&◌, ◌||◌, cond, Some, refl, sym, ap, ◌∙◌, arith, nat_eq, length, map, list_any, has, eqb-true, false≢true, nat_tests, or-false}
 use Rattle.std.specs.BTreeMap.{BTreeMap, is_at}
 use Rattle.std.specs.List.{filter}
 use Rattle.std.specs.Map.{lookup}
@@ -91,7 +92,7 @@ noted_both front back from us u = rw (positions_from-append (λ set. is_open_in 
 
 -- ---- what is kept
 
-at_same : (a b : ℕ) → is_at (nat_cmp a) b ≡ nat_eq a b
+pub at_same : (a b : ℕ) → is_at (nat_cmp a) b ≡ nat_eq a b
 at_same a b = grind (arith, nat_tests)
 
 module _ {A : Type 0} where
@@ -104,3 +105,29 @@ module _ {A : Type 0} where
 
   pub logs_in-entries : (m : BTreeMap ℕ (Vec ℕ A)) (u : ℕ) → logs_in (map (λ e. (e.0, e.1.items)) m.entries) u ≡ logs_at m u
   logs_in-entries m u = of_entries m.entries u
+
+-- ---- what is at a position
+
+pub position_at : {X : Type 0} (test : X → Bool) (k : ℕ) (xs : List X) (i n : ℕ) → slice_get (positions_from test k xs) i ≡ Some n → (j : ℕ) × (n ≡ k + j) × ((x : X) × (slice_get xs j ≡ Some x) × (test x ≡ true))
+position_at test k [] i n at = absurd (omega (arith, slice_get_within [] i n at))
+position_at {X} test k (x ∷ xs) i n at = go (test x) refl i at (position_at test (k + 1) xs) where
+  later : (i : ℕ) → ((j : ℕ) × (n ≡ (k + 1) + j) × ((y : X) × (slice_get xs j ≡ Some y) × (test y ≡ true))) → (j : ℕ) × (n ≡ k + j) × ((y : X) × (slice_get (x ∷ xs) j ≡ Some y) × (test y ≡ true))
+  later i r = (suc r.0, (let e : n ≡ k + suc r.0 = omega (arith, r.1) in e), (r.2.0, r.2.1, r.2.2))
+
+  go : (b : Bool) → test x ≡ b → (i : ℕ) → slice_get (cond b (k ∷ positions_from test (k + 1) xs) (positions_from test (k + 1) xs)) i ≡ Some n
+      → ((i n : ℕ) → slice_get (positions_from test (k + 1) xs) i ≡ Some n → (j : ℕ) × (n ≡ (k + 1) + j) × ((y : X) × (slice_get xs j ≡ Some y) × (test y ≡ true)))
+      → (j : ℕ) × (n ≡ k + j) × ((y : X) × (slice_get (x ∷ xs) j ≡ Some y) × (test y ≡ true))
+  go true e zero at rest = let same : k ≡ n = cc in (0, (let sum : n ≡ k + 0 = omega (arith, same) in sum), (x, refl, e))
+  go true e (suc i) at rest = later i (rest i n at)
+  go false e i at rest = later i (rest i n at)
+
+-- the first of them
+pub first_position : (test : SurveyValue → Bool) (xs : List SurveyValue) → list_any test xs ≡ true → (0 < length (positions_from test 0 xs)) × (x : SurveyValue) × (slice_get xs (get_or (positions_from test 0 xs) 0 0) ≡ Some x) × (test x ≡ true)
+first_position test xs some =
+    let logs = positions_from test 0 xs in
+    let several : 0 < length logs = above (length logs) (some_position test 0 xs ∙ some) in
+    let p = position_at test 0 xs 0 (get_or logs 0 0) (slice_get-get_or logs 0 0 several) in
+    let same : get_or logs 0 0 ≡ p.0 = omega (arith, p.1) in
+    (several, p.2.0, ap (slice_get xs) same ∙ p.2.1, p.2.2) where
+      above : (n : ℕ) → not (nat_eq n 0) ≡ true → 0 < n
+      above n e = grind (arith, nat_tests, e)

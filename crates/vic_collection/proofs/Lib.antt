@@ -7,5 +7,7 @@ mod Leading
 mod Telling
 mod Placing
 mod Halves
+mod Listing
+mod Unsettled
 mod Without
 mod AnyOrder

@@ -10,8 +10,8 @@ use Rattle.vic_report.specs.declared.shown.ShownUid.{ShownUid}
 use Rattle.vic_survey.specs.declared.survey.Field.{Field}
 use Rattle.vic_survey.specs.declared.survey.Field.TheVariants.{Refused, Impossible, Possible}
 use Rattle.vic_survey.specs.declared.survey.Seen.{Seen}
-use Rattle.vic_collection.specs.Collections.{is_certain_by, is_certain_in, is_possible_by, is_possible_in, positions_from}
-use Rattle.vic_collection.specs.inner.Told.{IsToldBy, logs_at, is_open_by, tells_nothing}
+use Rattle.vic_collection.specs.Collections.{is_certain_by, is_certain_in, is_not_possible, is_possible_by, is_possible_in, positions_from, tells_nothing}
+use Rattle.vic_collection.specs.inner.Told.{IsToldBy, logs_at, is_open_by}
 use Rattle.vic_frame.specs.Uids.{IsUid}
 use Rattle.vic_tree.specs.Ranges.{is_open_in}
 use Rattle.vic_collection.specs.declared.told.Told.{Told}
@@ -119,14 +119,14 @@ some_position test k (x ∷ xs) = go (test x) (some_position test (k + 1) xs) wh
 
 -- ---- what all logs say
 
-possible_by : (f : Field) (u : ℕ) → is_possible_by f u ≡ (is_certain_by f u || (tells_nothing f || is_open_by f u))
+possible_by : (f : Field) (u : ℕ) → is_possible_by f u ≡ (is_certain_by f u || (is_not_possible f || is_open_by f u))
 possible_by (Possible s) u = refl
 possible_by (Refused n fault) u = refl
 possible_by (Impossible n) u = refl
 
-pub possible_parts : (surveys : List SurveyValue) (u : ℕ) → list_any (λ s. is_possible_in s u) surveys ≡ (list_any (λ s. is_certain_in s u) surveys || (list_any (λ s. tells_nothing s.field) surveys || list_any (λ s. is_open_by s.field u) surveys))
+pub possible_parts : (surveys : List SurveyValue) (u : ℕ) → list_any (λ s. is_possible_in s u) surveys ≡ (list_any (λ s. is_certain_in s u) surveys || (list_any tells_nothing surveys || list_any (λ s. is_open_by s.field u) surveys))
 possible_parts [] u = refl
-possible_parts (s ∷ surveys) u = rw (possible_by s.field u, possible_parts surveys u) (go (is_certain_by s.field u) (tells_nothing s.field) (is_open_by s.field u) (list_any (λ t. is_certain_in t u) surveys) (list_any (λ t. tells_nothing t.field) surveys) (list_any (λ t. is_open_by t.field u) surveys)) where
+possible_parts (s ∷ surveys) u = rw (possible_by s.field u, possible_parts surveys u) (go (is_certain_by s.field u) (tells_nothing s) (is_open_by s.field u) (list_any (λ t. is_certain_in t u) surveys) (list_any tells_nothing surveys) (list_any (λ t. is_open_by t.field u) surveys)) where
   go : (a b d x y z : Bool) → ((a || (b || d)) || (x || (y || z))) ≡ ((a || x) || ((b || y) || (d || z)))
   go true b d x y z = refl
   go false true d true y z = refl

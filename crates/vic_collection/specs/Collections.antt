@@ -41,6 +41,15 @@ is_certain_in s u = is_certain_by s.field u
 abbrev pub is_possible_in : SurveyValue → ℕ → Bool
 is_possible_in s u = is_possible_by s.field u
 
+abbrev pub is_not_possible : Field → Bool
+is_not_possible (Possible s) = false
+is_not_possible (Refused n fault) = true
+is_not_possible (Impossible n) = true
+
+-- the log tells nothing of its field: it is refused or impossible
+abbrev pub tells_nothing : SurveyValue → Bool
+tells_nothing s = is_not_possible s.field
+
 -- ---- what all logs say of it together
 
 -- the positions of what passes a test, where the first one is at position k

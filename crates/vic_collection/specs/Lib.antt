@@ -3,6 +3,8 @@ pub mod Collections
 pub mod Joins
 pub mod Confused
 pub mod States
+pub mod Findings
+pub mod Answers
 pub mod Families
 pub mod Headline
 pub mod inner

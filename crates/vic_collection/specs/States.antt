@@ -1,5 +1,5 @@
 -- The state of an item: the first of nine that applies (profile).
-use Rattle.std.specs.Prelude.{ℕ, Bool, false, ◌&&◌, if◌then◌else◌, is_some, Option, Some, None, List}
+use Rattle.std.specs.Prelude.{ℕ, Bool, true, false, ◌&&◌, if◌then◌else◌, is_some, Option, Some, None, List}
 use Rattle.std.specs.List.{list_any}
 use Rattle.vic_table.specs.Values.{ItemValue}
 use Rattle.vic_collection.specs.declared.state.State.{State}
@@ -36,3 +36,15 @@ state_by c item (Some u) = state_with c item u
 -- the state of an item
 abbrev pub state_of : CollectionValue → ItemValue → State
 state_of c item = state_by c item item.uid
+
+-- in place or there
+abbrev pub is_there : State → Bool
+is_there NoTag = false
+is_there Returned = false
+is_there InPlace = true
+is_there Misplaced = false
+is_there There = true
+is_there NotProvable = false
+is_there Away = false
+is_there NotCounted = false
+is_there Missing = false

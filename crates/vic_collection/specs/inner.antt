@@ -3,3 +3,4 @@ pub mod NameSets
 pub mod Told
 pub mod Placed
 pub mod Without
+pub mod FoundItems

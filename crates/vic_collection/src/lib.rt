@@ -6,19 +6,28 @@
 //! nothing: any tag may have been in its field.
 #![tactic(auto)]
 
+mod answer;
 mod collection;
 mod confused;
+mod findings;
 mod found;
+mod found_items;
 mod joins;
 pub mod laws;
+mod left_to_ask;
 mod possible_logs;
 mod state;
 mod told;
 mod uids;
+mod unlisted;
 mod without_log;
 
+pub use answer::CollectionAnswer;
 pub use collection::Collection;
 pub use confused::first_confused;
+pub use findings::Findings;
 pub use found::{base_of, stem_of};
+pub use found_items::FoundItem;
 pub use possible_logs::PossibleLogs;
 pub use state::State;
+pub use unlisted::UnlistedUid;

@@ -130,7 +130,7 @@ fn undecided_sets(alloc: Global, surveys: &[Survey]) -> Result<Vec<RangeSet>, Al
 }
 
 /// The UIDs that are possible in a log and not certain.
-fn undecided_set(alloc: Global, survey: &Survey) -> Result<RangeSet, AllocError>
+pub(crate) fn undecided_set(alloc: Global, survey: &Survey) -> Result<RangeSet, AllocError>
     ensures { IfOk result (λ set. SameUids (is_open_in set) (is_undecided_in survey.now)) }
 {
     match survey.field() {

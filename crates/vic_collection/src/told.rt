@@ -7,8 +7,8 @@ ghost use Rattle.vic_frame.specs.Masks.{lies_in};
 ghost use Rattle.vic_frame.specs.Uids.{IsUid, has};
 ghost use Rattle.vic_tree.specs.Ranges.{is_open_in};
 ghost use Rattle.vic_report.specs.Findings.{uids_of};
-ghost use Rattle.vic_collection.specs.Collections.{is_certain_in, positions_from};
-ghost use Rattle.vic_collection.specs.inner.Told.{IsToldBy, logs_at, is_open_by, tells_nothing};
+ghost use Rattle.vic_collection.specs.Collections.{is_certain_in, positions_from, tells_nothing};
+ghost use Rattle.vic_collection.specs.inner.Told.{IsToldBy, logs_at, is_open_by};
 
 use std::alloc::{AllocError, Global};
 use std::collections::BTreeMap;
@@ -63,14 +63,14 @@ impl Told {
 
 /// Whether some log tells nothing of its field.
 fn any_tells_nothing(surveys: &[Survey]) -> bool
-    ensures { result ≡ list_any (λ s. tells_nothing s.field) surveys.now }
+    ensures { result ≡ list_any tells_nothing surveys.now }
 {
     surveys.iter().any(|survey| tells_nothing(survey))
 }
 
 /// Whether a log tells nothing of its field.
-fn tells_nothing(survey: &Survey) -> bool
-    ensures { result ≡ tells_nothing survey.now.field }
+pub(crate) fn tells_nothing(survey: &Survey) -> bool
+    ensures { result ≡ tells_nothing survey.now }
 {
     match survey.field() {
         Field::Refused { .. } | Field::Impossible { .. } => true,

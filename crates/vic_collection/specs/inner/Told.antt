@@ -1,5 +1,5 @@
 -- What is kept of what logs say of UIDs.
-use Rattle.std.specs.Prelude.{◌≡◌, ℕ, Bool, true, false, List, []}
+use Rattle.std.specs.Prelude.{◌≡◌, ℕ, Bool, false, List, []}
 use Rattle.std.specs.BTreeMap.{BTreeMap, get}
 use Rattle.std.specs.List.{list_any}
 use Rattle.std.specs.Option.{option_map_or}
@@ -12,13 +12,7 @@ use Rattle.vic_survey.specs.Surveys.{SurveyValue}
 use Rattle.vic_survey.specs.declared.survey.Field.{Field}
 use Rattle.vic_survey.specs.declared.survey.Field.TheVariants.{Refused, Impossible, Possible}
 use Rattle.vic_collection.specs.declared.told.Told.{Told}
-use Rattle.vic_collection.specs.Collections.{is_certain_in, positions_from}
-
--- the log tells nothing of its field
-abbrev pub tells_nothing : Field → Bool
-tells_nothing (Possible s) = false
-tells_nothing (Refused n fault) = true
-tells_nothing (Impossible n) = true
+use Rattle.vic_collection.specs.Collections.{is_certain_in, positions_from, tells_nothing}
 
 -- the UID lies in an open mask
 abbrev pub is_open_by : Field → ℕ → Bool
@@ -37,4 +31,4 @@ pub record IsToldBy (surveys : List SurveyValue) (told : Told) : Type 0 where
       → logs_at told.certain u ≡ positions_from (λ s. is_certain_in s u) 0 surveys
   pub open_uids : (u : ℕ) → IsUid u
       → is_open_in told.«open» u ≡ list_any (λ s. is_open_by s.field u) surveys
-  pub nothing : told.nothing ≡ list_any (λ s. tells_nothing s.field) surveys
+  pub nothing : told.nothing ≡ list_any tells_nothing surveys
