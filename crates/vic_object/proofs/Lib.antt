@@ -1,0 +1,4 @@
+mod Joins
+mod Counted
+mod Measured
+mod FieldMade

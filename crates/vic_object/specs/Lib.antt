@@ -1,0 +1,5 @@
+pub mod Finding
+pub mod ObjectText
+pub mod Told
+pub mod Object
+pub mod inner

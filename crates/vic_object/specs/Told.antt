@@ -1,0 +1,104 @@
+-- What the object of a log tells: the report on the log, what its two cautious readings say of the
+-- same list, and what it says of its field, whatever it lists.
+use Rattle.std.specs.Prelude.{◌≡◌, ◌↔◌, ℕ, ◌==◌, ◌%◌, ◌-◌, ◌^◌, true, Option, Some, None, List, [], ◌∷◌, ⊤, map, sum, take}
+use Rattle.vic_frame.specs.declared.uid.TheConstants.{UID_BITS}
+use Rattle.vic_frame.specs.declared.request.Request.{Request}
+use Rattle.vic_frame.specs.declared.request.Request.TheVariants.{Inventory, StayQuiet}
+use Rattle.vic_frame.specs.Masks.{BitMask, least_uid_in}
+use Rattle.vic_log.specs.Deaf.{deaf_entries, hidden_entries}
+use Rattle.vic_log.specs.Order.{entries, numbers}
+use Rattle.vic_log.specs.declared.entry.Entry.{Entry}
+use Rattle.vic_log.specs.declared.entry.Entry.TheVariants.{Sent}
+use Rattle.vic_log.specs.declared.entry.LogLine.{LogLine}
+use Rattle.vic_verdict.specs.Possible.{IsCertainUid, IsPossibleUid}
+use Rattle.vic_verdict.specs.Verdict.{IsVerdict}
+use Rattle.vic_verdict.specs.declared.judging.Verdict.{Verdict}
+use Rattle.vic_verdict.specs.declared.judging.Verdict.TheVariants.{Absent, Complete, Doubtful, Impossible, Unlisted, Unsettled}
+use Rattle.vic_report.specs.Reports.{IsReport, verdict_of}
+use Rattle.vic_margin.specs.Margins.{IsWeakest}
+use Rattle.vic_margin.specs.UidMargins.{margin_of}
+use Rattle.vic_margin.specs.declared.answer.Weakest.{Weakest}
+use Rattle.vic_reconcile.specs.Surveys.{AreCertainIn, AreOpenIn}
+use Rattle.vic_object.specs.Finding.{findings_of}
+use Rattle.vic_object.specs.declared.finding.TheConstants.{MOST_TOLD}
+use Rattle.vic_object.specs.declared.told.FieldTold.{FieldTold}
+use Rattle.vic_object.specs.declared.told.LogTold.{LogTold}
+use Rattle.vic_object.specs.declared.told.Reread.{Reread}
+
+-- ---- the margin, and the cautious readings
+
+-- the margin of entries with this verdict, if their list is complete
+abbrev pub IsWeakestIfComplete : List Entry → Verdict → Option Weakest → Type 0
+IsWeakestIfComplete es (Complete count) (Some w) = IsWeakest es w
+IsWeakestIfComplete es (Complete count) None = ⊥
+IsWeakestIfComplete es v (Some w) = ⊥
+IsWeakestIfComplete es v None = ⊤
+
+-- what other lines tell, where those of the log have this verdict: their verdict, whether it is the
+-- same, their margin, and whether each UID that they leave possible is certain in the log
+pub record IsRereadBy (lines others : List LogLine) (v : Verdict) (r : Reread) : Type 0 where
+  pub verdict : IsVerdict others r.verdict
+  pub holds : (r.holds ≡ true) ↔ (r.verdict ≡ v)
+  pub weakest : IsWeakestIfComplete (entries others) r.verdict r.weakest
+  pub settled : (r.settled ≡ true)
+      ↔ ((u : ℕ) → IsPossibleUid (entries others) u → IsCertainUid (entries lines) u)
+
+-- the same of these entries on the lines of the log
+pub record IsReread (lines : List LogLine) (es : List Entry) (v : Verdict) (r : Reread)
+    : Type 0 where
+  pub others : List LogLine
+  pub entries_are : entries others ≡ es
+  pub numbers_are : numbers others ≡ numbers lines
+  pub told : IsRereadBy lines others v r
+
+-- ---- the field
+
+-- how many UIDs a mask of at most 56 bits has
+abbrev pub size_of : BitMask → ℕ
+size_of m = 2 ^ (UID_BITS - m.len)
+
+-- the link of a request, and that of the first request of entries; 2, high data rate and one
+-- sub-carrier, if there is none
+abbrev pub link_in : Request → ℕ
+link_in (Inventory link sixteen m) = link % 4
+link_in (StayQuiet link u) = link % 4
+
+abbrev pub link_of : List Entry → ℕ
+link_of [] = 2
+link_of (Sent q ∷ es) = link_in q
+link_of (e ∷ es) = link_of es
+
+-- what asks for an open mask: one slot, and sixteen for that of all tags
+abbrev pub asks_for : ℕ → BitMask → List Request
+asks_for link m = Inventory link (m.len == 0) m ∷ []
+
+-- what a log says of its field, nothing if it is impossible: its certain UIDs, its open masks, how
+-- many UIDs these have, and what asks for the first of them
+pub record IsFieldTold (lines : List LogLine) (f : FieldTold) : Type 0 where
+  pub certain : AreCertainIn lines f.certain.items
+  pub masks : AreOpenIn lines f.«open».items
+  pub uids : f.uids ≡ sum (map size_of f.«open».items)
+  pub asked : map (λ a. a.mask) f.asked.items ≡ take MOST_TOLD f.«open».items
+  pub requests : map (λ a. a.requests.items) f.asked.items
+      ≡ map (asks_for (link_of (entries lines))) (take MOST_TOLD f.«open».items)
+
+-- ---- all of it
+
+-- the least UID of an unsettled mask
+abbrev pub unnoticed_of : Verdict → Option ℕ
+unnoticed_of (Unsettled m) = Some (least_uid_in m)
+unnoticed_of (Complete count) = None
+unnoticed_of (Absent u) = None
+unnoticed_of (Unlisted u) = None
+unnoticed_of (Doubtful u) = None
+unnoticed_of (Impossible n) = None
+
+-- what the lines of a log tell
+pub record IsTold (lines : List LogLine) (t : LogTold) : Type 0 where
+  pub report : IsReport lines t.report
+  pub findings : t.findings.items ≡ findings_of (margin_of (entries lines)) t.report
+  pub weakest : IsWeakestIfComplete (entries lines) (verdict_of t.report) t.weakest
+  pub hidden : IsReread lines (hidden_entries (entries lines)) (verdict_of t.report) t.hidden
+  pub deaf : IsReread lines (deaf_entries (entries lines)) (verdict_of t.report) t.deaf
+  pub field : IsFieldTold lines t.field
+  pub unnoticed : t.unnoticed ≡ unnoticed_of (verdict_of t.report)

@@ -1,0 +1,220 @@
+//! The findings that the object of a log tells.
+
+ghost use Rattle.std.specs.Prelude.{◌≡◌, ◌++◌, OnOk, IfOk, ℕ, codes, decimal, length, map, take};
+ghost use Rattle.vic_log.specs.Order.{entries};
+ghost use Rattle.vic_margin.specs.UidMargins.{margin_of};
+ghost use Rattle.vic_text.specs.Json.{json_uid};
+ghost use Rattle.vic_object.specs.Finding as spec;
+ghost use Rattle.vic_object.specs.declared.finding.Finding.TheVariants as FindingValue;
+
+use std::alloc::{AllocError, Global};
+use vic_frame::Uid;
+use vic_log::Log;
+use vic_margin::overlooked;
+use vic_report::{Conflict, Findings, LogReport, ShownUid};
+use vic_text::{ToJson, push_decimal};
+
+/// How many findings of each kind are told at most, and how many open masks.
+pub const MOST_TOLD: usize = 1000;
+
+/// A finding, as the object of a log tells it.
+#[derive(Clone, Copy, Debug, PartialEq, Eq)]
+pub enum Finding {
+    /// The line that silenced the tag whose reply is a conflict by itself.
+    SilencedBy(u32),
+    /// A line of a conflict.
+    Conflict(u32),
+    /// A listed UID that can't be there, a line that rules it out, and in how many slots its tag
+    /// should have answered and was silent.
+    Absent { shown: ShownUid, overlooked: u32 },
+    /// A UID that must be there and isn't listed, and a line that shows it.
+    Unlisted(ShownUid),
+    /// A listed UID that may be missing.
+    Doubtful(Uid),
+}
+
+impl ToJson for Finding {
+    ghost json_of = { spec.finding_object };
+
+    fn push_json(&self, text: &mut Vec<u8>) -> Result<(), AllocError> {
+        match *self {
+            Finding::SilencedBy(line) => {
+                push_of_line(text, b"{\"kind\":\"silenced by\",\"line\":", line)
+            }
+            Finding::Conflict(line) => push_of_line(
+                text,
+                b"{\"kind\":\"conflict\",\"line\":",
+                line,
+            ),
+            Finding::Absent { shown, overlooked } => push_absent(text, &shown, overlooked),
+            Finding::Unlisted(shown) => push_unlisted(text, &shown),
+            Finding::Doubtful(uid) => push_doubtful(text, uid),
+        }
+    }
+}
+
+/// Appends an object that ends with the number of a line.
+fn push_of_line(text: &mut Vec<u8>, opening: &[u8], line: u32) -> Result<(), AllocError>
+    ensures { OnOk result (text.new.items
+        ≡ text.old.items ++ (opening.now ++ decimal line ++ codes "}")) }
+{
+    text.extend_from_slice(opening)?;
+    push_decimal(text, u64::from(line))?;
+    text.extend_from_slice(b"}")
+}
+
+/// Appends an absent UID.
+fn push_absent(text: &mut Vec<u8>, shown: &ShownUid, overlooked: u32) -> Result<(), AllocError>
+    ensures { OnOk result (text.new.items ≡ text.old.items
+        ++ (codes "{\"kind\":\"absent\"," ++ spec.shown_members shown.now
+        ++ codes ",\"overlooked\":" ++ decimal overlooked ++ codes "}")) }
+{
+    text.extend_from_slice(b"{\"kind\":\"absent\",")?;
+    push_shown(text, shown)?;
+    push_of_line(text, b",\"overlooked\":", overlooked)
+}
+
+/// Appends an unlisted UID.
+fn push_unlisted(text: &mut Vec<u8>, shown: &ShownUid) -> Result<(), AllocError>
+    ensures { OnOk result (text.new.items ≡ text.old.items
+        ++ (codes "{\"kind\":\"unlisted\"," ++ spec.shown_members shown.now ++ codes "}")) }
+{
+    text.extend_from_slice(b"{\"kind\":\"unlisted\",")?;
+    push_shown(text, shown)?;
+    text.extend_from_slice(b"}")
+}
+
+/// Appends a doubtful UID.
+fn push_doubtful(text: &mut Vec<u8>, uid: Uid) -> Result<(), AllocError>
+    ensures { OnOk result (text.new.items ≡ text.old.items
+        ++ (codes "{\"kind\":\"doubtful\",\"uid\":" ++ json_uid uid ++ codes "}")) }
+{
+    text.extend_from_slice(b"{\"kind\":\"doubtful\",\"uid\":")?;
+    uid.push_json(text)?;
+    text.extend_from_slice(b"}")
+}
+
+/// Appends a UID, and a line that shows what is said of it.
+fn push_shown(text: &mut Vec<u8>, shown: &ShownUid) -> Result<(), AllocError>
+    ensures { OnOk result (text.new.items ≡ text.old.items ++ spec.shown_members shown.now) }
+{
+    text.extend_from_slice(b"\"uid\":")?;
+    shown.uid.push_json(text)?;
+    text.extend_from_slice(b",\"line\":")?;
+    push_decimal(text, u64::from(shown.line))
+}
+
+/// The findings of a report on a log.
+pub fn findings_in(alloc: Global, log: &Log, report: &LogReport) -> Result<Vec<Finding>, AllocError>
+    ensures { IfOk result (λ found. found.items
+        ≡ spec.findings_of (margin_of (entries log.now.lines)) report.now) }
+{
+    match report {
+        LogReport::Impossible(conflict) => lines_of_conflict(alloc, conflict),
+        LogReport::NotWhole(findings) => told_findings(alloc, log, findings),
+        LogReport::Complete { .. } => Ok(Vec::new(alloc)),
+    }
+}
+
+/// The lines of a conflict.
+fn lines_of_conflict(alloc: Global, conflict: &Conflict) -> Result<Vec<Finding>, AllocError>
+    ensures { IfOk result (λ found. found.items ≡ spec.silenced_findings conflict.now.silenced_by
+        ++ map FindingValue.Conflict conflict.now.lines.items) }
+{
+    let mut found = Vec::new(alloc);
+    if let Some(line) = conflict.silenced_by {
+        found.push(Finding::SilencedBy(line))?;
+    }
+    for line in &conflict.lines {
+        found.push(Finding::Conflict(*line))?;
+    }
+    Ok(found)
+}
+
+/// The first findings of each kind of a possible log.
+fn told_findings(alloc: Global, log: &Log, findings: &Findings) -> Result<Vec<Finding>, AllocError>
+    ensures { IfOk result (λ found. found.items
+        ≡ spec.told_findings (margin_of (entries log.now.lines)) findings.now) }
+{
+    let mut found = Vec::new(alloc);
+    push_absent_of(
+        &mut found,
+        alloc,
+        log,
+        first_of(&findings.absent, MOST_TOLD),
+    )?;
+    push_unlisted_of(&mut found, first_of(&findings.unlisted, MOST_TOLD))?;
+    push_doubtful_of(&mut found, first_of(&findings.doubtful, MOST_TOLD))?;
+    Ok(found)
+}
+
+/// The first of a list, at most so many.
+pub(crate) fn first_of<T>(items: &[T], most: usize) -> &[T]
+    ensures { result.now ≡ take most items.now }
+{
+    if items.len() <= most {
+        items
+    } else {
+        &items[..most]
+    }
+}
+
+/// Adds absent UIDs, each with how often it was overlooked.
+fn push_absent_of(
+    found: &mut Vec<Finding>,
+    alloc: Global,
+    log: &Log,
+    absent: &[ShownUid],
+) -> Result<(), AllocError>
+    ensures { OnOk result (found.new.items ≡ found.old.items
+        ++ map (spec.absent_of (margin_of (entries log.now.lines))) absent.now) }
+{
+    let mut uids = Vec::new(alloc);
+    for shown in absent {
+        uids.push(shown.uid)?;
+    }
+    let counts = overlooked(alloc, log, &uids)?;
+    push_counted(found, absent, &counts)
+}
+
+/// Adds absent UIDs, each with its count.
+fn push_counted(
+    found: &mut Vec<Finding>,
+    absent: &[ShownUid],
+    counts: &[u32],
+) -> Result<(), AllocError>
+    requires { length counts.now ≡ length absent.now }
+    ensures { OnOk result ((margin : ℕ → ℕ)
+        → counts.now ≡ map (λ s. margin s.uid) absent.now
+        → found.new.items ≡ found.old.items ++ map (spec.absent_of margin) absent.now) }
+{
+    for index in 0..absent.len() {
+        found.push(Finding::Absent {
+            shown: absent[index],
+            overlooked: counts[index],
+        })?;
+    }
+    Ok(())
+}
+
+/// Adds unlisted UIDs.
+fn push_unlisted_of(found: &mut Vec<Finding>, unlisted: &[ShownUid]) -> Result<(), AllocError>
+    ensures { OnOk result
+        (found.new.items ≡ found.old.items ++ map FindingValue.Unlisted unlisted.now) }
+{
+    for shown in unlisted {
+        found.push(Finding::Unlisted(*shown))?;
+    }
+    Ok(())
+}
+
+/// Adds doubtful UIDs.
+fn push_doubtful_of(found: &mut Vec<Finding>, doubtful: &[Uid]) -> Result<(), AllocError>
+    ensures { OnOk result
+        (found.new.items ≡ found.old.items ++ map FindingValue.Doubtful doubtful.now) }
+{
+    for uid in doubtful {
+        found.push(Finding::Doubtful(*uid))?;
+    }
+    Ok(())
+}

@@ -1,0 +1,18 @@
+//! The object of a log, in JSON.
+#![tactic(auto)]
+
+mod answer;
+mod field;
+mod finding;
+mod lines;
+mod object;
+mod reading;
+mod sent;
+mod text;
+mod told;
+
+pub use finding::{Finding, MOST_TOLD, findings_in};
+pub use object::object_of;
+pub use sent::SentRequest;
+pub use text::push_object;
+pub use told::{AskedMask, FieldTold, LogTold, MOST_CERTAIN, Reread};

@@ -1,0 +1,99 @@
+//! What the object of a log tells of it, and the object of a text.
+
+ghost use Rattle.std.specs.Prelude.{◌≡◌, IfOk};
+ghost use Rattle.vic_report.proofs.AllFindings.{report_begins};
+ghost use Rattle.vic_report.specs.Reports.{verdict_of};
+ghost use Rattle.vic_object.specs.Object.{IsObjectOf};
+ghost use Rattle.vic_object.specs.Told as spec;
+
+use crate::field::{Own, own_of};
+use crate::finding::findings_in;
+use crate::reading::reread;
+use crate::text::push_object;
+use crate::told::LogTold;
+use std::alloc::{AllocError, Global};
+use vic_answer::{HasVerdict, Judgement, WrittenText, answer_of, answer_status, answer_text};
+use vic_frame::{UID_BITS, Uid};
+use vic_log::Log;
+use vic_report::report;
+use vic_verdict::Verdict;
+
+impl HasVerdict for LogTold {
+    ghost verdict_of = { λ t. verdict_of t.report };
+
+    fn verdict_in(&self) -> Verdict {
+        self.report.verdict()
+    }
+}
+
+/// What the object of a log tells.
+impl Judgement for LogTold {
+    ghost IsOf = { spec.IsTold };
+
+    fn found_in(alloc: Global, log: Log) -> Result<LogTold, AllocError> {
+        told_of_log(alloc, log)
+    }
+
+    ghost tells = { λ lines t h. report_begins lines t.report h.report };
+}
+
+/// The object of the text of a log, and the status of `check`. The log is judged at most four
+/// times. It fails only if memory is refused.
+pub fn object_of(alloc: Global, text: &[u8]) -> Result<WrittenText, AllocError>
+    ensures { IfOk result (λ w. IsObjectOf text.now w.text.items w.status) }
+{
+    let told = answer_text::<LogTold>(alloc, text)?;
+    let mut object = Vec::new(alloc);
+    push_object(&mut object, text, &told)?;
+    Ok(WrittenText {
+        text: object,
+        status: answer_status(&answer_of(&told)),
+    })
+}
+
+/// What a log tells.
+fn told_of_log(alloc: Global, log: Log) -> Result<LogTold, AllocError>
+    ensures { IfOk result (spec.IsTold log.lines) }
+{
+    let report = report(alloc, &log)?;
+    let verdict = report.verdict();
+    let findings = findings_in(alloc, &log, &report)?;
+    let Own {
+        field,
+        keys,
+        weakest,
+    } = own_of(alloc, &log, &verdict)?;
+    let log = log.into_hidden();
+    let hidden = reread(alloc, &log, &verdict, &keys)?;
+    let log = log.into_deaf();
+    let deaf = reread(alloc, &log, &verdict, &keys)?;
+    Ok(LogTold {
+        report,
+        findings,
+        weakest,
+        hidden,
+        deaf,
+        field,
+        unnoticed: unnoticed_of(&verdict)?,
+    })
+}
+
+/// The least UID of an unsettled mask.
+fn unnoticed_of(verdict: &Verdict) -> Result<Option<Uid>, AllocError>
+    ensures { IfOk result (λ uid. uid ≡ spec.unnoticed_of verdict.now) }
+{
+    match *verdict {
+        Verdict::Unsettled(mask) => {
+            // it has at most 56 bits: this only spares the proof of it
+            if mask.len() > UID_BITS {
+                return Err(AllocError);
+            }
+            Ok(Some(mask.least_uid()))
+        }
+        Verdict::Complete { .. }
+        | Verdict::Absent(_)
+        | Verdict::Unlisted(_)
+        | Verdict::Doubtful(_)
+        | Verdict::Impossible { .. } => Ok(None),
+    }
+}
