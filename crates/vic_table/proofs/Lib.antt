@@ -2,6 +2,7 @@ mod Words
 mod Elements
 mod Trimming
 mod Splitting
+mod Keeping
 mod HexDigits
 mod Cutting
 mod FirstLine

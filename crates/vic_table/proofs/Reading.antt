@@ -1,5 +1,5 @@
 -- Lines read one after another.
-use Rattle.vic_table.proofs.Words.{◌≡◌, ◌≢◌, ℕ, zero, suc, ◌<◌, ◌≤◌, true, false, Option, Some, None, List, [], ◌∷◌, ◌++◌, length, drop, slice_get, refl, sym, ap, ap₂, ◌∙◌, arith, nat_tests, cond-true, cond-false, ne_eqb, eq-eqb, ◌==◌, cases_lt, cases_eq, inl, inr, option_or, slice_get_past, length-drop, lines_of_text, filter_map-append, has}
+use Rattle.vic_table.proofs.Words.{◌≡◌, ◌≢◌, ℕ, zero, suc, ◌<◌, ◌≤◌, Option, Some, None, List, [], ◌∷◌, ◌++◌, length, drop, slice_get, refl, sym, ap, ap₂, ◌∙◌, arith, cond-true, cond-false, ne_eqb, eq-eqb, ◌==◌, cases_lt, cases_eq, inl, inr, option_or, slice_get_past, length-drop, lines_of_text, filter_map-append, has}
 use Rattle.std.specs.BTreeSet.{BTreeSet}
 use Rattle.std.specs.declared.vec.Vec.{Vec}
 use Rattle.vic_table.specs.Lines.{bytes_fault}
@@ -13,9 +13,9 @@ use Rattle.vic_table.specs.declared.fault.TableLineFault.{TableLineFault}
 use Rattle.vic_table.specs.declared.fault.TableLineFault.TheVariants as fault
 use Rattle.vic_table.specs.declared.fault.TableFault.{TableFault}
 use Rattle.vic_table.specs.declared.fault.TableFault.TheVariants.{Line, Memory}
-use Rattle.vic_table.specs.declared.items.Item.{Item}
+use Rattle.vic_table.specs.declared.item_list.Item.{Item}
 use Rattle.vic_table.specs.inner.Faults.{RefusesAt}
-use Rattle.vic_table.specs.inner.Kept.{item_values, item_or_none, row_or_none}
+use Rattle.vic_table.specs.inner.Kept.{ItemAt, item_values, item_or_none, row_or_none}
 use Rattle.vic_table.specs.inner.Reading.{AreClean, RefusesLines}
 use Rattle.vic_table.specs.inner.Sets.{IsSetOf, IsItemOf, AreLogsOf, IsPlaceRowOf}
 
@@ -181,10 +181,10 @@ module _ {A : Type 0} {c : PlacesColumns} {lines : List (List ℕ)} {n : ℕ} {r
 
 -- ---- whether there are items
 
-pub none_kept : (text : List ℕ) (items : List Item) → (length items == 0) ≡ true → item_values text items ≡ []
+pub none_kept : (text : List ℕ) (items : List ItemAt) → length items ≡ 0 → item_values text items ≡ []
 none_kept text [] h = refl
-none_kept text (item ∷ items) h = absurd (grind (arith, nat_tests))
+none_kept text (item ∷ items) h = absurd (omega arith)
 
-pub some_kept : (text : List ℕ) (items : List Item) → (length items == 0) ≡ false → item_values text items ≢ []
-some_kept text [] h e = absurd (grind (arith, nat_tests))
+pub some_kept : (text : List ℕ) (items : List ItemAt) → length items ≢ 0 → item_values text items ≢ []
+some_kept text [] h e = h refl
 some_kept text (item ∷ items) h e = cc

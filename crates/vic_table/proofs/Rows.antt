@@ -12,7 +12,7 @@ use Rattle.vic_table.specs.declared.fault.TableLineFault.{TableLineFault}
 use Rattle.vic_table.specs.declared.fault.TableLineFault.TheVariants as fault
 use Rattle.vic_table.specs.declared.fault.TableFault.{TableFault}
 use Rattle.vic_table.specs.declared.fault.TableFault.TheVariants.{Line, Memory}
-use Rattle.vic_table.specs.declared.items.Item.{Item}
+use Rattle.vic_table.specs.declared.item_list.Item.{Item}
 use Rattle.vic_table.specs.inner.Faults.{RefusesAt, shape_fault, rest_fault}
 use Rattle.vic_table.specs.inner.Kept.{item_value}
 use Rattle.vic_table.specs.inner.Sets.{IsSetOf, IsItemOf, TellsNew, uid_or_none}

@@ -9,7 +9,7 @@ ghost use Rattle.vic_table.specs.Values.{CatalogueValue};
 ghost use Rattle.vic_table.specs.inner.Kept.{item_values, IsWithinText};
 
 use crate::columns::CatalogueColumns;
-use crate::items::Item;
+use crate::item_list::ItemList;
 use crate::lines::{LineAt, has_mark};
 use std::marker::Model;
 use vic_frame::Uid;
@@ -20,7 +20,7 @@ pub struct Catalogue {
     text: Vec<u8>,
     head: LineAt,
     columns: CatalogueColumns,
-    items: Vec<Item>,
+    items: ItemList,
 }
 
 impl Model for Catalogue {
@@ -31,12 +31,12 @@ impl Model for Catalogue {
       head = slice_range c.text.items c.head.start c.head.end;
       head_end = slice_range c.text.items c.head.end c.head.next;
       columns = c.columns;
-      items = item_values c.text.items c.items.items;
+      items = item_values c.text.items c.items;
     } };
 
     ghost invariant = { λ c. (c.head.start ≤ c.head.end) × (c.head.end ≤ c.head.next)
         × (c.head.next ≤ length c.text.items)
-        × All (IsWithinText (length c.text.items)) c.items.items };
+        × All (IsWithinText (length c.text.items)) c.items };
 }
 
 impl Catalogue {
@@ -45,18 +45,18 @@ impl Catalogue {
         text: Vec<u8>,
         head: LineAt,
         columns: CatalogueColumns,
-        items: Vec<Item>,
+        items: ItemList,
     ) -> Catalogue
         requires low { head.start ≤ head.end }
         requires high { head.end ≤ head.next }
         requires bound { head.next ≤ length text.items }
-        requires within { All (IsWithinText (length text.items)) items.items }
+        requires within { All (IsWithinText (length text.items)) items }
         ensures { result ≡ record {
           text = text.items;
           head = slice_range text.items head.start head.end;
           head_end = slice_range text.items head.end head.next;
           columns = columns;
-          items = item_values text.items items.items;
+          items = item_values text.items items;
         } }
     {
         Catalogue {
@@ -124,7 +124,7 @@ impl Catalogue {
         requires { index < length self.now.items }
         ensures { IsSomeAnd (slice_get self.now.items index) (λ item. result ≡ item.line) }
     {
-        self.items[index].line
+        self.items.line(index)
     }
 
     /// An item's line, without the line's end.
@@ -132,8 +132,7 @@ impl Catalogue {
         requires { index < length self.now.items }
         ensures { IsSomeAnd (slice_get self.now.items index) (λ item. result.now ≡ item.row) }
     {
-        let item = &self.items[index];
-        &self.text[item.start..item.end]
+        &self.text[self.items.start(index)..self.items.end(index)]
     }
 
     /// An item's UID; `None` if it has no tag.
@@ -141,7 +140,7 @@ impl Catalogue {
         requires { index < length self.now.items }
         ensures { IsSomeAnd (slice_get self.now.items index) (λ item. result ≡ item.uid) }
     {
-        self.items[index].uid
+        self.items.uid(index)
     }
 
     /// An item's place; `None` if it belongs nowhere.
@@ -150,10 +149,7 @@ impl Catalogue {
         ensures { IsSomeAnd (slice_get self.now.items index)
             (λ item. option_map (λ place. place.now) result ≡ item.place) }
     {
-        match &self.items[index].place {
-            Some(place) => Some(place.as_slice()),
-            None => None,
-        }
+        self.items.place(index)
     }
 
     /// Whether an item is away, and so should be in no field.
@@ -161,6 +157,6 @@ impl Catalogue {
         requires { index < length self.now.items }
         ensures { IsSomeAnd (slice_get self.now.items index) (λ item. result ≡ item.away) }
     {
-        self.items[index].away
+        self.items.is_away(index)
     }
 }

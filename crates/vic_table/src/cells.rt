@@ -38,9 +38,9 @@ enum Step {
 
 /// Where the bytes of a cell are.
 #[derive(Clone, Copy, Debug)]
-struct Span {
-    start: usize,
-    end: usize,
+pub(crate) struct Span {
+    pub(crate) start: usize,
+    pub(crate) end: usize,
 }
 
 /// What a byte of a line does.

@@ -11,7 +11,7 @@ ghost use Rattle.vic_table.specs.Table.{HasNoFault, items_upto};
 ghost use Rattle.vic_table.specs.declared.columns.Columns.TheVariants.{Catalogue};
 ghost use Rattle.vic_table.specs.declared.lines.TheConstants.{MAX_TABLE_LINES};
 ghost use Rattle.vic_table.specs.inner.Faults.{RefusesAt, shape_fault, rest_fault};
-ghost use Rattle.vic_table.specs.inner.Kept.{item_value, item_values, item_or_none, IsWithinText};
+ghost use Rattle.vic_table.specs.inner.Kept.{item_at, item_value, item_values, item_or_none, IsWithinText};
 ghost use Rattle.vic_table.specs.inner.Reading.{FollowsFirst, RefusesLines};
 ghost use Rattle.vic_table.specs.inner.Sets.{IsSetOf, IsItemOf, TellsNew, uid_or_none};
 
@@ -19,26 +19,12 @@ use crate::cells::LineCells;
 use crate::columns::{CatalogueColumns, tells_elsewhere};
 use crate::contents::{is_blank, is_word, trimmed};
 use crate::fault::{TableFault, TableLineFault};
+use crate::item_list::{Item, ItemList};
 use crate::lines::{LineAt, bytes_fault, line_at};
 use crate::uids::spelled_uid;
 use std::alloc::{AllocError, Global};
 use std::collections::BTreeSet;
 use vic_frame::Uid;
-
-/// An item of a catalogue.
-#[derive(Drop)]
-pub(crate) struct Item {
-    /// The number of its line.
-    pub(crate) line: u32,
-    /// Where in the text its line is, without the line's end.
-    pub(crate) start: usize,
-    pub(crate) end: usize,
-    /// `None` if it has no tag.
-    pub(crate) uid: Option<Uid>,
-    /// `None` if it belongs nowhere.
-    pub(crate) place: Option<Vec<u8>>,
-    pub(crate) away: bool,
-}
 
 /// A cell of a line; an empty one if the line has fewer.
 pub(crate) fn cell_at(cells: &LineCells, index: usize) -> &[u8]
@@ -203,7 +189,8 @@ fn line_item(
         (RefusesAt (suc before) (option_or (bytes_fault before line)
         (item_line_fault columns.now given line))) }
     ensures room { OnOk result (before < MAX_TABLE_LINES) }
-    ensures within { IfOk result (λ item. ForSome item (IsWithinText (length text.now))) }
+    ensures within { IfOk result (λ item. ForSome item
+        (λ i. IsWithinText (length text.now) (item_at i))) }
 {
     let number = before + 1;
     let line = &text[at.start..at.end];
@@ -229,14 +216,14 @@ fn line_item(
 }
 
 /// Adds an item, if there is one.
-fn push_some(items: &mut Vec<Item>, item: Option<Item>) -> Result<(), AllocError>
-    ensures values { OnOk result ((text : List ℕ) → item_values text items.new.items
-        ≡ item_values text items.old.items ++ item_or_none text item) }
-    ensures within { OnOk result ((len : ℕ) → All (IsWithinText len) items.old.items
-        → ForSome item (IsWithinText len) → All (IsWithinText len) items.new.items) }
+fn push_some(items: &mut ItemList, item: Option<Item>) -> Result<(), AllocError>
+    ensures values { OnOk result ((text : List ℕ) → item_values text items.new
+        ≡ item_values text items.old ++ item_or_none text item) }
+    ensures within { OnOk result ((len : ℕ) → All (IsWithinText len) items.old
+        → ForSome item (λ i. IsWithinText len (item_at i)) → All (IsWithinText len) items.new) }
 {
     match item {
-        Some(item) => Ok(items.push(item)?),
+        Some(item) => items.push(&item),
         None => Ok(()),
     }
 }
@@ -247,18 +234,18 @@ pub(crate) fn read_items(
     columns: &CatalogueColumns,
     text: &[u8],
     start: usize,
-) -> Result<Vec<Item>, TableFault>
+) -> Result<ItemList, TableFault>
     requires { start ≤ length text.now }
     ensures read { (lines : List (List ℕ))
         → FollowsFirst lines (Catalogue columns.now) (drop start text.now) → MatchResult result
-        (λ items. HasNoFault lines × (item_values text.now items.items
+        (λ items. HasNoFault lines × (item_values text.now items
         ≡ items_upto columns.now lines (length lines)))
         (RefusesLines lines) }
-    ensures within { IfOk result (λ items. All (IsWithinText (length text.now)) items.items) }
+    ensures within { IfOk result (All (IsWithinText (length text.now))) }
 {
     let mut cells = LineCells::new(alloc);
     let mut uids = BTreeSet::new(alloc);
-    let mut items = Vec::new(alloc);
+    let mut items = ItemList::new(alloc);
     let mut number = 1;
     let mut next = start;
     while let Some(at) = line_at(text, next) {
@@ -270,7 +257,7 @@ pub(crate) fn read_items(
         number += 1;
         next = at.next;
     }
-    if items.is_empty() {
+    if items.len() == 0 {
         return Err(TableFault::Line {
             line: number + 1,
             fault: TableLineFault::NoItems,

@@ -11,6 +11,7 @@ mod cells;
 mod columns;
 mod contents;
 mod fault;
+mod item_list;
 mod items;
 pub mod laws;
 mod lines;

@@ -1,30 +1,74 @@
--- Items as they are kept, with places in the text; an item or a row, if there is one.
-use Rattle.std.specs.Prelude.{ℕ, ◌≤◌, Option, Some, None, List, [], ◌∷◌, map, slice_range}
-use Rattle.std.specs.Option.{option_map}
+-- Items as they are kept: with places in the text, and with all names of places in one piece.
+use Rattle.std.specs.Prelude.{ℕ, ◌≤◌, Bool, Option, Some, None, List, [], ◌∷◌, map, slice_range}
+use Rattle.std.specs.Option.{ForSome, option_map}
 use Rattle.vic_table.specs.Values.{ItemValue, PlaceRowValue}
-use Rattle.vic_table.specs.declared.items.Item.{Item}
+use Rattle.vic_table.specs.declared.item_list.KeptItem.{KeptItem}
+use Rattle.vic_table.specs.declared.item_list.Item.{Item}
+use Rattle.vic_table.specs.inner.Spans.{IsWithin, span_bytes}
 
--- what an item in a text says
-abbrev pub item_value : List ℕ → Item → ItemValue
-item_value text item = record {
+-- an item, with the place of its row in the text
+pub record ItemAt : Type 0 where
+  pub line : ℕ
+  pub start : ℕ
+  pub end : ℕ
+  pub uid : Option ℕ
+  pub place : Option (List ℕ)
+  pub away : Bool
+
+abbrev pub item_at : Item → ItemAt
+item_at item = record {
   line = item.line;
-  row = slice_range text item.start item.end;
+  start = item.start;
+  end = item.end;
   uid = item.uid;
   place = option_map (λ place. place.items) item.place;
   away = item.away;
 }
 
-abbrev pub item_values : List ℕ → List Item → List ItemValue
-item_values text items = map (item_value text) items
+-- what an item in a text says
+abbrev pub value_at : List ℕ → ItemAt → ItemValue
+value_at text item = record {
+  line = item.line;
+  row = slice_range text item.start item.end;
+  uid = item.uid;
+  place = item.place;
+  away = item.away;
+}
+
+abbrev pub item_value : List ℕ → Item → ItemValue
+item_value text item = value_at text (item_at item)
+
+abbrev pub item_values : List ℕ → List ItemAt → List ItemValue
+item_values text items = map (value_at text) items
 
 abbrev pub item_or_none : List ℕ → Option Item → List ItemValue
 item_or_none text None = []
 item_or_none text (Some item) = item_value text item ∷ []
 
 -- the item's row is within a text of so many bytes
-pub record IsWithinText (len : ℕ) (item : Item) : Type 0 where
+pub record IsWithinText (len : ℕ) (item : ItemAt) : Type 0 where
   pub low : item.start ≤ item.end
   pub high : item.end ≤ len
+
+-- ---- the names of places
+
+-- an item whose place is among these bytes
+abbrev pub kept_item : List ℕ → KeptItem → ItemAt
+kept_item places item = record {
+  line = item.line;
+  start = item.start;
+  end = item.end;
+  uid = item.uid;
+  place = option_map (span_bytes places) item.place;
+  away = item.away;
+}
+
+abbrev pub kept_items : List ℕ → List KeptItem → List ItemAt
+kept_items places items = map (kept_item places) items
+
+-- its place is within so many bytes
+abbrev pub HasPlace : ℕ → KeptItem → Type 0
+HasPlace len item = ForSome item.place (IsWithin len)
 
 -- the row of a table of places, if there is one
 abbrev pub row_or_none : Option PlaceRowValue → List PlaceRowValue

@@ -11,7 +11,7 @@ use Rattle.vic_table.specs.Rows.{is_given, is_named, item_uids, item_line_fault,
 use Rattle.vic_table.specs.Values.{PlaceRowValue}
 use Rattle.vic_table.specs.declared.columns.CatalogueColumns.{CatalogueColumns}
 use Rattle.vic_table.specs.declared.columns.PlacesColumns.{PlacesColumns}
-use Rattle.vic_table.specs.declared.items.Item.{Item}
+use Rattle.vic_table.specs.declared.item_list.Item.{Item}
 use Rattle.vic_table.specs.inner.Kept.{item_or_none, row_or_none}
 
 -- ---- UIDs

@@ -1,5 +1,6 @@
 use Rattle.vic_table.proofs.Words.{◌≡◌, add-one, length, sym, subst, ◌∙◌, arith}
-use Rattle.vic_table.specs.inner.Kept.{IsWithinText}
+use Rattle.vic_table.specs.inner.Kept.{IsWithinText, item_at}
+use Rattle.vic_table.specs.declared.item_list.Item.{Item}
 use Rattle.vic_table.proofs.Rows.{row_refused, row_taken}
 use Rattle.vic_table.proofs.items.line_item.Goals as goal
 
@@ -14,7 +15,7 @@ pub returns-in-Ok-clause-within : goal.returns-in-Ok-clause-within
 returns-in-Ok-clause-within c = λ x e.
     let there = c.in-Ok.ensures.there in
     let same : c.in-Ok.item ≡ x = cc in
-    subst (IsWithinText (length c.args.text.now)) same (record { low = omega (arith, there.0, there.1, c.requires.order); high = omega (arith, there.1, c.requires.bound) })
+    subst (λ (i : Item). IsWithinText (length c.args.text.now) (item_at i)) same (record { low = omega (arith, there.0, there.1, c.requires.order); high = omega (arith, there.1, c.requires.bound) })
 
 pub returns-in-Err-clause-taken : goal.returns-in-Err-clause-taken
 returns-in-Err-clause-taken c = λ given h.

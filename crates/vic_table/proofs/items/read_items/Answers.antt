@@ -1,4 +1,4 @@
-use Rattle.vic_table.proofs.Words.{add-one, length, drop, sym, ap, ◌∙◌, ◌==◌, arith}
+use Rattle.vic_table.proofs.Words.{add-one, length, drop, arith}
 use Rattle.vic_table.proofs.Reading.{items_next, items_refused, no_items_refused, items_whole, none_kept, some_kept}
 use Rattle.vic_table.proofs.items.read_items.Goals as goal
 
@@ -24,14 +24,14 @@ loop-at-preserved c =
           rw (c.in_ok-push_some.ensures.values text, add-one) n;
     }
 
-pub returns-then-is_empty-clause-read : goal.returns-then-is_empty-clause-read
-returns-then-is_empty-clause-read c = λ lines f.
+pub returns-then-len-eq0-clause-read : goal.returns-then-len-eq0-clause-read
+returns-then-len-eq0-clause-read c = λ lines f.
     let i = c.loop-at.invariant in
     let a = rw c.in_default.ensures.end at (i.read lines f) in
-    rw add-one (no_items_refused a i.some (none_kept c.args.text.now c.loop-at.items.items (ap (λ n. n == 0) (sym c.loop-at.items.ok.0) ∙ (sym c.is_empty.ensures ∙ c.if-is_empty.true))))
+    rw add-one (no_items_refused a i.some (none_kept c.args.text.now c.loop-at.items (omega arith)))
 
 pub returns-clause-read : goal.returns-clause-read
 returns-clause-read c = λ lines f.
     let i = c.loop-at.invariant in
     let a = rw c.in_default.ensures.end at (i.read lines f) in
-    items_whole a i.some (some_kept c.args.text.now c.loop-at.items.items (ap (λ n. n == 0) (sym c.loop-at.items.ok.0) ∙ (sym c.is_empty.ensures ∙ c.if-is_empty.false)))
+    items_whole a i.some (some_kept c.args.text.now c.loop-at.items (λ e. absurd (omega (arith, e))))

@@ -10,8 +10,8 @@ invariant-loop-at l = record {
   some : 0 < l.number;
   limit : l.number ≤ 1000000;
   bound : l.next ≤ length l.text;
-  within : All (IsWithinText (length l.text)) l.items.items;
-  read : (lines : List (List ℕ)) → FollowsFirst lines (Catalogue l.columns) (drop l.start l.text) → AreItemsUpto l.columns lines l.number (drop l.next l.text) (item_values l.text l.items.items) l.uids;
+  within : All (IsWithinText (length l.text)) l.items;
+  read : (lines : List (List ℕ)) → FollowsFirst lines (Catalogue l.columns) (drop l.start l.text) → AreItemsUpto l.columns lines l.number (drop l.next l.text) (item_values l.text l.items) l.uids;
 }
 
 abbrev pub decreases-loop-at : goal.decreases-loop-at

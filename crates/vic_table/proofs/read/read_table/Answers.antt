@@ -12,7 +12,7 @@ returns-in-Ok c =
     let named = rw (c.as_slice-3.ensures.value, c.in-Catalogue.is) at c.in_ok-columns.ensures in
     let f = follows text c.first_start.result c.in-Some.head l marked (Catalogue c.in-Catalogue.columns) named.0 named.1 in
     let read = rw c.as_slice-in-Catalogue.ensures.value at c.in-Ok.ensures.read in
-    rw c.new.ensures (catalogue_whole text c.first_start.result c.in-Some.head l marked c.in-Catalogue.columns (item_values text c.in-Ok.items.items) f (read (table_lines text) f))
+    rw c.new.ensures (catalogue_whole text c.first_start.result c.in-Some.head l marked c.in-Catalogue.columns (item_values text c.in-Ok.items) f (read (table_lines text) f))
 
 pub returns-in-Catalogue : goal.returns-in-Catalogue
 returns-in-Catalogue c =
