@@ -11,3 +11,4 @@ mod Listing
 mod Unsettled
 mod Without
 mod AnyOrder
+mod Complete

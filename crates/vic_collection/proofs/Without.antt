@@ -29,7 +29,7 @@ filter-filter p q r both (x ∷ xs) = go (q x) (p x) (r x) refl (both x) (filter
   go true false d pass e rest = rw (pass, e) rest
   go false b d pass e rest = rw e rest
 
-filter_same : {X : Type 0} (p q : X → Bool) (xs : List X) → All (λ x. p x ≡ q x) xs → filter p xs ≡ filter q xs
+pub filter_same : {X : Type 0} (p q : X → Bool) (xs : List X) → All (λ x. p x ≡ q x) xs → filter p xs ≡ filter q xs
 filter_same p q [] same = refl
 filter_same p q (x ∷ xs) same = rw (All-head (λ y. p y ≡ q y) x xs same, filter_same p q xs (All-tail (λ y. p y ≡ q y) x xs same)) refl
 

@@ -6,5 +6,5 @@ pub mod States
 pub mod Findings
 pub mod Answers
 pub mod Families
-pub mod Headline
+pub mod Complete
 pub mod inner

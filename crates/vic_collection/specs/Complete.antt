@@ -7,6 +7,7 @@ use Rattle.vic_log.specs.Log.{LogValue}
 use Rattle.vic_log.specs.Order.{entries}
 use Rattle.vic_log.specs.Text.{IsLogOf}
 use Rattle.vic_verdict.specs.Possible.{IsPossible}
+use Rattle.vic_survey.specs.Making.{IsFieldOf}
 use Rattle.vic_survey.specs.Surveys.{SurveyValue}
 use Rattle.vic_table.specs.Values.{ItemValue}
 use Rattle.vic_collection.specs.Collections.{CollectionValue}
@@ -19,6 +20,10 @@ pub record IsExpected (c : CollectionValue) (u : ℕ) : Type 0 where
   pub there : Contains c.catalogue.items item
   pub uid : item.uid ≡ Some u
   pub expected : is_expected item ≡ true
+
+-- the survey is what the text of a log says of its field
+abbrev pub IsSurveyOf : List ℕ → SurveyValue → Type 0
+IsSurveyOf text s = IsFieldOf text s.field
 
 -- the text has a log, and it is possible
 pub record HasPossibleLog (text : List ℕ) : Type 0 where
@@ -40,7 +45,7 @@ pub record IsInPlace (c : CollectionValue) (family : List (List ℕ)) (place : L
 -- each log is possible; some family could have produced the logs, and in every one that could have,
 -- exactly the expected UIDs are somewhere, so many, and each whose item has a place in the field of
 -- a log of that place
-pub record IsWhole (c : CollectionValue) (texts : List (List ℕ)) (count : ℕ) : Type 0 where
+pub record IsComplete (c : CollectionValue) (texts : List (List ℕ)) (count : ℕ) : Type 0 where
   pub possible : All HasPossibleLog texts
   pub family : List (List ℕ)
   pub fits : FitsTexts family texts
