@@ -29,6 +29,7 @@ def bound_in(text):
     """The words that a text itself names: its arguments, its fields and cases, what it defines."""
     said = code(text)
     bound = {"result", "old", "new", "now"}
+    bound.update(re.findall(r"«([^»]*)»", said))  # a name that is a word of Rust
     for names in re.findall(r"[({]([^\W\d][\w' ]*?) :", said):
         bound.update(names.split())
     for names in re.findall(r"λ ([^.]*)\.", said):
