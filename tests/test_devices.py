@@ -81,19 +81,19 @@ def test_each_write_over_words_fails(run, words):
     writes(run, words)
 
 
-@pytest.fixture
-def reconciling(tmp_path):
-    """Words that reconcile files, and how many reads of a byte that takes: each byte, and the end
-    of each."""
+@pytest.fixture(params=["reconcile", "survey"])
+def over_files(request, tmp_path):
+    """Words of a command over several files, and how many reads of a byte that takes: each byte,
+    and the end of each."""
     texts = [text_of(log_lines(names)) for names in RECONCILED]
     for number, text in enumerate(texts):
         (tmp_path / str(number)).write_bytes(text)
     names = [str(tmp_path / str(number)) for number in range(len(texts))]
-    return " ".join(["reconcile", *names]), sum(len(text) + 1 for text in texts)
+    return " ".join([request.param, *names]), sum(len(text) + 1 for text in texts)
 
 
-def test_each_read_of_reconciled_files_fails(run, reconciling):
-    words, reads = reconciling
+def test_each_read_of_several_files_fails(run, over_files):
+    words, reads = over_files
     assert run(words, READ="0") == run(words)
     for number in range(1, reads + 1):
         assert run(words, READ=str(number)) == (b"", READ_FAULT, 4), f"read {number}"
@@ -114,8 +114,8 @@ def test_no_read_follows_the_text_that_ends_the_run(run, tmp_path, texts, reads,
     assert run(words, cwd=tmp_path, READ=str(reads)) == (b"", READ_FAULT, 4)
 
 
-def test_each_write_over_reconciled_files_fails(run, reconciling):
-    writes(run, reconciling[0])
+def test_each_write_over_several_files_fails(run, over_files):
+    writes(run, over_files[0])
 
 
 @pytest.mark.parametrize(("source", "refusal"), ENDLESS)

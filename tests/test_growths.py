@@ -27,8 +27,8 @@ JUDGED = ("I16 S RA RB S13 UA UB", "I1 C MA RA QA I1 RB UA UB",
 ASKED = ("I16 UA UB", "I1 QA I1 UA UB")
 # Commands over words and over a log.
 OVER_WORDS = ("spell request inventory link 2 slots 1 mask 0 -", "frame 260100F60A")
-# What is expected, and logs, on which each allocation of `reconcile` is refused: with each kind of
-# finding, and without.
+# What is expected, and logs, on which each allocation of `reconcile`, and of `survey`, is refused:
+# with each kind of finding, and without.
 RECONCILED = (("UA UB", "I1 RA", "I1 RB"), ("UA UB", "I1 RA", "I1 S"), ("UA", "I1 RA", "I1 RB"),
               ("UB", "QA I1 RB", "I1 S"),
               ("UA UB", "QA I1 RB", "I1 S"), ("UA", "I1 C MA RA"), ("UA", "I1 S I1 RA"),
@@ -118,13 +118,14 @@ def test_each_allocation_over_a_log_is_refused(program, refuse, tmp_path, comman
     is_refused(program, refuse, command, str(tmp_path / "log"))
 
 
+@pytest.mark.parametrize("command", ["reconcile", "survey"])
 @pytest.mark.parametrize("logs", RECONCILED, ids=" | ".join)
-def test_each_allocation_over_many_logs_is_refused(program, refuse, tmp_path, logs):
+def test_each_allocation_over_many_logs_is_refused(program, refuse, tmp_path, logs, command):
     names = [str(tmp_path / str(number)) for number in range(len(logs))]
     for name, log in zip(names, logs):
         with open(name, "wb") as file:
             file.write(text_of(log_lines(log)))
-    is_refused(program, refuse, "reconcile", *names)
+    is_refused(program, refuse, command, *names)
 
 
 @pytest.mark.parametrize("words", OVER_WORDS)

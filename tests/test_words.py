@@ -54,6 +54,8 @@ def test_frame_and_spell_end_with_their_status(one):
 @pytest.mark.parametrize("words", [
     [], ["frame"], ["spell"], ["check", "a", "b"], ["help"], ["list"], ["explain", "a", "b"],
     ["report", "a", "b"], ["margin", "a", "b"],
+    ["survey"], ["survey", "--"], ["survey", "-x"], ["survey", ""], ["survey", "a\tb"],
+    ["survey", "a", "b\nc"], ["survey", b"\xff"],
     ["check", "-x"], ["frame", "--"], ["spell", "--"], ["check", b"\xff"],
     ["spell", b"\xed\xa0\x80"]], ids=repr)
 def test_words_that_are_no_command(one, words):

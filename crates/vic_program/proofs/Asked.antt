@@ -8,7 +8,8 @@ use Rattle.vic_words.specs.declared.asked.WordsFault.TheVariants.{Usage as Usage
 use Rattle.vic_program.specs.Ends.{End, words_line}
 use Rattle.vic_program.specs.Program.{RunsWords}
 use Rattle.vic_program.specs.Files.{FileSource}
-use Rattle.vic_program.specs.Runs.{OverInput, Reading, RunsTask, Writing}
+use Rattle.vic_program.specs.Runs.{OverInput, RunsTask}
+use Rattle.vic_program.specs.Sides.{Reading, Writing}
 
 some_is_none : (a : List ℕ) → Some a ≡ None → ⊥
 some_is_none a e = cc

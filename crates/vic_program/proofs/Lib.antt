@@ -1,3 +1,4 @@
 pub mod Told
 pub mod InOrder
 pub mod Asked
+pub mod InTurn

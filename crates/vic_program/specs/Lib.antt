@@ -1,5 +1,7 @@
 pub mod Files
 pub mod Ends
 pub mod Lines
+pub mod Sides
+pub mod Each
 pub mod Runs
 pub mod Program

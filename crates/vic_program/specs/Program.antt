@@ -6,7 +6,8 @@ use Rattle.vic_words.specs.Words.{Ask}
 use Rattle.vic_words.specs.declared.asked.Asked.{Asked}
 use Rattle.vic_program.specs.Ends.{End, exit_code}
 use Rattle.vic_program.specs.Files.{FileSource}
-use Rattle.vic_program.specs.Runs.{Reading, RunsAsked, Writing}
+use Rattle.vic_program.specs.Runs.{RunsAsked}
+use Rattle.vic_program.specs.Sides.{Reading, Writing}
 
 -- nothing was read or written, and standard error has this line
 pub record IsSilent {I W : Type 0} (line : List ℕ) (input input' : I) (output output' : W)

@@ -1,5 +1,5 @@
 -- What is read and written for what the words ask for.
-use Rattle.std.specs.Prelude.{◌≡◌, ◌⊎◌, ℕ, Bool, true, List, ◌∷◌, ◌++◌, length, codes, map, Option, Some, None, Result, Err, OnOk, IfErr, string_bytes}
+use Rattle.std.specs.Prelude.{◌≡◌, ◌⊎◌, ℕ, true, List, ◌∷◌, ◌++◌, length, codes, map, Option, Some, None, Result, Err, OnOk, IfErr, string_bytes}
 use Rattle.vic_answer.specs.Reconciled.{AreComplete, GoOn}
 use Rattle.vic_answer.specs.ReconcileRun.{ReadsListAndLogs, Reconciles, StopsBy, WritesAnswer}
 use Rattle.vic_answer.specs.Runs.{LeavesSink}
@@ -8,25 +8,17 @@ use Rattle.vic_answer.specs.declared.status.RunFault.{RunFault}
 use Rattle.vic_answer.specs.declared.status.Status.{Status}
 use Rattle.vic_answer.specs.declared.task.Task.{Task}
 use Rattle.vic_words.specs.declared.asked.Asked.{Asked}
-use Rattle.vic_words.specs.declared.asked.Asked.TheVariants.{Task as OneTask, Reconcile}
+use Rattle.vic_words.specs.declared.asked.Asked.TheVariants.{Task as OneTask, Reconcile, Files}
+use Rattle.vic_words.specs.declared.asked.FilesCommand.{FilesCommand}
+use Rattle.vic_words.specs.declared.asked.FilesCommand.TheVariants.{Survey}
+use Rattle.vic_commands.specs.Surveyed.{IsSurveying}
 use Rattle.vic_log.specs.Device.{from_read_inner}
 use Rattle.vic_answer.specs.Status.{fault_text}
 use Rattle.vic_answer.specs.declared.status.RunFault.TheVariants.{Memory}
 use Rattle.vic_program.specs.Ends.{End, ended}
+use Rattle.vic_program.specs.Each.{ForTexts, OverEach}
+use Rattle.vic_program.specs.Sides.{Reading, Writing}
 use Rattle.vic_program.specs.Files.{AreNew, FileSource, IsNew, first_unopened, unopened_name}
-
--- what a contract sees of a source
-pub record Reading (S : Type 0) : Type 0 where
-  pub returned : S → List ℕ
-  pub ended : S → Bool
-  pub reads : S → ℕ
-  pub has_failed : S → Bool
-
--- and of a sink
-pub record Writing (W : Type 0) : Type 0 where
-  pub written : W → List ℕ
-  pub is_flushed : W → Bool
-  pub has_failed : W → Bool
 
 -- a task was done from a source to a sink, with this result
 pub record DoesTask {S W : Type 0} (r : Reading S) (w : Writing W) (task : Task) (from from' : S)
@@ -87,6 +79,10 @@ RunsTask rf ri w task (Some name) input input' output output' end =
 RunsTask rf ri w task None input input' output output' end =
     OverInput ri w task input input' output output' end
 
+-- what a command writes that takes one file after the other
+abbrev pub writes_of : FilesCommand → ForTexts
+writes_of Survey = IsSurveying
+
 abbrev pub RunsAsked : {F T I W : Type 0} → Reading (FileSource F T) → Reading I → Writing W
     → Asked → I → I → W → W → End → Type 0
 RunsAsked rf ri w (OneTask task) input input' output output' end =
@@ -94,4 +90,7 @@ RunsAsked rf ri w (OneTask task) input input' output output' end =
 RunsAsked rf ri w (Reconcile list logs) input input' output output' end =
     (OverFiles rf w (string_bytes list) (map string_bytes logs.items) output output' end
     ⊎ NoMemory output output' end)
+    × (input' ≡ input)
+RunsAsked rf ri w (Files command names) input input' output output' end =
+    OverEach rf w (writes_of command) (map string_bytes names.items) output output' end
     × (input' ≡ input)

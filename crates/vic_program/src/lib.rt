@@ -3,6 +3,7 @@
 //! It is generic over whatever opens files, and over the three standard streams.
 #![tactic(auto)]
 
+mod each;
 mod files;
 mod no_answer;
 mod program;

@@ -1,12 +1,13 @@
 //! Why a run has no answer, and what standard error says about it.
 
 ghost use Rattle.std.specs.Prelude.{◌≡◌, ◌++◌, codes, option_copied};
+ghost use Rattle.vic_program.specs.Each.{unread_line};
 ghost use Rattle.vic_program.specs.Ends.{end_of, line_of, ended};
 ghost use Rattle.vic_program.specs.Lines.{Tells, Told};
 
 use std::alloc::AllocError;
 use vic_answer::{RunFault, Status, fault_text};
-use vic_log::{Sink, write_whole};
+use vic_log::{ReadFault, Sink, write_whole};
 
 /// The exit status of a run that has no answer.
 pub(crate) const NO_ANSWER: u8 = 4;
@@ -45,6 +46,17 @@ pub(crate) fn ended<'a>(
         (Ok(status), _) => Ok(status),
         (Err(RunFault::Read), Some(name)) => Err(NoAnswer::CannotOpen(name)),
         (Err(fault), _) => Err(NoAnswer::Run(fault)),
+    }
+}
+
+/// Why there is no answer where a file wasn't read to its end, by its name if it couldn't be opened.
+pub(crate) fn unread<'a>(unopened: Option<&'a str>, fault: ReadFault) -> NoAnswer<'a>
+    ensures { line_of result ≡ unread_line (option_copied unopened.entry) fault }
+{
+    match (fault, unopened) {
+        (ReadFault::Read, Some(name)) => NoAnswer::CannotOpen(name),
+        (ReadFault::Read, None) => NoAnswer::Run(RunFault::Read),
+        (ReadFault::Memory, _) => NoAnswer::Run(RunFault::Memory),
     }
 }
 

@@ -2,16 +2,19 @@
 
 ghost use Rattle.std.specs.Prelude.{◌≡◌, ◌∷◌, ◌⊎◌, IfOk, map, string_bytes, option_copied};
 ghost use Rattle.vic_answer.specs.Tasks.{file_of};
+ghost use Rattle.vic_program.specs.Each.{OverEach};
 ghost use Rattle.vic_program.specs.Ends.{end_of};
 ghost use Rattle.vic_program.specs.Files.{AreNew, first_unopened};
-ghost use Rattle.vic_program.specs.Runs.{NoMemory, OverFile, OverFiles, RunsAsked, RunsTask};
+ghost use Rattle.vic_program.specs.Runs.{NoMemory, OverFile, OverFiles, RunsAsked, RunsTask, writes_of};
 
+use crate::each::run_over_each;
 use crate::files::{Files, LateFile};
 use crate::no_answer::{NoAnswer, ended};
 use std::alloc::{AllocError, Global};
 use vic_answer::{RunFault, Status, Task, do_task, run_reconcile};
+use vic_commands::TakenLogs;
 use vic_log::{FromRead, Sink, Source};
-use vic_words::Asked;
+use vic_words::{Asked, FilesCommand};
 
 /// A file, as a source.
 type FileSource<'a, F> = FromRead<LateFile<'a, F>>;
@@ -129,6 +132,31 @@ fn run_task<'a, F: Files, I: Source, O: Sink>(
     }
 }
 
+/// Does a command over the files with these names, one after the other.
+fn run_files_command<'a, F: Files, O: Sink>(
+    alloc: Global,
+    command: FilesCommand,
+    files: &'a F,
+    names: &'a [String],
+    output: &mut O,
+) -> Result<Status, NoAnswer<'a>>
+    ensures { OverEach (record {
+      returned = ⟦<FromRead<LateFile<'a, F>> as Source>⟧.returned;
+      ended = ⟦<FromRead<LateFile<'a, F>> as Source>⟧.ended;
+      reads = ⟦<FromRead<LateFile<'a, F>> as Source>⟧.reads;
+      has_failed = ⟦<FromRead<LateFile<'a, F>> as Source>⟧.has_failed;
+    }) (record {
+      written = O.written;
+      is_flushed = O.is_flushed;
+      has_failed = O.has_failed;
+    }) (writes_of command) (map string_bytes names.entry.now)
+        output.old output.new (end_of result) }
+{
+    match command {
+        FilesCommand::Survey => run_over_each::<TakenLogs, F, O>(alloc, files, names, output),
+    }
+}
+
 /// Does what the words ask for. Nothing but the files that they name is opened.
 pub fn run_asked<'a, F: Files, I: Source, O: Sink>(
     alloc: Global,
@@ -157,6 +185,9 @@ pub fn run_asked<'a, F: Files, I: Source, O: Sink>(
         Asked::Task(task) => run_task(alloc, task, files, input, output),
         Asked::Reconcile(list, logs) => {
             run_over_files(alloc, files, list.as_str(), logs.as_slice(), output)
+        }
+        Asked::Files(command, names) => {
+            run_files_command(alloc, *command, files, names.as_slice(), output)
         }
     }
 }

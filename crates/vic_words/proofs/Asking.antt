@@ -11,11 +11,12 @@ use Rattle.vic_words.specs.Words.{Ask, HasFile, is_end_of_options, operands_of, 
 use Rattle.vic_words.specs.inner.Commands.{commands}
 use Rattle.vic_words.specs.inner.Given.{FileAsks, RowsAsk, SubcommandAsks, TaskAsks, clap_words, wants_end, words_found}
 use Rattle.vic_words.specs.declared.asked.Asked.{Asked}
-use Rattle.vic_words.specs.declared.asked.Asked.TheVariants.{Task as OneTask, Reconcile}
+use Rattle.vic_words.specs.declared.asked.Asked.TheVariants.{Task as OneTask, Reconcile, Files}
+use Rattle.vic_words.specs.declared.asked.FilesCommand.TheVariants.{Survey}
 use Rattle.vic_words.proofs.Leaf.{AllUtf8}
 use Rattle.vic_words.proofs.Levels.{fault_at, file_asked, file_given, files_asked, files_given, hex_asked, hex_given, rows_at, words_asked, words_given}
 use Rattle.vic_words.proofs.Shapes.{files_shape, one_shape, words_shape}
-use Rattle.vic_words.proofs.Top.{Entered, check_entered, explain_entered, frame_entered, margin_entered, no_words_given, only_the_program, reconcile_entered, report_entered, same_name, simulate_entered, some≢none, spell_entered}
+use Rattle.vic_words.proofs.Top.{Entered, check_entered, explain_entered, frame_entered, margin_entered, no_words_given, only_the_program, reconcile_entered, report_entered, same_name, simulate_entered, some≢none, spell_entered, survey_entered}
 
 pub all_utf8 : {Z : Type 0} (words : List (String Z)) → AllUtf8 (map string_bytes words)
 all_utf8 [] = tt
@@ -112,6 +113,14 @@ spell_to program words rows ws utf8 finds is = go (spelled program words)
         let are : words_found (rows_at (words_shape (codes "spell")) p.rest) ≡ ws = ap words_found b.rows_are ∙ sym is in
         (some_cons _ _ (ap Some (sym are) ∙ sym given.0 ∙ p.operands), omega (arith, given.1, ap length are))
 
+files_to : (n program : Text) (words : List Text) (rows : List Row) (ws : List Text) → Entered n (words_shape n) → AllUtf8 words → Finds (program ∷ n ∷ words) n rows
+    → ws ≡ words_found rows → (operands_of words ≡ Some ws) × (0 < length ws)
+files_to n program words rows ws entered utf8 finds is =
+    let b = below n (words_shape n) program words rows entered finds in
+    let given = words_given n words utf8 b.none in
+    let are : words_found (rows_at (words_shape n) words) ≡ ws = ap words_found b.rows_are ∙ sym is in
+    (given.0 ∙ ap Some are, omega (arith, given.1, ap length are))
+
 pub rows_to_words : (words : List Text) (name : Text) (rows : List Row) (asked : Asked) → AllUtf8 (clap_words words) → Finds (clap_words words) name rows → RowsAsk name rows asked → Ask words asked
 rows_to_words [] name rows asked utf8 finds h = absurd (some≢none name (ap (option_map (λ p. p.0)) (sym finds.found ∙ no_words_given)))
 rows_to_words (program ∷ []) name rows asked utf8 finds h = absurd (some≢none name (ap (option_map (λ p. p.0)) (sym finds.found ∙ only_the_program program)))
@@ -145,6 +154,10 @@ rows_to_words (program ∷ w ∷ words) name rows (Reconcile list logs) utf8 fin
       files_given (codes "reconcile") words (string_bytes list) a.utf8.1.1 b.none (ap (first_of (codes "file")) b.rows_are ∙ h.1)
           ∙ ap (λ l. Some (string_bytes list ∷ l)) (ap words_found b.rows_are ∙ sym h.2),
     )
+rows_to_words (program ∷ w ∷ words) name rows (Files Survey files) utf8 finds h =
+    let a = at_name (codes "survey") program w name words rows utf8 finds h.0 in
+    let p = files_to (codes "survey") program words rows (map string_bytes files.items) survey_entered a.utf8.1.1 a.finds h.1 in
+    (a.named, p.0, omega (arith, p.1, length-map files.items string_bytes))
 
 -- ---- what is asked for is found
 
@@ -201,6 +214,9 @@ words_to_rows (program ∷ w ∷ words) (OneTask (Spell ws)) utf8 fits h = by_na
 words_to_rows (program ∷ w ∷ words) (Reconcile list logs) utf8 fits h = by_name program words (Reconcile list logs) (codes "reconcile") w h.0 (λ utf8 fits.
     let a = files_asked (codes "reconcile") words (string_bytes list) (map string_bytes logs.items) utf8.1.1 h.1 (omega arith) in
     record { name = codes "reconcile"; rows = _; finds = finds_below (codes "reconcile") (files_shape (codes "reconcile")) program words reconcile_entered a.0; asks = (refl, a.1, sym a.2) }) utf8 fits
+words_to_rows (program ∷ w ∷ words) (Files Survey files) utf8 fits h = by_name program words (Files Survey files) (codes "survey") w h.0 (λ utf8 fits.
+    let a = words_asked (codes "survey") words (map string_bytes files.items) utf8.1.1 h.1 (omega (arith, h.2, length-map files.items string_bytes)) (omega arith) in
+    record { name = codes "survey"; rows = _; finds = finds_below (codes "survey") (words_shape (codes "survey")) program words survey_entered a.0; asks = (refl, sym a.1) }) utf8 fits
 
 -- ---- by what is found at once
 

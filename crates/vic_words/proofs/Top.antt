@@ -149,6 +149,9 @@ frame_entered = record { fault = enters_fault _ refl refl refl; rows = enters_ro
 pub reconcile_entered : Entered (codes "reconcile") (files_shape (codes "reconcile"))
 reconcile_entered = record { fault = enters_fault _ refl refl refl; rows = enters_rows _ refl refl refl }
 
+pub survey_entered : Entered (codes "survey") (words_shape (codes "survey"))
+survey_entered = record { fault = enters_fault _ refl refl refl; rows = enters_rows _ refl refl refl }
+
 pub spell_entered : Entered (codes "spell") (words_shape (codes "spell"))
 spell_entered = record { fault = enters_fault _ refl refl refl; rows = enters_rows _ refl refl refl }
 
@@ -161,11 +164,11 @@ decide n w P it other = go (bytes_eq n w) refl
 
 -- a word is the name of a command, or names none
 pub named : (w : Text) (P : Text → Type 0) → P (codes "check") → P (codes "simulate") → P (codes "explain") → P (codes "report") → P (codes "margin")
-    → P (codes "frame") → P (codes "reconcile") → P (codes "spell") → (subcommand_met (names_of program_built) idle w ≡ None → P w) → P w
-named w P check simulate explain report margin frame reconcile spell none =
+    → P (codes "frame") → P (codes "reconcile") → P (codes "survey") → P (codes "spell") → (subcommand_met (names_of program_built) idle w ≡ None → P w) → P w
+named w P check simulate explain report margin frame reconcile survey spell none =
     decide (codes "check") w P check (λ a. decide (codes "simulate") w P simulate (λ b. decide (codes "explain") w P explain
     (λ c. decide (codes "report") w P report (λ d. decide (codes "margin") w P margin (λ e. decide (codes "frame") w P frame
-    (λ f. decide (codes "reconcile") w P reconcile (λ g. decide (codes "spell") w P spell (λ h. none (rw (a, b, c, d, e, f, g, h) refl)))))))))
+    (λ f. decide (codes "reconcile") w P reconcile (λ g. decide (codes "survey") w P survey (λ s. decide (codes "spell") w P spell (λ h. none (rw (a, b, c, d, e, f, g, s, h) refl))))))))))
 
 -- the name of the command that a parse enters is the word that names it
 abbrev pub HasName : Text → Text → List Text → Text → Type 0
@@ -183,7 +186,7 @@ same program name words entered e found = name_of_some _ name (sym (ap (option_m
 pub same_name : (program w name : Text) (words : List Text) → IsUtf8 w → HasName program name words w
 same_name program w name words utf8 = named w (HasName program name words) (same program name words check_entered) (same program name words simulate_entered)
     (same program name words explain_entered) (same program name words report_entered) (same program name words margin_entered)
-    (same program name words frame_entered) (same program name words reconcile_entered) (same program name words spell_entered)
+    (same program name words frame_entered) (same program name words reconcile_entered) (same program name words survey_entered) (same program name words spell_entered)
     (λ none e found. absurd (some≢none name (sym found ∙ ap (option_map (λ p. p.0)) (unnamed program w words utf8 none e))))
 
 pub no_words_given : subcommand_of commands [] ≡ None

@@ -3,7 +3,9 @@ use Rattle.std.specs.Prelude.{◌≡◌, ◌<◌, ◌==◌, ℕ, Bool, false, Li
 use Rattle.std.specs.Str.{bytes_eq}
 use Rattle.vic_answer.specs.declared.task.Task.TheVariants.{Check, Simulate, Explain, Report, Margin, Frame, Spell}
 use Rattle.vic_words.specs.declared.asked.Asked.{Asked}
-use Rattle.vic_words.specs.declared.asked.Asked.TheVariants.{Task as OneTask, Reconcile}
+use Rattle.vic_words.specs.declared.asked.Asked.TheVariants.{Task as OneTask, Reconcile, Files}
+use Rattle.vic_words.specs.declared.asked.FilesCommand.{FilesCommand}
+use Rattle.vic_words.specs.declared.asked.FilesCommand.TheVariants.{Survey}
 
 abbrev pub Text : Type 0
 Text = List ℕ
@@ -39,6 +41,10 @@ abbrev pub HasFile : List Text → Option Text → Type 0
 HasFile words None = operands_of words ≡ Some []
 HasFile words (Some file) = operands_of words ≡ Some (file ∷ [])
 
+-- the name of a command that takes one file after the other
+abbrev pub files_name : FilesCommand → Text
+files_name Survey = codes "survey"
+
 -- a command's name, and the words after it, ask for this
 abbrev pub NameAsks : Text → List Text → Asked → Type 0
 NameAsks name words (OneTask (Check file)) =
@@ -59,6 +65,9 @@ NameAsks name words (OneTask (Spell spelled)) =
 NameAsks name words (Reconcile list logs) =
     (name ≡ codes "reconcile")
     × (operands_of words ≡ Some (string_bytes list ∷ map string_bytes logs.items))
+NameAsks name words (Files command files) =
+    (name ≡ files_name command) × (operands_of words ≡ Some (map string_bytes files.items))
+    × (0 < length files.items)
 
 -- the words of a command line, of which the first is the program's name, ask for this
 abbrev pub Ask : List Text → Asked → Type 0

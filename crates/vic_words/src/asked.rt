@@ -8,6 +8,13 @@ use clap::error::ErrorKind;
 use std::alloc::AllocError;
 use vic_answer::Task;
 
+/// A command that takes one file after the other.
+#[derive(Clone, Copy, Debug, Drop, PartialEq, Eq)]
+pub enum FilesCommand {
+    /// Says of each log what it says of its field.
+    Survey,
+}
+
 /// What a command line asks for.
 #[derive(Debug, Drop)]
 pub enum Asked {
@@ -16,6 +23,8 @@ pub enum Asked {
     /// To judge the logs in some files against the list of what is expected in another, which is
     /// named first.
     Reconcile(String, Vec<String>),
+    /// A command that takes these files, of which there is at least one.
+    Files(FilesCommand, Vec<String>),
 }
 
 /// Why the words ask for nothing.

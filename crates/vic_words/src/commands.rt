@@ -78,12 +78,20 @@ fn file_commands<'a>(alloc: Global) -> Result<Command<'a>, AllocError>
     with_file(alloc, program, "margin")
 }
 
+/// These, and the commands with an operand that they require.
+fn operand_commands<'a>(alloc: Global) -> Result<Command<'a>, AllocError>
+    ensures { IfOk result (λ c. app_of c ≡ declared.operand_commands) }
+{
+    file_commands(alloc)?
+        .subcommand(with_operand(alloc, "frame", "hex", true)?)?
+        .subcommand(with_files(alloc, "reconcile")?)
+}
+
 /// The program's commands.
 pub(crate) fn commands<'a>(alloc: Global) -> Result<Command<'a>, AllocError>
     ensures { IfOk result (λ c. app_of c ≡ declared.commands) }
 {
-    file_commands(alloc)?
-        .subcommand(with_operand(alloc, "frame", "hex", true)?)?
-        .subcommand(with_files(alloc, "reconcile")?)?
+    operand_commands(alloc)?
+        .subcommand(with_words(alloc, "survey")?)?
         .subcommand(with_words(alloc, "spell")?)
 }

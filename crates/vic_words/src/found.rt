@@ -1,11 +1,12 @@
 //! What is asked for, by what clap found among the words.
 
-ghost use Rattle.std.specs.Prelude.{◌≡◌, map, option_map, string_bytes, IfErr, IfOk};
+ghost use Rattle.std.specs.Prelude.{◌≡◌, map, option_map, string_bytes, IfErr, IfOk, MatchOption};
 ghost use Rattle.clap.specs.Words.{first_of, found_of, rows_of, subcommand_rows_of};
+ghost use Rattle.vic_words.specs.Words.{files_name};
 ghost use Rattle.vic_words.specs.inner.Given.{FileAsks, RowsAsk, SubcommandAsks, TaskAsks, words_found};
 ghost use Rattle.vic_words.specs.declared.asked.WordsFault.TheVariants.{Usage};
 
-use crate::asked::{Asked, WordsFault};
+use crate::asked::{Asked, FilesCommand, WordsFault};
 use clap::ArgMatches;
 use std::alloc::{AllocError, Global};
 use vic_answer::Task;
@@ -76,12 +77,27 @@ fn asked_of_text(alloc: Global, name: &str, given: &ArgMatches<'_>) -> Result<Ta
     }
 }
 
+/// The command with a name, if it takes one file after the other.
+fn files_command(name: &str) -> Option<FilesCommand>
+    ensures { MatchOption result
+        ((command : _) → name.now ≡ files_name command → ⊥)
+        (λ command. name.now ≡ files_name command) }
+{
+    match name {
+        "survey" => Some(FilesCommand::Survey),
+        _ => None,
+    }
+}
+
 /// What a command asks for, by its name and what it was given.
 fn asked_for(alloc: Global, name: &str, given: &ArgMatches<'_>) -> Result<Asked, WordsFault>
     ensures asked { IfOk result (RowsAsk name.now (rows_of (found_of given.now))) }
     ensures usage { IfErr result (λ e. e ≡ Usage
         → (asked : _) → RowsAsk name.now (rows_of (found_of given.now)) asked → ⊥) }
 {
+    if let Some(command) = files_command(name) {
+        return Ok(Asked::Files(command, given_words(alloc, given)?));
+    }
     if name != "reconcile" {
         return Ok(Asked::Task(asked_of_text(alloc, name, given)?));
     }

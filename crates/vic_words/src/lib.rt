@@ -14,7 +14,7 @@ mod found;
 
 use crate::commands::commands;
 use crate::found::asked_by;
-pub use asked::{Asked, WordsFault};
+pub use asked::{Asked, FilesCommand, WordsFault};
 use clap::ArgMatches;
 use std::alloc::{AllocError, Global};
 

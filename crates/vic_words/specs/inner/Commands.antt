@@ -41,8 +41,11 @@ abbrev pub file_commands : App
 file_commands = with_file (with_file (with_file (with_file (with_file program
     (codes "check")) (codes "simulate")) (codes "explain")) (codes "report")) (codes "margin")
 
+abbrev pub operand_commands : App
+operand_commands = with_subcommand (with_subcommand file_commands
+    (with_operand (codes "frame") (codes "hex") true).top) (with_files (codes "reconcile")).top
+
 -- the program
 abbrev pub commands : App
-commands = with_subcommand (with_subcommand (with_subcommand file_commands
-    (with_operand (codes "frame") (codes "hex") true).top)
-    (with_files (codes "reconcile")).top) (with_words (codes "spell")).top
+commands = with_subcommand (with_subcommand operand_commands (with_words (codes "survey")).top)
+    (with_words (codes "spell")).top

@@ -5,9 +5,9 @@ use Rattle.std.specs.Str.{bytes_eq}
 use Rattle.clap.specs.Words.{Row, all_of, first_of}
 use Rattle.vic_answer.specs.declared.task.Task.{Task}
 use Rattle.vic_answer.specs.declared.task.Task.TheVariants.{Check, Simulate, Explain, Report, Margin, Frame, Spell}
-use Rattle.vic_words.specs.Words.{Text, is_end_of_options}
+use Rattle.vic_words.specs.Words.{Text, files_name, is_end_of_options}
 use Rattle.vic_words.specs.declared.asked.Asked.{Asked}
-use Rattle.vic_words.specs.declared.asked.Asked.TheVariants.{Task as OneTask, Reconcile}
+use Rattle.vic_words.specs.declared.asked.Asked.TheVariants.{Task as OneTask, Reconcile, Files}
 
 -- the words begin with `--`
 abbrev pub begins_with_end : List Text → Bool
@@ -55,6 +55,8 @@ RowsAsk name rows (OneTask task) = TaskAsks name rows task
 RowsAsk name rows (Reconcile list logs) =
     (name ≡ codes "reconcile") × (first_of (codes "file") rows ≡ Some (string_bytes list))
     × (map string_bytes logs.items ≡ words_found rows)
+RowsAsk name rows (Files command files) =
+    (name ≡ files_name command) × (map string_bytes files.items ≡ words_found rows)
 
 -- the subcommand that was found asks for this
 abbrev pub SubcommandAsks : Option (Text × List Row) → Asked → Type 0
