@@ -2,6 +2,7 @@ mod Words
 mod Elements
 mod Names
 mod NameSets
+mod Knowing
 mod Confusing
 mod Leading
 mod Telling

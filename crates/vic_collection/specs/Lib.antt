@@ -2,6 +2,7 @@ pub mod Found
 pub mod Collections
 pub mod Joins
 pub mod Confused
+pub mod Alike
 pub mod States
 pub mod Findings
 pub mod Answers

@@ -63,14 +63,14 @@ fn place_of_name<'a>(leads: &BTreeMap<&'a [u8], &'a [u8]>, name: &[u8]) -> Optio
 }
 
 /// Where a name leads.
-fn lead<'a>(leads: &BTreeMap<&'a [u8], &'a [u8]>, name: &[u8]) -> Option<&'a [u8]>
+pub(crate) fn lead<'a>(leads: &BTreeMap<&'a [u8], &'a [u8]>, name: &[u8]) -> Option<&'a [u8]>
     ensures { option_map (λ place. place.now) result ≡ lead leads.now name.now }
 {
     leads.get(name).copied()
 }
 
 /// The places to which names lead, where places are asked for.
-fn all_leads<'a>(
+pub(crate) fn all_leads<'a>(
     alloc: Global,
     catalogue: &'a Catalogue,
     rows: &'a Option<Places>,

@@ -6,6 +6,7 @@
 //! nothing: any tag may have been in its field.
 #![tactic(auto)]
 
+mod alike;
 mod answer;
 mod collection;
 mod confused;
