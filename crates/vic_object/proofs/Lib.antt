@@ -2,3 +2,4 @@ mod Joins
 mod Counted
 mod Measured
 mod FieldMade
+mod AskingLaws

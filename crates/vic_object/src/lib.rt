@@ -4,6 +4,7 @@
 mod answer;
 mod field;
 mod finding;
+pub mod laws;
 mod lines;
 mod object;
 mod reading;
