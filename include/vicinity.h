@@ -123,7 +123,8 @@ enum vicinity_command {
     VICINITY_COMMAND_RECONCILE = 6, /* a list of what is expected, then logs */
     VICINITY_COMMAND_FRAME = 7, /* a word */
     VICINITY_COMMAND_SPELL = 8, /* words, at least one */
-    VICINITY_COMMAND_SURVEY = 9 /* logs, at least one */
+    VICINITY_COMMAND_SURVEY = 9, /* logs, at least one */
+    VICINITY_COMMAND_JSON = 11 /* a log */
 };
 
 /*

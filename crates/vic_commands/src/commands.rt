@@ -18,6 +18,7 @@ pub enum Command {
     Spell,
     /// The texts are logs.
     Survey,
+    Json,
 }
 
 /// What is told of a command and texts.

@@ -5,6 +5,7 @@ ghost use Rattle.std.specs.List.{All};
 ghost use Rattle.std.specs.Str.{IsUtf8};
 ghost use Rattle.vic_answer.specs.CheckText.{IsAnswerText};
 ghost use Rattle.vic_answer.specs.SimulateText.{IsSimulationOf};
+ghost use Rattle.vic_object.specs.Object.{IsObjectOf};
 ghost use Rattle.vic_commands.specs.Commands as spec;
 
 use crate::commands::{Command, Told};
@@ -17,6 +18,7 @@ use vic_answer::{
 };
 use vic_log::ToWrite;
 use vic_margin::Margin;
+use vic_object::object_of;
 use vic_report::LogReport;
 use vic_verdict::{Explanation, Verdict};
 
@@ -41,6 +43,7 @@ pub fn told_of(
         Command::Frame => framed(alloc, texts),
         Command::Spell => spelled(alloc, texts),
         Command::Survey => gathered::<TakenLogs>(alloc, names, texts),
+        Command::Json => objected(alloc, texts),
     }
 }
 
@@ -62,6 +65,17 @@ fn simulated(alloc: Global, texts: &[&[u8]]) -> Result<Told, AllocError>
 {
     match only(texts) {
         Some(text) => Ok(Told::Answer(simulate_text(alloc, text)?)),
+        None => Ok(Told::Usage),
+    }
+}
+
+/// What `json` tells of texts.
+fn objected(alloc: Global, texts: &[&[u8]]) -> Result<Told, AllocError>
+    ensures { IfOk result (spec.IsToldBy (spec.OfOnly IsObjectOf
+        (map (λ t. t.now) texts.now))) }
+{
+    match only(texts) {
+        Some(text) => Ok(Told::Answer(object_of(alloc, text)?)),
         None => Ok(Told::Usage),
     }
 }

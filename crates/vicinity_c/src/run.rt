@@ -25,6 +25,7 @@ fn command_of(number: u32) -> Option<Command>
         7 => Some(Command::Frame),
         8 => Some(Command::Spell),
         9 => Some(Command::Survey),
+        11 => Some(Command::Json),
         _ => None,
     }
 }
