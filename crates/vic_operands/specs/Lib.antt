@@ -1,0 +1,6 @@
+pub mod Kinds
+pub mod Faults
+pub mod Files
+pub mod Gathered
+pub mod Taken
+pub mod inner

@@ -1,0 +1,9 @@
+-- The files of a collection that were taken.
+use Rattle.std.specs.Prelude.{List}
+use Rattle.vic_operands.specs.Files.{File}
+use Rattle.vic_operands.specs.declared.operands.Operands.{Operands}
+use Rattle.vic_operands.specs.inner.States.{HasTakenBy}
+
+-- these files were taken, in this order
+abbrev pub HasTaken : List File → Operands → Type 0
+HasTaken files operands = HasTakenBy files operands.state

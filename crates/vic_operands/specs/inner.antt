@@ -1,0 +1,3 @@
+-- Definitions that private contracts alone cite.
+pub mod Kept
+pub mod States

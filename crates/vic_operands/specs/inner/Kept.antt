@@ -1,0 +1,41 @@
+-- What files of a collection have that have no fault.
+use Rattle.std.specs.Prelude.{◌≡◌, ⊤, List, [], ◌∷◌, filter, string_bytes}
+use Rattle.std.specs.List.{All, AllZip}
+use Rattle.vic_survey.specs.Surveys.{SurveyValue}
+use Rattle.vic_table.specs.Table.{IsCatalogueOf}
+use Rattle.vic_table.specs.Values.{PlaceRowValue}
+use Rattle.vic_operands.specs.Files.{ArePlacesIn, File, HaveSurveys, IsFaultOf, IsRight, is_catalogue, is_places}
+use Rattle.vic_operands.specs.declared.operand.NamedCatalogue.{NamedCatalogue}
+use Rattle.vic_operands.specs.declared.operand.Operand.{Operand}
+use Rattle.vic_operands.specs.declared.operand.Operand.TheVariants as operand
+use Rattle.vic_operands.specs.declared.operand.Unread.{Unread}
+use Rattle.vic_operands.specs.declared.operand.Unread.TheVariants.{Line, Memory}
+use Rattle.vic_operands.specs.declared.operands.Kept.{Kept}
+
+-- the catalogue of a file, with the file's name
+pub record IsNamedCatalogueIn (f : File) (n : NamedCatalogue) : Type 0 where
+  pub name : string_bytes n.name ≡ f.name
+  pub catalogue : IsCatalogueOf f.text n.catalogue
+
+-- no file has a fault, and these are their catalogues, their places and their surveys
+pub record AreKept (files : List File) (catalogues : List NamedCatalogue)
+    (places : List (List PlaceRowValue)) (surveys : List SurveyValue) : Type 0 where
+  pub right : All IsRight files
+  pub catalogues_are : AllZip IsNamedCatalogueIn (filter is_catalogue files) catalogues
+  pub places_are : AllZip ArePlacesIn (filter is_places files) places
+  pub surveys_are : HaveSurveys files surveys
+
+abbrev pub HaveKept : List File → Kept → Type 0
+HaveKept files kept =
+    AreKept files kept.catalogues.items kept.places.items kept.surveys.items
+
+-- what one file has
+abbrev pub IsOperandOf : File → Operand → Type 0
+IsOperandOf f (operand.Surveys surveys) = AreKept (f ∷ []) [] [] surveys.items
+IsOperandOf f (operand.Catalogue catalogue) = AreKept (f ∷ []) (catalogue ∷ []) [] []
+IsOperandOf f (operand.Places rows) = AreKept (f ∷ []) [] (rows ∷ []) []
+
+-- why one isn't read
+abbrev pub Refuses : File → Unread → Type 0
+Refuses f (Line line fault) = IsFaultOf f line fault
+Refuses f Memory = ⊤

@@ -1,0 +1,128 @@
+//! One file of a collection.
+
+ghost use Rattle.std.specs.Prelude.{◌≡◌, ℕ, List, MatchResult};
+ghost use Rattle.vic_survey.specs.Surveys.{AreSurveys};
+ghost use Rattle.vic_operands.specs.Files.{File as FileValue};
+ghost use Rattle.vic_operands.specs.Kinds.{kind_of};
+ghost use Rattle.vic_operands.specs.declared.kind.Kind.{Kind as KindValue};
+ghost use Rattle.vic_operands.specs.inner.Kept as spec;
+
+use crate::fault::OperandFault;
+use crate::kind::{Kind, kind_of};
+use std::alloc::{AllocError, AllocFailed, Global};
+use vic_survey::{Name, Survey, SurveysFault, read_surveys};
+use vic_table::{Catalogue, Places, Table, TableFault, read_table};
+
+/// A catalogue, and the name of its file.
+#[derive(Drop)]
+pub(crate) struct NamedCatalogue {
+    pub(crate) name: String,
+    pub(crate) catalogue: Catalogue,
+}
+
+/// What a file of a collection has.
+#[derive(Drop)]
+pub(crate) enum Operand {
+    Surveys(Vec<Survey>),
+    Catalogue(NamedCatalogue),
+    Places(Places),
+}
+
+/// Why a file isn't read.
+#[derive(Clone, Copy, Debug, PartialEq, Eq)]
+pub(crate) enum Unread {
+    /// The first line with a fault.
+    Line { line: u64, fault: OperandFault },
+    Memory,
+}
+
+impl From<AllocError> for Unread {
+    ghost use Rattle.vic_operands.specs.declared.operand.Unread.{Unread};
+
+    ghost from_gives = { λ _ e. e ≡ Unread.Memory };
+
+    fn from(_: AllocError) -> Unread {
+        Unread::Memory
+    }
+}
+
+impl<T: Drop> From<AllocFailed<T>> for Unread {
+    ghost use Rattle.vic_operands.specs.declared.operand.Unread.{Unread};
+
+    ghost from_gives = { λ _ e. e ≡ Unread.Memory };
+
+    fn from(_: AllocFailed<T>) -> Unread {
+        Unread::Memory
+    }
+}
+
+/// Reads a file, which has this name.
+pub(crate) fn read_operand(alloc: Global, name: Name, text: Vec<u8>) -> Result<Operand, Unread>
+    ensures { let file : FileValue = record { name = name; text = text.items } in
+        MatchResult result (spec.IsOperandOf file) (spec.Refuses file) }
+{
+    match kind_of(text.as_slice()) {
+        Kind::Surveys => surveys_in(alloc, text.as_slice()),
+        Kind::Log => survey_of(alloc, name, text.as_slice()),
+        Kind::Table => table_in(alloc, &name, text),
+    }
+}
+
+/// The surveys of a text of surveys.
+fn surveys_in(alloc: Global, text: &[u8]) -> Result<Operand, Unread>
+    requires { kind_of text.now ≡ KindValue.Surveys }
+    ensures { (name : List ℕ) → let file : FileValue = record { name = name; text = text.now } in
+        MatchResult result (spec.IsOperandOf file) (spec.Refuses file) }
+{
+    match read_surveys(alloc, text) {
+        Ok(surveys) => {
+            are_surveys(surveys.as_slice());
+            Ok(Operand::Surveys(surveys))
+        }
+        Err(SurveysFault::Line { line }) => Err(Unread::Line {
+            line: line as u64,
+            fault: OperandFault::Survey,
+        }),
+        Err(SurveysFault::Memory) => Err(Unread::Memory),
+    }
+}
+
+/// Surveys are what surveys can say: this only tells the proof so.
+fn are_surveys(surveys: &[Survey])
+    ensures { AreSurveys surveys.now }
+{
+    for survey in surveys {
+        let _field = survey.field();
+    }
+}
+
+/// The survey of a log.
+fn survey_of(alloc: Global, name: Name, text: &[u8]) -> Result<Operand, Unread>
+    requires { kind_of text.now ≡ KindValue.Log }
+    ensures { let file : FileValue = record { name = name; text = text.now } in
+        MatchResult result (spec.IsOperandOf file) (spec.Refuses file) }
+{
+    let mut surveys = Vec::with_capacity(alloc, 1)?;
+    surveys.push(Survey::of(alloc, name, text)?)?;
+    Ok(Operand::Surveys(surveys))
+}
+
+/// The catalogue or the places of a table.
+fn table_in(alloc: Global, name: &Name, text: Vec<u8>) -> Result<Operand, Unread>
+    requires { kind_of text.items ≡ KindValue.Table }
+    ensures { let file : FileValue = record { name = name.now; text = text.items } in
+        MatchResult result (spec.IsOperandOf file) (spec.Refuses file) }
+{
+    match read_table(text) {
+        Ok(Table::Catalogue(catalogue)) => {
+            let name = String::from_str(alloc, name.as_str())?;
+            Ok(Operand::Catalogue(NamedCatalogue { name, catalogue }))
+        }
+        Ok(Table::Places(places)) => Ok(Operand::Places(places)),
+        Err(TableFault::Line { line, fault }) => Err(Unread::Line {
+            line: u64::from(line),
+            fault: OperandFault::Table(fault),
+        }),
+        Err(TableFault::Memory) => Err(Unread::Memory),
+    }
+}

@@ -1,0 +1,251 @@
+//! The files of a collection, one after the other.
+
+ghost use Rattle.std.specs.Prelude.{◌≡◌, [], ◌∷◌, ◌++◌, List, ◌&&◌, ◌<◌, IfOk, IsSomeAnd, filter, is_none, is_some, length, map, slice_get, string_bytes};
+ghost use Rattle.vic_survey.specs.Names.{IsName};
+ghost use Rattle.vic_collection.specs.Confused.{AreDistinct};
+ghost use Rattle.vic_operands.specs.Files.{is_catalogue};
+ghost use Rattle.vic_operands.specs.Files.{File as FileValue};
+ghost use Rattle.vic_operands.specs.Gathered as spec;
+ghost use Rattle.vic_operands.specs.Taken.{HasTaken};
+ghost use Rattle.vic_operands.specs.inner.Kept.{HaveKept, IsOperandOf};
+ghost use Rattle.vic_operands.specs.inner.States.{HasTakenBy};
+
+use crate::fault::{OperandFault, Refusal};
+use crate::gathered::Gathered;
+use crate::operand::{NamedCatalogue, Operand, Unread, read_operand};
+use std::alloc::{AllocError, Global};
+use vic_collection::{Collection, first_confused};
+use vic_survey::{Name, Survey};
+use vic_table::{Catalogue, Places, TableLineFault};
+
+/// What is known of the files of a collection that were taken so far.
+#[derive(Drop)]
+pub struct Operands {
+    state: State,
+}
+
+#[derive(Drop)]
+enum State {
+    /// The name of one is none.
+    Unnamed,
+    /// Of the first that has a fault, this is the first.
+    Refused(Refusal),
+    /// None has a fault.
+    Kept(Kept),
+}
+
+/// What files have that have no fault.
+#[derive(Drop)]
+struct Kept {
+    catalogues: Vec<NamedCatalogue>,
+    places: Vec<Places>,
+    surveys: Vec<Survey>,
+}
+
+impl Operands {
+    /// Before the first file.
+    pub fn begin(alloc: Global) -> Operands
+        ensures { HasTaken [] result }
+    {
+        Operands {
+            state: State::Kept(Kept {
+                catalogues: Vec::new(alloc),
+                places: Vec::new(alloc),
+                surveys: Vec::new(alloc),
+            }),
+        }
+    }
+
+    /// Takes one more file. It fails only if memory is refused.
+    pub fn add(self, alloc: Global, name: &str, text: Vec<u8>) -> Result<Operands, AllocError>
+        ensures { IfOk result (λ more. (files : List FileValue) → HasTaken files self
+            → HasTaken (files ++ record { name = name.now; text = text.items } ∷ []) more) }
+    {
+        let Some(log_name) = Name::new(String::from_str(alloc, name)?) else {
+            return Ok(Operands {
+                state: State::Unnamed,
+            });
+        };
+        Ok(Operands {
+            state: state_with(alloc, self.state, log_name, text)?,
+        })
+    }
+
+    /// What the files are together. It fails only if memory is refused.
+    pub fn finish(self, alloc: Global) -> Result<Gathered, AllocError>
+        ensures { IfOk result (λ gathered. (files : List FileValue) → HasTaken files self
+            → spec.IsGathered files gathered) }
+    {
+        match self.state {
+            State::Unnamed => Ok(Gathered::Usage),
+            State::Refused(refusal) => Ok(Gathered::Refused(refusal)),
+            State::Kept(kept) => gather(alloc, kept),
+        }
+    }
+}
+
+/// What is known of files and one more.
+fn state_with(alloc: Global, state: State, name: Name, text: Vec<u8>) -> Result<State, AllocError>
+    ensures { IfOk result (λ more. (files : List FileValue) → HasTakenBy files state → IsName name
+        → HasTakenBy (files ++ record { name = name; text = text.items } ∷ []) more) }
+{
+    match state {
+        State::Unnamed => Ok(State::Unnamed),
+        State::Refused(refusal) => Ok(State::Refused(refusal)),
+        State::Kept(kept) => with_file(alloc, kept, name, text),
+    }
+}
+
+/// What files and one more are.
+fn with_file(alloc: Global, kept: Kept, name: Name, text: Vec<u8>) -> Result<State, AllocError>
+    ensures { IfOk result (λ more. (files : List FileValue) → HasTakenBy files (State.Kept kept)
+        → HasTakenBy (files ++ record { name = name; text = text.items } ∷ []) more) }
+{
+    let file = String::from_str(alloc, name.as_str())?;
+    match read_operand(alloc, name, text) {
+        Ok(operand) => Ok(State::Kept(with_operand(kept, operand)?)),
+        Err(Unread::Line { line, fault }) => Ok(State::Refused(Refusal {
+            name: file,
+            line,
+            fault,
+        })),
+        Err(Unread::Memory) => Err(AllocError),
+    }
+}
+
+/// What files and one more have.
+fn with_operand(kept: Kept, operand: Operand) -> Result<Kept, AllocError>
+    ensures { IfOk result (λ more. (files : List FileValue) (file : FileValue)
+        → HaveKept files kept → IsOperandOf file operand → HaveKept (files ++ file ∷ []) more) }
+{
+    let Kept {
+        mut catalogues,
+        mut places,
+        mut surveys,
+    } = kept;
+    match operand {
+        Operand::Surveys(more) => {
+            surveys = with_surveys(surveys, more)?;
+            Ok(Kept {
+                catalogues,
+                places,
+                surveys,
+            })
+        }
+        Operand::Catalogue(catalogue) => {
+            catalogues.push(catalogue)?;
+            Ok(Kept {
+                catalogues,
+                places,
+                surveys,
+            })
+        }
+        Operand::Places(rows) => {
+            places.push(rows)?;
+            Ok(Kept {
+                catalogues,
+                places,
+                surveys,
+            })
+        }
+    }
+}
+
+/// Surveys, and others behind them.
+fn with_surveys(surveys: Vec<Survey>, more: Vec<Survey>) -> Result<Vec<Survey>, AllocError>
+    ensures { IfOk result (λ all. all.items ≡ surveys.items ++ more.items) }
+{
+    let mut surveys = surveys;
+    for survey in more {
+        surveys.push(survey)?;
+    }
+    Ok(surveys)
+}
+
+/// What files are together that have no fault.
+fn gather(alloc: Global, kept: Kept) -> Result<Gathered, AllocError>
+    ensures { IfOk result (λ gathered. (files : List FileValue) → spec.AreNamed files
+        → HaveKept files kept → spec.IsGathered files gathered) }
+{
+    let Kept {
+        mut catalogues,
+        mut places,
+        surveys,
+    } = kept;
+    if catalogues.as_slice().len() != 1 {
+        return Ok(Gathered::Usage);
+    }
+    if places.as_slice().len() > 1 {
+        return Ok(Gathered::Usage);
+    }
+    match catalogues.pop() {
+        Some(catalogue) => together(alloc, catalogue, places.pop(), surveys),
+        None => Ok(Gathered::Usage),
+    }
+}
+
+/// What a catalogue, the places of logs and surveys are together.
+fn together(
+    alloc: Global,
+    catalogue: NamedCatalogue,
+    rows: Option<Places>,
+    surveys: Vec<Survey>,
+) -> Result<Gathered, AllocError>
+    ensures { IfOk result (λ gathered. (files : List FileValue) → spec.AreNamed files
+        → spec.AreTogether files
+        (record { catalogue = catalogue.catalogue; rows = rows; surveys = surveys.items })
+        → map (λ f. f.name) (filter is_catalogue files) ≡ string_bytes catalogue.name ∷ []
+        → spec.IsGathered files gathered) }
+{
+    match first_confused(alloc, surveys.as_slice())? {
+        Some(index) => Ok(Gathered::Refused(same_name(alloc, surveys.as_slice(), index)?)),
+        None => distinct(alloc, catalogue, rows, surveys),
+    }
+}
+
+/// That the log at this index is found by what a log before it is found by.
+fn same_name(alloc: Global, surveys: &[Survey], index: usize) -> Result<Refusal, AllocError>
+    requires { index < length surveys.now }
+    ensures name { IfOk result (λ r. IsSomeAnd (slice_get surveys.now index)
+        (λ s. string_bytes r.name ≡ s.name)) }
+    ensures line { IfOk result (λ r. r.line ≡ 1) }
+    ensures fault { IfOk result (λ r. r.fault ≡ OperandFault.SameName) }
+{
+    Ok(Refusal {
+        name: String::from_str(alloc, surveys[index].name().as_str())?,
+        line: 1,
+        fault: OperandFault::SameName,
+    })
+}
+
+/// The same of surveys of logs that can be told apart.
+fn distinct(
+    alloc: Global,
+    catalogue: NamedCatalogue,
+    rows: Option<Places>,
+    surveys: Vec<Survey>,
+) -> Result<Gathered, AllocError>
+    ensures { IfOk result (λ gathered. (files : List FileValue) → spec.AreNamed files
+        → spec.AreTogether files
+        (record { catalogue = catalogue.catalogue; rows = rows; surveys = surveys.items })
+        → map (λ f. f.name) (filter is_catalogue files) ≡ string_bytes catalogue.name ∷ []
+        → AreDistinct surveys.items → spec.IsGathered files gathered) }
+{
+    let NamedCatalogue { name, catalogue } = catalogue;
+    if are_unasked(&catalogue, &rows) {
+        return Ok(Gathered::Refused(Refusal {
+            name,
+            line: 1,
+            fault: OperandFault::Table(TableLineFault::Columns),
+        }));
+    }
+    let collection = Collection::new(alloc, catalogue, rows, surveys)?;
+    Ok(Gathered::Collection(collection))
+}
+
+/// Whether there are places of logs, and a catalogue doesn't ask for places.
+fn are_unasked(catalogue: &Catalogue, rows: &Option<Places>) -> bool
+    ensures { result ≡ (is_some rows.now && is_none catalogue.now.columns.place) }
+{
+    rows.is_some() && catalogue.columns().place.is_none()
+}
