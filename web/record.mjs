@@ -1,4 +1,5 @@
 /** A page that was saved: draws the object that stands in it. */
+import { adaptedCollection, adaptedLog } from "./adapted.mjs";
 import { collectionView, headlineOf } from "./collection.mjs";
 import { at } from "./elements.mjs";
 import { Pane } from "./pane.mjs";
@@ -9,7 +10,8 @@ import { tell } from "./told.mjs";
 import { titleOf, view } from "./view.mjs";
 import { printable } from "./words.mjs";
 
-const object = JSON.parse(at("object").textContent ?? ""), shown = at("told");
+const said = JSON.parse(at("object").textContent ?? ""), shown = at("told");
+const object = said.schema === 1 ? said : "items" in said ? adaptedCollection(said) : adaptedLog(said);
 if ("items" in object) {
   shown.replaceChildren(...collectionView(object));
   document.title = `${headlineOf(object)} ${printable(object.name)}`;
