@@ -5,6 +5,7 @@ ghost use Rattle.vic_log.specs.Order.{entries};
 ghost use Rattle.vic_tree.specs.Ranges.{is_open_in};
 ghost use Rattle.vic_walk.specs.Steps.{AreLogParts};
 ghost use Rattle.vic_verdict.specs.Facts.{AreFactsOf};
+ghost use Rattle.vic_verdict.specs.Possible.{IsPossible};
 ghost use Rattle.vic_verdict.specs.Verdict.{IsVerdict};
 ghost use Rattle.vic_object.specs.Told as spec;
 ghost use Rattle.vic_object.specs.inner.Certain.{AreCertainKeys};
@@ -71,6 +72,7 @@ fn nothing(alloc: Global) -> Own
 
 /// What a possible log with this verdict says.
 fn own_if_possible(alloc: Global, log: &Log, verdict: &Verdict) -> Result<Own, AllocError>
+    requires { IsPossible (entries log.now.lines) }
     ensures field { IfOk result (λ own. spec.IsFieldTold log.now.lines own.field) }
     ensures keys { IfOk result (λ own. AreCertainKeys log.now.lines own.keys) }
     ensures weakest { IfOk result (λ own.
@@ -78,8 +80,7 @@ fn own_if_possible(alloc: Global, log: &Log, verdict: &Verdict) -> Result<Own, A
 {
     match facts_and_parts_of::<RangeSet>(alloc, log)? {
         Ok((facts, log_parts)) => own_of_facts(alloc, log, verdict, facts, log_parts),
-        // the log is possible: this only spares the proof of it
-        Err(_) => Err(AllocError),
+        Err(_) => unreachable!(),
     }
 }
 

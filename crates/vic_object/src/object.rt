@@ -1,6 +1,9 @@
 //! What the object of a log tells of it, and the object of a text.
 
-ghost use Rattle.std.specs.Prelude.{◌≡◌, IfOk};
+ghost use Rattle.std.specs.Prelude.{◌≡◌, ◌≤◌, IfOk};
+ghost use Rattle.vic_frame.specs.Masks.{BitMask};
+ghost use Rattle.vic_frame.specs.declared.uid.TheConstants.{UID_BITS};
+ghost use Rattle.vic_verdict.specs.declared.judging.Verdict.TheVariants.{Unsettled};
 ghost use Rattle.vic_report.proofs.AllFindings.{report_begins};
 ghost use Rattle.vic_report.specs.Reports.{verdict_of};
 ghost use Rattle.vic_object.specs.Object.{IsObjectOf};
@@ -13,7 +16,7 @@ use crate::text::push_object;
 use crate::told::LogTold;
 use std::alloc::{AllocError, Global};
 use vic_answer::{HasVerdict, Judgement, WrittenText, answer_of, answer_status, answer_text};
-use vic_frame::{UID_BITS, Uid};
+use vic_frame::Uid;
 use vic_log::Log;
 use vic_report::report;
 use vic_verdict::Verdict;
@@ -74,26 +77,21 @@ fn told_of_log(alloc: Global, log: Log) -> Result<LogTold, AllocError>
         hidden,
         deaf,
         field,
-        unnoticed: unnoticed_of(&verdict)?,
+        unnoticed: unnoticed_of(&verdict),
     })
 }
 
 /// The least UID of an unsettled mask.
-fn unnoticed_of(verdict: &Verdict) -> Result<Option<Uid>, AllocError>
-    ensures { IfOk result (λ uid. uid ≡ spec.unnoticed_of verdict.now) }
+fn unnoticed_of(verdict: &Verdict) -> Option<Uid>
+    requires { (m : BitMask) → verdict.now ≡ Unsettled m → m.len ≤ UID_BITS }
+    ensures { result ≡ spec.unnoticed_of verdict.now }
 {
     match *verdict {
-        Verdict::Unsettled(mask) => {
-            // it has at most 56 bits: this only spares the proof of it
-            if mask.len() > UID_BITS {
-                return Err(AllocError);
-            }
-            Ok(Some(mask.least_uid()))
-        }
+        Verdict::Unsettled(mask) => Some(mask.least_uid()),
         Verdict::Complete { .. }
         | Verdict::Absent(_)
         | Verdict::Unlisted(_)
         | Verdict::Doubtful(_)
-        | Verdict::Impossible { .. } => Ok(None),
+        | Verdict::Impossible { .. } => None,
     }
 }

@@ -11,6 +11,11 @@ use Rattle.vic_object.proofs.object.told_of_log.Goals as goal
 pub own_of-requires : goal.own_of-requires
 own_of-requires c = subst (IsVerdict c.args.log.lines) (sym c.verdict-verdict.ensures) (report_begins c.args.log.lines c.in_ok-report.report c.in_ok-report.ensures)
 
+pub unnoticed_of-requires : goal.unnoticed_of-requires
+unnoticed_of-requires c m is =
+    let told = subst (IsVerdict c.args.log.lines) is (subst (IsVerdict c.args.log.lines) (sym c.verdict-verdict.ensures) (report_begins c.args.log.lines c.in_ok-report.report c.in_ok-report.ensures)) in
+    told.3.0.0
+
 pub returns : goal.returns
 returns c =
     let lines = c.args.log.lines in
@@ -36,5 +41,5 @@ returns c =
         told = subst (λ w. IsRereadBy lines deaf_lines w c.in_ok-deaf.deaf) v (c.in_ok-deaf.ensures lines keys);
       };
       field = c.in_ok-field.ensures.field;
-      unnoticed = c.in_ok-unnoticed_of.ensures ∙ ap unnoticed_of v;
+      unnoticed = c.unnoticed_of.ensures ∙ ap unnoticed_of v;
     }
