@@ -1,11 +1,14 @@
 -- The cells of an item, and its logs.
-use Rattle.vic_result.proofs.Words.{not, ◌≡◌, ◌∙◌, ◌||◌, ◌&&◌, ℕ, Bool, true, false, List, [], ◌∷◌, Option, None, Some, ap, refl, slice_get, slice_get_within, get_or_from_slice_get, eq-eqb}
+use Rattle.vic_result.proofs.Words.{not, ◌≡◌, ◌∙◌, ◌||◌, ◌&&◌, ℕ, Bool, true, false, List, [], ◌∷◌, Option, None, Some, ap, refl, slice_get, slice_get_within, get_or_from_slice_get, eq-eqb, ◌<◌, length, get_or, nat_eq, map, subst, sym, length-map}
 use Rattle.std.proofs.lemmas.List.Folds.{list_any_at}
+use Rattle.vic_verdict.specs.Rising.{IsListOf}
+use Rattle.std.proofs.lemmas.List.{get_or-map}
+use Rattle.vic_collection.specs.declared.unlisted.UnlistedUid.{UnlistedUid}
 use Rattle.vic_table.specs.Values.{ItemValue}
 use Rattle.vic_collection.specs.Collections.{CollectionValue, certain_logs, is_certain_in, is_certain_somewhere, is_named, is_unexpected, is_number, is_of_item, is_undecided_in, possible_logs}
 use Rattle.vic_result.specs.ResultCells.{names_text}
 use Rattle.vic_result.specs.ResultTable.{cells_by, logs_by, uid_cells}
-use Rattle.vic_result.specs.inner.NamesAt.{names_at}
+use Rattle.vic_result.specs.NamesAt.{names_at}
 use Rattle.vic_result.proofs.NamedLogs.{names_at-positions}
 
 pub uid_cells-at : (c : CollectionValue) (state : List ℕ) (u : ℕ) → (state ∷ names_text (names_at c.surveys (certain_logs c u)) ∷ names_text (names_at c.surveys (possible_logs c u)) ∷ []) ≡ uid_cells c state u
@@ -30,10 +33,10 @@ unexpected_named c u is = front (is_certain_somewhere c u) _ _ is where
   front true b d e = refl
   front false b d e = absurd cc
 
-pub and_not : (a b : Bool) → a ≡ true → b ≡ false → (a && not b) ≡ true
-and_not a b d e = rw (d, e) refl
-
-pub not_and : (a b : Bool) → (a && not b) ≡ true → (a ≡ true) × (b ≡ false)
-not_and true false e = (refl, refl)
-not_and true true e = absurd cc
-not_and false b e = absurd cc
+-- a UID of a list of them, with more beside it
+pub unexpected_at : (P : ℕ → Type 0) (xs : List UnlistedUid) → IsListOf P (map (λ x. x.uid) xs) → (k : ℕ) (d : UnlistedUid) → k < length xs → P (get_or xs k d).uid
+unexpected_at P xs list k d lt =
+    let u = (get_or xs k d).uid in
+    let at : get_or (map (λ (x : UnlistedUid). x.uid) xs) k 0 ≡ u = get_or-map (λ (x : UnlistedUid). x.uid) xs k d 0 lt in
+    let within : k < length (map (λ (x : UnlistedUid). x.uid) xs) = subst (λ n. k < n) (sym (length-map xs (λ (x : UnlistedUid). x.uid))) lt in
+    (list.members u).0 (list_any_at (nat_eq u) (map (λ (x : UnlistedUid). x.uid) xs) k 0 within (ap (nat_eq u) at ∙ eq-eqb u u refl))

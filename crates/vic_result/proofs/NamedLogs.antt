@@ -4,7 +4,7 @@ use Rattle.std.specs.Option.{option_map_or}
 use Rattle.vic_survey.specs.Surveys.{SurveyValue}
 use Rattle.vic_collection.specs.Collections.{positions_from}
 use Rattle.vic_result.specs.ResultTable.{names_where}
-use Rattle.vic_result.specs.inner.NamesAt.{name_at, names_at}
+use Rattle.vic_result.specs.NamesAt.{name_at, names_at}
 
 -- the element behind some others
 slice_get-behind : {A : Type 0} (before : List A) (x : A) (xs : List A) → slice_get (before ++ x ∷ xs) (length before) ≡ Some x

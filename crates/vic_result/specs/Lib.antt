@@ -1,6 +1,9 @@
 pub mod StateNames
+pub mod NamesAt
 pub mod ResultCells
 pub mod ResultTable
+pub mod Answered
+pub mod LeastMargin
 pub mod LeftOpen
 pub mod ResultObject
 pub mod inner

@@ -1,11 +1,13 @@
 -- The parts of the object of a collection, in JSON (profile).
-use Rattle.std.specs.Prelude.{◌≡◌, ℕ, Bool, nat_lt, Option, List, [], ◌++◌, codes, count_by, decimal, length, map, unwrap_or}
-use Rattle.std.specs.List.{flat_map}
+use Rattle.std.specs.Prelude.{◌≡◌, ℕ, Bool, nat_lt, Option, Some, None, List, [], ◌++◌, codes, count_by, decimal, length, map, unwrap_or}
+use Rattle.std.specs.List.{AllZip, flat_map}
 use Rattle.std.specs.Str.{bytes_eq}
+use Rattle.vic_frame.specs.Masks.{BitMask}
+use Rattle.vic_log.specs.Lines.{ends_with, lf}
 use Rattle.vic_log.specs.Names.{line_fault_name}
 use Rattle.vic_report.specs.declared.shown.ShownUid.{ShownUid}
 use Rattle.vic_tree.specs.declared.open_masks.OpenMasks.{OpenMasks}
-use Rattle.vic_text.specs.Json.{json_bool, json_list, json_mask, json_option, json_string, json_uid}
+use Rattle.vic_text.specs.Json.{comma_joined, json_bool, json_list, json_mask, json_option, json_string, json_uid}
 use Rattle.vic_survey.specs.Surveys.{SurveyValue}
 use Rattle.vic_survey.specs.declared.survey.Field.{Field}
 use Rattle.vic_survey.specs.declared.survey.Field.TheVariants.{Refused, Impossible, Possible}
@@ -13,7 +15,16 @@ use Rattle.vic_survey.specs.declared.survey.Seen.{Seen}
 use Rattle.vic_table.specs.Cells.{cells_of}
 use Rattle.vic_table.specs.Values.{ItemValue}
 use Rattle.vic_collection.specs.Collections.{CollectionValue, certain_logs, possible_logs}
-use Rattle.vic_collection.specs.Joins.{is_left_over, place_of_log}
+use Rattle.vic_collection.specs.Answers.{IsAnswer}
+use Rattle.vic_collection.specs.Findings.{AreFindings}
+use Rattle.vic_collection.specs.Joins.{is_left_over, place_of_log, places_without_log}
+use Rattle.vic_collection.specs.declared.answer.CollectionAnswer.{CollectionAnswer}
+use Rattle.vic_collection.specs.declared.answer.CollectionAnswer.TheVariants as kind
+use Rattle.vic_collection.specs.declared.findings.Findings.{Findings}
+use Rattle.vic_collection.specs.declared.unlisted.UnlistedUid.{UnlistedUid}
+use Rattle.vic_result.specs.Answered.{answer_line, answer_status}
+use Rattle.vic_result.specs.LeastMargin.{least_margin}
+use Rattle.vic_result.specs.declared.margins.LogMargin.{LogMargin}
 use Rattle.vic_collection.specs.States.{state_of}
 use Rattle.vic_collection.specs.declared.state.State.{State}
 use Rattle.vic_result.specs.StateNames.{all_states, state_name}
@@ -146,3 +157,83 @@ log_json c o s =
 -- the same as a text: with the masks that the log leaves open
 abbrev pub IsLogText : CollectionValue → SurveyValue → List ℕ → Type 0
 IsLogText c s text = (o : OpenMasks) × AreLeftOpen c s o × (text ≡ log_json c o s)
+
+-- ---- the members of the object
+
+abbrev pub answer_json : ℕ → List ℕ → List ℕ
+answer_json status line =
+    codes "{\"schema\":2,\"status\":" ++ decimal status
+    ++ codes ",\"answer\":" ++ json_string line
+
+-- a margin, its weakest mask, and the log that has it
+abbrev pub margin_json : ℕ → BitMask → ℕ → List ℕ
+margin_json margin weakest log =
+    codes ",\"margin\":{\"margin\":" ++ decimal margin
+    ++ codes ",\"weakest\":" ++ json_mask weakest
+    ++ codes ",\"log\":" ++ decimal log ++ codes "}"
+
+-- how many items are in each state, the columns, and whether the catalogue ends by LF
+abbrev pub catalogue_json : CollectionValue → ℕ → List ℕ
+catalogue_json c unexpected =
+    codes ",\"counts\":" ++ counts_json (map (state_of c) c.catalogue.items) unexpected
+    ++ codes ",\"columns\":" ++ cells_json (separator_of c) c.catalogue.head
+    ++ codes ",\"ended\":" ++ json_bool (ends_with lf c.catalogue.text)
+
+abbrev pub items_json : CollectionValue → List ℕ
+items_json c =
+    codes ",\"items\":[" ++ comma_joined (map (item_of_json c) c.catalogue.items) ++ codes "]"
+
+-- the mask that is unsettled, and the places without a log
+abbrev pub lacking_json : Option BitMask → List (List ℕ) → List ℕ
+lacking_json unsettled places =
+    codes ",\"unsettled\":" ++ json_option json_mask unsettled
+    ++ codes ",\"without_log\":" ++ json_list (map json_string places)
+
+-- logs, of which these are the texts
+abbrev pub logs_list_json : List (List ℕ) → List ℕ
+logs_list_json texts = codes ",\"logs\":[" ++ comma_joined texts ++ codes "]}"
+
+-- ---- the object
+
+-- the least margin of the logs, if the collection is complete and has logs
+abbrev pub margin_found : Option LogMargin → List ℕ
+margin_found None = []
+margin_found (Some m) = margin_json m.margin m.weakest m.log
+
+abbrev pub margin_member : CollectionValue → CollectionAnswer → List ℕ
+margin_member c (kind.Complete count) = margin_found (least_margin 0 c.surveys)
+margin_member c (kind.NotPossible log) = []
+margin_member c (kind.Absent u) = []
+margin_member c (kind.Unlisted u) = []
+margin_member c (kind.Unsettled m) = []
+margin_member c (kind.Doubtful u) = []
+margin_member c (kind.Misplaced u) = []
+margin_member c (kind.Returned u) = []
+margin_member c (kind.NotCounted u) = []
+margin_member c (kind.WithoutLog place) = []
+margin_member c (kind.LeftOver log) = []
+
+abbrev pub extra_of : CollectionValue → UnlistedUid → List ℕ
+extra_of c x = extra_json c x.uid x.line
+
+abbrev pub extras_json : CollectionValue → List UnlistedUid → List ℕ
+extras_json c extras =
+    codes ",\"unexpected\":[" ++ comma_joined (map (extra_of c) extras) ++ codes "]"
+
+-- the text of the object, by the findings, the answer, and the texts of the logs
+abbrev pub object_json : CollectionValue → Findings → CollectionAnswer → List (List ℕ) → List ℕ
+object_json c f a logs =
+    answer_json (answer_status c a) (answer_line c a) ++ margin_member c a
+    ++ catalogue_json c (length f.unlisted.items) ++ items_json c
+    ++ extras_json c f.unlisted.items
+    ++ lacking_json f.unsettled (places_without_log c) ++ logs_list_json logs
+
+-- a text is the object of the collection
+pub record IsObjectOf (c : CollectionValue) (text : List ℕ) : Type 0 where
+  pub findings : Findings
+  pub are_findings : AreFindings c findings
+  pub answer : CollectionAnswer
+  pub is_answer : IsAnswer c answer
+  pub logs : List (List ℕ)
+  pub are_logs : AllZip (IsLogText c) c.surveys logs
+  pub text_is : text ≡ object_json c findings answer logs

@@ -1,5 +1,4 @@
 -- Definitions that private contracts alone cite.
-pub mod NamesAt
 pub mod ItemLogs
 pub mod Commas
 pub mod Logs

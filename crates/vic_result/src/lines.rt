@@ -5,7 +5,7 @@ ghost use Rattle.vic_table.specs.Columns.{separator_byte};
 ghost use Rattle.vic_result.specs.ResultCells.{cells_text, names_text};
 ghost use Rattle.vic_result.specs.ResultTable.{row_of_uid};
 ghost use Rattle.vic_result.specs.StateNames.{state_name};
-ghost use Rattle.vic_result.specs.inner.NamesAt.{names_at};
+ghost use Rattle.vic_result.specs.NamesAt.{names_at};
 
 use crate::head::push_row_of_uid;
 use crate::names::push_uid_cells;

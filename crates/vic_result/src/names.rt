@@ -3,7 +3,7 @@
 ghost use Rattle.std.specs.Prelude.{◌≡◌, ◌++◌, ◌∷◌, [], ℕ, List, OnOk, IfOk, codes};
 ghost use Rattle.std.specs.List.{flat_map};
 ghost use Rattle.vic_result.specs.ResultCells.{cells_text, names_text};
-ghost use Rattle.vic_result.specs.inner.NamesAt.{name_at, names_at};
+ghost use Rattle.vic_result.specs.NamesAt.{name_at, names_at};
 
 use crate::cells::push_cell;
 use std::alloc::{AllocError, Global};
@@ -75,7 +75,7 @@ fn push_other(text: &mut Vec<u8>, name: &[u8]) -> Result<(), AllocError>
 }
 
 /// The name of the log at a position.
-fn name_at(surveys: &[Survey], log: usize) -> &[u8]
+pub(crate) fn name_at(surveys: &[Survey], log: usize) -> &[u8]
     ensures { result.now ≡ name_at surveys.now log }
 {
     match surveys.get(log) {

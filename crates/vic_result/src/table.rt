@@ -9,7 +9,6 @@ ghost use Rattle.vic_result.specs.inner.ItemLogs.{ArePossibleLogs};
 
 use crate::head::{push_head, push_mark};
 use crate::lines::{In, push_item, push_unexpected};
-use crate::unexpected::unexpected_uids;
 use std::alloc::{AllocError, Global};
 use vic_collection::{Collection, PossibleLogs};
 use vic_frame::Uid;
@@ -20,8 +19,8 @@ pub fn table_text(alloc: Global, collection: &Collection) -> Result<Vec<u8>, All
     ensures { IfOk result (λ text. IsTableOf collection.now text.items) }
 {
     let possible = PossibleLogs::of(alloc, collection)?;
-    let unexpected = unexpected_uids(alloc, collection)?;
-    table_with(alloc, collection, &possible, unexpected.as_slice())
+    let unexpected = collection.unexpected(alloc)?;
+    table_with(alloc, collection, &possible, &unexpected)
 }
 
 /// In which logs a UID is.

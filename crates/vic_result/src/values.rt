@@ -104,3 +104,27 @@ fn push_other_cell(text: &mut Vec<u8>, cell: &[u8]) -> Result<(), AllocError>
     text.extend_from_slice(b",")?;
     push_json_string(text, cell)
 }
+
+/// Appends a list of strings.
+pub(crate) fn push_strings(text: &mut Vec<u8>, values: &[&[u8]]) -> Result<(), AllocError>
+    ensures { OnOk result (text.new.items ≡ text.old.items
+        ++ json_list (map json_string (map (λ v. v.now) values.now))) }
+{
+    text.extend_from_slice(b"[")?;
+    if let Some((first, others)) = values.split_first() {
+        push_json_string(text, first)?;
+        push_other_strings(text, others)?;
+    }
+    text.extend_from_slice(b"]")
+}
+
+/// Appends strings, each behind a comma.
+fn push_other_strings(text: &mut Vec<u8>, values: &[&[u8]]) -> Result<(), AllocError>
+    ensures { OnOk result (text.new.items ≡ text.old.items
+        ++ flat_map (λ v. codes "," ++ v) (map json_string (map (λ v. v.now) values.now))) }
+{
+    for value in values {
+        push_other_cell(text, value)?;
+    }
+    Ok(())
+}

@@ -1,5 +1,5 @@
 use Rattle.vic_result.proofs.Words.{◌≡◌, ◌++◌, codes, drop, flat_map}
-use Rattle.vic_result.specs.inner.NamesAt.{names_at}
+use Rattle.vic_result.specs.NamesAt.{names_at}
 use Rattle.vic_result.proofs.names.push_others.Given as goal
 
 abbrev pub invariant-loop-log : goal.invariant-loop-log

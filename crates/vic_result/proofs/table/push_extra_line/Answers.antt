@@ -4,7 +4,7 @@ use Rattle.vic_table.specs.Columns.{separator_byte}
 use Rattle.vic_table.specs.Values.{CatalogueValue}
 use Rattle.vic_result.specs.ResultCells.{cells_text, names_text}
 use Rattle.vic_result.specs.ResultTable.{row_of_uid, uid_cells}
-use Rattle.vic_result.specs.inner.NamesAt.{names_at}
+use Rattle.vic_result.specs.NamesAt.{names_at}
 use Rattle.vic_result.proofs.ItemCells.{uid_cells-at, unexpected_named}
 use Rattle.vic_result.proofs.table.push_extra_line.Goals as goal
 

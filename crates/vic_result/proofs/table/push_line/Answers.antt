@@ -7,7 +7,7 @@ use Rattle.vic_collection.specs.States.{state_of}
 use Rattle.vic_result.specs.ResultCells.{cells_text, names_text}
 use Rattle.vic_result.specs.ResultTable.{cells_by, item_line, logs_by}
 use Rattle.vic_result.specs.StateNames.{state_name}
-use Rattle.vic_result.specs.inner.NamesAt.{names_at}
+use Rattle.vic_result.specs.NamesAt.{names_at}
 use Rattle.vic_result.proofs.Elements.{item_at, some_and, some_at}
 use Rattle.vic_result.proofs.ItemCells.{cells_by-at}
 use Rattle.vic_result.proofs.table.push_line.Goals as goal
