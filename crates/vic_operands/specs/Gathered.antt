@@ -5,7 +5,7 @@ use Rattle.vic_survey.specs.Names.{IsName}
 use Rattle.vic_survey.specs.Surveys.{SurveyValue}
 use Rattle.vic_table.specs.declared.fault.TableLineFault.TheVariants.{Columns}
 use Rattle.vic_collection.specs.Collections.{CollectionValue, asks_for_places}
-use Rattle.vic_collection.specs.Confused.{AreDistinct, IsFirstConfused}
+use Rattle.vic_collection.specs.Alike.{AreUnlike, IsFirstAlike}
 use Rattle.vic_operands.specs.Files.{ArePlacesIn, File, HaveSurveys, IsCatalogueIn, IsFaultOf, IsRight, is_catalogue, is_places}
 use Rattle.vic_operands.specs.declared.fault.OperandFault.TheVariants.{Table, SameName}
 use Rattle.vic_operands.specs.declared.fault.Refusal.{Refusal}
@@ -42,10 +42,10 @@ pub record AreTogether (files : List File) (c : CollectionValue) : Type 0 where
   pub rows : AllZip ArePlacesIn (filter is_places files) (option_to_list c.rows)
   pub surveys : HaveSurveys files c.surveys
 
--- the first log that is found by what a log before it is found by
+-- the first log that is known by what a log before it is known by
 pub record IsSameName (c : CollectionValue) (r : Refusal) : Type 0 where
   pub index : ℕ
-  pub first : IsFirstConfused c.surveys index
+  pub first : IsFirstAlike c index
   pub survey : SurveyValue
   pub there : slice_get c.surveys index ≡ Some survey
   pub name : string_bytes r.name ≡ survey.name
@@ -54,7 +54,7 @@ pub record IsSameName (c : CollectionValue) (r : Refusal) : Type 0 where
 
 -- there are places of logs, and the catalogue, which has this name, doesn't ask for places
 pub record IsUnasked (c : CollectionValue) (names : List (List ℕ)) (r : Refusal) : Type 0 where
-  pub distinct : AreDistinct c.surveys
+  pub unlike : AreUnlike c
   pub given : is_some c.rows ≡ true
   pub unasked : asks_for_places c ≡ false
   pub name : names ≡ string_bytes r.name ∷ []
@@ -71,7 +71,7 @@ pub record AreRefused (files : List File) (r : Refusal) : Type 0 where
 -- they are a collection
 pub record AreAccepted (files : List File) (c : CollectionValue) : Type 0 where
   pub together : AreTogether files c
-  pub distinct : AreDistinct c.surveys
+  pub unlike : AreUnlike c
   pub asked : is_some c.rows ≡ true → asks_for_places c ≡ true
 
 -- ---- the first that applies

@@ -12,7 +12,7 @@ pub enum OperandFault {
     Table(TableLineFault),
     /// No text of surveys could have the line there.
     Survey,
-    /// The log is found by what a log before it is found by.
+    /// The log is known by what a log before it is known by.
     SameName,
 }
 

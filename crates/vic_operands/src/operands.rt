@@ -2,7 +2,7 @@
 
 ghost use Rattle.std.specs.Prelude.{◌≡◌, [], ◌∷◌, ◌++◌, List, ◌&&◌, ◌<◌, IfOk, IsSomeAnd, filter, is_none, is_some, length, map, slice_get, string_bytes};
 ghost use Rattle.vic_survey.specs.Names.{IsName};
-ghost use Rattle.vic_collection.specs.Confused.{AreDistinct};
+ghost use Rattle.vic_collection.specs.Alike.{AreUnlike};
 ghost use Rattle.vic_operands.specs.Files.{is_catalogue};
 ghost use Rattle.vic_operands.specs.Files.{File as FileValue};
 ghost use Rattle.vic_operands.specs.Gathered as spec;
@@ -14,7 +14,7 @@ use crate::fault::{OperandFault, Refusal};
 use crate::gathered::Gathered;
 use crate::operand::{NamedCatalogue, Operand, Unread, read_operand};
 use std::alloc::{AllocError, Global};
-use vic_collection::{Collection, first_confused};
+use vic_collection::Collection;
 use vic_survey::{Name, Survey};
 use vic_table::{Catalogue, Places, TableLineFault};
 
@@ -197,13 +197,19 @@ fn together(
         → map (λ f. f.name) (filter is_catalogue files) ≡ string_bytes catalogue.name ∷ []
         → spec.IsGathered files gathered) }
 {
-    match first_confused(alloc, surveys.as_slice())? {
-        Some(index) => Ok(Gathered::Refused(same_name(alloc, surveys.as_slice(), index)?)),
-        None => distinct(alloc, catalogue, rows, surveys),
+    let NamedCatalogue { name, catalogue } = catalogue;
+    let unasked = are_unasked(&catalogue, &rows);
+    let collection = Collection::new(alloc, catalogue, rows, surveys)?;
+    match collection.first_alike(alloc)? {
+        Some(index) => {
+            let refusal = same_name(alloc, collection.surveys(), index)?;
+            Ok(Gathered::Refused(refusal))
+        }
+        None => Ok(unlike(name, unasked, collection)),
     }
 }
 
-/// That the log at this index is found by what a log before it is found by.
+/// That the log at this index is known by what a log before it is known by.
 fn same_name(alloc: Global, surveys: &[Survey], index: usize) -> Result<Refusal, AllocError>
     requires { index < length surveys.now }
     ensures name { IfOk result (λ r. IsSomeAnd (slice_get surveys.now index)
@@ -218,29 +224,23 @@ fn same_name(alloc: Global, surveys: &[Survey], index: usize) -> Result<Refusal,
     })
 }
 
-/// The same of surveys of logs that can be told apart.
-fn distinct(
-    alloc: Global,
-    catalogue: NamedCatalogue,
-    rows: Option<Places>,
-    surveys: Vec<Survey>,
-) -> Result<Gathered, AllocError>
-    ensures { IfOk result (λ gathered. (files : List FileValue) → spec.AreNamed files
-        → spec.AreTogether files
-        (record { catalogue = catalogue.catalogue; rows = rows; surveys = surveys.items })
-        → map (λ f. f.name) (filter is_catalogue files) ≡ string_bytes catalogue.name ∷ []
-        → AreDistinct surveys.items → spec.IsGathered files gathered) }
+/// The same of a collection whose logs can be told apart.
+fn unlike(name: String, unasked: bool, collection: Collection) -> Gathered
+    ensures { (files : List FileValue) → spec.AreNamed files → spec.AreTogether files collection
+        → map (λ f. f.name) (filter is_catalogue files) ≡ string_bytes name ∷ []
+        → AreUnlike collection
+        → unasked ≡ (is_some collection.rows && is_none collection.catalogue.columns.place)
+        → spec.IsGathered files result }
 {
-    let NamedCatalogue { name, catalogue } = catalogue;
-    if are_unasked(&catalogue, &rows) {
-        return Ok(Gathered::Refused(Refusal {
+    if unasked {
+        Gathered::Refused(Refusal {
             name,
             line: 1,
             fault: OperandFault::Table(TableLineFault::Columns),
-        }));
+        })
+    } else {
+        Gathered::Collection(collection)
     }
-    let collection = Collection::new(alloc, catalogue, rows, surveys)?;
-    Ok(Gathered::Collection(collection))
 }
 
 /// Whether there are places of logs, and a catalogue doesn't ask for places.
