@@ -1,5 +1,5 @@
 -- The cells of an item, and its logs.
-use Rattle.vic_result.proofs.Words.{not, ◌≡◌, ◌∙◌, ◌||◌, ◌&&◌, ℕ, Bool, true, false, List, [], ◌∷◌, Option, None, Some, ap, refl, slice_get, slice_get_within, get_or_from_slice_get, eq-eqb, ◌<◌, length, get_or, nat_eq, map, subst, sym, length-map}
+use Rattle.vic_result.proofs.Words.{◌≡◌, ◌∙◌, ◌||◌, ◌&&◌, ℕ, Bool, true, false, List, [], ◌∷◌, Option, None, Some, ap, refl, slice_get, slice_get_within, get_or_from_slice_get, eq-eqb, ◌<◌, length, get_or, nat_eq, map, subst, sym, length-map}
 use Rattle.std.proofs.lemmas.List.Folds.{list_any_at}
 use Rattle.vic_verdict.specs.Rising.{IsListOf}
 use Rattle.std.proofs.lemmas.List.{get_or-map}

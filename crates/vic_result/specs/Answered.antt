@@ -3,7 +3,6 @@ use Rattle.std.specs.Prelude.{ℕ, List, [], ◌++◌, codes, decimal, slice_get
 use Rattle.std.specs.Option.{option_map_or}
 use Rattle.vic_log.specs.Names.{line_fault_name}
 use Rattle.vic_text.specs.Digits.{mask_text, uid_text}
-use Rattle.vic_survey.specs.Surveys.{SurveyValue}
 use Rattle.vic_survey.specs.declared.survey.Field.{Field}
 use Rattle.vic_survey.specs.declared.survey.Field.TheVariants.{Refused, Impossible, Possible}
 use Rattle.vic_collection.specs.Collections.{CollectionValue}

@@ -1,4 +1,4 @@
-use Rattle.vic_result.proofs.Words.{◌≡◌, ◌≤◌, drop, length, ℕ}
+use Rattle.vic_result.proofs.Words.{◌≡◌, ◌≤◌, drop, length}
 use Rattle.vic_result.specs.LeastMargin.{least_margin}
 use Rattle.vic_result.proofs.margins.least_margin.Given as goal
 

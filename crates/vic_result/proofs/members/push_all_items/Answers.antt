@@ -1,4 +1,4 @@
-use Rattle.vic_result.proofs.Words.{◌≡◌, ◌∙◌, ◌++◌, ap, codes, decimal, map, on_ok_weaker, then_piece}
+use Rattle.vic_result.proofs.Words.{codes, map, on_ok_weaker, then_piece}
 use Rattle.vic_text.proofs.Pieces.{on_ok_items}
 use Rattle.vic_text.specs.Json.{comma_joined}
 use Rattle.vic_result.specs.ResultObject.{item_of_json}

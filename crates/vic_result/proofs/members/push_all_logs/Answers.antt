@@ -1,4 +1,4 @@
-use Rattle.vic_result.proofs.Words.{◌≡◌, ◌∙◌, ◌++◌, ap, codes, decimal, map, on_ok_weaker, then_piece}
+use Rattle.vic_result.proofs.Words.{codes, then_piece}
 use Rattle.vic_text.specs.Json.{comma_joined}
 use Rattle.vic_result.proofs.members.push_all_logs.Goals as goal
 

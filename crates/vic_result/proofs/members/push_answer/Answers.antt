@@ -1,4 +1,4 @@
-use Rattle.vic_result.proofs.Words.{◌≡◌, ◌∙◌, ◌++◌, ap, codes, decimal, map, on_ok_weaker, then_piece}
+use Rattle.vic_result.proofs.Words.{◌∙◌, ◌++◌, ap, codes, decimal, on_ok_weaker, then_piece}
 use Rattle.vic_text.specs.Json.{json_string}
 use Rattle.vic_result.proofs.members.push_answer.Goals as goal
 

@@ -1,4 +1,4 @@
-use Rattle.vic_result.proofs.Words.{◌≡◌, ◌∙◌, ◌++◌, ap, ap₂, codes, decimal, map, on_ok_weaker, then_piece}
+use Rattle.vic_result.proofs.Words.{◌≡◌, ◌∙◌, ◌++◌, ap, ap₂, codes, map, on_ok_weaker, then_piece}
 use Rattle.vic_log.specs.Lines.{ends_with, lf}
 use Rattle.vic_table.specs.Columns.{separator_byte}
 use Rattle.vic_collection.specs.States.{state_of}

@@ -1,4 +1,4 @@
-use Rattle.vic_result.proofs.Words.{◌≡◌, ◌∙◌, ◌++◌, ap, codes, decimal, map, on_ok_weaker, then_piece}
+use Rattle.vic_result.proofs.Words.{codes, map, on_ok_weaker, then_piece}
 use Rattle.vic_text.specs.Json.{json_list, json_mask, json_option, json_string}
 use Rattle.vic_result.proofs.members.push_lacking.Goals as goal
 

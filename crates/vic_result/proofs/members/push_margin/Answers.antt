@@ -1,4 +1,4 @@
-use Rattle.vic_result.proofs.Words.{◌≡◌, ◌∙◌, ◌++◌, ap, codes, decimal, map, on_ok_weaker, then_piece}
+use Rattle.vic_result.proofs.Words.{codes, decimal, on_ok_weaker, then_piece}
 use Rattle.vic_text.proofs.Pieces.{on_ok_items}
 use Rattle.vic_text.specs.Json.{json_mask}
 use Rattle.vic_result.proofs.members.push_margin.Goals as goal
