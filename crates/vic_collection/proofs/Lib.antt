@@ -3,7 +3,6 @@ mod Elements
 mod Names
 mod NameSets
 mod Knowing
-mod Confusing
 mod Leading
 mod Telling
 mod Placing

@@ -10,7 +10,7 @@ use Rattle.std.proofs.lemmas.List.Elements.{All-append, All-cons, All-filter, Al
 use Rattle.std.proofs.lemmas.Slice.Eq.{bytes_eq-Decides}
 use Rattle.vic_table.specs.Values.{ItemValue, PlaceRowValue}
 use Rattle.vic_collection.specs.Collections.{CollectionValue, asks_for_places}
-use Rattle.vic_collection.specs.Confused.{is_one_of}
+use Rattle.vic_collection.specs.Alike.{is_among}
 use Rattle.vic_collection.specs.Joins.{each_once, is_expected, is_expected_at, is_of_place, is_place_of_rows, is_without_log, place_if_expected, places_asked_for, places_of_rows, places_without_log}
 use Rattle.vic_collection.specs.inner.NameSets.{has_name}
 use Rattle.vic_collection.specs.inner.Without.{AreAdded}
@@ -35,12 +35,12 @@ filter_same p q (x ∷ xs) same = rw (All-head (λ y. p y ≡ q y) x xs same, fi
 
 -- ---- each once
 
-once-append : (xs ys : List (List ℕ)) → each_once (xs ++ ys) ≡ each_once xs ++ filter (λ q. not (is_one_of xs q)) (each_once ys)
+once-append : (xs ys : List (List ℕ)) → each_once (xs ++ ys) ≡ each_once xs ++ filter (λ q. not (is_among xs q)) (each_once ys)
 once-append [] ys = sym (filter_all (each_once ys))
 once-append (x ∷ xs) ys =
     let others : List ℕ → Bool = λ q. not (bytes_eq x q) in
-    let none : (q : List ℕ) → not (is_one_of (x ∷ xs) q) ≡ (not (is_one_of xs q) && others q) = λ q. not_either (bytes_eq x q) (is_one_of xs q) in
-    ap (λ l. x ∷ l) (ap (filter others) (once-append xs ys) ∙ (filter-append others (each_once xs) (filter (λ q. not (is_one_of xs q)) (each_once ys)) ∙ ap (λ l. filter others (each_once xs) ++ l) (filter-filter others (λ q. not (is_one_of xs q)) (λ q. not (is_one_of (x ∷ xs) q)) none (each_once ys)))) where
+    let none : (q : List ℕ) → not (is_among (x ∷ xs) q) ≡ (not (is_among xs q) && others q) = λ q. not_either (bytes_eq x q) (is_among xs q) in
+    ap (λ l. x ∷ l) (ap (filter others) (once-append xs ys) ∙ (filter-append others (each_once xs) (filter (λ q. not (is_among xs q)) (each_once ys)) ∙ ap (λ l. filter others (each_once xs) ++ l) (filter-filter others (λ q. not (is_among xs q)) (λ q. not (is_among (x ∷ xs) q)) none (each_once ys)))) where
       not_either : (a b : Bool) → not (a || b) ≡ (not b && not a)
       not_either true true = refl
       not_either true false = refl
@@ -67,11 +67,11 @@ one_added old new before after place more is = record {
 
 pub more_added : (old mid new : BTreeSet (Bor (List ℕ))) (before between after xs ys : List (List ℕ)) → AreAdded old mid before between xs → AreAdded mid new between after ys → AreAdded old new before after (xs ++ ys)
 more_added old mid new before between after xs ys first second = record {
-  known = λ q. second.known q ∙ (ap (λ (b : Bool). b || is_one_of ys q) (first.known q) ∙ (either (has_name old q) (is_one_of xs q) (is_one_of ys q) ∙ ap (λ (b : Bool). has_name old q || b) (sym (list_any-append (λ o. bytes_eq o q) xs ys))));
+  known = λ q. second.known q ∙ (ap (λ (b : Bool). b || is_among ys q) (first.known q) ∙ (either (has_name old q) (is_among xs q) (is_among ys q) ∙ ap (λ (b : Bool). has_name old q || b) (sym (list_any-append (λ o. bytes_eq o q) xs ys))));
   added =
       second.added ∙ (ap (λ l. l ++ filter (λ q. not (has_name mid q)) (each_once ys)) first.added
       ∙ (append_assoc before (filter (λ q. not (has_name old q)) (each_once xs)) (filter (λ q. not (has_name mid q)) (each_once ys))
-      ∙ ap (λ l. before ++ l) (ap (λ l. filter (λ q. not (has_name old q)) (each_once xs) ++ l) (sym (filter-filter (λ q. not (has_name old q)) (λ q. not (is_one_of xs q)) (λ q. not (has_name mid q)) (λ q. ap not (first.known q) ∙ not_either (has_name old q) (is_one_of xs q)) (each_once ys))) ∙ (sym (filter-append (λ q. not (has_name old q)) (each_once xs) (filter (λ q. not (is_one_of xs q)) (each_once ys))) ∙ ap (filter (λ q. not (has_name old q))) (sym (once-append xs ys))))));
+      ∙ ap (λ l. before ++ l) (ap (λ l. filter (λ q. not (has_name old q)) (each_once xs) ++ l) (sym (filter-filter (λ q. not (has_name old q)) (λ q. not (is_among xs q)) (λ q. not (has_name mid q)) (λ q. ap not (first.known q) ∙ not_either (has_name old q) (is_among xs q)) (each_once ys))) ∙ (sym (filter-append (λ q. not (has_name old q)) (each_once xs) (filter (λ q. not (is_among xs q)) (each_once ys))) ∙ ap (filter (λ q. not (has_name old q))) (sym (once-append xs ys))))));
 } where
   either : (a b d : Bool) → ((a || b) || d) ≡ (a || (b || d))
   either true b d = refl

@@ -1,7 +1,6 @@
 pub mod Found
 pub mod Collections
 pub mod Joins
-pub mod Confused
 pub mod Alike
 pub mod States
 pub mod Findings

@@ -9,9 +9,9 @@ ghost use Rattle.vic_collection.specs.States.{is_certain_at, state_of};
 ghost use Rattle.vic_collection.specs.inner.Placed.{is_placed, state_by_place};
 
 use crate::joins::places_of_logs;
+use crate::lacking::all_lacking;
 use crate::state::State;
 use crate::told::Told;
-use crate::without_log::all_lacking;
 use std::alloc::{AllocError, Global};
 use std::marker::Model;
 use vic_frame::Uid;

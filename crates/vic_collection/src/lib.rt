@@ -9,11 +9,11 @@
 mod alike;
 mod answer;
 mod collection;
-mod confused;
 mod findings;
 mod found;
 mod found_items;
 mod joins;
+mod lacking;
 pub mod laws;
 mod left_to_ask;
 mod possible_logs;
@@ -25,7 +25,6 @@ mod without_log;
 
 pub use answer::CollectionAnswer;
 pub use collection::Collection;
-pub use confused::first_confused;
 pub use findings::Findings;
 pub use found::{base_of, stem_of};
 pub use found_items::FoundItem;

@@ -1,14 +1,13 @@
-//! What is without a log: items whose place has none, and places.
+//! The places without a log.
 
-ghost use Rattle.std.specs.Prelude.{◌≡◌, ◌<◌, ℕ, true, [], ◌∷◌, Option, List, length, slice_get, is_some, map, option_to_list, IfOk, IsSomeAnd, OnOk};
-ghost use Rattle.std.specs.List.{flat_map, list_any};
+ghost use Rattle.std.specs.Prelude.{◌≡◌, ◌<◌, [], ◌∷◌, length, slice_get, map, option_to_list, IfOk, IsSomeAnd, OnOk};
+ghost use Rattle.std.specs.List.{flat_map};
 ghost use Rattle.std.specs.Option.{option_map};
-ghost use Rattle.vic_collection.specs.Joins.{is_text, place_if_expected, places_without_log};
-ghost use Rattle.vic_collection.specs.inner.NameSets.{has_name};
-ghost use Rattle.vic_collection.specs.inner.Placed.{is_lacking};
+ghost use Rattle.vic_collection.specs.Joins.{place_if_expected, places_without_log};
 ghost use Rattle.vic_collection.specs.inner.Without.{AreAdded};
 
 use crate::collection::Collection;
+use crate::lacking::places_of;
 use std::alloc::{AllocError, Global};
 use std::collections::BTreeSet;
 use vic_table::{Catalogue, Places};
@@ -92,50 +91,4 @@ fn add<'a>(
         without.push(place)?;
     }
     Ok(())
-}
-
-/// For each item whether no log is of its place, where places are asked for.
-pub(crate) fn all_lacking(
-    alloc: Global,
-    catalogue: &Catalogue,
-    places: &[Option<Vec<u8>>],
-) -> Result<Vec<bool>, AllocError>
-    ensures { IfOk result (λ lacking. lacking.items ≡ map (λ item. is_lacking
-        (is_some catalogue.now.columns.place)
-        (map (option_map (λ p. p.items)) places.now) item.place) catalogue.now.items) }
-{
-    let asks = catalogue.columns().place.is_some();
-    let counted = places_of(alloc, places)?;
-    let mut lacking = Vec::with_capacity(alloc, catalogue.len())?;
-    for index in 0..catalogue.len() {
-        let lacks = asks && is_lacking(&counted, catalogue.place(index));
-        lacking.push(lacks)?;
-    }
-    Ok(lacking)
-}
-
-/// Whether a place isn't among some.
-fn is_lacking(places: &BTreeSet<&[u8]>, place: Option<&[u8]>) -> bool
-    ensures { (all : List (Option (List ℕ)))
-        → ((q : List ℕ) → has_name places.now q ≡ list_any (is_text q) all)
-        → result ≡ is_lacking true all (option_map (λ p. p.now) place.entry) }
-{
-    match place {
-        Some(place) => !places.contains(place),
-        None => false,
-    }
-}
-
-/// The places of which there is a log.
-fn places_of(alloc: Global, places: &[Option<Vec<u8>>]) -> Result<BTreeSet<&[u8]>, AllocError>
-    ensures { IfOk result (λ set. (q : List ℕ) → has_name set q
-        ≡ list_any (is_text q) (map (option_map (λ p. p.items)) places.now)) }
-{
-    let mut set = BTreeSet::new(alloc);
-    for place in places {
-        if let Some(place) = place {
-            set.insert(place.as_slice())?;
-        }
-    }
-    Ok(set)
 }

@@ -3,8 +3,8 @@ use Rattle.std.specs.Option.{option_map}
 use Rattle.vic_collection.specs.Joins.{is_text}
 use Rattle.vic_collection.proofs.Elements.{list_any-map_next}
 use Rattle.vic_collection.proofs.NameSets.{has_name-insert}
-use Rattle.vic_collection.proofs.without_log.places_of.Goals as goal
-use Rattle.vic_collection.proofs.without_log.places_of.Goals.{in-Some+in_ok-insert, in_default}
+use Rattle.vic_collection.proofs.lacking.places_of.Goals as goal
+use Rattle.vic_collection.proofs.lacking.places_of.Goals.{in-Some+in_ok-insert, in_default}
 
 pub loop-place-preserved : goal.loop-place-preserved
 loop-place-preserved c = λ q.

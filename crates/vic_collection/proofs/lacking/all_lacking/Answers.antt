@@ -5,8 +5,8 @@ use Rattle.vic_table.specs.declared.columns.CatalogueColumns.{CatalogueColumns}
 use Rattle.vic_collection.specs.inner.Placed.{is_lacking}
 use Rattle.vic_collection.proofs.Elements.{item_at, map_next, some_at}
 use Rattle.vic_collection.proofs.Placing.{not_asked}
-use Rattle.vic_collection.proofs.without_log.all_lacking.Goals as goal
-use Rattle.vic_collection.proofs.without_log.all_lacking.Goals.{then-asks, else-asks}
+use Rattle.vic_collection.proofs.lacking.all_lacking.Goals as goal
+use Rattle.vic_collection.proofs.lacking.all_lacking.Goals.{then-asks, else-asks}
 
 pub loop-index-preserved : goal.loop-index-preserved
 loop-index-preserved c =

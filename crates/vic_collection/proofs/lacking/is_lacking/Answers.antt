@@ -1,7 +1,7 @@
 use Rattle.vic_collection.proofs.Words.{true, sym, ap, not, ◌∙◌}
 use Rattle.std.specs.Option.{option_map}
 use Rattle.vic_collection.specs.inner.Placed.{is_lacking}
-use Rattle.vic_collection.proofs.without_log.is_lacking.Goals as goal
+use Rattle.vic_collection.proofs.lacking.is_lacking.Goals as goal
 
 pub returns-in-Some : goal.returns-in-Some
 returns-in-Some c = λ all known.
