@@ -28,20 +28,22 @@ LOGS = (
     ("I16 S RA RB S13 QA QB I1 S UA UB", "All 2 listed tags are here, and no others."),
     ("I1 RA UA", "The one listed tag is here; others may be, if stronger replies hid them."),
     ("I1 RA QA I1 S UA", "The one listed tag is here, and no other."),
-    ("I1 S", "The field is empty, and nothing is listed."),
+    ("I1 S", "No tag answered, and nothing is listed."),
     ("I1 RA", "1 tag is here; others may be, if stronger replies hid them. The log has no list to "
      "compare with."),
     ("I1 RA QA I1 S", "1 tag is here, and no other. The log has no list to compare with."),
-    ("I16 S RA RB S12 C UA UB", "All 2 listed tags are here; others are too."),
-    ("I16 S RA S10 UA", "The one listed tag is here; others may be too."),
-    ("QB I1 RA UA", "The one listed tag is here; 1 tag may be here or not: it was silenced before"),
-    ("I1 S UA", "0 of 1 listed tag is here; 1 didn't answer."),
-    ("I16 S RA RB S13 UA", "1 of 1 listed tag is here; 1 tag here isn't listed."),
-    ("I1 C UA", "Not finished: 0 of 1 listed tag is here; 1 isn't proved."),
+    ("I16 S RA RB S12 C UA UB", "Not finished: all 2 listed tags are here; others are too."),
+    ("I16 S RA S10 UA", "Not finished: the one listed tag is here; others may be too."),
+    ("QB I1 RA UA", "Not finished: the one listed tag is here; 1 tag may be here or not, since it "
+     "was silenced before it was heard."),
+    ("I1 S UA", "No tag answered, but 1 is listed."),
+    ("I16 S RA RB S13 UA", "1 tag here isn't listed; the one listed tag is here."),
+    ("I1 C UA", "Not finished: 1 isn't proved; 0 of 1 listed tag is proved to be here."),
     ("I16 S12", "Not finished: no tag is proved to be here, but some may be. The log has no list"),
     ("I16 S RA S10", "Not finished: 1 tag is here; others may be too. The log has no list"),
-    ("I1 QA I1 S UA", "0 of 1 listed tag is here; 1 listed tag isn't proved: it was silenced"),
-    ("I1 QA I1 S", "1 tag may be here or not: it was silenced before it was heard."),
+    ("I1 QA I1 S UA", "Not finished: 1 listed tag isn't proved, since it was silenced"),
+    ("I1 QA I1 S", "Not finished: 1 tag may be here or not, since it was silenced before it was "
+     "heard."),
     ("I1 RA I1 S", BROKEN + "tag ..00A1 answered in line 3, but not in line 5,"),
     ("I1 RA I1 RB", BROKEN + "tags ..00A1 (line 3) and ..00B2 (line 5) were "
      "each read alone, but both should have answered in one of these two slots."),
@@ -66,7 +68,9 @@ LIGHTS = (("I1 RA QA I1 S UA", "yes", "matches"),
 # What is said besides, at the shelf and to whoever maintains the reader; and what isn't.
 SAID = (
     ("I1 S", "check the antenna", "Nothing to do"),
-    ("I1 RA QA I1 S UA", "Nothing to do.", "whoever maintains the reader"),
+    ("I1 S", "lay an item with a tag at the antenna", "Nothing to do"),
+    ("I1 RA QA I1 S UA", "Nothing to do, if the reader worked to the end.", "Nothing to do."),
+    ("V3 I1 RA QA I1 S F MA RA UA", "Nothing to do.", "if the reader worked"),
     ("I1 RA UA", "shows whether a strong reply hid a weaker one.", "Nothing to do"),
     ("I1 RA UA", "To know whether a strong reply hid a weaker one, silence each tag that was "
      "heard, and ask all in one slot, until none answers:", "may be wrong. To know"),
@@ -108,7 +112,7 @@ SAID = (
     ("I16 C16", "16 requests are left, one for each open mask or slot.", "or in one"),
     ("I1 S QA UA", "its reply may have been lost in line 3", "stronger replies"),
     ("I1 S MB S UA", "one that stronger replies hid would go unnoticed", "no earlier round"),
-    ("I1 RA QA I1 S MB S UA", "Nothing to do.", "Notes"),
+    ("I1 RA QA I1 S MB S UA", "Nothing to do, if the reader", "Notes"),
     ("I16 S12 I1 S UA", "This round was cut short after 12 of 16 slots.", "None of this round's"),
     ("I16 S12", "1 request is left, for the round that was cut short.", "after 12 of"),
     ("I1 RA QA I1 RA", "The field was switched off and on in between", "The field stayed on"),
@@ -132,6 +136,16 @@ FOREIGN = (("\uFEFFvicinity-log 1\n", "byte order mark"), ("v\0i\0c\0\n\0", "UTF
            ("uid,title\nE004,Emma\n", "in vicinity.html: choose or drop the table"),
            ("title;\"UID\"\nEmma;E004\n", "open both at once in vicinity.html"),
            ("Tag UID,title\nE004,Emma\n", "In its first row, name the column of tag numbers"),
+           ("%PDF-1.7\n", "This file isn't a log, but a PDF."),
+           ("<!DOCTYPE html>\n", "This file isn't a log, but a web page."),
+           ("[+] Recorded activity (trace len = 220 bytes)\n", "a trace of a Proxmark."),
+           ("[usb] pm3 --> hf 15 list\n", "the slots in which no tag answered"),
+           ("      Start |        End | Src | Data (! denotes parity error)\n",
+            "Count with a reader whose software writes a log."),
+           ("E0040100000000A1\nE0040100000000B2\n", "but a list of tag numbers."),
+           ("e0:04:01:00:00:00:00:a1\n", "which tags were read, not what was asked"),
+           ("A1000000000104E0\n", "let its first line be uid"),
+           ("uid\nE0040100000000A1\n", "together with the logs."),
            ("vicinity-log 1\rT 260100F60A\rS\r", "CR alone"),
            ("vicinity-log 1 \n", "vicinity-log 1‹space›"))
 # Logs that can't be used, with what is said of them.
@@ -148,14 +162,15 @@ LIST_A, LIST_B = "U E0040100000000A1", "U E0040100000000B2"
 # These logs, how the headline begins, and what is said besides.
 THIRD = {
     "a reply that may hide others": (
-        (ALL, OVER_A, LIST_A), "The one listed tag is here; others may be too.",
+        (ALL, OVER_A, LIST_A), "Not finished: the one listed tag is here; others may be too.",
         "In slot 0 of the round of line 2, which asked all UIDs, ..00A1 was read, perhaps over "
         "others"),
     "none was hidden": (
         (ALL, OVER_A, QUIET_A, ALL, "S", LIST_A), "The one listed tag is here, and no other.",
         "The answer allows for strong replies that hid weaker ones."),
     "two were hidden": (
-        (ALL, OVER_A, QUIET_A, ALL, "C", LIST_A), "The one listed tag is here; others are too.",
+        (ALL, OVER_A, QUIET_A, ALL, "C", LIST_A),
+        "Not finished: the one listed tag is here; others are too.",
         "In slot 0 of the round of line 5, which asked all UIDs, two or more tags answered"),
     "a slot that isn't known": (
         (EACH, "N", *"S" * 15),
@@ -183,11 +198,19 @@ THIRD = {
     "one slot too many": ((ALL, "N", "N"), "This log can't be used. Line 4", "no slot"),
     "a reply cut short": (
         (ALL, "H 0000A1"), "This log can't be used. Line 3: the reply doesn't", "gets the line D")}
+# The lights of complete lists: how often each other tag was asked, and what may be wrong.
+OTHERS, COMPLETE = "others may be here", "still complete"
+SURE = (("I1 RA QA I1 S UA", "2 times or more", COMPLETE, OTHERS, "yes"),
+        ("V3 I1 RA QA I1 S F M56 RA UA", "2 times or more", COMPLETE, COMPLETE, "yes"),
+        ("V3 I1 RA QA I1 S F M56 S UA", None, None, None, "broken"),
+        ("I1 RA UA", "1 time or more", OTHERS, OTHERS, "read"),
+        ("I1 S", "1 time or more", "still empty", OTHERS, "read"),
+        ("I1 S UA", None, None, None, "no"), ("I1 C UA", None, None, None, "no"))
 # What each answer says of strong replies that hid weaker ones, and the lines of requests below.
 HIDDEN = (
     ("I16 S RA RB S13 UA UB", "may be wrong.", "QA QB I1"),
-    ("I1 RA QA I1 S UA", "still holds, but 1 missed slot would be enough.", ""),
-    ("I1 RA QA I1 S I1 S UA", "still holds, but 2 missed slots would be enough.", ""),
+    ("I1 RA QA I1 S UA", "still holds, but 1 missed slot would be enough.", "F M56"),
+    ("I1 RA QA I1 S I1 S UA", "still holds, but 2 missed slots would be enough.", "F M56"),
     ("I1 RA UB", "may be wrong.", "QA I1"),
     ("I1 RA", None, "QA I1"), ("I16 S RA RB S13 QA", None, "QB I1"),
     ("V3 I16 S RA RB S13 QA QB F", None, "QA QB I1"), ("I1 RA QA I1 S", "still holds.", ""),
@@ -307,8 +330,95 @@ def test_a_log_is_dropped(shown, program, names, headline):
 
 
 @pytest.mark.parametrize(("names", "read", "listed"), LIGHTS, ids=[row[0] for row in LIGHTS])
-def test_the_two_lights(shown, names, read, listed):
-    assert shown(log_of(names)).texts(".lights dd") == [read, listed]
+def test_the_first_two_lights(shown, names, read, listed):
+    assert shown(log_of(names)).texts(".lights dd")[:2] == [read, listed]
+
+
+@pytest.mark.parametrize(("names", "asked", "hidden", "deaf", "look"), SURE)
+def test_the_lights_of_how_sure_it_is(shown, names, asked, hidden, deaf, look):
+    """A list is green only beside what it is worth if replies were hidden, or the reader was deaf:
+    if it went deaf behind its last answer, its silent slots say nothing."""
+    page = shown(log_of(names))
+    page.until(f".banner.{look} h1", "")
+    wanted = [it for it in (asked, hidden, deaf) if it]
+    assert page.texts(".lights dd")[2:] == wanted
+    names_of = "Each other tag was asked", "If replies were hidden", "If the reader went deaf"
+    assert page.texts(".lights dt")[2:] == [*names_of[:len(wanted)]]
+    is_deaf = OTHERS == deaf and "UA" in names
+    assert ("If the reader had gone deaf after the last answer of a tag, the answer may be wrong:"
+            in page.said()) == is_deaf
+
+
+def test_a_list_that_differs_where_replies_may_have_been_hidden(page):
+    """It may be that nothing is missing."""
+    page.drop(log=log_of("I1 RA UB"))
+    page.until("h1", "1 didn't answer and 1 tag here isn't listed; 0 of 1 listed tag is here.")
+    assert page.texts(".lights dd")[2:] == ["the answer may be wrong"]
+
+
+# What is seen on the screen, and how many stops a keyboard has.
+SEEN = """
+const it = document.querySelector(arguments[0]);
+return Boolean(it) && it.checkVisibility({ contentVisibilityAuto: true });
+"""
+STOPS = """
+return [...document.querySelectorAll("button, input, textarea, summary, [tabindex]")]
+  .filter((it) => it.tabIndex >= 0 && it.checkVisibility({ contentVisibilityAuto: true })).length;
+"""
+
+
+def test_what_is_for_whoever_maintains_the_reader_is_folded(page, file):
+    """The rounds, the text and the requests, until somebody has come for them."""
+    page.open(file, "")
+    page.drop(log=UNFINISHED)
+    page.until("h1", "Not finished")
+    for_readers = ".rounds", ".copy", "#text"
+    assert not any(page.run(SEEN, it) for it in (*for_readers, ".record", ".banner code"))
+    page.is_readable()
+    page.press(".reader > summary")
+    page.wait(lambda: all(page.run(SEEN, it) for it in for_readers))
+    page.drop(log=log_of("I1 RA"))
+    page.until("h1", "1 tag is here")
+    assert page.run(SEEN, ".rounds") and page.run(SEEN, "#text")
+    page.press(".reader > summary")
+    page.wait(lambda: not page.run(SEEN, "#text"))
+    page.drop(log=UNFINISHED)
+    page.until("h1", "Not finished")
+    page.press(".why .to-line")
+    page.wait(lambda: page.run(SEEN, "#text"))
+    assert page.run(CHOSEN).startswith("T ")
+
+
+def test_a_text_that_is_typed_stays_in_its_field(page, file):
+    page.open(file, "")
+    assert page.run(SEEN, "#text")
+    type_in(page, "Dear reader")
+    page.until("h1", "This text isn't a log")
+    assert page.run(SEEN, "#text")
+
+
+@pytest.mark.parametrize("part", ["", "#reader"])
+def test_a_keyboard_has_few_stops(page, file, part):
+    """Of the lines of a table one, from which arrows lead to the others."""
+    page.open(file, part)
+    page.drop(log=LONG)
+    page.until("h1", "400 tags are here")
+    assert page.run(STOPS) <= 30
+    page.drop(log=log_of("I16 S RA RB S11 UZ UY"))
+    page.until("h1", "Not finished")
+    assert page.run(STOPS) <= 30
+    page.run("document.querySelector('.uids .to-line').focus()")
+    lines = "return [...document.querySelectorAll('.uids.unlisted .to-line')]"
+    page.run("document.querySelector('.uids.unlisted .to-line').focus()")
+    page.driver.switch_to.active_element.send_keys(Keys.ARROW_DOWN)
+    assert page.run(f"{lines}.map((it) => [it.tabIndex, it === document.activeElement])") == [
+        [-1, False], [0, True]]
+
+
+def test_who_has_no_log_yet_is_told_what_one_is(page):
+    for words in ("A log says what a reader asked, and what came back each time",
+                  "The reader's software writes it", "isn't a log: it can't show whether a tag"):
+        assert words in page.said()
 
 
 @pytest.mark.parametrize("names", READ)
@@ -402,9 +512,9 @@ def test_a_foreign_text_is_told_from_a_log(page, text, words):
     page.drop(log=text.encode())
     page.until("h1", "isn't a log")
     page.until("#told", words)
-    is_table = "but a table" in page.said()
+    is_table = "isn't a log, but a" in page.said()
     assert ("whoever maintains the reader" in page.said()) != is_table
-    assert "SHA-256 of the file" in page.said()
+    assert "SHA-256 of the file" in page.texts(".record")[0]
     assert page.texts("h2")[0] == "What to do"
     if is_table:
         assert page.texts("label[for=text]") == ["The file"]
@@ -561,7 +671,9 @@ def test_a_reply_is_tried_over_others(page):
     page.until("h1", "The one listed tag is here")
     page.press("td[data-line='3']")
     page.press("#trial button")
-    page.until("h1", "A trial: The one listed tag is here; others may be too.")
+    said = "A trial: Not finished: the one listed tag is here; others may be too."
+    page.until("h1", said)
+    assert page.texts("#tried") == [said]  # beside the buttons: the other is off the screen
     field = page.driver.find_element("id", "text").get_property("value")
     assert field == third(ALL, OVER_A, LIST_A).decode()
     page.press("#trial button", -1)
@@ -651,7 +763,8 @@ def test_two_that_were_silenced_before_are_told_in_one_mask(page, vicinity):
     log = b"".join([b"vicinity-log 2\n", *quiets, b"T 260100F60A\nS\n"])
     assert vicinity.check(log).mask_len == 55
     page.drop(log=log)
-    page.until("h1", "2 tags may be here or not: they were silenced before they were heard.")
+    page.until("h1", "Not finished: 2 tags may be here or not, since they were silenced before "
+               "they were heard.")
     assert page.texts(".why") == [
         "The cause: Lines 2 and 3 silenced 2 tags before they were heard: replies before them "
         "aren't in the log, or the reader had the UIDs from an earlier count."]
@@ -732,7 +845,7 @@ def test_a_text_that_is_refused_has_no_lights(page):
 
 def test_an_empty_field_is_not_green(page):
     page.drop(log=log_of("I1 S"))
-    page.until("h1", "The field is empty")
+    page.until("h1", "No tag answered")
     assert page.driver.find_elements("css selector", ".banner.yes") == []
 
 
@@ -748,11 +861,11 @@ def test_a_file_that_cannot_be_read(page):
     assert "listed tag" not in page.said()
     # a text that is pasted then isn't called by its name
     type_in(page, log_of("I1 RA UA").decode())
-    page.until(".banner div > p", "pasted text · ")
+    page.until(".banner div > p", "pasted text")
 
 
 def test_a_file_is_chosen_again(page, tmp_path):
-    for names, words in ("I1 RA UA", "The one listed tag is here"), ("I1 S UA", "didn't answer"):
+    for names, words in ("I1 RA UA", "The one listed tag is here"), ("I1 S UA", "No tag answered"):
         (tmp_path / "log").write_bytes(log_of(names))
         page.driver.find_element("id", "files").send_keys(str(tmp_path / "log"))
         page.until("h1", words)
@@ -782,7 +895,7 @@ def test_an_edit_stays_with_its_log(page):
     page.press("#logs button", 1)
     page.until("#logs", "one (edited)")
     page.until("#logs", "no list to compare with")
-    assert "two ! 0 of 1 listed tag is here; 1 didn't answer." in page.texts("#logs")[0]
+    assert "two ! No tag answered, but 1 is listed." in page.texts("#logs")[0]
     assert page.driver.find_element("id", "text").get_property("value") == log_of(
         "I1 S UA").decode()
 
@@ -835,7 +948,7 @@ def test_several_logs(page):
     """Each has its own answer, and no answer stands for all of them, until one is pressed."""
     page.drop(one=log_of("I1 RA UA"), two=log_of("I1 S UA"), three=log_of("I1 S S"))
     page.until("#logs", "The one listed tag is here")
-    page.until("#logs", "1 didn't answer")
+    page.until("#logs", "No tag answered")
     page.until("#logs", "can't be used")
     said = "3 logs, each with its own answer. Complete: 1 of 3."
     page.until("h1", said)
@@ -844,7 +957,7 @@ def test_several_logs(page):
     assert not page.driver.find_element("id", "text").is_displayed()
     page.is_readable()
     page.press("#logs button", 1)
-    page.until("h1", "1 didn't answer")
+    page.until("h1", "No tag answered")
     assert len(page.texts("h1")) == 1 and said in page.texts("#each")[0]
     assert page.run("return document.activeElement.textContent").startswith("two ")
 
@@ -929,7 +1042,7 @@ def test_a_slot_is_tried_otherwise(page):
     page.press('td[data-line="5"]')
     assert page.texts("#trial button") == ["S nobody", "C two or more"]
     page.press("#trial button")
-    page.until("h1", "A trial: 1 of 2 listed tags is here; 1 didn't answer.")
+    page.until("h1", "A trial: 1 didn't answer; 1 of 2 listed tags is here.")
     page.until(".banner", "log (trial: line 5 is S)")
     page.press('td[data-line="3"]')
     page.press("#trial button")
@@ -968,7 +1081,8 @@ def collected(told):
 @pytest.mark.parametrize(("more", "words"), [
     ({}, "1 item missing, 1 in the wrong place and 1 not known yet; count C again."),
     ({"broken.log": log_of("I1 RA I1 S")},
-     "1 item not on its shelf, 1 in the wrong place and 1 not known yet; count 2 logs again."),
+     "1 item not heard on its shelf, 1 in the wrong place and 1 not known yet; count 2 logs "
+     "again."),
     ({"none.txt": b"no log\n", "open.log": log_of("QA I1 S")}, "count 3 logs again.")])
 def test_a_collection_is_judged_as_python_judges_it(page, of_python, tmp_path, more, words):
     files = {it.name: it.read_bytes() for it in sorted(SHELVES.iterdir())} | more
@@ -1021,7 +1135,7 @@ def test_an_empty_field_is_not_green_without_a_tag_that_is_expected(page, rows, 
     page.until(".banner.read h1", headline)
     assert page.texts(".lights dd")[1] == items
     page.drop(**{"A.log": log_of("I1 S")})
-    page.until(".banner.read h1", "The field is empty, and nothing is listed.")
+    page.until(".banner.read h1", "No tag answered, and nothing is listed.")
 
 
 def test_items_without_a_place_are_not_called_in_place(page):
@@ -1074,7 +1188,7 @@ def test_a_log_of_a_collection_is_compared_with_its_catalogue(page):
     page.until("h1", "1 item not in the catalogue.")
     page.run("for (const it of document.querySelectorAll('details')) it.open = true")
     page.until(".logs", "1 tag is here, and no other.")
-    assert page.texts(".logs h3") == ["1 tag is here, and no other.", "The field is empty."]
+    assert page.texts(".logs h3") == ["1 tag is here, and no other.", "No tag answered."]
     assert page.texts(".logs dt") == ["Search finished"] * 2
     assert page.texts(".logs h4").count("At the shelf") == 1
     assert page.texts(ROWS) == ["one.log", "not in the catalogue\nE0040100000000A1"]
@@ -1119,7 +1233,7 @@ def test_items_that_are_not_on_their_shelves(page):
     page.drop(**{"catalogue": b"uid,title,shelf\nE0040100000000A1,Walden,one\n"
                  b"E0040100000000B2,Emma,one\nE0040100000000C3,Kim,two\n",
                  "one.log": log_of("I1 RA QA I1 S"), "two.log": log_of("I1 RA I1 S")})
-    page.until("h1", "1 item not on its shelf and 1 not known yet; count two again.")
+    page.until("h1", "1 item not heard on its shelf and 1 not known yet; count two again.")
     assert page.texts(".logs summary")[0] == (
         "two: nothing is known of its field, since its log contradicts itself: tag ..00A1 "
         "answered in line 3, but not in line 5, where it was also asked")
@@ -1302,7 +1416,7 @@ def tried(page, line):
 def test_what_is_only_tried_does_not_stand_in_a_collection(page):
     """It is judged by what stood in the log before."""
     page.drop(**{"A.log": UNKNOWN_SLOT})
-    page.until("h1", "The one listed tag is here; others may be")
+    page.until("h1", "Not finished: the one listed tag is here; others may be")
     tried(page, 6)
     page.drop(**{"books.csv": OF_A})
     page.until("h1", "Count A again.")
@@ -1317,7 +1431,7 @@ def test_what_is_only_tried_does_not_stand_in_a_collection_beside_another_log(pa
     assert page.texts("#logs b")[0] == "A.log (trial: line 6 is S)"
     page.until("#logs", "A.log (trial: line 6 is S) ? A trial: The one listed tag is here")
     page.press("#logs button", 1)
-    page.until("h1", "The field is empty")
+    page.until("h1", "No tag answered")
     page.drop(**{"books.csv": OF_A})
     page.until("h1", "Count A again.")
 
@@ -1454,7 +1568,7 @@ def test_nothing_is_shown_while_a_file_is_read(page, is_stopped):
         page.drop(log=log_of("I1 S UA"))
     else:
         page.run("window.go()")
-    page.until("h1", "0 of 1 listed tag is here")
+    page.until("h1", "No tag answered, but 1 is listed")
     assert page.texts("#status") == [""]
 
 
@@ -1511,21 +1625,58 @@ def test_a_browser_that_runs_no_worker(page, why):
     page.until("h1", "The one listed tag is here")
 
 
-def test_a_browser_that_runs_no_web_assembly(page, file, tmp_path):
+# Before the scripts of a page: what its worker lacks.
+LACKING = """
+const Before = Blob, words = %s;
+window.Blob = class extends Before {
+  constructor(parts, how) {
+    super(how.type === "text/javascript" ? [words, ...parts] : parts, how);
+  }
+};
+"""
+# The first call that lists what is found has trapped.
+TRAPPED = """
+const made = WebAssembly.instantiate.bind(WebAssembly);
+let calls = 0;
+WebAssembly.instantiate = async (module) => {
+  const { exports } = (await made(module)).instance;
+  const report = (...words) => {
+    if (!calls++) throw new WebAssembly.RuntimeError("unreachable");
+    return exports.vicinity_report(...words);
+  };
+  return { instance: { exports: { ...exports, vicinity_report: report } } };
+};
+"""
+
+
+def open_lacking(page, file, words):
+    """Opens the page in a browser whose workers begin with these words."""
+    added = page.driver.execute_cdp_cmd("Page.addScriptToEvaluateOnNewDocument",
+                                        {"source": LACKING % json.dumps(words)})
+    page.open(file)
+    page.driver.execute_cdp_cmd("Page.removeScriptToEvaluateOnNewDocument", added)
+
+
+def test_a_browser_that_runs_no_web_assembly(page, file):
     """As on a phone in lockdown mode. It says so in the same words."""
-    without = tmp_path / "without.html"
-    without.write_text(file.read_text().replace("WebAssembly.instantiate(", "WebAssembly.none("))
-    page.open(without)
+    open_lacking(page, file, "WebAssembly.instantiate = undefined;")
     page.drop(log=log_of("I1 RA UA"))
     page.until(".error", "log: no answer (this browser doesn't run what judges it).")
-    assert all("this browser doesn't run" in it for it in page.browser.console())
+    assert page.browser.console() == []
 
 
-def test_no_sum_is_named_where_none_can_be_had(page, file, tmp_path):
+def test_what_has_trapped_is_said_in_words(page, file):
+    """Then the next log is judged, by the library loaded anew."""
+    open_lacking(page, file, TRAPPED)
+    page.drop(log=log_of("I1 RA UA"))
+    page.until(".error", "log: no answer (the page has failed while it judged this: open it anew,")
+    page.drop(log=log_of("I1 RA UA"))
+    page.until("h1", "The one listed tag is here")
+
+
+def test_no_sum_is_named_where_none_can_be_had(page, file):
     """As on a page that comes by http."""
-    without = tmp_path / "without.html"
-    without.write_text(file.read_text().replace("crypto?.subtle", "crypto?.none"))
-    page.open(without)
+    open_lacking(page, file, "Object.defineProperty(self, 'crypto', { value: {} });")
     page.drop(**{"books.csv": OF_A, "A.log": log_of("I1 RA QA I1 S")})
     page.until(".banner.yes h1", "The one expected item is here, and no other.")
     assert "SHA-256" not in page.texts(".record")[0]
@@ -1594,11 +1745,11 @@ def test_a_page_that_a_browser_has_saved(page, tmp_path):
     page.open(file)
     page.until("#status", "This is what a browser has saved of the page: its answers, without the")
     page.press("#logs button", 1)
-    assert "two ! 0 of 1 listed tag is here; 1 didn't answer." in page.texts("#logs")[0]
+    assert "two ! No tag answered, but 1 is listed." in page.texts("#logs")[0]
     assert page.texts("h1") == ["The one listed tag is here, and no other."]
     assert not any(page.driver.find_element("id", it).is_displayed() for it in ("text", "save"))
     page.drop(two=log_of("I1 S UA"))
-    page.until("h1", "0 of 1 listed tag is here")
+    page.until("h1", "No tag answered, but 1 is listed")
     assert (page.texts("#logs button"), page.texts("#status")) == ([], [""])
 
 
@@ -1608,12 +1759,12 @@ def test_a_page_that_a_browser_has_saved_before_it_was_used(page, tmp_path):
     file.write_text(page.run(AS_SAVED))
     page.open(file)
     page.drop(log=log_of("I1 S UA"))
-    page.until("h1", "0 of 1 listed tag is here")
+    page.until("h1", "No tag answered, but 1 is listed")
     page.open(file)
     assert (page.texts("#status"), page.texts("h1")) == (
         [""], ["Did the RFID reader find every tag?"])
     type_in(page, log_of("I1 S UA").decode())
-    page.until("h1", "0 of 1 listed tag is here")
+    page.until("h1", "No tag answered, but 1 is listed")
 
 
 def test_a_page_that_a_browser_has_saved_while_an_answer_was_pale(page, tmp_path):
@@ -1644,11 +1795,11 @@ def test_what_is_pasted_beside_the_field(page):
     own. A picture that comes with a text isn't a file."""
     for names, answer in ("I1 S UA", "absent"), ("I1 RA UA", "complete 1"), ("I1 C", "unsettled"):
         assert not page.run(PASTES, [["image.png", ""]], log_of(names).decode(), "body")
-        page.until(".banner", f"pasted text · {answer}")
+        page.until(".banner code", answer)
     # beside the name of a file some systems have a text, where it is
     for into, path in ("#text", ""), ("body", "/home/emma/one.log"):
         assert not page.run(PASTES, [["one.log", log_of("I1 S UA").decode()]], path, into)
-        page.until(".banner", "one.log · absent")
+        page.until(".banner code", "absent")
     assert page.run(PASTES, [["image.png", ""]], "vicinity-log 1", "#text")
     assert page.run(PASTES, [], "", "body") and page.texts(".banner code") == [
         "absent E0040100000000A1"]
@@ -1658,7 +1809,7 @@ def test_what_is_pasted_where_a_log_is_too_long_to_be_edited(page):
     page.drop_files({"long.log": b"vicinity-log 1\n" + b"#\n" * 600_000})
     page.until(".banner", "long.log")
     assert not page.run(PASTES, [], log_of("I1 RA UA").decode(), "#text")
-    page.until(".banner", "pasted text · complete 1")
+    page.until(".banner code", "complete 1")
 
 
 def test_a_catalogue_is_pasted_beside_the_logs_that_are_here(page):
@@ -1677,7 +1828,7 @@ def test_what_is_judged_of_another_log_is_ended(page):
     page.run("window.free()")
     page.run("Worker.prototype.terminate = () => { window.isEnded = true; }")
     page.drop(two=log_of("I1 S UA"))
-    page.until("h1", "0 of 1 listed tag is here")
+    page.until("h1", "No tag answered, but 1 is listed")
     assert page.run("return window.isEnded")
 
 
@@ -1752,10 +1903,10 @@ def test_an_answer_that_is_shown_is_not_stopped(page):
     for number in 0, -1:
         page.press("#trial button", number)
     page.run("window.held.shift()()")
-    page.until("h1", "0 of 1 listed tag is here")
+    page.until("h1", "No tag answered, but 1 is listed")
     assert page.texts("#status") == [""]
     page.run("document.getElementById('stop').click()")
-    page.until("h1", "0 of 1 listed tag is here")
+    page.until("h1", "No tag answered, but 1 is listed")
     assert page.texts(".error") == []
 
 
@@ -1785,7 +1936,7 @@ def test_what_is_shown_of_a_log_stays_while_another_is_judged(page):
     page.run("document.querySelector('#told details').open = true")
     page.run("document.querySelector('#told summary').focus()")
     page.run("window.free()")
-    page.until("#logs", "two ! 0 of 1")
+    page.until("#logs", "two ! No tag")
     assert page.run("return document.activeElement.parentElement.open")
 
 

@@ -33,9 +33,9 @@ HEADLINES = {
     "noise": "This count can't be used. The log contradicts itself: in line 3 two or more tags "
              "answered, but 2 other lines leave at most one.",
     "second-version": "Not finished: no tag is proved to be here, but some may be. The log has",
-    "shelf": "Not finished: 1 of 3 listed tags is here; 1 didn't answer, 1 tag here isn't "
-             "listed and 1 isn't proved.",
-    "unfinished-count": "All 2 listed tags are here; others may be too.",
+    "shelf": "Not finished: 1 didn't answer, 1 tag here isn't listed and 1 isn't proved; 1 of 3 "
+             "listed tags is proved to be here.",
+    "unfinished-count": "Not finished: all 2 listed tags are here; others may be too.",
     "whole-shelf": "All 4 listed tags are here, and no others.",
     "woke": "This count can't be used. The log contradicts itself: tag ..00A1 was silenced in "
             "line 4, but answered in line 6",
@@ -320,7 +320,7 @@ def test_page_of_a_longer_session(opened, sessions, name):
     assert bool(marked) == (name in ("half", "lost", "woke"))
     if name == "conflict":
         page.until("summary", "The 737 lines that can't all be true, of 47 rounds")
-        page.press("summary")
+        page.press(".reader details > summary")
         page.until("details li", "line 3: line 2 asked all UIDs, and two or more tags answered")
         assert len(page.texts(".rounds td.named")) == 737
 
@@ -350,7 +350,7 @@ def test_page_of_a_collection(reconciled):
     assert page.texts("h1") == ["1 item missing and 1 not known yet; count 1 log again."]
     assert page.texts(".lights dd") == ["2 of 3 logs", "10 of 12 items"]
     groups = ["Count again (1 log)", "At the shelves (1)", "Not known yet (1)",
-              "Read to the end (2 logs)", "What this takes for granted (10)"]
+              "Nothing left to ask (2 logs)", "What this takes for granted (10)"]
     assert page.texts("details > summary h2") == groups
     assert page.texts(".items tbody tr")[0] == (
         "missing: look for it\nWalden\nA\n1 slot or more\nE00401502B91C435")
@@ -385,7 +385,7 @@ def test_a_log_of_a_collection_is_drawn_when_it_is_opened(reconciled):
     page = reconciled(*SHELVES)
     assert page.texts(".rounds") == []
     page.press(".logs summary")
-    page.until(".logs h3", "All 3 listed tags are here; others may be too.")
+    page.until(".logs h3", "Not finished: all 3 listed tags are here; others may be too.")
     page.press('.logs td[data-line="5"]')
     chosen = page.run("const it = document.querySelector('.logs textarea');"
                       "return it.value.slice(it.selectionStart, it.selectionEnd)")

@@ -93,7 +93,7 @@ export function collectionView(object) {
     ...part("Without a tag", of("no tag"), true, NO_TAG, shelved(of("no tag"), home, {}, () => "look for")),
     ...part("Not known yet", others, false, UNKNOWN_YET + which, shelved(some, home, some.every(home) ? {} : mayBe)),
     ...inPlace(object), ...isKnown ? [] : rests,
-    ...logs("Read to the end", "", object.logs.filter((log) => !isOpen(log)), false, object, shelves),
+    ...logs("Nothing left to ask", "", object.logs.filter((log) => !isOpen(log)), false, object, shelves),
     ...grantedOfAll(object), recordOfAll(object)];
 }
 
@@ -189,7 +189,7 @@ function sentenceOf(object) {
   }
   if (object.kind === KIND.SMALL) return notSure(object.margin, object.wanted ?? 0);
   const unknown = object.items.filter((item) => item.state === "not provable"), away = unknown.filter((item) => shelves.isAway(item)).length;
-  const parts = /** @type {[number, string][]} */ ([[counts.missing, "missing"], [away, `not on ${away === 1 ? "its shelf" : "their shelves"}`],
+  const parts = /** @type {[number, string][]} */ ([[counts.missing, "missing"], [away, `not heard on ${away === 1 ? "its shelf" : "their shelves"}`],
     [counts.misplaced, "in the wrong place"], [counts.unexpected, "not in the catalogue"], [unknown.length - away, "not known yet"],
     [counts["no tag"], "without a tag"]]);
   const said = parts.filter(([number]) => number).map(([number, words], at) => at ? `${number.toLocaleString("en")} ${words}`
@@ -207,7 +207,7 @@ function sentenceOf(object) {
  * @returns {import("./say.mjs").Light[]}
  */
 function lights(object) {
-  const { counts, logs } = object, done = logs.filter((log) => !isOpen(log)).length;
+  const { counts, logs } = object, done = logs.filter((log) => !isOpen(log) && log.captured?.holds !== false).length;
   const differs = counts.missing || counts.misplaced || counts.unexpected;
   // a headline of items that are all here doesn't count these
   const untagged = isOfAll(object) && counts["no tag"] ? `, ${counts["no tag"].toLocaleString("en")} without a tag` : "";
@@ -215,7 +215,7 @@ function lights(object) {
   const loose = isPlaced ? object.items.filter(({ uid, state, belongs }) => uid && !belongs && state !== "unexpected").length : 0;
   const unplaced = loose ? `, ${loose.toLocaleString("en")} without a place` : "";
   const read = `${done.toLocaleString("en")} of ${count(logs.length, "log")}`;
-  return [{ name: "Read to the end", value: read, look: done === logs.length ? "yes" : "no" },
+  return [{ name: "Search finished", value: read, look: done === logs.length ? "yes" : "no" },
     { name: isPlaced ? "In place" : "Here", value: `${counts.there.toLocaleString("en")} of ${count(items, "item")}${untagged}${unplaced}`,
       look: counts.there === items ? "yes" : differs ? "no" : "plain" }];
 }

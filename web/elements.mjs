@@ -1,5 +1,10 @@
 /** Elements of the page. */
 
+/** How an address ends that is opened by whoever maintains a reader. */
+const FOR_READERS = "#reader";
+let isForReader = globalThis.location?.hash === FOR_READERS;
+globalThis.document?.body.classList.toggle("reading", isForReader);
+
 /** @typedef {Node | string | (Node | string)[]} Content */
 
 /**
@@ -37,6 +42,24 @@ export function toLine(line, ...words) {
   return el("button", { type: "button", class: "to-line", "data-line": String(line), ...name }, ...words.length ? words : [`line ${line}`]);
 }
 
+/**
+ * A part of whose buttons one is a stop for the keyboard: arrows lead to the others.
+ * @param {HTMLElement} part
+ */
+export function oneStop(part) {
+  const buttons = () => [...part.querySelectorAll("button")], stop = (/** @type {Element} */ one) => buttons().forEach((it) => { it.tabIndex = it === one ? 0 : -1; });
+  stop(buttons()[0]);
+  part.addEventListener("keydown", (event) => {
+    const all = buttons(), step = event.key === "ArrowDown" ? 1 : event.key === "ArrowUp" ? -1 : 0;
+    const next = all[all.findIndex((it) => it === document.activeElement) + step];
+    if (!step || !next) return;
+    event.preventDefault();
+    stop(next);
+    next.focus();
+  });
+  return part;
+}
+
 /** Lines in a sentence: one with its word, or several. Safari knows no lookbehind before 2023. */
 const LINE = /\bline \d+|\blines \d+(?:(?:, | and )\d+)*/gi;
 
@@ -50,6 +73,24 @@ export function linked(sentence) {
   // what follows a line stays with it
   return parts.map((part, at) => at % 2 ? el("span", { class: "kept" }, toLine(Number(part.match(/\d+/)), part), mark(parts[at + 1]))
     : at ? part.slice(mark(part).length) : part);
+}
+
+/**
+ * A part for whoever maintains the reader, with the rounds and the text of the log beside it: folded, until somebody came for it.
+ * @param {string} heading
+ * @param {...Content} content
+ */
+export function forReader(heading, ...content) {
+  const part = folded(heading, isForReader, ...content);
+  part.classList.add("reader");
+  part.querySelector("summary")?.addEventListener("click", () => setForReader(!part.hasAttribute("open")));
+  return part;
+}
+
+/** @param {boolean} isOpen what is drawn next is for whoever maintains the reader */
+export function setForReader(isOpen) {
+  isForReader = isOpen;
+  document.body.classList.toggle("reading", isOpen);
 }
 
 /**

@@ -38,7 +38,7 @@ export async function judge(library, text, name, left) {
     ask: (len ? [1] : [16, 1]).map((slots) => `T ${hexOf(library.writeInventory(slots, len, value, link))}`) }));
   const weakest = answer.status ? null : library.margin(text).weakest, overlooked = absent.length ? library.overlooked(text, absent).list : [];
   return { schema: SCHEMA, version: versionOf(library.version), file: name, ...fields(library, answer), ...marginFields(weakest),
-    ...capturedOf(library, text, answer, weakest, surveyed), answer: answer.text.trim(),
+    ...capturedOf(library, text, answer, weakest, surveyed), ...deafOf(weakest), answer: answer.text.trim(),
     lines: linesIn(text), ended: text[text.length - 1] === LF, sha256: await sumOf(text),
     findings: [...findingsOf(list.filter((it) => it.kind !== FOUND.CONFLICT), overlooked), ...conflict.map((line) => ({ kind: "conflict", line }))],
     found: { absent: counts[FOUND.ABSENT], unlisted: counts[FOUND.UNLISTED], doubtful: counts[FOUND.DOUBTFUL] },
@@ -83,6 +83,18 @@ function capturedOf(library, text, answer, weakest, left) {
   const settled = answer.status === 1 && !left.open.length ? { settled: isSettled() } : {};
   return { captured: { ...settled,
     ...other.text === answer.text ? { holds: true, ...marginFields(then) } : { holds: false, ...fields(library, other) } } };
+}
+
+/**
+ * Whether a complete list is also complete if the reader went deaf behind the last slot in which a tag answered, and if not, what could be
+ * there then.
+ * @param {Weakest | null} weakest
+ * @returns {{deaf?: Captured}}
+ */
+function deafOf(weakest) {
+  if (!weakest) return {};
+  const { deaf } = weakest, unsettled = deaf && { kind: KIND.UNSETTLED, status: 1, ...maskFields(deaf.len, deaf.value) };
+  return { deaf: unsettled ? { holds: false, ...unsettled } : { holds: true } };
 }
 
 /**

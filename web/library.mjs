@@ -22,7 +22,8 @@ import { FOUND } from "./kinds.mjs";
 /** @typedef {{kind: number, line: number, maskLen: number, maskValue: bigint, uid: bigint}} Finding */
 /** @typedef {{fault: number, len: number, value: bigint}} Mask */
 /** @typedef {{certain: bigint[] | BigUint64Array, open: {fault?: number, len: number, value: bigint}[]}} Surveyed what `survey` says of a field */
-/** @typedef {{margin: number, maskLen: number, maskValue: bigint}} Weakest the margin of a log, and its weakest mask */
+/** @typedef {{margin: number, maskLen: number, maskValue: bigint, hidden: Mask | null, deaf: Mask | null}} Weakest the margin of a log, and its
+ *    weakest mask; of a complete list also what could be there if replies were hidden, and if the reader went deaf */
 /** @typedef {{fault: number, link: number, slots: number, maskLen: number, maskValue: bigint, uid: bigint}} Request */
 /** @typedef {{fault: number, flags: number, dsfid: number, uid: bigint}} Reply */
 /** @typedef {(...words: (number | bigint)[]) => number | bigint} Call */
@@ -31,6 +32,8 @@ import { FOUND } from "./kinds.mjs";
 const INTERFACE = 2, NO_ANSWER = 4, FIRST_ROOM = 64;
 /** The sizes of the header's structs, in bytes, and where the text of an answer begins. */
 const ANSWER = 104, TEXT = 40, FINDING = 32, MASK = 16, WEAKEST = 48, PLACES = 4, UID = 8, REQUEST = 32, REPLY = 16, FRAME = 24, NAME = 32, NUMBER = 8;
+/** Where a margin has the masks that are open if it is read more cautiously. */
+const HIDDEN_AT = 16, DEAF_AT = 32;
 /** The commands of the program, by the numbers of the header. */
 const COMMAND = Object.freeze({ check: 1, explain: 2, report: 3, margin: 4, simulate: 5, reconcile: 6, frame: 7, spell: 8, survey: 9 });
 /** The mask of all UIDs. @type {Mask} */
@@ -317,7 +320,8 @@ export class Library {
       this.#call(name, ...words, answer, at);
       const told = this.#answer(answer), view = this.#view;
       return { answer: told, weakest: told.status > 1 ? null : { margin: view.getUint32(at, true),
-        maskLen: view.getUint32(at + 4, true), maskValue: view.getBigUint64(at + 8, true) } };
+        maskLen: view.getUint32(at + 4, true), maskValue: view.getBigUint64(at + 8, true),
+        hidden: unlistedAt(view, at + HIDDEN_AT), deaf: unlistedAt(view, at + DEAF_AT) } };
     });
   }
 
@@ -504,6 +508,14 @@ function uidAt(view, at) { return view.getBigUint64(at, true); }
 /** @type {(view: DataView, at: number) => Mask} */
 function maskAt(view, at) {
   return { fault: view.getUint32(at, true), len: view.getUint32(at + 4, true), value: view.getBigUint64(at + 8, true) };
+}
+
+/**
+ * A mask behind a word that says whether there is one.
+ * @type {(view: DataView, at: number) => Mask | null}
+ */
+function unlistedAt(view, at) {
+  return view.getUint32(at, true) ? { fault: 0, len: view.getUint32(at + 4, true), value: view.getBigUint64(at + 8, true) } : null;
 }
 
 /** @type {(view: DataView, at: number) => Finding} */

@@ -1,6 +1,6 @@
 /** Draws what whoever maintains the reader needs: the causes, what tells them apart, and what is left to ask. */
-import { el, folded, linked, toLine } from "./elements.mjs";
-import { alsoHolds, settled, TO_KNOW } from "./sure.mjs";
+import { el, forReader, linked, oneStop, toLine } from "./elements.mjs";
+import { alsoHolds, ifDeaf, settled, TO_KNOW } from "./sure.mjs";
 import { count, visible } from "./words.mjs";
 
 /** @typedef {import("./told.mjs").Told} Told */
@@ -9,25 +9,29 @@ const MOST_SHOWN = 160, MOST_ON_PAPER = 400;
 const INSERT = "If a slot has a collision, ask its mask in sixteen slots too. In the log, the new lines go ";
 const ASK_UNDER = ", to ask again where a reply may have hidden others, when the tags that were read there are silent.";
 const SILENCED = "tags that were silenced before they were heard: only then do they answer";
+const HEARD = "To know whether the reader still heard at the end, switch the field off and on, write F, and ask for a tag that was found: it has to answer.";
+const NO_CYCLES = "That takes a log of version 2 or 3: one of version 1 has no line for it.";
 const NEW_VERSION = "Tags that were silenced before they were heard answer only after the field was switched off and on, and a log of " +
   "version 1 has no line for that. Begin a new log, of version 3, and ask for the whole field again.";
 
 /**
  * @param {Told} told
  * @param {import("./say.mjs").Said} said
+ * @param {Node[]} more what is drawn of the log
  */
-export function maintainer(told, said) {
-  const parts = [], ask = alsoHolds(told)?.ask ?? [];
-  if (!said.causes.length && !ask.length) return [];
+export function maintainer(told, said, more) {
+  const parts = [], ask = alsoHolds(told)?.ask ?? [], heard = ifDeaf(told)?.ask ?? [];
+  if (!said.causes.length && !ask.length && !heard.length && !more.length) return [];
   if (told.faulty) parts.push(el("p", {}, toLine(told.object.line ?? 1), ": ", el("code", {}, visible(told.faulty).slice(0, MOST_SHOWN))));
   if (said.lead) parts.push(el("p", {}, said.lead));
-  if (said.causes.length) parts.push(el("ul", {}, said.causes.map((cause) => el("li", {}, linked(cause)))));
+  if (said.causes.length) parts.push(oneStop(el("ul", {}, said.causes.map((cause) => el("li", {}, linked(cause))))));
   if (said.test) parts.push(el("p", {}, linked(said.test)), ...said.ask.length ? copied(said.ask) : []);
   if (told.object.unnoticed) {
     parts.push(el("p", {}, "A tag ", el("code", {}, told.object.unnoticed), " could be here: the log would be the same."));
   }
   if (ask.length) parts.push(el("p", {}, `To know whether a strong reply hid a weaker one, ${TO_KNOW}:`), ...copied(ask));
-  return [folded("For whoever maintains the reader", true, ...parts, ...left(told))];
+  if (heard.length && !ask.length) parts.push(el("p", {}, told.cycles ? HEARD : `${HEARD} ${NO_CYCLES}`), ...copied(["F", ...heard]));
+  return [forReader("For whoever maintains the reader", ...parts, ...left(told), ...more)];
 }
 
 /**

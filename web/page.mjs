@@ -1,6 +1,6 @@
 /** The page that judges: what is opened or typed is judged, and one of it is shown. */
 import { withRoom } from "./collection.mjs";
-import { at, bytesOf } from "./elements.mjs";
+import { at, bytesOf, setForReader } from "./elements.mjs";
 import { gathered, isLacking, isUnanswered, read } from "./opened.mjs";
 import { Pane } from "./pane.mjs";
 import { unfold, unfoldOnPaper } from "./printing.mjs";
@@ -188,6 +188,7 @@ function changed(name, pause, before) {
 const shownLog = () => entries[current];
 field.addEventListener("input", () => {
   trial.end();
+  setForReader(true);
   // what is typed is no text of a file that wasn't read
   changed(entries.length && !isLacking(shownLog()) ? shownLog().name.replace(EDITED, "") + EDITED : PASTED, PAUSE);
 });

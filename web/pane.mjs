@@ -20,6 +20,8 @@ export class Pane {
     this.hint = hint;
     shown.addEventListener("click", (event) => {
       const line = /** @type {HTMLElement} */ (event.target).closest("[data-line]")?.getAttribute("data-line");
+      // it stands beside what is for whoever maintains the reader
+      if (line && this.#text) /** @type {HTMLElement | null} */ (shown.querySelector("details.reader:not([open]) > summary"))?.click();
       if (line && this.#text) this.select(Number(line));
     });
     document.addEventListener("selectionchange", () => this.mark());

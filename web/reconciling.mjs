@@ -7,6 +7,7 @@ import { ALL } from "./library.mjs";
 import { leastOf, marginFields, maskFields, overlookedIn, withoutList } from "./margins.mjs";
 import { maskKey } from "./frames.mjs";
 import { placesOf } from "./places.mjs";
+import { Wrong } from "./tables.mjs";
 import { UID_BITS, caseless, hex } from "./words.mjs";
 
 /** @typedef {import("./library.mjs").Library} Library */
@@ -70,7 +71,7 @@ export async function reconciled(library, given) {
   const uids = catalogue.entries.flatMap(({ uid }) => uid ?? []), logs = [];
   for (const log of given.logs) logs.push(await surveyed(library, log));
   const { answer, list } = library.reconcile(uids, logs);
-  if (answer.status > 1) throw new Error(answer.text.trim());
+  if (answer.status > 1) throw new Wrong(answer.text.trim());
   const missing = overlookedIn(library, logs, list.filter((it) => it.kind === FOUND.ABSENT).map((it) => it.uid));
   const items = itemsOf(catalogue, places, logs, list, files, missing);
   const aside = logs.filter((log) => log.aside), unsettled = list.find((it) => it.kind === FOUND.UNSETTLED);

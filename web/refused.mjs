@@ -20,6 +20,10 @@ const HAS_UID = /(?:^|[,;\t|"])uid(?:$|[,;\t|"])/i;
 const PACKED = "ZIP file, a spreadsheet or a document", UNPACK = "If it is a ZIP file with logs in it, unpack it, and open the logs.";
 const IF_SPREADSHEET = "If it is a spreadsheet with tag numbers:";
 const ANOTHER = "Choose another file, or count again.";
+/** Files that aren't logs, by how their first line begins. */
+const FOREIGN = /** @type {[RegExp, "pdf" | "page" | "trace" | "list"][]} */ ([[/^%PDF/, "pdf"], [/^\s*<(?:!doctype html|html)/i, "page"],
+  [/^\s*(?:\[[+=!#?|-]\] |\[(?:usb|bt|fpc)|pm3 |proxmark|Recorded activity|Start \| +End \| Src)/i, "trace"],
+  [/^\W{0,3}(?:uid|E0(?:[ :.-]?[0-9A-F]{2}){7}|(?:[0-9A-F]{2}[ :.-]?){7}E0)\W{0,3}$/i, "list"]]);
 /** How a text begins that somebody meant as a log: with a header, or with a line of it. */
 const OF_A_LOG = /^(vicinity-log|[TRHU] [0-9A-F]|[SCDNF]$|#)/i;
 /** What an editor adds to it, or a coding makes of it. */
@@ -34,7 +38,11 @@ export function refused(told) {
     const [what, shelf] = TABLE.test(told.object.file) ? [`spreadsheet: ${SAVE_AS_CSV}`, SAVED] : [PACKED, [UNPACK, { when: IF_SPREADSHEET, steps: SAVED }]];
     return { headline: `This file isn't a log, but a ${what}.`, causes: [], shelf };
   }
-  const foreign = isForeign(told);
+  const foreign = isForeign(told), known = foreign && FOREIGN.find(([begins]) => begins.test(told.faulty));
+  if (known) {
+    const { wrong, fix } = SENTENCES.files[known[1]];
+    return { headline: `This file isn't a log, but ${wrong}.`, shelf: fix, causes: [] };
+  }
   if (foreign && isTable(told.faulty)) {
     return { headline: "This file isn't a log, but a table.", shelf: HAS_UID.test(told.faulty) ? BOTH : NAMED, causes: [] };
   }

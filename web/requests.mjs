@@ -1,6 +1,7 @@
 /** What is left to ask, as lines that send it. */
 import { hasUid, linkIn, linkOf, maskKey, maskOf, requestOf, sixteen, SLOTS, stayQuietOf, UID_LEN, uidIn } from "./frames.mjs";
 import { MOST_NOTES } from "./notes.mjs";
+import { UID_BITS } from "./words.mjs";
 
 /** @typedef {import("./frames.mjs").Mask} Mask */
 /** @typedef {import("./causes.mjs").Cause} Cause */
@@ -14,6 +15,7 @@ import { MOST_NOTES } from "./notes.mjs";
  * @property {string[]} hidden where a reply may have hidden others
  * @property {string[]} lost of tags whose reply may have been lost, in a new log
  * @property {string[]} all where any reply may have hidden others: all in one slot but those that were heard
+ * @property {string[]} heard after a field cycle, of a tag that was found: it has to answer
  * @property {boolean} hasHeardAll whether those that were heard are all that are certain
  */
 
@@ -23,7 +25,7 @@ const MOST_REQUESTS = 1000;
 const BY_MASK = "open mask";
 const NO_MASK = { len: 0, value: 0n };
 /** @type {Requests} */
-export const NO_REQUESTS = { open: [], by: BY_MASK, silenced: [], hidden: [], lost: [], all: [], hasHeardAll: false };
+export const NO_REQUESTS = { open: [], by: BY_MASK, silenced: [], hidden: [], lost: [], all: [], heard: [], hasHeardAll: false };
 
 /**
  * @param {Log} log
@@ -40,6 +42,7 @@ export function requestsOf(log, object, { open, quiet, hidden, causes, lost }) {
   return { ...openRequests(causes, own, link, open.length === count),
     silenced: masks.flatMap((mask, at) => quiet.has(open[at]) ? mask.ask : []),
     hidden: all.length > ready && all.length < again.length ? all : again,
+    heard: certain.uids.slice(0, 1).map((uid) => `T ${requestOf(1, { len: UID_BITS, value: BigInt.asUintN(UID_BITS, BigInt(`0x${uid}`)) }, link)}`),
     lost: lost.slice(0, MOST_NOTES).map(({ uid }) => sixteen({ len: UID_LEN, value: BigInt(`0x${uid}`) }, link)),
     ...isHiding ? { all, hasHeardAll: heard === certain.count } : { all: [], hasHeardAll: false } };
 }

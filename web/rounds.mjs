@@ -1,5 +1,5 @@
 /** Draws the rounds of a log: a row for each, a cell for each slot. */
-import { el, toLine } from "./elements.mjs";
+import { el, oneStop, toLine } from "./elements.mjs";
 import { SLOTS } from "./frames.mjs";
 import { count, ending, hex, listing, printable } from "./words.mjs";
 
@@ -41,7 +41,7 @@ export function rounds(told, names) {
   const whole = `The whole session, from left to right: ${count(told.counts.rounds, "round")}, with ` +
     `${count(told.counts.heard, "reply", "replies")} in ${count(told.counts.slots, "slot")}${markedAt(told.marked)}.`;
   const strip = bars.length ? [el("p", { class: "strip", "aria-hidden": "true" }, bars), el("p", {}, whole)] : [];
-  return [el("section", {}, el("h2", {}, "The rounds"), ...strip, legend(told), scrolled(table))];
+  return [el("section", {}, el("h2", {}, "The rounds"), ...strip, legend(told), scrolled(oneStop(table)))];
 }
 
 /**

@@ -27,13 +27,17 @@ import { mainly, whyOpen } from "./why.mjs";
  */
 
 const NOT_KNOWN = "not known";
+const IF_HIDDEN_LIGHT = "If replies were hidden", IF_DEAF_LIGHT = "If the reader went deaf";
 const AGAIN = "Run the inventory again, to its end.";
 const NEW_LOG = "Count again, in a new log: with less interference, tags that lie still and not on top of each other, and no " +
   "second reader nearby.";
 const CYCLE = "Switch the reader's field off and on, and count again.";
 const LOOK = "Or look whether what isn't proved is there: the answer speaks only of what the log shows.";
-const EMPTY = ["If nothing should be here: nothing to do.", "If items should be here: check the antenna, switch the reader's field off and " +
-  "on, and count again."];
+const EMPTY = ["If items should be here: check the antenna, switch the reader's field off and on, and count again.",
+  "If nothing should be here: lay an item with a tag at the antenna, and count again. Once it is found, the antenna works, and there is nothing " +
+  "else to do."];
+const HEARS = "Nothing to do, if the reader worked to the end. To see that it did: switch its field off and on, and let it ask once more for a tag " +
+  "that was found.";
 const NOTHING = "Nothing to do.", ABOVE = "What there is to do here by the catalogue stands above.";
 const ONE_MORE = ["Send the log and this page (printed as PDF) to whoever maintains the reader: it stopped without asking all tags once more. " +
   "Asking them all, until none answers, shows whether a strong reply hid a weaker one.",
@@ -97,7 +101,8 @@ function possible(told, isAlone) {
     `Line ${line} silenced ${uid}, which was never heard: its reply may have been lost in line ${at}.`);
   const causes = [...why, ...silenced, ...hasList && found.absent && !lost.length ? [NOT_HEARD] : [], ...hasList && found.unlisted ? [NOT_CLAIMED] : [],
     ...!hasList && isAlone && object.certain.count ? [NO_LINES] : []];
-  const isGreen = isSure && isAlone;
+  // a list is green only where it is said what holds if the reader went deaf
+  const isGreen = isSure && isAlone && object.deaf !== undefined;
   return { look: isGreen ? "yes" : only ? "read" : "no", sign: isGreen ? "✓" : only ? "i" : "!", headline: headline(told, isAlone),
     lights: lightsOf(told, isAlone, { value: look === "plain" ? "not known yet" : look, look },
       { value: list, look: isSure ? "yes" : differs || lacks ? "no" : "plain" }),
@@ -111,9 +116,23 @@ function possible(told, isAlone) {
  * @param {Shown} list if there is one
  * @returns {Light[]}
  */
-function lightsOf({ counts }, isAlone, finished, list) {
+function lightsOf({ object, counts }, isAlone, finished, list) {
   const shown = counts.listed && isAlone ? [list] : isAlone ? [{ value: "none given", look: /** @type {const} */ ("plain") }] : [];
-  return [{ name: "Search finished", ...finished }, ...shown.map((it) => ({ name: "List", ...it }))];
+  return [{ name: "Search finished", ...finished }, ...shown.map((it) => ({ name: "List", ...it })), ...isAlone ? howSure(object) : []];
+}
+
+/**
+ * How sure a complete list is: how often each other tag was asked, and what else could be here. Of a list that differs only what may be wrong.
+ * @param {import("./told.mjs").LogObject} object
+ * @returns {Light[]}
+ */
+function howSure({ kind, count: number, found, open, margin, captured, deaf }) {
+  const isComplete = kind === KIND.COMPLETE, differs = !open.count && (found.absent || found.unlisted) && captured?.holds === false;
+  const still = number ? "still complete" : "still empty", other = isComplete ? "others may be here" : "the answer may be wrong";
+  const light = (/** @type {string} */ name, /** @type {boolean} */ holds) =>
+    ({ name, value: holds ? still : other, look: holds ? /** @type {const} */ ("yes") : /** @type {const} */ ("no") });
+  return [...isComplete && margin ? [{ name: "Each other tag was asked", value: `${count(margin, "time")} or more`, look: /** @type {const} */ ("plain") }] : [],
+    ...isComplete && captured || differs ? [light(IF_HIDDEN_LIGHT, !!captured?.holds)] : [], ...isComplete && deaf ? [light(IF_DEAF_LIGHT, deaf.holds)] : []];
 }
 
 /**
@@ -122,8 +141,8 @@ function lightsOf({ counts }, isAlone, finished, list) {
  * @param {boolean} isAlone
  * @returns {Step[]}
  */
-function steps({ object: { kind, found, open, captured }, counts, quiet, notes }, isAlone) {
-  if (kind === KIND.COMPLETE) return !isAlone ? [ABOVE] : !counts.listed ? EMPTY : captured?.holds === false ? ONE_MORE : [NOTHING];
+function steps({ object: { kind, found, open, captured, deaf }, counts, quiet, notes }, isAlone) {
+  if (kind === KIND.COMPLETE) return !isAlone ? [ABOVE] : !counts.listed ? EMPTY : captured?.holds === false ? ONE_MORE : [deaf?.holds ? NOTHING : HEARS];
   if (!open.count && !counts.listed) return [...captured?.settled === false ? [ONE_ROUND, STAYS] : [], ...isAlone ? [COMPARE] : []];
   const steps = /** @type {Step[]} */ ([]);
   if (kind === KIND.DOUBTFUL) steps.push(CYCLE, LOOK);
@@ -149,28 +168,42 @@ const lookFor = (number) => number === 1 ? `look on this shelf for the item belo
   : `look on this shelf for the ${count(number, "item")} below. If one ${IS_BROKEN}`;
 
 /**
+ * The answer in a sentence, which begins with what matters most: that the search isn't finished, and then what differs.
  * @param {Told} told
  * @param {boolean} isAlone
  */
 function headline({ object: { kind, count: number = 0, found, certain, open, captured }, counts, silenced, quiet, isMore }, isAlone) {
   const { listed } = counts, only = open.count > 0 && quiet === open.count, without = listed || !isAlone ? "" : ANSWERS.noList;
   const others = only ? unproved(silenced.length, found.doubtful) : isMore ? ANSWERS.othersAre : ANSWERS.othersMayBe;
-  const left = open.count && !only ? ANSWERS.notFinished : "";
   // what else a catalogue says of it stands above
   if (kind === KIND.COMPLETE && !isAlone) return number ? tagsHere(number, captured?.holds === false) : ANSWERS.emptyField;
   if (kind === KIND.COMPLETE) return whole(number, captured?.holds === false);
   if (!open.count && !listed) return `${tagsHere(certain.count, captured?.settled === false)}${without}`;
+  if (!open.count && !certain.count) return numbered(ANSWERS.noneAnswered, listed);
+  const left = open.count ? ANSWERS.notFinished : "";
   if (!listed) {
     const here = certain.count ? `${numbered(ANSWERS.tagsHere, certain.count)}; ${others}` : only ? others : isMore ? ANSWERS.noneRead : ANSWERS.noneProved;
     return `${left}${here}.${without}`;
   }
-  if (!found.absent && !found.unlisted && !found.doubtful) return `${allListed(listed)}; ${others}.`;
-  const here = listed - found.absent - found.doubtful;
-  const parts = [...found.absent ? [numbered(ANSWERS.absent, found.absent)] : [],
-    ...found.unlisted ? [numbered(ANSWERS.unlisted, found.unlisted)] : [],
+  if (!found.absent && !found.unlisted && !found.doubtful) return `${left}${inside(allListed(listed))}; ${others}.`;
+  const parts = [...found.absent ? [numbered(ANSWERS.absent, found.absent)] : [], ...found.unlisted ? [numbered(ANSWERS.unlisted, found.unlisted)] : [],
     ...only ? [others] : found.doubtful ? [numbered(ANSWERS.doubtful, found.doubtful)] : []];
-  return `${left}${here.toLocaleString("en")} of ${count(listed, "listed tag")} ${here === 1 || listed === 1 ? "is" : "are"} here; ${listing(parts)}.`;
+  return `${left}${listing(parts)}; ${ofListed(listed - found.absent - found.doubtful, listed, open.count > 0)}.`;
 }
+
+/**
+ * How many listed tags are here, or proved to be, of a search that isn't finished.
+ * @param {number} here
+ * @param {number} listed
+ * @param {boolean} isOpen
+ */
+function ofListed(here, listed, isOpen) {
+  if (here === listed) return inside(allListed(listed));
+  return `${here.toLocaleString("en")} of ${count(listed, "listed tag")} ${here === 1 || listed === 1 ? "is" : "are"} ${isOpen ? "proved to be here" : "here"}`;
+}
+
+/** @param {string} sentence behind the beginning of another */
+const inside = (sentence) => sentence[0].toLowerCase() + sentence.slice(1);
 
 /**
  * What is said behind tags that are here, where nothing is left to ask.

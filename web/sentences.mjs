@@ -101,6 +101,20 @@ export const SENTENCES = {
     "Survey": { "wrong": "this isn't a survey as vicinity survey writes it: it was cut off or changed",
       "fix": "Make the survey again, or copy its file again." }
   },
+  "files": {
+    "pdf": { "wrong": "a PDF",
+      "fix": ["Open the log itself: a text file, which the reader's software writes; its first line begins with 'vicinity-log'.", "If the PDF is an answer that was printed here, ask whoever sent it for the log, or for the page saved as HTML."] },
+    "page": { "wrong": "a web page",
+      "fix": ["If it was saved here as an answer, open it in the browser itself, as by a double click.", "Else open the log itself: a text file, which the reader's software writes; its first line begins with 'vicinity-log'."] },
+    "trace": { "wrong": "a trace of a Proxmark",
+      "fix": ["A trace has what was sent on the air, but not the slots in which no tag answered: it can't show whether a tag was missed.", "Count with a reader whose software writes a log. docs/READERS.md of vicinity says which readers can, and how."] },
+    "list": { "wrong": "a list of tag numbers",
+      "fix": ["A list says which tags were read, not what was asked: it can't show whether a tag was missed.", "To compare it with logs: let its first line be uid, save it as CSV, and open it here together with the logs.", "A log is a file that the reader's software writes; its first line begins with 'vicinity-log'."] }
+  },
+  "failures": {
+    "memory": "there isn't enough memory for it: close other tabs and programs, and open it again",
+    "trap": "the page has failed while it judged this: open it anew, and if it happens again, send the file to whoever maintains vicinity"
+  },
   "parts": {
     "count": "Don't change this line. Count again, using only Inventory and Stay Quiet.",
     "crc": "Write the frame as it was on the air, with both bytes of its CRC, low byte first. If the chip removes the CRC, add it again.",
@@ -112,8 +126,9 @@ export const SENTENCES = {
     "cannotBeUsed": "This log can't be used",
     "noLog": "This text isn't a log",
     "notFinished": "Not finished: ",
-    "empty": "The field is empty, and nothing is listed.",
-    "emptyField": "The field is empty.",
+    "empty": "No tag answered, and nothing is listed.",
+    "emptyField": "No tag answered.",
+    "noneAnswered": ["No tag answered, but {} is listed.", "No tag answered, but {} are listed."],
     "allListed": ["The one listed tag is here", "All {} listed tags are here"],
     "tagsHere": ["{} tag is here", "{} tags are here"],
     "noOthers": [", and no other.", ", and no others."],
@@ -125,8 +140,8 @@ export const SENTENCES = {
     "absent": "{} didn't answer",
     "unlisted": ["{} tag here isn't listed", "{} tags here aren't listed"],
     "doubtful": ["{} isn't proved", "{} aren't proved"],
-    "silenced": ["{} tag may be here or not: it was silenced before it was heard", "{} tags may be here or not: they were silenced before they were heard"],
-    "silencedListed": ["{} listed tag isn't proved: it was silenced before it was heard", "{} listed tags aren't proved: they were silenced before they were heard"],
+    "silenced": ["{} tag may be here or not, since it was silenced before it was heard", "{} tags may be here or not, since they were silenced before they were heard"],
+    "silencedListed": ["{} listed tag isn't proved, since it was silenced before it was heard", "{} listed tags aren't proved, since they were silenced before they were heard"],
     "noList": " The log has no list to compare with."
   }
 };

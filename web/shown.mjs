@@ -26,6 +26,10 @@ export function show(entry, isShown) {
   const isOld = entry !== undefined && isUnanswered(entry);
   shown.setAttribute("aria-busy", String(isOld));
   at("named").textContent = entry?.told ? nameOfText(entry.told, false) : "The log";
+  // beside the buttons of a trial, since the answer may be off the screen
+  const tried = entry?.told && !isOld && TRIAL.test(entry.name) ? headOf(entry.told).headline : "";
+  at("tried").textContent = tried;
+  at("tried").hidden = !tried;
   if (!entry || isOld && isShown) return;
   shown.replaceChildren(...nodesOf(entry));
   headed(titleOfEntry(entry));

@@ -10,6 +10,9 @@ import { count, ending } from "./words.mjs";
 export const HOLDS = "This is said of tags that had power, heard the reader, and were heard when they answered.";
 /** How it is said whether an answer about tags would also be that of a log whose replies may have hidden others. */
 const IF_HIDDEN = "If a strong reply hid a weaker one, the answer ";
+const IF_DEAF = "If the reader had gone deaf after the last answer of a tag, the answer ";
+const DEAF = "A reader that is deaf writes the same log: only a tag at its antenna shows that it hears.";
+export const ONCE_MORE = "Asking all of them once more, when none answers, adds one.";
 export const TO_KNOW = "silence each tag that was heard, and ask all in one slot, until none answers";
 export const ALLOWED = "The answer allows for strong replies that hid weaker ones.";
 
@@ -57,6 +60,21 @@ export function alsoHolds({ object: { kind, captured, margin, answer }, counts, 
   if (!counts.listed && captured.settled === false) return { words: "", ask: requests.all };
   return { words: `${IF_HIDDEN}still holds, but more UIDs may be open.`, ask: requests.all };
 }
+
+/**
+ * Whether a complete list is one also if the reader went deaf before its last, silent rounds, and if not, what shows whether it did.
+ * @param {Told} told
+ */
+export function ifDeaf({ object: { kind, count: number, deaf }, requests }) {
+  if (kind !== KIND.COMPLETE || !deaf) return null;
+  if (!number) return { words: DEAF, ask: [] };
+  const { holds, mask_len, mask_value = "-" } = deaf;
+  if (holds || mask_len === undefined) return { words: `${IF_DEAF}still holds: it heard a tag after the last silence.`, ask: [] };
+  return { words: `${IF_DEAF}may be wrong: ${which(ending(maskOf({ mask_len, mask_value })))} could be here.`, ask: requests.heard };
+}
+
+/** @param {string} uids */
+const which = (uids) => uids.startsWith("UIDs") ? uids.replace("UIDs", "tags with UIDs") : uids === "any UID" ? "a tag with any UID" : `tag ${uids}`;
 
 /**
  * Whether nothing that is said rests on it that no strong reply hid a weaker one.

@@ -46,7 +46,8 @@ import { strip } from "./strip.mjs";
  * @property {{count: number, uids: string[]}} certain
  * @property {{count: number, share: number, masks: {mask_len: number, mask_value: string, ask: string[]}[]}} open
  * @property {string | null} unnoticed a UID that isn't listed, and could be there
- * @property {Captured} [captured] of a log
+ * @property {Captured} [captured] of a log: how it is read if strong replies hid weaker ones
+ * @property {Captured} [deaf] of a complete list: and if moreover the reader went deaf behind the last slot in which a tag answered
  * @property {number} [margin] of a complete list
  * @property {Margin["weakest"]} [weakest]
  */
@@ -56,10 +57,13 @@ import { strip } from "./strip.mjs";
  */
 /**
  * @typedef {Object} Captured
- * @property {boolean} holds whether the answer also holds if strong replies hid weaker ones
+ * @property {boolean} holds whether the answer also holds then
  * @property {string} [kind] of the answer that does, if it doesn't
- * @property {number} [margin] of a complete list, if they did
- * @property {boolean} [settled] where nothing is left to ask, whether the same is known and nothing left if they did
+ * @property {number} [status]
+ * @property {number} [mask_len] of what is unsettled then
+ * @property {string} [mask_value]
+ * @property {number} [margin] of a complete list, if it holds
+ * @property {boolean} [settled] where nothing is left to ask, whether the same is known and nothing left then
  */
 /**
  * @typedef {Object} Told

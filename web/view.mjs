@@ -1,12 +1,12 @@
 /** Draws what is told of a log. */
 import { isLarge } from "./conflict.mjs";
-import { el, folded, linked, toLine } from "./elements.mjs";
+import { el, folded, linked, oneStop, toLine } from "./elements.mjs";
 import { maintainer } from "./maintainer.mjs";
 import { KIND } from "./kinds.mjs";
 import { noted } from "./notes.mjs";
 import { LOOKS, rounds } from "./rounds.mjs";
 import { say } from "./say.mjs";
-import { alsoHolds, granted, HOLDS, isApart, missed, silentIn } from "./sure.mjs";
+import { alsoHolds, granted, HOLDS, ifDeaf, isApart, missed, ONCE_MORE, silentIn } from "./sure.mjs";
 import { isSpreadsheet } from "./tables.mjs";
 import { count, hex, lines, listing, printable, TRIAL, whom } from "./words.mjs";
 
@@ -26,10 +26,10 @@ const FEW = 24, MOST_ROUNDS = 60;
 export function view(told, names = new Map(), isAlone = true) {
   const said = say(told, isAlone), head = headOf(told, isAlone), file = printable(told.object.file), { answer, kind } = told.object;
   // without a list, its first tag isn't more than the others
-  const what = kind === KIND.UNLISTED && !told.counts.listed ? [file] : [file, " · ", el("code", {}, answer)];
-  return [banner(head, what), ...shelf(said), ...conditions(told),
-    ...findings(told, names), ...tags(told, names), ...conflict(told), ...rounds(told, names),
-    ...maintainer(told, said), ...notes(told), ...takenForGranted(told), record(told, isAlone, head.headline)];
+  const what = kind === KIND.UNLISTED && !told.counts.listed ? [file] : [file, el("span", { class: "paper" }, " · ", el("code", {}, answer))];
+  return [banner(head, what), ...shelf(said), ...conditions(told, isAlone), ...findings(told, names), ...tags(told, names),
+    ...maintainer(told, said, [...rounds(told, names), ...notes(told), ...conflict(told)]), ...takenForGranted(told),
+    record(told, isAlone, head.headline)];
 }
 
 /**
@@ -63,11 +63,12 @@ export function banner(said, what) {
 /**
  * What the answer rests on, in a line each.
  * @param {Told} told
+ * @param {boolean} isAlone
  */
-function conditions(told) {
-  const { object: { kind, open, status }, counts } = told, also = alsoHolds(told)?.words;
-  const isOfAll = kind === KIND.COMPLETE || status === 1 && !open.count && !counts.listed;
-  const parts = [...isOfAll ? [HOLDS, ...missed(told.object)] : [], ...also ? [also] : []].map((it) => el("p", {}, it));
+function conditions(told, isAlone) {
+  const { object: { kind, open, status }, counts } = told, also = alsoHolds(told)?.words, deaf = isAlone ? ifDeaf(told)?.words : "";
+  const isOfAll = kind === KIND.COMPLETE || status === 1 && !open.count && !counts.listed, sure = missed(told.object).map((it) => `${it} ${ONCE_MORE}`);
+  const parts = [...isOfAll ? [HOLDS, ...sure] : [], ...also ? [also] : [], ...deaf ? [deaf] : []].map((it) => el("p", {}, it));
   return parts.length ? [el("section", { class: "holds" }, parts)] : [];
 }
 
@@ -102,7 +103,7 @@ function findings({ object: { findings, found, open }, counts }, names) {
     const items = list.map(({ uid = "", line, overlooked }) => el("li", {}, ...tagWith(uid, names),
       ...line ? shown(line, overlooked ? `${silentIn(overlooked)}; ` : "") : []));
     const isSeen = all <= FEW || !listed && !open.count;
-    return lengthy(folded(count(all, one, many), isSeen, el("ul", { class: `uids ${kind}` }, items), ...rest(all - list.length)), items.length);
+    return lengthy(folded(count(all, one, many), isSeen, oneStop(el("ul", { class: `uids ${kind}` }, items)), ...rest(all - list.length)), items.length);
   });
 }
 
@@ -129,7 +130,7 @@ function conflict({ conflict: it }) {
   if (!it || !isLarge(it)) return [];
   const items = it.parts.map(({ asked, round, lines: numbers, reading, uids }) => el("li", {}, toLine(numbers[0], lines(numbers)),
     `: line ${round} asked ${whom(asked)}, and ${LOOKS[reading].words}${uids.length ? `, ${listing(uids.map((uid) => hex(uid)))}` : ""}`));
-  const part = folded(`The ${count(it.count, "line")} that can't all be true, of ${count(it.rounds, "round")}`, false, el("ul", {}, items),
+  const part = folded(`The ${count(it.count, "line")} that can't all be true, of ${count(it.rounds, "round")}`, false, oneStop(el("ul", {}, items)),
     ...rest(it.rounds - new Set(it.parts.map((part) => part.round)).size));
   if (it.rounds > MOST_ROUNDS) part.classList.add("aside");
   const where = `The ${count(it.count, "line")} that can't all be true are from line ${it.first} to line ${it.last}; the page lists them on a screen.`;
@@ -162,7 +163,7 @@ function tags({ object: { certain, found } }, names) {
 function notes(told) {
   const all = noted(told.notes).map(([line, words]) => el("li", {}, toLine(line), linked(`: ${words}`)));
   const isOpen = told.object.status > 0 || told.object.captured?.holds === false;
-  return all.length ? [folded(`Notes (${all.length})`, isOpen, el("ul", {}, all))] : [];
+  return all.length ? [folded(`Notes (${all.length})`, isOpen, oneStop(el("ul", {}, all)))] : [];
 }
 
 /**

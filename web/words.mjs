@@ -74,7 +74,7 @@ export function short(uid, others = []) {
 }
 
 /**
- * Which UIDs are in a mask: any UID; UIDs ending in 61 or E1; E0040100000000A1.
+ * Which UIDs are in a mask: any UID; UIDs ending in 61 or E1, or in 01, 21 .. E1; E0040100000000A1.
  * @param {Mask} mask
  */
 export function ending(mask) {
@@ -83,9 +83,9 @@ export function ending(mask) {
   if (mask.len >= UID_BITS) return hex(uidOf(mask));
   if (bits === 0) return `UIDs ending in ${low}`;
   const top = Number(mask.value >> BigInt(4 * digits));
-  if (bits === 1) return `UIDs ending in an ${top ? "odd" : "even"} digit${low && ` before ${low}`}`;
-  const heads = [...Array(16).keys()].filter((head) => head % (1 << bits) === top);
-  return `UIDs ending in ${listing(heads.map((head) => hex(head, 1) + low), "or")}`;
+  if (bits === 1 && !low) return `UIDs ending in an ${top ? "odd" : "even"} digit`;
+  const heads = [...Array(16).keys()].filter((head) => head % (1 << bits) === top).map((head) => hex(head, 1) + low);
+  return `UIDs ending in ${bits === 1 ? `${heads[0]}, ${heads[1]} .. ${heads[heads.length - 1]}` : listing(heads, "or")}`;
 }
 
 /**

@@ -62,12 +62,14 @@ class Screen:
     def __init__(self, browser):
         self.browser, self.driver, self.is_opened = browser, browser.driver, False
 
-    def open(self, file):
-        """Opens a page anew, and waits until it is drawn."""
+    def open(self, file, part="#reader"):
+        """Opens a page anew, and waits until it is drawn: with what is for whoever maintains the
+        reader, or as everybody else does."""
         self.is_opened = True
+        self.driver.get("about:blank")  # else a part of the page that is open would be shown
         self.browser.console()
         self.driver.get_log("performance")
-        self.driver.get(f"file://{file}")
+        self.driver.get(f"file://{file}{part}")
 
     def end(self):
         """At the end nothing was fetched, and nothing stands on the console."""
@@ -151,7 +153,7 @@ class Screen:
 
     def picture(self, width, last):
         """What is seen of it until the end of an element, at twice the size, as PNG."""
-        size = {"width": width, "height": width, "deviceScaleFactor": 2, "mobile": False}
+        size = {"width": width, "height": 2 * width, "deviceScaleFactor": 2, "mobile": False}
         self.driver.execute_cdp_cmd("Emulation.setDeviceMetricsOverride", size)
         end = self.run("return document.querySelector(arguments[0]).getBoundingClientRect().bottom",
                        last)

@@ -5,7 +5,7 @@ import json
 from hashlib import sha256
 from typing import Any, Iterable, Iterator
 
-from .._answers import Answer, FindingKind, Kind, Mask
+from .._answers import Answer, FindingKind, Kind, Mask, Weakest
 from .._calls import check_listed, explain, survey, with_captures
 from .._fields import UID_BITS, mask_fields, object_of
 from ..collections.surveys import without_list
@@ -35,12 +35,22 @@ def share_of(masks: Iterable[Mask]) -> float:
     return sum(1 << UID_BITS - mask.length for mask in masks) / (1 << UID_BITS)
 
 
+def deaf_of(weakest: Weakest) -> dict[str, Any]:
+    """Whether a complete list is also complete if the reader went deaf after the last answer,
+    and if not, what is unsettled then."""
+    if weakest.deaf is None:
+        return {"holds": True}
+    return {"holds": False, "status": 1, "kind": Kind.UNSETTLED.word, **mask_fields(weakest.deaf)}
+
+
 def page_object(name: str, told: Told) -> dict[str, Any]:
     """All that a page draws of a log."""
     answer, text = told.answer, told.session.text
     _, certain, masks = survey(text)
     shown_by = explain(text).population if answer.kind is Kind.UNSETTLED else []
     said = object_of(name, answer, told.weakest, told.reread, told.weakest_reread)
+    if told.weakest is not None:
+        said["deaf"] = deaf_of(told.weakest)
     if answer.status == 1 and not masks:
         then = check_listed(with_captures(without_list(text)), certain)
         said["captured"]["settled"] = then.is_complete
