@@ -14,6 +14,7 @@ READ_FAULT, WRITE_FAULT = b"vicinity: read failed\n", b"vicinity: write failed\n
 # Commands over a log, which stands on standard input, and over words.
 LOGS = (("check", "I1 RA UA"), ("explain", "I1 RA"), ("report", "I1 S UA"),
         ("report", "I1 RA QA I1 RA"), ("report", "V3 I1 S I1 HA"), ("margin", "I1 RA UA"),
+        ("json", "I1 RA UA"), ("json", "I1 S I1 RA"),
         ("simulate", "V3 I1 QA I1 UA UB"), ("simulate", "I16 UA UB"))
 WORDS = ("frame 260100F60A", "frame 26", "spell request inventory link 2 slots 1 mask 0 -",
          "spell request inventory")
@@ -56,7 +57,7 @@ def writes(run, words, given=b""):
         assert run(words, given, WRITE=str(number), STUCK="1") == wanted, f"write {number}, stuck"
 
 
-@pytest.mark.parametrize("command", COMMANDS)
+@pytest.mark.parametrize("command", [*COMMANDS, "json"])
 def test_each_read_fails(run, command):
     """The one that would tell the end too. Without that the answer is the same by bytes."""
     assert run(command, READ, READ="0") == run(command, READ)

@@ -104,7 +104,7 @@ def is_refused(program, refuse, *words, given=b""):
     assert WANT in answers
 
 
-OVER_A_LOG = [(command, log) for command in ("check", "explain", "report", "margin")
+OVER_A_LOG = [(command, log) for command in ("check", "explain", "report", "margin", "json")
               for log in ("example", *JUDGED)]
 OVER_A_LOG += [("simulate", log) for log in ("example", *ASKED)]
 

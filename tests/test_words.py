@@ -1,5 +1,6 @@
 """What the words of the command line ask for, and the ends without an answer. The commands in C are
 asked the same as the program in test_commands.py."""
+import json
 import os
 
 import pytest
@@ -36,6 +37,11 @@ def test_margin_reads_a_file_or_standard_input(one, file):
     assert one.run("margin", file, given=EMPTY) == MEASURED
 
 
+def test_json_reads_a_file_or_standard_input(one, file):
+    for said in one.run("json", given=LOG), one.run("json", file, given=EMPTY):
+        assert (json.loads(said.out)["answer"], said.err, said.status) == ("complete 1", b"", 0)
+
+
 def test_simulate_reads_a_file_or_standard_input(one, file):
     assert one.run("simulate", given=EMPTY) == (EMPTY, b"", 0)
     assert one.run("simulate", file) == (b"refused at line 3: OutcomeGiven\n", b"", 3)
@@ -53,7 +59,7 @@ def test_frame_and_spell_end_with_their_status(one):
 
 @pytest.mark.parametrize("words", [
     [], ["frame"], ["spell"], ["check", "a", "b"], ["help"], ["list"], ["explain", "a", "b"],
-    ["report", "a", "b"], ["margin", "a", "b"],
+    ["report", "a", "b"], ["margin", "a", "b"], ["json", "a", "b"], ["json", "-x"],
     ["survey"], ["survey", "--"], ["survey", "-x"], ["survey", ""], ["survey", "a\tb"],
     ["survey", "a", "b\nc"], ["survey", b"\xff"],
     ["check", "-x"], ["frame", "--"], ["spell", "--"], ["check", b"\xff"],

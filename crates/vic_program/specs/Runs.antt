@@ -1,5 +1,5 @@
 -- What is read and written for what the words ask for.
-use Rattle.std.specs.Prelude.{◌≡◌, ◌⊎◌, ℕ, true, List, ◌∷◌, ◌++◌, length, codes, map, Option, Some, None, Result, Err, OnOk, IfErr, string_bytes}
+use Rattle.std.specs.Prelude.{◌≡◌, ◌⊎◌, ℕ, true, List, ◌∷◌, ◌++◌, length, codes, map, Option, Some, None, Result, Err, OnOk, IfErr, option_map, string_bytes}
 use Rattle.vic_answer.specs.Reconciled.{AreComplete, GoOn}
 use Rattle.vic_answer.specs.ReconcileRun.{ReadsListAndLogs, Reconciles, StopsBy, WritesAnswer}
 use Rattle.vic_answer.specs.Runs.{LeavesSink}
@@ -8,15 +8,17 @@ use Rattle.vic_answer.specs.declared.status.RunFault.{RunFault}
 use Rattle.vic_answer.specs.declared.status.Status.{Status}
 use Rattle.vic_answer.specs.declared.task.Task.{Task}
 use Rattle.vic_words.specs.declared.asked.Asked.{Asked}
-use Rattle.vic_words.specs.declared.asked.Asked.TheVariants.{Task as OneTask, Reconcile, Files}
+use Rattle.vic_words.specs.declared.asked.Asked.TheVariants.{Task as OneTask, Reconcile, Json, Files}
 use Rattle.vic_words.specs.declared.asked.FilesCommand.{FilesCommand}
 use Rattle.vic_words.specs.declared.asked.FilesCommand.TheVariants.{Survey}
 use Rattle.vic_commands.specs.Surveyed.{IsSurveying}
+use Rattle.vic_object.specs.Object.{IsObjectOf}
 use Rattle.vic_log.specs.Device.{from_read_inner}
 use Rattle.vic_answer.specs.Status.{fault_text}
 use Rattle.vic_answer.specs.declared.status.RunFault.TheVariants.{Memory}
 use Rattle.vic_program.specs.Ends.{End, ended}
 use Rattle.vic_program.specs.Each.{ForTexts, OverEach}
+use Rattle.vic_program.specs.Single.{OverText}
 use Rattle.vic_program.specs.Sides.{Reading, Writing}
 use Rattle.vic_program.specs.Files.{AreNew, FileSource, IsNew, first_unopened, unopened_name}
 
@@ -91,6 +93,8 @@ RunsAsked rf ri w (Reconcile list logs) input input' output output' end =
     (OverFiles rf w (string_bytes list) (map string_bytes logs.items) output output' end
     ⊎ NoMemory output output' end)
     × (input' ≡ input)
+RunsAsked rf ri w (Json file) input input' output output' end =
+    OverText rf ri w IsObjectOf (option_map string_bytes file) input input' output output' end
 RunsAsked rf ri w (Files command names) input input' output output' end =
     OverEach rf w (writes_of command) (map string_bytes names.items) output output' end
     × (input' ≡ input)

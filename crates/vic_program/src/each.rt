@@ -102,7 +102,7 @@ fn taken_from<'a, G: Gather, F: Files>(
 }
 
 /// The text of the file with a name.
-fn file_text<'a, F: Files>(
+pub(crate) fn file_text<'a, F: Files>(
     alloc: Global,
     files: &'a F,
     name: &'a str,
@@ -128,7 +128,7 @@ fn file_text<'a, F: Files>(
 }
 
 /// The bytes of a source, to its end.
-fn text_of<R: Source>(alloc: Global, source: &mut R) -> Result<Vec<u8>, ReadFault>
+pub(crate) fn text_of<R: Source>(alloc: Global, source: &mut R) -> Result<Vec<u8>, ReadFault>
     requires { R.has_failed source.old ≡ false }
     ensures returned { IfOk result (λ text.
         Grows (R.returned source.old) (R.returned source.new) text.items) }
@@ -150,7 +150,10 @@ fn text_of<R: Source>(alloc: Global, source: &mut R) -> Result<Vec<u8>, ReadFaul
 }
 
 /// Writes an answer and flushes it. A sink that has failed isn't written to again.
-fn write_answer<'a, O: Sink>(answer: &WrittenText, output: &mut O) -> Result<Status, NoAnswer<'a>>
+pub(crate) fn write_answer<'a, O: Sink>(
+    answer: &WrittenText,
+    output: &mut O,
+) -> Result<Status, NoAnswer<'a>>
     ensures status { IfOk result (λ s. s ≡ answer.now.status) }
     ensures out { IfOk result (λ _. IsOut (record {
       written = O.written;

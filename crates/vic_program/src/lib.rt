@@ -8,6 +8,7 @@ mod files;
 mod no_answer;
 mod program;
 mod run;
+mod single;
 
 pub use files::{Files, LateFile};
 pub use no_answer::NoAnswer;

@@ -10,6 +10,7 @@ ghost use Rattle.vic_program.specs.Runs.{NoMemory, OverFile, OverFiles, RunsAske
 use crate::each::run_over_each;
 use crate::files::{Files, LateFile};
 use crate::no_answer::{NoAnswer, ended};
+use crate::single::run_json;
 use std::alloc::{AllocError, Global};
 use vic_answer::{RunFault, Status, Task, do_task, run_reconcile};
 use vic_commands::TakenLogs;
@@ -185,6 +186,10 @@ pub fn run_asked<'a, F: Files, I: Source, O: Sink>(
         Asked::Task(task) => run_task(alloc, task, files, input, output),
         Asked::Reconcile(list, logs) => {
             run_over_files(alloc, files, list.as_str(), logs.as_slice(), output)
+        }
+        Asked::Json(file) => {
+            let name = file.as_ref().map(|name| name.as_str());
+            run_json(alloc, name, files, input, output)
         }
         Asked::Files(command, names) => {
             run_files_command(alloc, *command, files, names.as_slice(), output)

@@ -143,6 +143,9 @@ report_entered = record { fault = enters_fault _ refl refl refl; rows = enters_r
 pub margin_entered : Entered (codes "margin") (one_shape (codes "margin") (codes "file") false)
 margin_entered = record { fault = enters_fault _ refl refl refl; rows = enters_rows _ refl refl refl }
 
+pub json_entered : Entered (codes "json") (one_shape (codes "json") (codes "file") false)
+json_entered = record { fault = enters_fault _ refl refl refl; rows = enters_rows _ refl refl refl }
+
 pub frame_entered : Entered (codes "frame") (one_shape (codes "frame") (codes "hex") true)
 frame_entered = record { fault = enters_fault _ refl refl refl; rows = enters_rows _ refl refl refl }
 
@@ -164,11 +167,11 @@ decide n w P it other = go (bytes_eq n w) refl
 
 -- a word is the name of a command, or names none
 pub named : (w : Text) (P : Text → Type 0) → P (codes "check") → P (codes "simulate") → P (codes "explain") → P (codes "report") → P (codes "margin")
-    → P (codes "frame") → P (codes "reconcile") → P (codes "survey") → P (codes "spell") → (subcommand_met (names_of program_built) idle w ≡ None → P w) → P w
-named w P check simulate explain report margin frame reconcile survey spell none =
+    → P (codes "json") → P (codes "frame") → P (codes "reconcile") → P (codes "survey") → P (codes "spell") → (subcommand_met (names_of program_built) idle w ≡ None → P w) → P w
+named w P check simulate explain report margin json frame reconcile survey spell none =
     decide (codes "check") w P check (λ a. decide (codes "simulate") w P simulate (λ b. decide (codes "explain") w P explain
-    (λ c. decide (codes "report") w P report (λ d. decide (codes "margin") w P margin (λ e. decide (codes "frame") w P frame
-    (λ f. decide (codes "reconcile") w P reconcile (λ g. decide (codes "survey") w P survey (λ s. decide (codes "spell") w P spell (λ h. none (rw (a, b, c, d, e, f, g, s, h) refl))))))))))
+    (λ c. decide (codes "report") w P report (λ d. decide (codes "margin") w P margin (λ e. decide (codes "json") w P json (λ j. decide (codes "frame") w P frame
+    (λ f. decide (codes "reconcile") w P reconcile (λ g. decide (codes "survey") w P survey (λ s. decide (codes "spell") w P spell (λ h. none (rw (a, b, c, d, e, j, f, g, s, h) refl)))))))))))
 
 -- the name of the command that a parse enters is the word that names it
 abbrev pub HasName : Text → Text → List Text → Text → Type 0
@@ -185,7 +188,7 @@ same program name words entered e found = name_of_some _ name (sym (ap (option_m
 
 pub same_name : (program w name : Text) (words : List Text) → IsUtf8 w → HasName program name words w
 same_name program w name words utf8 = named w (HasName program name words) (same program name words check_entered) (same program name words simulate_entered)
-    (same program name words explain_entered) (same program name words report_entered) (same program name words margin_entered)
+    (same program name words explain_entered) (same program name words report_entered) (same program name words margin_entered) (same program name words json_entered)
     (same program name words frame_entered) (same program name words reconcile_entered) (same program name words survey_entered) (same program name words spell_entered)
     (λ none e found. absurd (some≢none name (sym found ∙ ap (option_map (λ p. p.0)) (unnamed program w words utf8 none e))))
 

@@ -3,7 +3,7 @@ use Rattle.std.specs.Prelude.{◌≡◌, ◌<◌, ◌==◌, ℕ, Bool, false, Li
 use Rattle.std.specs.Str.{bytes_eq}
 use Rattle.vic_answer.specs.declared.task.Task.TheVariants.{Check, Simulate, Explain, Report, Margin, Frame, Spell}
 use Rattle.vic_words.specs.declared.asked.Asked.{Asked}
-use Rattle.vic_words.specs.declared.asked.Asked.TheVariants.{Task as OneTask, Reconcile, Files}
+use Rattle.vic_words.specs.declared.asked.Asked.TheVariants.{Task as OneTask, Reconcile, Json, Files}
 use Rattle.vic_words.specs.declared.asked.FilesCommand.{FilesCommand}
 use Rattle.vic_words.specs.declared.asked.FilesCommand.TheVariants.{Survey}
 
@@ -65,6 +65,8 @@ NameAsks name words (OneTask (Spell spelled)) =
 NameAsks name words (Reconcile list logs) =
     (name ≡ codes "reconcile")
     × (operands_of words ≡ Some (string_bytes list ∷ map string_bytes logs.items))
+NameAsks name words (Json file) =
+    (name ≡ codes "json") × HasFile words (option_map string_bytes file)
 NameAsks name words (Files command files) =
     (name ≡ files_name command) × (operands_of words ≡ Some (map string_bytes files.items))
     × (0 < length files.items)

@@ -23,6 +23,8 @@ pub enum Asked {
     /// To judge the logs in some files against the list of what is expected in another, which is
     /// named first.
     Reconcile(String, Vec<String>),
+    /// To print the object of the log in a file, or of standard input.
+    Json(Option<String>),
     /// A command that takes these files, of which there is at least one.
     Files(FilesCommand, Vec<String>),
 }

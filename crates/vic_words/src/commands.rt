@@ -75,7 +75,8 @@ fn file_commands<'a>(alloc: Global) -> Result<Command<'a>, AllocError>
     let program = with_file(alloc, program, "simulate")?;
     let program = with_file(alloc, program, "explain")?;
     let program = with_file(alloc, program, "report")?;
-    with_file(alloc, program, "margin")
+    let program = with_file(alloc, program, "margin")?;
+    with_file(alloc, program, "json")
 }
 
 /// These, and the commands with an operand that they require.

@@ -98,6 +98,9 @@ fn asked_for(alloc: Global, name: &str, given: &ArgMatches<'_>) -> Result<Asked,
     if let Some(command) = files_command(name) {
         return Ok(Asked::Files(command, given_words(alloc, given)?));
     }
+    if name == "json" {
+        return Ok(Asked::Json(operand(alloc, given, "file")?));
+    }
     if name != "reconcile" {
         return Ok(Asked::Task(asked_of_text(alloc, name, given)?));
     }

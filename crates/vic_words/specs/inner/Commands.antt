@@ -38,8 +38,9 @@ with_file program name =
     with_subcommand program (with_operand name (codes "file") false).top
 
 abbrev pub file_commands : App
-file_commands = with_file (with_file (with_file (with_file (with_file program
-    (codes "check")) (codes "simulate")) (codes "explain")) (codes "report")) (codes "margin")
+file_commands = with_file (with_file (with_file (with_file (with_file (with_file program
+    (codes "check")) (codes "simulate")) (codes "explain")) (codes "report")) (codes "margin"))
+    (codes "json")
 
 abbrev pub operand_commands : App
 operand_commands = with_subcommand (with_subcommand file_commands

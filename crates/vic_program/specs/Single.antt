@@ -1,0 +1,86 @@
+-- What is read and written by a command that reads one text to its end, before it writes anything.
+use Rattle.std.specs.Prelude.{◌≡◌, ◌⊎◌, ◌↔◌, ℕ, true, false, List, Option, Some, None, Ok, Err}
+use Rattle.vic_log.specs.Device.{Grows}
+use Rattle.vic_log.specs.declared.source.ReadFault.{ReadFault}
+use Rattle.vic_log.specs.declared.source.ReadFault.TheVariants as read
+use Rattle.vic_answer.specs.Status.{fault_text}
+use Rattle.vic_answer.specs.declared.status.RunFault.TheVariants.{Memory, Write}
+use Rattle.vic_answer.specs.declared.status.Status.{Status}
+use Rattle.vic_program.specs.Each.{IsCut, IsOut, IsTextOf, IsUnreadable, unread_line}
+use Rattle.vic_program.specs.Ends.{End}
+use Rattle.vic_program.specs.Files.{FileSource}
+use Rattle.vic_program.specs.Sides.{Reading, Writing}
+
+-- what a command writes for a text, and with which status
+abbrev pub ForText : Type 1
+ForText = List ℕ → List ℕ → Status → Type 0
+
+-- ---- standard input
+
+-- it was read to its end, and its reads returned this text
+pub record IsInputText {I : Type 0} (r : Reading I) (input input' : I) (text : List ℕ)
+    : Type 0 where
+  pub returned : Grows (r.returned input) (r.returned input') text
+  pub ended : r.ended input' ≡ true
+  pub works : r.has_failed input' ≡ false
+
+-- it wasn't read to its end, for this reason; if it had failed, it is untouched
+pub record IsInputUnread {I : Type 0} (r : Reading I) (input input' : I) (line : List ℕ)
+    : Type 0 where
+  pub fault : ReadFault
+  pub failed : (fault ≡ read.Read) ↔ (r.has_failed input' ≡ true)
+  pub line_is : line ≡ unread_line None fault
+  pub untouched : r.has_failed input ≡ true → input' ≡ input
+
+-- ---- what is written
+
+-- a prefix of what the command writes for the text
+pub record IsPartFor {O : Type 0} (w : Writing O) (W : ForText) (text : List ℕ)
+    (output output' : O) (line : List ℕ) : Type 0 where
+  pub line_is : line ≡ fault_text Write
+  pub answer : List ℕ
+  pub status : Status
+  pub is : W text answer status
+  pub cut : IsCut w output output' answer
+
+-- nothing, for this reason
+pub record IsNothing {O : Type 0} (output output' : O) (line reason : List ℕ) : Type 0 where
+  pub untouched : output' ≡ output
+  pub line_is : line ≡ reason
+
+-- for a text: what the command writes for it, or a prefix if the sink failed, or nothing if memory
+-- was refused
+abbrev pub WritesFor : {O : Type 0} → Writing O → ForText → List ℕ → O → O → End → Type 0
+WritesFor w W text output output' (Ok status) =
+    (answer : List ℕ) × W text answer status × IsOut w output output' answer
+WritesFor w W text output output' (Err line) =
+    IsPartFor w W text output output' line
+    ⊎ IsNothing output output' line (fault_text Memory)
+
+-- ---- the run
+
+-- the text was read, and this was written for it
+pub record IsAnswered {O : Type 0} (w : Writing O) (IsText : List ℕ → Type 0) (W : ForText)
+    (output output' : O) (end : End) : Type 0 where
+  pub text : List ℕ
+  pub read : IsText text
+  pub writes : WritesFor w W text output output' end
+
+-- the text wasn't read, for this reason, and nothing was written
+pub record IsUnanswered {O : Type 0} (IsUnread : List ℕ → Type 0) (output output' : O) (end : End)
+    : Type 0 where
+  pub line : List ℕ
+  pub ends : end ≡ Err line
+  pub unread : IsUnread line
+  pub untouched : output' ≡ output
+
+-- a command over the text in the file with this name, or over that of standard input
+abbrev pub OverText : {F T I O : Type 0} → Reading (FileSource F T) → Reading I → Writing O
+    → ForText → Option (List ℕ) → I → I → O → O → End → Type 0
+OverText rf ri w W (Some name) input input' output output' end =
+    (IsAnswered w (IsTextOf rf name) W output output' end
+    ⊎ IsUnanswered (IsUnreadable rf name) output output' end)
+    × (input' ≡ input)
+OverText rf ri w W None input input' output output' end =
+    IsAnswered w (IsInputText ri input input') W output output' end
+    ⊎ IsUnanswered (IsInputUnread ri input input') output output' end
