@@ -44,7 +44,10 @@ fn is_lacking(places: &BTreeSet<&[u8]>, place: Option<&[u8]>) -> bool
 }
 
 /// The places of which there is a log.
-pub(crate) fn places_of(alloc: Global, places: &[Option<Vec<u8>>]) -> Result<BTreeSet<&[u8]>, AllocError>
+pub(crate) fn places_of(
+    alloc: Global,
+    places: &[Option<Vec<u8>>],
+) -> Result<BTreeSet<&[u8]>, AllocError>
     ensures { IfOk result (λ set. (q : List ℕ) → has_name set q
         ≡ list_any (is_text q) (map (option_map (λ p. p.items)) places.now)) }
 {
