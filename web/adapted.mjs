@@ -1,10 +1,9 @@
-/** What the library writes of logs and collections, as the page draws it: until it draws these objects themselves. */
-import { UID_BITS } from "./words.mjs";
+/** What the library writes of collections, as the page draws it: until it draws these objects themselves. */
+import { adaptedLog } from "./written.mjs";
 
 /** @typedef {{mask_len: number, mask_value: string}} MaskFields */
-/** @typedef {import("./told.mjs").LogObject} LogObject */
 /** @typedef {import("./collection.mjs").CollectionObject} CollectionObject */
-/** @typedef {Omit<LogObject, "schema" | "open"> & {schema: 1 | 2, open: Omit<LogObject["open"], "share"> & {uids: string}}} LogWritten */
+/** @typedef {import("./written.mjs").LogWritten} LogWritten */
 /**
  * @typedef {{name: string, place: string | null, field: string, certain?: number, open?: MaskFields[], more?: boolean,
  *   hidden?: MaskFields | null, object?: LogWritten}} OneWritten
@@ -23,12 +22,6 @@ const ALL = { mask_len: 0, mask_value: "-" };
  * @type {Record<string, string>}
  */
 const STATES = { "in place": "there", returned: "misplaced", "not counted": "not provable" };
-
-/**
- * @param {LogWritten} object
- * @returns {LogObject}
- */
-export const adaptedLog = (object) => ({ ...object, schema: 1, open: { ...object.open, share: Number(object.open.uids) / 2 ** UID_BITS } });
 
 /**
  * @param {CollectionWritten} said

@@ -35,7 +35,7 @@ const ANSWER = 104, TEXT = 40, FINDING = 32, MASK = 16, WEAKEST = 48, PLACES = 4
 /** Where a margin has the masks that are open if it is read more cautiously. */
 const HIDDEN_AT = 16, DEAF_AT = 32;
 /** The commands of the program, by the numbers of the header. */
-const COMMAND = Object.freeze({ check: 1, explain: 2, report: 3, margin: 4, simulate: 5, reconcile: 6, frame: 7, spell: 8, survey: 9 });
+const COMMAND = Object.freeze({ check: 1, explain: 2, report: 3, margin: 4, simulate: 5, reconcile: 6, frame: 7, spell: 8, survey: 9, json: 11 });
 /** The mask of all UIDs. @type {Mask} */
 export const ALL = Object.freeze({ fault: 0, len: 0, value: 0n });
 const DECODER = new TextDecoder();
@@ -49,6 +49,12 @@ const BYTES_FOR_EACH = 19;
 
 /** @param {Uint8Array | string} text */
 const roomFor = (text) => FIRST_ROOM + Math.floor(text.length / BYTES_FOR_EACH);
+
+/** How many bytes a command may write, for each byte of its texts too, and at most, so that most texts are judged once. */
+const FIRST_WRITTEN = 4096, WRITTEN_FOR_EACH = 16, MOST_FIRST_WRITTEN = 1 << 20;
+
+/** @param {Uint8Array[]} texts */
+const roomToWrite = (texts) => Math.min(MOST_FIRST_WRITTEN, texts.reduce((sum, { length }) => sum + WRITTEN_FOR_EACH * length, FIRST_WRITTEN));
 
 /** Memory was refused, so there is no answer. */
 export class OutOfMemory extends Error {
@@ -397,7 +403,7 @@ export class Library {
       const names = this.#put(take, texts.map(({ name = "" }) => `${name}\n`).join("")), joined = this.#putAll(take, bytes);
       const lengths = take(NUMBER * texts.length), needed = take(NUMBER);
       bytes.forEach(({ length }, i) => this.#view.setBigUint64(lengths + NUMBER * i, BigInt(length), true));
-      for (let room = FIRST_ROOM; ;) {
+      for (let room = roomToWrite(bytes); ;) {
         const at = take(room), given = [...names, ...joined, lengths, texts.length, at, room, needed].map(BigInt);
         const status = Number(this.#calls.vicinity_run(COMMAND[command], ...given));
         const count = Number(this.#view.getBigUint64(needed, true));

@@ -1,7 +1,7 @@
 /** The object of a collection, of what the library says of its logs: the same as `python3 -m vicinity reconcile` writes. */
 import { withCaptures } from "./captured.mjs";
 import { readCatalogue } from "./expected.mjs";
-import { fields, judge, sumOf } from "./judge.mjs";
+import { judge, sumOf } from "./judge.mjs";
 import { FOUND, KIND } from "./kinds.mjs";
 import { ALL } from "./library.mjs";
 import { leastOf, marginFields, maskFields, overlookedIn, withoutList } from "./margins.mjs";
@@ -101,13 +101,27 @@ const sumGiven = async (what, { name, text }) => ({ what, file: name, sha256: aw
  */
 async function surveyed(library, { name, text }) {
   const { answer, certain, open } = library.survey(text), aside = answer.status > 1;
-  const object = await judge(library, text, name, aside ? undefined : { certain, open });
+  const object = await judge(library, text, name);
   if (aside) return { text, file: name, weakest: null, object, aside, certain, open, captured: object.captured };
   const read = withCaptures(text), known = new Set(open.map(maskKey));
   const opened = read && library.openMasks(read).list.find((mask) => !known.has(maskKey(mask)));
   const { weakest } = library.marginListed(withoutList(text), certain);
   const captured = opened ? { holds: false, ...maskFields(opened.len, opened.value) } : { holds: true };
   return { text, file: name, weakest, object, aside, certain, open, captured };
+}
+
+/**
+ * The fields of an answer, as the object of a log has them.
+ * @param {Library} library
+ * @param {import("./library.mjs").Answer} answer
+ */
+function fields(library, { kind: number, status, count, line, fault, maskLen, maskValue, uid }) {
+  const kind = library.nameOf("kind", number), said = { kind, status };
+  if (kind === KIND.COMPLETE) return { ...said, count };
+  if (kind === KIND.UNSETTLED) return { ...said, ...maskFields(maskLen, maskValue) };
+  if (kind === KIND.IMPOSSIBLE) return { ...said, line };
+  if (kind === KIND.REFUSED) return { ...said, line, fault: library.nameOf("fault", fault) };
+  return { ...said, uid: hex(uid) };
 }
 
 /** @param {Surveyed} log */

@@ -1,5 +1,5 @@
 /** A page that was saved: draws the object that stands in it. */
-import { adaptedCollection, adaptedLog } from "./adapted.mjs";
+import { adaptedCollection } from "./adapted.mjs";
 import { collectionView, headlineOf } from "./collection.mjs";
 import { at } from "./elements.mjs";
 import { Pane } from "./pane.mjs";
@@ -9,6 +9,7 @@ import { isSpreadsheet } from "./tables.mjs";
 import { tell } from "./told.mjs";
 import { titleOf, view } from "./view.mjs";
 import { printable } from "./words.mjs";
+import { adaptedLog } from "./written.mjs";
 
 const said = JSON.parse(at("object").textContent ?? ""), shown = at("told");
 const object = said.schema === 1 ? said : "items" in said ? adaptedCollection(said) : adaptedLog(said);
