@@ -49,7 +49,7 @@ pub(crate) fn ended<'a>(
     }
 }
 
-/// Why there is no answer where a file wasn't read to its end, by its name if it couldn't be opened.
+/// Why there is no answer where a file wasn't read to its end, by its name if it didn't open.
 pub(crate) fn unread<'a>(unopened: Option<&'a str>, fault: ReadFault) -> NoAnswer<'a>
     ensures { line_of result ≡ unread_line (option_copied unopened.entry) fault }
 {
