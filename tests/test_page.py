@@ -199,13 +199,17 @@ THIRD = {
     "a reply cut short": (
         (ALL, "H 0000A1"), "This log can't be used. Line 3: the reply doesn't", "gets the line D")}
 # The lights of complete lists: how often each other tag was asked, and what may be wrong.
-OTHERS, COMPLETE = "others may be here", "still complete"
+OTHERS, COMPLETE, WRONG = "others may be here", "still complete", "the answer may be wrong"
 SURE = (("I1 RA QA I1 S UA", "2 times or more", COMPLETE, OTHERS, "yes"),
         ("V3 I1 RA QA I1 S F M56 RA UA", "2 times or more", COMPLETE, COMPLETE, "yes"),
         ("V3 I1 RA QA I1 S F M56 S UA", None, None, None, "broken"),
         ("I1 RA UA", "1 time or more", OTHERS, OTHERS, "read"),
         ("I1 S", "1 time or more", "still empty", OTHERS, "read"),
-        ("I1 S UA", None, None, None, "no"), ("I1 C UA", None, None, None, "no"))
+        ("I1 S UA", None, None, WRONG, "no"), ("I1 RA UB", None, WRONG, WRONG, "no"),
+        ("I1 RA QA I1 S UB", None, None, WRONG, "no"),
+        ("I1 RA QA I1 S", None, None, OTHERS, "read"), ("I1 RA", None, OTHERS, OTHERS, "read"),
+        ("V3 I1 RA QA I1 S F M56 RA UB", None, None, None, "no"),
+        ("I1 C UA", None, None, None, "no"), ("I1 C", None, None, None, "no"))
 # What each answer says of strong replies that hid weaker ones, and the lines of requests below.
 HIDDEN = (
     ("I16 S RA RB S13 UA UB", "may be wrong.", "QA QB I1"),
@@ -213,10 +217,10 @@ HIDDEN = (
     ("I1 RA QA I1 S I1 S UA", "still holds, but 2 missed slots would be enough.", "F M56"),
     ("I1 RA UB", "may be wrong.", "QA I1"),
     ("I1 RA", None, "QA I1"), ("I16 S RA RB S13 QA", None, "QB I1"),
-    ("V3 I16 S RA RB S13 QA QB F", None, "QA QB I1"), ("I1 RA QA I1 S", "still holds.", ""),
+    ("V3 I16 S RA RB S13 QA QB F", None, "QA QB I1"), ("I1 RA QA I1 S", "still holds.", "F M56"),
     ("I16 S RA RB S13 UA", "still holds, but more UIDs may be open.",
      "QA QB I1"),
-    ("I1 RA QA I1 S UB", "still holds.", ""), ("I1 S", None, ""), ("I1 C UA", None, "I16"),
+    ("I1 RA QA I1 S UB", "still holds.", "F M56"), ("I1 S", None, ""), ("I1 C UA", None, "I16"),
     ("UA UA", None, ""))
 # Logs whose pages are read by everybody: each look of the answer.
 READ = ("I16 S RA RB S13 UA UB", "I16 S C S14 UA", "I1 RA I1 S", "UA UA", "I1 RA")
@@ -340,20 +344,21 @@ def test_the_lights_of_how_sure_it_is(shown, names, asked, hidden, deaf, look):
     if it went deaf behind its last answer, its silent slots say nothing."""
     page = shown(log_of(names))
     page.until(f".banner.{look} h1", "")
-    wanted = [it for it in (asked, hidden, deaf) if it]
-    assert page.texts(".lights dd")[2:] == wanted
-    names_of = "Each other tag was asked", "If replies were hidden", "If the reader went deaf"
-    assert page.texts(".lights dt")[2:] == [*names_of[:len(wanted)]]
-    is_deaf = OTHERS == deaf and "UA" in names
-    assert ("If the reader had gone deaf after the last answer of a tag, the answer may be wrong:"
-            in page.said()) == is_deaf
+    wanted = {"Each other tag was asked": asked, "If replies were hidden": hidden,
+              "If the reader went deaf": deaf}
+    told = dict(zip(page.texts(".lights dt")[2:], page.texts(".lights dd")[2:]))
+    assert told == {name: value for name, value in wanted.items() if value}
+    is_heard, is_deaf = "RA" in names, deaf in (OTHERS, WRONG)
+    said = "If the reader had gone deaf after the last answer of a tag, the answer may be wrong"
+    assert (said in page.said()) == (is_deaf and is_heard)
+    assert ("A reader that is deaf writes the same log:" in page.said()) == (is_deaf > is_heard)
 
 
 def test_a_list_that_differs_where_replies_may_have_been_hidden(page):
     """It may be that nothing is missing."""
     page.drop(log=log_of("I1 RA UB"))
     page.until("h1", "1 didn't answer and 1 tag here isn't listed; 0 of 1 listed tag is here.")
-    assert page.texts(".lights dd")[2:] == ["the answer may be wrong"]
+    assert page.texts(".lights dd")[2:] == [WRONG, WRONG]
 
 
 # What is seen on the screen, and how many stops a keyboard has.

@@ -4,6 +4,7 @@ import { KIND } from "./kinds.mjs";
 import { MOST_NOTES } from "./notes.mjs";
 import { refused } from "./refused.mjs";
 import { SENTENCES } from "./sentences.mjs";
+import { isShaken } from "./sure.mjs";
 import { count, listing, numbered } from "./words.mjs";
 import { mainly, whyOpen } from "./why.mjs";
 
@@ -27,7 +28,6 @@ import { mainly, whyOpen } from "./why.mjs";
  */
 
 const NOT_KNOWN = "not known";
-const IF_HIDDEN_LIGHT = "If replies were hidden", IF_DEAF_LIGHT = "If the reader went deaf";
 const AGAIN = "Run the inventory again, to its end.";
 const NEW_LOG = "Count again, in a new log: with less interference, tags that lie still and not on top of each other, and no " +
   "second reader nearby.";
@@ -116,23 +116,25 @@ function possible(told, isAlone) {
  * @param {Shown} list if there is one
  * @returns {Light[]}
  */
-function lightsOf({ object, counts }, isAlone, finished, list) {
-  const shown = counts.listed && isAlone ? [list] : isAlone ? [{ value: "none given", look: /** @type {const} */ ("plain") }] : [];
-  return [{ name: "Search finished", ...finished }, ...shown.map((it) => ({ name: "List", ...it })), ...isAlone ? howSure(object) : []];
+function lightsOf(told, isAlone, finished, list) {
+  const { counts } = told, shown = counts.listed && isAlone ? [list] : isAlone ? [{ value: "none given", look: /** @type {const} */ ("plain") }] : [];
+  return [{ name: "Search finished", ...finished }, ...shown.map((it) => ({ name: "List", ...it })), ...isAlone ? howSure(told) : []];
 }
 
 /**
- * How sure a complete list is: how often each other tag was asked, and what else could be here. Of a list that differs only what may be wrong.
- * @param {import("./told.mjs").LogObject} object
+ * How sure a complete list is: how often each other tag was asked, and what else could be here. Of another answer that leaves nothing to ask
+ * only what may be wrong.
+ * @param {Told} told
  * @returns {Light[]}
  */
-function howSure({ kind, count: number, found, open, margin, captured, deaf }) {
-  const isComplete = kind === KIND.COMPLETE, differs = !open.count && (found.absent || found.unlisted) && captured?.holds === false;
-  const still = number ? "still complete" : "still empty", other = isComplete ? "others may be here" : "the answer may be wrong";
-  const light = (/** @type {string} */ name, /** @type {boolean} */ holds) =>
-    ({ name, value: holds ? still : other, look: holds ? /** @type {const} */ ("yes") : /** @type {const} */ ("no") });
+function howSure(told) {
+  const { object: { kind, count: number, margin, captured, deaf } } = told, isComplete = kind === KIND.COMPLETE;
+  const still = number ? "still complete" : "still empty", other = isComplete || !told.counts.listed ? "others may be here" : "the answer may be wrong";
+  const light = (/** @type {string} */ name, /** @type {import("./told.mjs").Captured | undefined} */ reading) => !reading ? []
+    : isComplete && reading.holds ? [{ name, value: still, look: /** @type {const} */ ("yes") }]
+      : isShaken(told, reading) ? [{ name, value: other, look: /** @type {const} */ ("no") }] : [];
   return [...isComplete && margin ? [{ name: "Each other tag was asked", value: `${count(margin, "time")} or more`, look: /** @type {const} */ ("plain") }] : [],
-    ...isComplete && captured || differs ? [light(IF_HIDDEN_LIGHT, !!captured?.holds)] : [], ...isComplete && deaf ? [light(IF_DEAF_LIGHT, deaf.holds)] : []];
+    ...light("If replies were hidden", captured), ...light("If the reader went deaf", deaf)];
 }
 
 /**

@@ -11,6 +11,7 @@ export const HOLDS = "This is said of tags that had power, heard the reader, and
 /** How it is said whether an answer about tags would also be that of a log whose replies may have hidden others. */
 const IF_HIDDEN = "If a strong reply hid a weaker one, the answer ";
 const IF_DEAF = "If the reader had gone deaf after the last answer of a tag, the answer ";
+const HEARS_STILL = "To know, switch its field off and on, and let it ask once more for a tag that was found.";
 const DEAF = "A reader that is deaf writes the same log: only a tag at its antenna shows that it hears.";
 export const ONCE_MORE = "Asking all of them once more, when none answers, adds one.";
 export const TO_KNOW = "silence each tag that was heard, and ask all in one slot, until none answers";
@@ -62,12 +63,22 @@ export function alsoHolds({ object: { kind, captured, margin, answer }, counts, 
 }
 
 /**
- * Whether a complete list is one also if the reader went deaf before its last, silent rounds, and if not, what shows whether it did.
+ * Whether an answer that leaves nothing to ask may be another one if a log is read more cautiously; without a list, whether others may be there.
+ * @param {Told} told
+ * @param {import("./told.mjs").Captured} reading
+ */
+export const isShaken = ({ object: { status, open }, counts }, { holds, settled }) =>
+  status < 2 && !open.count && (counts.listed || !status ? !holds : settled === false);
+
+/**
+ * Whether an answer also holds if the reader went deaf before its last, silent rounds, and if not, what shows whether it did.
  * @param {Told} told
  */
-export function ifDeaf({ object: { kind, count: number, deaf }, requests }) {
-  if (kind !== KIND.COMPLETE || !deaf) return null;
-  if (!number) return { words: DEAF, ask: [] };
+export function ifDeaf(told) {
+  const { object: { kind, certain, deaf }, requests } = told;
+  if (!deaf || kind !== KIND.COMPLETE && !isShaken(told, deaf)) return null;
+  if (!certain.count) return { words: DEAF, ask: [] };
+  if (kind !== KIND.COMPLETE) return { words: `${IF_DEAF}may be wrong. ${HEARS_STILL}`, ask: requests.heard };
   const { holds, mask_len, mask_value = "-" } = deaf;
   if (holds || mask_len === undefined) return { words: `${IF_DEAF}still holds: it heard a tag after the last silence.`, ask: [] };
   return { words: `${IF_DEAF}may be wrong: ${which(ending(maskOf({ mask_len, mask_value })))} could be here.`, ask: requests.heard };

@@ -47,7 +47,7 @@ import { strip } from "./strip.mjs";
  * @property {{count: number, share: number, masks: {mask_len: number, mask_value: string, ask: string[]}[]}} open
  * @property {string | null} unnoticed a UID that isn't listed, and could be there
  * @property {Captured} [captured] of a log: how it is read if strong replies hid weaker ones
- * @property {Captured} [deaf] of a complete list: and if moreover the reader went deaf behind the last slot in which a tag answered
+ * @property {Captured} [deaf] and if moreover the reader went deaf behind the last slot in which a tag answered
  * @property {number} [margin] of a complete list
  * @property {Margin["weakest"]} [weakest]
  */
