@@ -13,13 +13,20 @@
 #include <unistd.h>
 
 enum {
-    PIECE = 1 << 16,                /* bytes that an array begins with, and that are read at once */
-    MOST_BYTES = 1000000 * 130 + 1, /* a text of this length has a line that is too long, or one too many */
+    PIECE = 1 << 16, /* bytes that an array begins with, and that are read at once */
+    MOST_LINES = 1000000,
+    MOST_OF_LOG = 128 + 2, /* bytes of a line, with its end */
+    MOST_OF_TABLE = 16384 + 2,
     AN_OPTION = -1
 };
 
-/* By their numbers: one log, or standard input; a list and logs; words. */
-static const char *const COMMANDS[] = {NULL, "check", "explain", "report", "margin", "simulate", "reconcile", "frame", "spell"};
+/* The commands by their numbers, and what each takes: a log, or else standard input; files; words. */
+static const struct {
+    const char *name;
+    enum { LOG, FILES, WORDS } takes;
+} COMMANDS[] = {{"", WORDS},          {"check", LOG},       {"explain", LOG},  {"report", LOG},   {"margin", LOG},
+                {"simulate", LOG},    {"reconcile", FILES}, {"frame", WORDS},  {"spell", WORDS},  {"survey", FILES},
+                {"collection", FILES}, {"json", LOG},       {"json-collection", FILES}};
 static const char OUT_OF_MEMORY[] = "out of memory", CANNOT_OPEN[] = "cannot open ", USAGE[] = "usage";
 
 struct array {
@@ -77,16 +84,16 @@ static const char *add_words(struct given *given, char **words, int count)
     return why;
 }
 
-/* Adds a file, or standard input: to its end, or more of it than a log can have. */
+/* Adds a file, or standard input: to its end, or more of it than can be read, as a line that is too long, or one too many. */
 static const char *add_file(struct given *given, const char *file, const char *name)
 {
     struct array *texts = &given->texts;
-    size_t start = texts->len;
+    size_t start = texts->len, most = (size_t)MOST_LINES * (*name ? MOST_OF_TABLE : MOST_OF_LOG) + 1;
     const char *why = strchr(name, '\n') ? USAGE : NULL;
     int from = file ? open(file, O_RDONLY) : STDIN_FILENO;
     if (from < 0)
         return CANNOT_OPEN;
-    for (ssize_t got = 1; got && !why && texts->len - start < MOST_BYTES; texts->len += got > 0 ? (size_t)got : 0) {
+    for (ssize_t got = 1; got && !why && texts->len - start < most; texts->len += got > 0 ? (size_t)got : 0) {
         bool has_room = make_room(texts, PIECE);
         got = has_room ? read(from, texts->bytes + texts->len, texts->room - texts->len) : 0;
         why = !has_room ? OUT_OF_MEMORY : got < 0 && errno != EINTR ? "read failed" : NULL;
@@ -143,18 +150,28 @@ static int find_operands(int command, char **words, int count)
     return operands;
 }
 
+/* Whether the first text is a list of what is expected: then the first log that is refused or impossible ends the run, and
+ * those behind it need not be there. */
+static bool begins_with_list(const struct given *given)
+{
+    static const char header[] = "vicinity-";
+    return given->count && *(const size_t *)given->lengths.bytes >= sizeof header - 1 &&
+           memcmp(given->texts.bytes, header, sizeof header - 1) == 0;
+}
+
 /* Ends with the answer to a command, or says why there is none. */
 static int answer(int command, char **words, int count, struct given *given, struct array *written)
 {
-    bool is_many = command == VICINITY_COMMAND_RECONCILE, reads = command <= VICINITY_COMMAND_RECONCILE;
+    bool are_files = COMMANDS[command].takes == FILES, are_words = COMMANDS[command].takes == WORDS;
     int status = VICINITY_STATUS_NO_ANSWER, i = 0;
-    if (count == AN_OPTION || (reads && (is_many ? count < 1 : count > 1)))
+    if (count == AN_OPTION || (are_files && count < 1) || (!are_files && !are_words && count > 1))
         return no_answer(USAGE, "");
-    const char *why = !reads ? add_words(given, words, count) : count ? NULL : add_file(given, NULL, "");
-    for (; reads && i < count && !why; i++)
-        why = add_file(given, words[i], is_many ? words[i] : "");
-    const char *failed = !why || given->count ? run(command, given, written, &status) : why;
-    if (why && status != VICINITY_STATUS_IMPOSSIBLE && status != VICINITY_STATUS_REFUSED) /* which end the run before */
+    const char *why = are_words ? add_words(given, words, count) : count ? NULL : add_file(given, NULL, "");
+    for (; !are_words && i < count && !why; i++)
+        why = add_file(given, words[i], are_files ? words[i] : "");
+    bool may_end_before = command == VICINITY_COMMAND_RECONCILE && begins_with_list(given);
+    const char *failed = !why || may_end_before ? run(command, given, written, &status) : why;
+    if (why && status != VICINITY_STATUS_IMPOSSIBLE && status != VICINITY_STATUS_REFUSED)
         return no_answer(why, why == CANNOT_OPEN ? words[i - 1] : "");
     failed = failed ? failed : write_out(written);
     return failed ? no_answer(failed, "") : status;
@@ -164,14 +181,14 @@ int main(int argc, char **argv)
 {
     struct given given = {0};
     struct array written = {0};
-    int command = VICINITY_COMMAND_SPELL, status;
+    int command = sizeof COMMANDS / sizeof *COMMANDS - 1, status;
 #ifdef SIGPIPE
     signal(SIGPIPE, SIG_IGN); /* so that a write into a closed pipe fails */
 #endif
     /* words that aren't UTF-8 aren't accepted: not even `spell` takes them */
     const char *why = vicinity_interface() != VICINITY_INTERFACE ? "another library" : add_words(&given, argv, argc);
-    why = why ? why : run(command, &given, &written, &status);
-    while (command && (argc < 2 || strcmp(argv[1], COMMANDS[command]) != 0))
+    why = why ? why : run(VICINITY_COMMAND_SPELL, &given, &written, &status);
+    while (command && (argc < 2 || strcmp(argv[1], COMMANDS[command].name) != 0))
         command--;
     why = why || command ? why : USAGE;
     given.texts.len = given.names.len = given.lengths.len = given.count = 0;

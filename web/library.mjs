@@ -35,7 +35,8 @@ const ANSWER = 104, TEXT = 40, FINDING = 32, MASK = 16, WEAKEST = 48, PLACES = 4
 /** Where a margin has the masks that are open if it is read more cautiously. */
 const HIDDEN_AT = 16, DEAF_AT = 32;
 /** The commands of the program, by the numbers of the header. */
-const COMMAND = Object.freeze({ check: 1, explain: 2, report: 3, margin: 4, simulate: 5, reconcile: 6, frame: 7, spell: 8, survey: 9, json: 11 });
+const COMMAND = Object.freeze({ check: 1, explain: 2, report: 3, margin: 4, simulate: 5, reconcile: 6, frame: 7, spell: 8, survey: 9,
+  collection: 10, json: 11, "json-collection": 12 });
 /** The mask of all UIDs. @type {Mask} */
 export const ALL = Object.freeze({ fault: 0, len: 0, value: 0n });
 const DECODER = new TextDecoder();

@@ -60,15 +60,18 @@ func (kind FindingKind) String() string {
 type Command uint32
 
 const (
-	CommandCheck     Command = C.VICINITY_COMMAND_CHECK     // a log
-	CommandExplain   Command = C.VICINITY_COMMAND_EXPLAIN   // a log
-	CommandReport    Command = C.VICINITY_COMMAND_REPORT    // a log
-	CommandMargin    Command = C.VICINITY_COMMAND_MARGIN    // a log
-	CommandSimulate  Command = C.VICINITY_COMMAND_SIMULATE  // a log without slots
-	CommandReconcile Command = C.VICINITY_COMMAND_RECONCILE // a list of what is expected, then logs
-	CommandFrame     Command = C.VICINITY_COMMAND_FRAME     // a word
-	CommandSpell     Command = C.VICINITY_COMMAND_SPELL     // words, at least one
-	CommandSurvey    Command = C.VICINITY_COMMAND_SURVEY    // logs, at least one
+	CommandCheck          Command = C.VICINITY_COMMAND_CHECK           // a log
+	CommandExplain        Command = C.VICINITY_COMMAND_EXPLAIN         // a log
+	CommandReport         Command = C.VICINITY_COMMAND_REPORT          // a log
+	CommandMargin         Command = C.VICINITY_COMMAND_MARGIN          // a log
+	CommandSimulate       Command = C.VICINITY_COMMAND_SIMULATE        // a log without slots
+	CommandReconcile      Command = C.VICINITY_COMMAND_RECONCILE       // a list of what is expected, then logs
+	CommandFrame          Command = C.VICINITY_COMMAND_FRAME           // a word
+	CommandSpell          Command = C.VICINITY_COMMAND_SPELL           // words, at least one
+	CommandSurvey         Command = C.VICINITY_COMMAND_SURVEY          // logs, at least one
+	CommandCollection     Command = C.VICINITY_COMMAND_COLLECTION      // a catalogue, a table of places or none, logs or surveys
+	CommandJSON           Command = C.VICINITY_COMMAND_JSON            // a log
+	CommandJSONCollection Command = C.VICINITY_COMMAND_JSON_COLLECTION // the same as for CommandCollection
 )
 
 // Fault is the first fault of a text or a frame, by its number in vicinity.h.

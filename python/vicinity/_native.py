@@ -47,7 +47,7 @@ FINDINGS = [POINTER(FindingStruct), SIZE, POINTER(SIZE)]
 
 #: The commands of the program, by the numbers of vicinity.h, from 1.
 COMMANDS = ("check", "explain", "report", "margin", "simulate", "reconcile", "frame", "spell",
-            "survey")
+            "survey", "collection", "json", "json-collection")
 
 CALLS = {
     "interface": [],

@@ -31,6 +31,12 @@ pub enum Command {
     Spell = 8,
     /// Of logs, at least one.
     Survey = 9,
+    /// Of a catalogue, a table of places or none, and logs or surveys.
+    Collection = 10,
+    /// Of a log.
+    Json = 11,
+    /// Of the same as `Collection`.
+    JsonCollection = 12,
 }
 
 /// What the program writes to standard output, and its exit status.

@@ -4,11 +4,24 @@
 use std::io::Write;
 use std::{env, fs, io, process};
 use vicinity::Command::{
-    Check, Explain, Frame, Margin, Reconcile, Report, Simulate, Spell, Survey,
+    Check, Collection, Explain, Frame, Json, JsonCollection, Margin, Reconcile, Report, Simulate,
+    Spell, Survey,
 };
 
-const COMMANDS: [vicinity::Command; 9] =
-    [Check, Explain, Report, Margin, Simulate, Reconcile, Frame, Spell, Survey];
+const COMMANDS: [vicinity::Command; 12] = [
+    Check,
+    Explain,
+    Report,
+    Margin,
+    Simulate,
+    Reconcile,
+    Frame,
+    Spell,
+    Survey,
+    Collection,
+    Json,
+    JsonCollection,
+];
 
 fn main() {
     let words: Vec<String> = env::args().skip(1).collect();
