@@ -5,7 +5,8 @@ _vicinity() {
     COMPREPLY=()
     if [[ $COMP_CWORD -eq 1 ]]; then
         mapfile -t COMPREPLY < <(compgen -W "@COMMANDS@" -- "$word")
-    elif [[ ${COMP_WORDS[1]} == reconcile || ${COMP_WORDS[1]} == survey || $COMP_CWORD -eq 2 && " @WITH_FILE@ " == *" ${COMP_WORDS[1]} "* ]]; then
+    elif [[ " @WITH_FILES@ " == *" ${COMP_WORDS[1]} "* ||
+        $COMP_CWORD -eq 2 && " @WITH_FILE@ " == *" ${COMP_WORDS[1]} "* ]]; then
         compopt -o filenames
         mapfile -t COMPREPLY < <(compgen -f -- "$word")
     fi

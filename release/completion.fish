@@ -2,5 +2,5 @@
 
 complete -c vicinity -f
 complete -c vicinity -n __fish_is_first_arg -a '@COMMANDS@'
-complete -c vicinity -n '__fish_seen_subcommand_from reconcile survey' -F
+complete -c vicinity -n '__fish_seen_subcommand_from @WITH_FILES@' -F
 complete -c vicinity -n '__fish_is_nth_token 2; and __fish_seen_subcommand_from @WITH_FILE@' -F

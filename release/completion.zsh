@@ -1,10 +1,11 @@
 #compdef vicinity
 # zsh completion for vicinity
 
-local -a with_file
+local -a with_file with_files
 with_file=(@WITH_FILE@)
+with_files=(@WITH_FILES@)
 if (( CURRENT == 2 )); then
     compadd @COMMANDS@
-elif [[ $words[2] == (reconcile|survey) ]] || (( CURRENT == 3 && $with_file[(Ie)$words[2]] )); then
+elif (( $with_files[(Ie)$words[2]] )) || (( CURRENT == 3 && $with_file[(Ie)$words[2]] )); then
     _files
 fi

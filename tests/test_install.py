@@ -15,7 +15,7 @@ VERSION = (TOP / "VERSION").read_text().strip().removesuffix("~dev")
 LOG = TOP / "examples/whole-shelf.log"
 COMPLETE = (b"complete 4\n", b"", 0)
 EXAMPLES = sorted(TOP.glob("examples/c/*.c"))
-COMMANDS = sorted(set(re.findall(r"^\.Cm ([a-z]+)$", (TOP / "docs/vicinity.1").read_text(), re.M)))
+COMMANDS = sorted(set(re.findall(r"^\.Cm ([a-z-]+)$", (TOP / "docs/vicinity.1").read_text(), re.M)))
 
 
 def install(*words):

@@ -1107,7 +1107,7 @@ def test_a_collection_is_judged_as_python_judges_it(page, of_python, tmp_path, m
     for name, content in files.items():
         (tmp_path / name).write_bytes(content)
     logs = [tmp_path / name for name in files if not name.endswith(".csv")]
-    wanted = of_python("--expected", tmp_path / "catalogue.csv", "--place", "shelf",
+    wanted = of_python("--expected", tmp_path / "catalogue.csv", "--place", "place",
                        "--places", tmp_path / "places.csv", *logs)
     page.drop_files(files)
     page.until("h1", words)

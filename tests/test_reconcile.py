@@ -1,6 +1,5 @@
 """Reconciles logs with lists of what is expected, by the program and the commands in C: the rows of
 tests/data/rows/reconciliations, and files that fail."""
-import re
 import resource
 import subprocess
 
@@ -8,7 +7,6 @@ import pytest
 
 from helpers.frames import hex_of
 from helpers.lines import log_of, reconciled_rows
-from helpers.program import TOP, Program
 from helpers.rows import PROGRAMS
 
 # The names of the logs, in their order.
@@ -86,17 +84,16 @@ def test_a_full_disk(reconcile):
         assert reconcile("EXPECTED", "a", stdout=full) == (b"", b"vicinity: write failed\n", 4)
 
 
-@pytest.mark.parametrize("catalogue", [None, "E0040100000000A1,Of a winter\n"])
-def test_a_catalogue_without_names_of_columns(program, tmp_path, catalogue):
-    """Or none, of what COLLECTIONS makes a list. Of an empty one this shelf would be complete."""
-    page = (TOP / "docs/COLLECTIONS.md").read_text()
-    made = re.search(r"^\$ (sed .* > expected\.log)$", page, re.M)[1]
+@pytest.mark.parametrize(("catalogue", "said"), [
+    (None, (b"", b"vicinity: cannot open catalogue.csv\n", 4)),
+    ("E0040100000000A1,Of a winter\n",
+     (b"refused at line 1 of catalogue.csv: Columns\n", b"", 3))])
+def test_a_catalogue_without_names_of_columns(program, tmp_path, catalogue, said):
+    """Or none. Of an empty one this shelf would be complete."""
     (tmp_path / "a").write_bytes(log_of("I1 S"))
     if catalogue:
         (tmp_path / "catalogue.csv").write_text(catalogue)
-    Program("/bin/sh", "-c", made).run(cwd=tmp_path)
-    said = program.run("reconcile", "expected.log", "a", cwd=tmp_path)
-    assert said == (b"refused at line 1 of expected.log: Header\n", b"", 3)
+    assert program.run("reconcile", "catalogue.csv", "a", cwd=tmp_path) == said
 
 
 def frame_line(letter, *body):

@@ -149,7 +149,7 @@ class Reconcile(Command):
                          {"E00401502B91C435": 1})
         self.assertEqual(items[11], {
             "uid": "E00401506D9320CE", "state": "not provable", "certain_in": [],
-            "may_be_in": [SHELVES[2]], "columns": {"title": "Ulysses", "shelf": "C"}})
+            "may_be_in": [SHELVES[2]], "columns": {"title": "Ulysses", "place": "C"}})
         masks = [{"mask_len": 4, "mask_value": "0E"}, {"mask_len": 4, "mask_value": "0F"}]
         even, odd = ({"mask_len": 1, "mask_value": it} for it in ("00", "01"))
         self.assertEqual(logs, [

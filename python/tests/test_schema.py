@@ -36,7 +36,7 @@ class Schema(Command):
         yield from ((drawn_in(command("page", name)[0].decode())[0], "log")
                     for name in names if name != "/nowhere")
         catalogue = os.path.join(COLLECTION, "catalogue.csv")
-        place = ["--place", "shelf", "--places", os.path.join(COLLECTION, "places.csv")]
+        place = ["--place", "place", "--places", os.path.join(COLLECTION, "places.csv")]
         answers = [here("json", catalogue, *logs, options=place)[0]
                    for logs in (SHELVES, [*SHELVES[:2], *self.names], [*SHELVES, self.names[7]])]
         listed = self.write("expected.log", log(LIST_A))
