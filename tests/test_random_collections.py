@@ -157,7 +157,8 @@ def test_a_catalogue_of_uids_alone_says_what_its_list_does(program, tmp_path, se
     asked = Asked(program, tmp_path / "asked", case.files)
     asked.put("list", b"vicinity-log 1\n" + b"".join(b"U %016X\n" % uid for uid in uids))
     asked.put("table", b"uid\n" + b"".join(b"%016X\n" % uid for uid in uids))
-    said, told = asked.run("reconcile", "list", *names), asked.run("json-collection", "table", *names)
+    said = asked.run("reconcile", "list", *names)
+    told = asked.run("json-collection", "table", *names)
     if told.out.startswith(b"{"):
         assert said.out.splitlines()[0] == answer_in(told.out)
         assert said.status == told.status

@@ -17,8 +17,8 @@ pub fn any_order()
         → state_of c item ≡ state_of d item }
 {}
 
-/// Where the answer is `Complete`, and each survey is what the text of its log says, everything that
-/// should be there is there, each thing in a field of its place, and nothing else.
+/// Where the answer is `Complete`, and each survey is what the text of its log says, everything
+/// that should be there is there, each thing in a field of its place, and nothing else.
 pub fn complete_is_true()
     ensures { (c : CollectionValue) (texts : List (List ℕ)) (count : ℕ)
         → AllZip IsSurveyOf texts c.surveys → IsAnswer c (Complete count)

@@ -37,7 +37,8 @@ fn push_names(
     logs: &[usize],
 ) -> Result<(), AllocError>
     ensures { OnOk result (text.new.items
-        ≡ text.old.items ++ cells_text separator (names_text (names_at surveys.now logs.now) ∷ [])) }
+        ≡ text.old.items
+        ++ cells_text separator (names_text (names_at surveys.now logs.now) ∷ [])) }
 {
     let names = names_of(alloc, surveys, logs)?;
     push_cell(text, separator, names.as_slice())
