@@ -124,7 +124,9 @@ enum vicinity_command {
     VICINITY_COMMAND_FRAME = 7, /* a word */
     VICINITY_COMMAND_SPELL = 8, /* words, at least one */
     VICINITY_COMMAND_SURVEY = 9, /* logs, at least one */
-    VICINITY_COMMAND_JSON = 11 /* a log */
+    VICINITY_COMMAND_COLLECTION = 10, /* a catalogue, a table of places or none, logs or surveys */
+    VICINITY_COMMAND_JSON = 11, /* a log */
+    VICINITY_COMMAND_JSON_COLLECTION = 12 /* the same as for a collection */
 };
 
 /*

@@ -1,2 +1,3 @@
 mod SurveyLaws
 mod Tellings
+mod CollectedLaws

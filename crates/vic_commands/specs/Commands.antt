@@ -12,9 +12,10 @@ use Rattle.vic_answer.specs.SimulateText.{IsSimulationOf}
 use Rattle.vic_answer.specs.SpellText.{spell_text, spell_status}
 use Rattle.vic_answer.specs.declared.status.Status.{Status}
 use Rattle.vic_object.specs.Object.{IsObjectOf}
+use Rattle.vic_commands.specs.Collected.{IsListing, IsTabling}
 use Rattle.vic_commands.specs.Surveyed.{IsSurveying}
 use Rattle.vic_commands.specs.declared.commands.Command.{Command}
-use Rattle.vic_commands.specs.declared.commands.Command.TheVariants.{Check, Explain, Report, Margin, Simulate, Reconcile, Frame, Spell, Survey, Json}
+use Rattle.vic_commands.specs.declared.commands.Command.TheVariants.{Check, Explain, Report, Margin, Simulate, Reconcile, Frame, Spell, Survey, Collection, Json, JsonCollection}
 use Rattle.vic_commands.specs.declared.commands.Told.{Told}
 use Rattle.vic_commands.specs.declared.commands.Told.TheVariants.{Answer, Usage}
 
@@ -67,7 +68,9 @@ Writes Reconcile names texts = OfListAndLogs names texts
 Writes Frame names texts = OfOnly IsFrameOf texts
 Writes Spell names texts = IsSpellingOf texts
 Writes Survey names texts = OfNamed IsSurveying names texts
+Writes Collection names texts = OfNamed IsTabling names texts
 Writes Json names texts = OfOnly IsObjectOf texts
+Writes JsonCollection names texts = OfNamed IsListing names texts
 
 -- an answer is one that W allows; where there is none, W allows none
 abbrev pub IsToldBy : (List ℕ → Status → Type 0) → Told → Type 0

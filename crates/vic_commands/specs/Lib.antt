@@ -1,3 +1,4 @@
 pub mod Surveyed
+pub mod Collected
 pub mod Commands
 pub mod Taken

@@ -18,7 +18,11 @@ pub enum Command {
     Spell,
     /// The texts are logs.
     Survey,
+    /// The texts are a catalogue, a table of places if there is one, and logs or texts of surveys.
+    Collection,
     Json,
+    /// The same texts as for `Collection`.
+    JsonCollection,
 }
 
 /// What is told of a command and texts.

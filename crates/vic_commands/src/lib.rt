@@ -3,11 +3,13 @@
 //! the other (`Gather`), so that the program needs to have only one of them in memory.
 #![tactic(auto)]
 
+mod collected;
 mod commands;
 mod gathering;
 mod surveyed;
 mod texts;
 
+pub use collected::{ForObject, ForTable, Form};
 pub use commands::{Command, Told};
 pub use gathering::Gather;
 pub use surveyed::TakenLogs;

@@ -8,6 +8,7 @@ ghost use Rattle.vic_answer.specs.SimulateText.{IsSimulationOf};
 ghost use Rattle.vic_object.specs.Object.{IsObjectOf};
 ghost use Rattle.vic_commands.specs.Commands as spec;
 
+use crate::collected::{ForObject, ForTable};
 use crate::commands::{Command, Told};
 use crate::gathering::Gather;
 use crate::surveyed::TakenLogs;
@@ -43,7 +44,9 @@ pub fn told_of(
         Command::Frame => framed(alloc, texts),
         Command::Spell => spelled(alloc, texts),
         Command::Survey => gathered::<TakenLogs>(alloc, names, texts),
+        Command::Collection => gathered::<ForTable>(alloc, names, texts),
         Command::Json => objected(alloc, texts),
+        Command::JsonCollection => gathered::<ForObject>(alloc, names, texts),
     }
 }
 

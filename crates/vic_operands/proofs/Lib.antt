@@ -1,2 +1,3 @@
 mod KeptLaws
 mod GatheringLaws
+pub mod Alone

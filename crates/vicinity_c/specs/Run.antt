@@ -9,7 +9,7 @@ use Rattle.vic_answer.specs.declared.status.Status.{Status}
 use Rattle.vic_commands.specs.Commands.{IsToldBy, Writes}
 use Rattle.vic_commands.specs.declared.commands.Command.{Command}
 use Rattle.vic_commands.specs.declared.commands.Told.{Told}
-use Rattle.vic_commands.specs.declared.commands.Command.TheVariants.{Check, Explain, Report, Margin, Simulate, Reconcile, Frame, Spell, Survey, Json}
+use Rattle.vic_commands.specs.declared.commands.Command.TheVariants.{Check, Explain, Report, Margin, Simulate, Reconcile, Frame, Spell, Survey, Collection, Json, JsonCollection}
 
 -- the command that has a number
 abbrev pub command_of : ℕ → Option Command
@@ -18,7 +18,8 @@ command_of n =
     else if n == 3 then Some Report else if n == 4 then Some Margin
     else if n == 5 then Some Simulate else if n == 6 then Some Reconcile
     else if n == 7 then Some Frame else if n == 8 then Some Spell
-    else if n == 9 then Some Survey else if n == 11 then Some Json else None
+    else if n == 9 then Some Survey else if n == 10 then Some Collection
+    else if n == 11 then Some Json else if n == 12 then Some JsonCollection else None
 
 -- these bytes are lines: one for each name, which is UTF-8 and has no LF, with LF after it
 pub record AreNames (bytes : List ℕ) (names : List (List ℕ)) : Type 0 where

@@ -25,7 +25,9 @@ fn command_of(number: u32) -> Option<Command>
         7 => Some(Command::Frame),
         8 => Some(Command::Spell),
         9 => Some(Command::Survey),
+        10 => Some(Command::Collection),
         11 => Some(Command::Json),
+        12 => Some(Command::JsonCollection),
         _ => None,
     }
 }

@@ -1,0 +1,63 @@
+-- What the commands about a collection write.
+use Rattle.std.specs.Prelude.{◌≡◌, ℕ, List, [], ◌∷◌, ◌++◌, codes, decimal, map, string_bytes}
+use Rattle.vic_log.specs.Lines.{lf}
+use Rattle.vic_collection.specs.Answers.{IsAnswer}
+use Rattle.vic_collection.specs.Collections.{CollectionValue}
+use Rattle.vic_collection.specs.declared.answer.CollectionAnswer.{CollectionAnswer}
+use Rattle.vic_operands.specs.Faults.{operand_fault_name}
+use Rattle.vic_operands.specs.Files.{File}
+use Rattle.vic_operands.specs.Gathered.{IsGathered}
+use Rattle.vic_operands.specs.declared.fault.Refusal.{Refusal}
+use Rattle.vic_operands.specs.declared.gathered.Gathered.{Gathered}
+use Rattle.vic_operands.specs.declared.gathered.Gathered.TheVariants as gathered
+use Rattle.vic_result.specs.Answered.{answer_status}
+use Rattle.vic_result.specs.ResultObject.{IsObjectOf}
+use Rattle.vic_result.specs.ResultTable.{IsTableOf}
+use Rattle.vic_answer.specs.Status.{status_code}
+use Rattle.vic_answer.specs.declared.status.Status.{Status}
+use Rattle.vic_answer.specs.declared.status.Status.TheVariants.{Refused}
+use Rattle.vic_commands.specs.declared.collected.Form.{Form}
+use Rattle.vic_commands.specs.declared.collected.Form.TheVariants as form
+
+-- the line of files that are refused
+abbrev pub refusal_line : Refusal → List ℕ
+refusal_line r =
+    codes "refused at line " ++ decimal r.line ++ codes " of " ++ string_bytes r.name
+    ++ codes ": " ++ operand_fault_name r.fault ++ lf ∷ []
+
+-- what a command writes of a collection: its table; or its object, which is one line
+abbrev pub IsFormOf : Form → CollectionValue → List ℕ → Type 0
+IsFormOf form.Table c text = IsTableOf c text
+IsFormOf form.Object c text = (object : List ℕ) × IsObjectOf c object × (text ≡ object ++ lf ∷ [])
+
+-- the status of the answer of a collection
+abbrev pub IsStatusOf : CollectionValue → Status → Type 0
+IsStatusOf c status =
+    (a : CollectionAnswer) × IsAnswer c a × (status_code status ≡ answer_status c a)
+
+-- the files with these names and texts
+pub record AreFiles (names texts : List (List ℕ)) (files : List File) : Type 0 where
+  pub named : map (λ f. f.name) files ≡ names
+  pub have : map (λ f. f.text) files ≡ texts
+
+-- what is written of files by what they are: one line where they are refused
+abbrev pub IsWrittenBy : Form → Gathered → List ℕ → Status → Type 0
+IsWrittenBy form gathered.Usage text status = ⊥
+IsWrittenBy form (gathered.Refused r) text status = (text ≡ refusal_line r) × (status ≡ Refused)
+IsWrittenBy form (gathered.Collection c) text status = IsFormOf form c text × IsStatusOf c status
+
+-- what is written of texts with these names
+pub record IsCollected (form : Form) (names texts : List (List ℕ)) (text : List ℕ)
+    (status : Status) : Type 0 where
+  pub files : List File
+  pub are : AreFiles names texts files
+  pub gathered : Gathered
+  pub right : IsGathered files gathered
+  pub written : IsWrittenBy form gathered text status
+
+-- what `collection` writes, and `json-collection`
+abbrev pub IsTabling : List (List ℕ) → List (List ℕ) → List ℕ → Status → Type 0
+IsTabling names texts text status = IsCollected form.Table names texts text status
+
+abbrev pub IsListing : List (List ℕ) → List (List ℕ) → List ℕ → Status → Type 0
+IsListing names texts text status = IsCollected form.Object names texts text status

@@ -1,0 +1,178 @@
+//! The commands about a collection: a catalogue, a table of places, logs and surveys.
+
+ghost use Rattle.std.specs.Prelude.{◌≡◌, [], ◌∷◌, ◌++◌, ℕ, List, IfOk};
+ghost use Rattle.vic_operands.specs.Files.{File as FileValue};
+ghost use Rattle.vic_operands.specs.Gathered.{IsGathered};
+ghost use Rattle.vic_answer.specs.Status.{status_code};
+ghost use Rattle.vic_result.specs.Answered.{answer_status};
+ghost use Rattle.vic_commands.specs.Collected as spec;
+ghost use Rattle.vic_commands.specs.Commands.{IsToldBy};
+ghost use Rattle.vic_commands.specs.Taken.{HasTakenFiles, HasTakenForObject, HasTakenForTable};
+
+use crate::commands::Told;
+use crate::gathering::Gather;
+use std::alloc::{AllocError, Global};
+use vic_answer::{Status, WrittenText};
+use vic_collection::{Collection, CollectionAnswer};
+use vic_operands::{Gathered, Operands, Refusal};
+use vic_result::{answer_status, object_text, table_text};
+use vic_text::push_decimal;
+
+/// In which form a collection is written.
+#[derive(Clone, Copy, Debug, PartialEq, Eq)]
+pub enum Form {
+    Table,
+    Object,
+}
+
+/// What `collection` knows of the files that it has taken.
+#[derive(Drop)]
+pub struct ForTable {
+    pub(crate) operands: Operands,
+}
+
+/// What `json-collection` knows of the files that it has taken.
+#[derive(Drop)]
+pub struct ForObject {
+    pub(crate) operands: Operands,
+}
+
+impl Gather for ForTable {
+    ghost Writes = { spec.IsTabling };
+
+    ghost HasTaken = { HasTakenForTable };
+
+    fn begin(alloc: Global) -> ForTable {
+        let operands = Operands::begin(alloc);
+        ForTable { operands }
+    }
+
+    fn add(self, alloc: Global, name: &str, text: Vec<u8>) -> Result<ForTable, AllocError> {
+        let operands = with_file(alloc, self.operands, name, text)?;
+        Ok(ForTable { operands })
+    }
+
+    fn finish(self, alloc: Global) -> Result<Told, AllocError> {
+        told_of_files(alloc, self.operands, Form::Table)
+    }
+}
+
+impl Gather for ForObject {
+    ghost Writes = { spec.IsListing };
+
+    ghost HasTaken = { HasTakenForObject };
+
+    fn begin(alloc: Global) -> ForObject {
+        let operands = Operands::begin(alloc);
+        ForObject { operands }
+    }
+
+    fn add(self, alloc: Global, name: &str, text: Vec<u8>) -> Result<ForObject, AllocError> {
+        let operands = with_file(alloc, self.operands, name, text)?;
+        Ok(ForObject { operands })
+    }
+
+    fn finish(self, alloc: Global) -> Result<Told, AllocError> {
+        told_of_files(alloc, self.operands, Form::Object)
+    }
+}
+
+/// Files, and one more.
+#[tactic(auto, using(crate::proofs::CollectedLaws::more_files))]
+fn with_file(
+    alloc: Global,
+    operands: Operands,
+    name: &str,
+    text: Vec<u8>,
+) -> Result<Operands, AllocError>
+    ensures { IfOk result (λ more. (names texts : List (List ℕ))
+        → HasTakenFiles names texts operands
+        → HasTakenFiles (names ++ name.now ∷ []) (texts ++ text.items ∷ []) more) }
+{
+    operands.add(alloc, name, text)
+}
+
+/// What is told of files.
+fn told_of_files(alloc: Global, operands: Operands, form: Form) -> Result<Told, AllocError>
+    ensures { IfOk result (λ told. (names texts : List (List ℕ))
+        → HasTakenFiles names texts operands
+        → IsToldBy (spec.IsCollected form names texts) told) }
+{
+    let gathered = operands.finish(alloc)?;
+    told_of_gathered(alloc, gathered, form)
+}
+
+/// The same, by what they are together.
+#[tactic(auto, using(crate::proofs::CollectedLaws::none_collected))]
+fn told_of_gathered(alloc: Global, gathered: Gathered, form: Form) -> Result<Told, AllocError>
+    ensures { IfOk result (λ told. (names texts : List (List ℕ)) (files : List FileValue)
+        → spec.AreFiles names texts files → IsGathered files gathered
+        → IsToldBy (spec.IsCollected form names texts) told) }
+{
+    match gathered {
+        Gathered::Usage => Ok(Told::Usage),
+        Gathered::Refused(refusal) => Ok(Told::Answer(WrittenText {
+            text: refusal_line(alloc, &refusal)?,
+            status: Status::Refused,
+        })),
+        Gathered::Collection(collection) => Ok(Told::Answer(WrittenText {
+            text: collection_text(alloc, &collection, form)?,
+            status: collection_status(alloc, &collection)?,
+        })),
+    }
+}
+
+/// The line of files that are refused.
+fn refusal_line(alloc: Global, refusal: &Refusal) -> Result<Vec<u8>, AllocError>
+    ensures { IfOk result (λ text. text.items ≡ spec.refusal_line refusal.now) }
+{
+    let mut text = Vec::new(alloc);
+    text.extend_from_slice(b"refused at line ")?;
+    push_decimal(&mut text, refusal.line)?;
+    text.extend_from_slice(b" of ")?;
+    text.extend_from_slice(refusal.name.as_str().as_bytes())?;
+    text.extend_from_slice(b": ")?;
+    text.extend_from_slice(refusal.fault.name().as_bytes())?;
+    text.extend_from_slice(b"\n")?;
+    Ok(text)
+}
+
+/// What is written of a collection.
+fn collection_text(
+    alloc: Global,
+    collection: &Collection,
+    form: Form,
+) -> Result<Vec<u8>, AllocError>
+    ensures { IfOk result (λ text. spec.IsFormOf form collection.now text.items) }
+{
+    match form {
+        Form::Table => table_text(alloc, collection),
+        Form::Object => {
+            let mut text = object_text(alloc, collection)?;
+            text.extend_from_slice(b"\n")?;
+            Ok(text)
+        }
+    }
+}
+
+/// The status of the answer of a collection.
+fn collection_status(alloc: Global, collection: &Collection) -> Result<Status, AllocError>
+    ensures { IfOk result (spec.IsStatusOf collection.now) }
+{
+    let findings = collection.findings(alloc)?;
+    let answer = findings.answer();
+    Ok(status_of(collection, &answer))
+}
+
+/// The status of an answer.
+#[tactic(auto, using(crate::proofs::CollectedLaws::small_status))]
+fn status_of(collection: &Collection, answer: &CollectionAnswer<'_>) -> Status
+    ensures { status_code result ≡ answer_status collection.now answer.now }
+{
+    match answer_status(collection, answer) {
+        0 => Status::Whole,
+        1 => Status::NotWhole,
+        2 => Status::Impossible,
+        _ => Status::Refused,
+    }
+}
