@@ -10,7 +10,8 @@ use Rattle.vic_answer.specs.declared.task.Task.{Task}
 use Rattle.vic_words.specs.declared.asked.Asked.{Asked}
 use Rattle.vic_words.specs.declared.asked.Asked.TheVariants.{Task as OneTask, Reconcile, Json, Files}
 use Rattle.vic_words.specs.declared.asked.FilesCommand.{FilesCommand}
-use Rattle.vic_words.specs.declared.asked.FilesCommand.TheVariants.{Survey}
+use Rattle.vic_words.specs.declared.asked.FilesCommand.TheVariants.{Survey, Collection, JsonCollection}
+use Rattle.vic_commands.specs.Collected.{IsListing, IsTabling}
 use Rattle.vic_commands.specs.Surveyed.{IsSurveying}
 use Rattle.vic_object.specs.Object.{IsObjectOf}
 use Rattle.vic_log.specs.Device.{from_read_inner}
@@ -84,6 +85,8 @@ RunsTask rf ri w task None input input' output output' end =
 -- what a command writes that takes one file after the other
 abbrev pub writes_of : FilesCommand → ForTexts
 writes_of Survey = IsSurveying
+writes_of Collection = IsTabling
+writes_of JsonCollection = IsListing
 
 abbrev pub RunsAsked : {F T I W : Type 0} → Reading (FileSource F T) → Reading I → Writing W
     → Asked → I → I → W → W → End → Type 0

@@ -13,7 +13,7 @@ use crate::no_answer::{NoAnswer, ended};
 use crate::single::run_json;
 use std::alloc::{AllocError, Global};
 use vic_answer::{RunFault, Status, Task, do_task, run_reconcile};
-use vic_commands::TakenLogs;
+use vic_commands::{ForObject, ForTable, TakenLogs};
 use vic_log::{FromRead, Sink, Source};
 use vic_words::{Asked, FilesCommand};
 
@@ -155,6 +155,10 @@ fn run_files_command<'a, F: Files, O: Sink>(
 {
     match command {
         FilesCommand::Survey => run_over_each::<TakenLogs, F, O>(alloc, files, names, output),
+        FilesCommand::Collection => run_over_each::<ForTable, F, O>(alloc, files, names, output),
+        FilesCommand::JsonCollection => {
+            run_over_each::<ForObject, F, O>(alloc, files, names, output)
+        }
     }
 }
 

@@ -12,11 +12,11 @@ use Rattle.vic_words.specs.inner.Commands.{commands}
 use Rattle.vic_words.specs.inner.Given.{FileAsks, RowsAsk, SubcommandAsks, TaskAsks, clap_words, wants_end, words_found}
 use Rattle.vic_words.specs.declared.asked.Asked.{Asked}
 use Rattle.vic_words.specs.declared.asked.Asked.TheVariants.{Task as OneTask, Reconcile, Json, Files}
-use Rattle.vic_words.specs.declared.asked.FilesCommand.TheVariants.{Survey}
+use Rattle.vic_words.specs.declared.asked.FilesCommand.TheVariants.{Survey, Collection, JsonCollection}
 use Rattle.vic_words.proofs.Leaf.{AllUtf8}
 use Rattle.vic_words.proofs.Levels.{fault_at, file_asked, file_given, files_asked, files_given, hex_asked, hex_given, rows_at, words_asked, words_given}
 use Rattle.vic_words.proofs.Shapes.{files_shape, one_shape, words_shape}
-use Rattle.vic_words.proofs.Top.{Entered, check_entered, explain_entered, frame_entered, json_entered, margin_entered, no_words_given, only_the_program, reconcile_entered, report_entered, same_name, simulate_entered, some≢none, spell_entered, survey_entered}
+use Rattle.vic_words.proofs.Top.{Entered, check_entered, explain_entered, files_entered, frame_entered, json_entered, margin_entered, no_words_given, only_the_program, reconcile_entered, report_entered, same_name, simulate_entered, some≢none, spell_entered}
 
 pub all_utf8 : {Z : Type 0} (words : List (String Z)) → AllUtf8 (map string_bytes words)
 all_utf8 [] = tt
@@ -159,7 +159,15 @@ rows_to_words (program ∷ w ∷ words) name rows (Json file) utf8 finds h =
     (a.named, file_to (codes "json") program words rows _ json_entered a.utf8.1.1 a.finds h.1)
 rows_to_words (program ∷ w ∷ words) name rows (Files Survey files) utf8 finds h =
     let a = at_name (codes "survey") program w name words rows utf8 finds h.0 in
-    let p = files_to (codes "survey") program words rows (map string_bytes files.items) survey_entered a.utf8.1.1 a.finds h.1 in
+    let p = files_to (codes "survey") program words rows (map string_bytes files.items) (files_entered Survey) a.utf8.1.1 a.finds h.1 in
+    (a.named, p.0, omega (arith, p.1, length-map files.items string_bytes))
+rows_to_words (program ∷ w ∷ words) name rows (Files Collection files) utf8 finds h =
+    let a = at_name (codes "collection") program w name words rows utf8 finds h.0 in
+    let p = files_to (codes "collection") program words rows (map string_bytes files.items) (files_entered Collection) a.utf8.1.1 a.finds h.1 in
+    (a.named, p.0, omega (arith, p.1, length-map files.items string_bytes))
+rows_to_words (program ∷ w ∷ words) name rows (Files JsonCollection files) utf8 finds h =
+    let a = at_name (codes "json-collection") program w name words rows utf8 finds h.0 in
+    let p = files_to (codes "json-collection") program words rows (map string_bytes files.items) (files_entered JsonCollection) a.utf8.1.1 a.finds h.1 in
     (a.named, p.0, omega (arith, p.1, length-map files.items string_bytes))
 
 -- ---- what is asked for is found
@@ -221,7 +229,13 @@ words_to_rows (program ∷ w ∷ words) (Json file) utf8 fits h = by_name progra
     let f = file_from (codes "json") program words _ json_entered utf8.1.1 h.1 in record { name = codes "json"; rows = _; finds = f.0; asks = (refl, f.1) }) utf8 fits
 words_to_rows (program ∷ w ∷ words) (Files Survey files) utf8 fits h = by_name program words (Files Survey files) (codes "survey") w h.0 (λ utf8 fits.
     let a = words_asked (codes "survey") words (map string_bytes files.items) utf8.1.1 h.1 (omega (arith, h.2, length-map files.items string_bytes)) (omega arith) in
-    record { name = codes "survey"; rows = _; finds = finds_below (codes "survey") (words_shape (codes "survey")) program words survey_entered a.0; asks = (refl, sym a.1) }) utf8 fits
+    record { name = codes "survey"; rows = _; finds = finds_below (codes "survey") (words_shape (codes "survey")) program words (files_entered Survey) a.0; asks = (refl, sym a.1) }) utf8 fits
+words_to_rows (program ∷ w ∷ words) (Files Collection files) utf8 fits h = by_name program words (Files Collection files) (codes "collection") w h.0 (λ utf8 fits.
+    let a = words_asked (codes "collection") words (map string_bytes files.items) utf8.1.1 h.1 (omega (arith, h.2, length-map files.items string_bytes)) (omega arith) in
+    record { name = codes "collection"; rows = _; finds = finds_below (codes "collection") (words_shape (codes "collection")) program words (files_entered Collection) a.0; asks = (refl, sym a.1) }) utf8 fits
+words_to_rows (program ∷ w ∷ words) (Files JsonCollection files) utf8 fits h = by_name program words (Files JsonCollection files) (codes "json-collection") w h.0 (λ utf8 fits.
+    let a = words_asked (codes "json-collection") words (map string_bytes files.items) utf8.1.1 h.1 (omega (arith, h.2, length-map files.items string_bytes)) (omega arith) in
+    record { name = codes "json-collection"; rows = _; finds = finds_below (codes "json-collection") (words_shape (codes "json-collection")) program words (files_entered JsonCollection) a.0; asks = (refl, sym a.1) }) utf8 fits
 
 -- ---- by what is found at once
 

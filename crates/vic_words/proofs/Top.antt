@@ -10,7 +10,9 @@ use Rattle.clap.specs.Faults.{other_fault, step_fault, check_fault, entered_faul
 use Rattle.clap.proofs.WalkLemmas.{walk_stopped}
 use Rattle.std.proofs.lemmas.Slice.Eq.{bytes_eq-Decides}
 use Rattle.std.specs.Str.{IsUtf8}
-use Rattle.vic_words.specs.Words.{is_end_of_options, is_option}
+use Rattle.vic_words.specs.Words.{files_name, is_end_of_options, is_option}
+use Rattle.vic_words.specs.declared.asked.FilesCommand.{FilesCommand}
+use Rattle.vic_words.specs.declared.asked.FilesCommand.TheVariants.{Survey, Collection, JsonCollection}
 use Rattle.vic_words.proofs.Leaf.{IsLeaf, both_empty, dash_long, dash_short, first_empty, state, not_refused, option_refused}
 use Rattle.clap.specs.declared.error.kind.ErrorKind.TheVariants.{InvalidSubcommand, UnknownArgument}
 use Rattle.vic_words.specs.inner.Commands.{commands}
@@ -152,8 +154,10 @@ frame_entered = record { fault = enters_fault _ refl refl refl; rows = enters_ro
 pub reconcile_entered : Entered (codes "reconcile") (files_shape (codes "reconcile"))
 reconcile_entered = record { fault = enters_fault _ refl refl refl; rows = enters_rows _ refl refl refl }
 
-pub survey_entered : Entered (codes "survey") (words_shape (codes "survey"))
-survey_entered = record { fault = enters_fault _ refl refl refl; rows = enters_rows _ refl refl refl }
+pub files_entered : (command : FilesCommand) → Entered (files_name command) (words_shape (files_name command))
+files_entered Survey = record { fault = enters_fault _ refl refl refl; rows = enters_rows _ refl refl refl }
+files_entered Collection = record { fault = enters_fault _ refl refl refl; rows = enters_rows _ refl refl refl }
+files_entered JsonCollection = record { fault = enters_fault _ refl refl refl; rows = enters_rows _ refl refl refl }
 
 pub spell_entered : Entered (codes "spell") (words_shape (codes "spell"))
 spell_entered = record { fault = enters_fault _ refl refl refl; rows = enters_rows _ refl refl refl }
@@ -167,11 +171,12 @@ decide n w P it other = go (bytes_eq n w) refl
 
 -- a word is the name of a command, or names none
 pub named : (w : Text) (P : Text → Type 0) → P (codes "check") → P (codes "simulate") → P (codes "explain") → P (codes "report") → P (codes "margin")
-    → P (codes "json") → P (codes "frame") → P (codes "reconcile") → P (codes "survey") → P (codes "spell") → (subcommand_met (names_of program_built) idle w ≡ None → P w) → P w
-named w P check simulate explain report margin json frame reconcile survey spell none =
+    → P (codes "json") → P (codes "frame") → P (codes "reconcile") → ((command : FilesCommand) → P (files_name command)) → P (codes "spell") → (subcommand_met (names_of program_built) idle w ≡ None → P w) → P w
+named w P check simulate explain report margin json frame reconcile files spell none =
     decide (codes "check") w P check (λ a. decide (codes "simulate") w P simulate (λ b. decide (codes "explain") w P explain
     (λ c. decide (codes "report") w P report (λ d. decide (codes "margin") w P margin (λ e. decide (codes "json") w P json (λ j. decide (codes "frame") w P frame
-    (λ f. decide (codes "reconcile") w P reconcile (λ g. decide (codes "survey") w P survey (λ s. decide (codes "spell") w P spell (λ h. none (rw (a, b, c, d, e, j, f, g, s, h) refl)))))))))))
+    (λ f. decide (codes "reconcile") w P reconcile (λ g. decide (codes "survey") w P (files Survey) (λ s. decide (codes "collection") w P (files Collection)
+    (λ k. decide (codes "json-collection") w P (files JsonCollection) (λ o. decide (codes "spell") w P spell (λ h. none (rw (a, b, c, d, e, j, f, g, s, k, o, h) refl)))))))))))))
 
 -- the name of the command that a parse enters is the word that names it
 abbrev pub HasName : Text → Text → List Text → Text → Type 0
@@ -189,7 +194,7 @@ same program name words entered e found = name_of_some _ name (sym (ap (option_m
 pub same_name : (program w name : Text) (words : List Text) → IsUtf8 w → HasName program name words w
 same_name program w name words utf8 = named w (HasName program name words) (same program name words check_entered) (same program name words simulate_entered)
     (same program name words explain_entered) (same program name words report_entered) (same program name words margin_entered) (same program name words json_entered)
-    (same program name words frame_entered) (same program name words reconcile_entered) (same program name words survey_entered) (same program name words spell_entered)
+    (same program name words frame_entered) (same program name words reconcile_entered) (λ command. same program name words (files_entered command)) (same program name words spell_entered)
     (λ none e found. absurd (some≢none name (sym found ∙ ap (option_map (λ p. p.0)) (unnamed program w words utf8 none e))))
 
 pub no_words_given : subcommand_of commands [] ≡ None

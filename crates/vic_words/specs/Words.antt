@@ -5,7 +5,7 @@ use Rattle.vic_answer.specs.declared.task.Task.TheVariants.{Check, Simulate, Exp
 use Rattle.vic_words.specs.declared.asked.Asked.{Asked}
 use Rattle.vic_words.specs.declared.asked.Asked.TheVariants.{Task as OneTask, Reconcile, Json, Files}
 use Rattle.vic_words.specs.declared.asked.FilesCommand.{FilesCommand}
-use Rattle.vic_words.specs.declared.asked.FilesCommand.TheVariants.{Survey}
+use Rattle.vic_words.specs.declared.asked.FilesCommand.TheVariants.{Survey, Collection, JsonCollection}
 
 abbrev pub Text : Type 0
 Text = List ℕ
@@ -44,6 +44,8 @@ HasFile words (Some file) = operands_of words ≡ Some (file ∷ [])
 -- the name of a command that takes one file after the other
 abbrev pub files_name : FilesCommand → Text
 files_name Survey = codes "survey"
+files_name Collection = codes "collection"
+files_name JsonCollection = codes "json-collection"
 
 -- a command's name, and the words after it, ask for this
 abbrev pub NameAsks : Text → List Text → Asked → Type 0

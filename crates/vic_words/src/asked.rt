@@ -13,6 +13,10 @@ use vic_answer::Task;
 pub enum FilesCommand {
     /// Says of each log what it says of its field.
     Survey,
+    /// Says of a catalogue and logs what became of each item, as a table.
+    Collection,
+    /// The same as an object.
+    JsonCollection,
 }
 
 /// What a command line asks for.

@@ -88,11 +88,20 @@ fn operand_commands<'a>(alloc: Global) -> Result<Command<'a>, AllocError>
         .subcommand(with_files(alloc, "reconcile")?)
 }
 
+/// These, and two of the commands over many files.
+fn files_commands<'a>(alloc: Global) -> Result<Command<'a>, AllocError>
+    ensures { IfOk result (λ c. app_of c ≡ declared.files_commands) }
+{
+    operand_commands(alloc)?
+        .subcommand(with_words(alloc, "survey")?)?
+        .subcommand(with_words(alloc, "collection")?)
+}
+
 /// The program's commands.
 pub(crate) fn commands<'a>(alloc: Global) -> Result<Command<'a>, AllocError>
     ensures { IfOk result (λ c. app_of c ≡ declared.commands) }
 {
-    operand_commands(alloc)?
-        .subcommand(with_words(alloc, "survey")?)?
+    files_commands(alloc)?
+        .subcommand(with_words(alloc, "json-collection")?)?
         .subcommand(with_words(alloc, "spell")?)
 }

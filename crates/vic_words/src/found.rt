@@ -85,6 +85,8 @@ fn files_command(name: &str) -> Option<FilesCommand>
 {
     match name {
         "survey" => Some(FilesCommand::Survey),
+        "collection" => Some(FilesCommand::Collection),
+        "json-collection" => Some(FilesCommand::JsonCollection),
         _ => None,
     }
 }

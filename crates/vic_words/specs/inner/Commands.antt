@@ -46,7 +46,12 @@ abbrev pub operand_commands : App
 operand_commands = with_subcommand (with_subcommand file_commands
     (with_operand (codes "frame") (codes "hex") true).top) (with_files (codes "reconcile")).top
 
+abbrev pub files_commands : App
+files_commands = with_subcommand (with_subcommand operand_commands (with_words (codes "survey")).top)
+    (with_words (codes "collection")).top
+
 -- the program
 abbrev pub commands : App
-commands = with_subcommand (with_subcommand operand_commands (with_words (codes "survey")).top)
+commands = with_subcommand
+    (with_subcommand files_commands (with_words (codes "json-collection")).top)
     (with_words (codes "spell")).top
