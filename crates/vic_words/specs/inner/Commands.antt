@@ -47,7 +47,8 @@ operand_commands = with_subcommand (with_subcommand file_commands
     (with_operand (codes "frame") (codes "hex") true).top) (with_files (codes "reconcile")).top
 
 abbrev pub files_commands : App
-files_commands = with_subcommand (with_subcommand operand_commands (with_words (codes "survey")).top)
+files_commands = with_subcommand
+    (with_subcommand operand_commands (with_words (codes "survey")).top)
     (with_words (codes "collection")).top
 
 -- the program
