@@ -25,9 +25,9 @@ from .frames import (HEADER_LINE, FrameFault, Reply, Request, add_crc, parse_uid
 
 __all__ = ["Answer", "Explanation", "Fault", "Finding", "FindingKind", "FrameFault", "HEADER_LINE",
            "Kind", "ListFault", "Margin", "Mask", "Reply", "Report", "Request", "Simulation",
-           "Survey", "Weakest", "Written", "add_crc", "captured", "check", "check_listed", "explain",
-           "explain_into", "explain_listed", "listed", "margin", "margin_listed", "overlooked",
-           "page", "parse_uid", "read_request", "read_response", "reconcile", "report",
-           "report_listed", "run", "simulate", "simulate_into", "slot_mask", "survey", "uid_text",
-           "write_inventory", "write_line", "write_response", "write_stay_quiet"]
+           "Survey", "Weakest", "Written", "add_crc", "captured", "check", "check_listed",
+           "explain", "explain_into", "explain_listed", "listed", "margin", "margin_listed",
+           "overlooked", "page", "parse_uid", "read_request", "read_response", "reconcile",
+           "report", "report_listed", "run", "simulate", "simulate_into", "slot_mask", "survey",
+           "uid_text", "write_inventory", "write_line", "write_response", "write_stay_quiet"]
 __version__ = "1.4.0.dev0"
