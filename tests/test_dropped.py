@@ -1,7 +1,6 @@
 """What the page makes of files that are dropped together, asked of its modules by node: what can't
 be read as it was meant has no answer, and no row or line of it is silently left out."""
 import json
-from fractions import Fraction
 
 import pytest
 
@@ -415,21 +414,3 @@ def test_what_is_no_uid_is_shown(drop, cell, why):
 def test_a_separator_is_outside_of_quotes(drop, head):
     said = drop({"books": f'{head}\n"x";"{UID_A}"\n', "shelf.log": SHELF})
     assert said["kind"] == "complete"
-
-
-@pytest.mark.parametrize("ruled_out", [[], [0x7F, 0x80], [0xC38665AB5E4DF0, 0x7311BEA7AC0504],
-                                       range(0, 3 << 40, 0x123456789)])
-def test_the_share_of_what_is_open_is_that_of_python(drop, vicinity, ruled_out):
-    """And the number that is nearest to it: 56 masks of as many lengths, or more, are added up."""
-    from vicinity.pages.log import page_object
-    from vicinity.sessions.findings import Told
-    log = vicinity.HEADER_LINE + b"".join(
-        vicinity.write_line("T", vicinity.write_inventory(2, 1, vicinity.Mask(56, value)))
-        + b"S\n" for value in ruled_out)
-    masks = vicinity.survey(log).open_masks
-    exact = sum(Fraction(1, 1 << mask.length) for mask in masks)
-    assert exact == 1 - Fraction(len(ruled_out), 1 << 56) and len(masks) >= len(ruled_out)
-    logs = drop({"shelf.log": log, "expected.log": f"vicinity-log 1\nU {UID_A}\n"})["logs"]
-    of_python = page_object("shelf.log", Told(log))
-    shares = {it["open"]["share"] for it in (logs[0]["object"], of_python)}
-    assert shares == {float(exact)}

@@ -1014,27 +1014,10 @@ def saved(page, folder):
     return next(folder.iterdir())
 
 
-def also_hidden(told, vicinity):
-    """The object of a log, with the margin of its list if strong replies hid weaker ones, and one
-    request for all tags in place of both."""
-    for mask in told["open"]["masks"]:
-        mask["ask"] = mask["ask"][:1]
-    if told["kind"] == "complete" and told["captured"]["holds"]:
-        weakest = vicinity.margin(vicinity.captured(told["text"].encode())).weakest
-        mask = {"mask_len": weakest.mask.length, "mask_value": weakest.mask.digits}
-        captured = {"holds": True, "margin": weakest.margin, "weakest": mask}
-        assert {**captured, **told["captured"]} == captured
-        told["captured"] = captured
-    return told
-
-
-def as_python_writes(told):
-    """The object of a log that the library has written, without what Python doesn't write."""
-    deaf = told.pop("deaf", None)
-    if told["kind"] == "complete":
-        told["deaf"] = {key: deaf[key] for key in deaf.keys() - {"margin", "weakest"}}
-    assert int(told["open"].pop("uids")) / 2**56 == told["open"]["share"]
-    return told
+def as_saved(told):
+    """The object of a log that Python writes, as the page saves it."""
+    left = told["open"]
+    return told | {"schema": 1, "open": left | {"share": int(left["uids"]) / 2**56}}
 
 
 @pytest.mark.parametrize("names", [*READ, "I1 C UA", "V2 I1 QA I1 S UA", "", "I1 S I1 S UB UA",
@@ -1046,8 +1029,7 @@ def test_what_is_saved_is_what_python_writes(page, vicinity, tmp_path, names):
     heading = page.texts("h1")
     file = saved(page, tmp_path / "saved")
     object, plain = drawn_in(file.read_text())
-    wanted = drawn_in(vicinity.page(log_of(names), "a <b>.log"))[0]
-    assert as_python_writes(object) == also_hidden(wanted, vicinity)
+    assert object == as_saved(drawn_in(vicinity.page(log_of(names), "a <b>.log"))[0])
     assert heading[0] in plain
     page.open(file)
     assert (page.texts("h1"), page.driver.title) == (heading, f"{heading[0]} a <b>.log")
@@ -1076,7 +1058,7 @@ SHELVES = TOP / "examples/collection"
 
 
 @pytest.fixture
-def of_python(release, vicinity):
+def of_python(release):
     """What is drawn by the page that `python3 -m vicinity reconcile` writes."""
     environment = {"PYTHONPATH": str(TOP / "python"), "PYTHONDONTWRITEBYTECODE": "1",
                    "LIBVICINITY": str(release / "libvicinity.so")}
@@ -1086,7 +1068,7 @@ def of_python(release, vicinity):
                               env=environment, capture_output=True, check=False)
         told = drawn_in(done.stdout.decode())[0]
         for log in told["logs"]:
-            also_hidden(log["object"], vicinity)
+            log["object"] = as_saved(log["object"])
         return collected(told)
     return ask
 
@@ -1115,8 +1097,6 @@ def test_a_collection_is_judged_as_python_judges_it(page, of_python, tmp_path, m
     page.is_readable()
     heading, file = page.texts("h1"), saved(page, tmp_path / "saved")
     told = collected(drawn_in(file.read_text())[0])
-    for log in told["logs"]:
-        as_python_writes(log["object"])
     assert told == wanted
     page.open(file)
     assert page.texts("h1") == heading
@@ -1186,8 +1166,6 @@ def test_a_collection_of_which_one_field_has_a_silenced_tag_of_another(page, of_
     page.until("h1", "All 2 expected items are here")
     file = saved(page, tmp_path / "saved")
     told = collected(drawn_in(file.read_text())[0])
-    for log in told["logs"]:
-        as_python_writes(log["object"])
     assert told == wanted
     assert (told["margin"], told["weakest"]["mask_value"]) == (2, "00")
 

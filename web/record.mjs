@@ -13,6 +13,8 @@ import { adaptedLog } from "./written.mjs";
 
 const said = JSON.parse(at("object").textContent ?? ""), shown = at("told");
 const object = said.schema === 1 ? said : "items" in said ? adaptedCollection(said) : adaptedLog(said);
+// until Python writes collections as the library does
+for (const log of object.logs ?? []) if (log.object?.schema === 2) log.object = adaptedLog(log.object);
 if ("items" in object) {
   shown.replaceChildren(...collectionView(object));
   document.title = `${headlineOf(object)} ${printable(object.name)}`;

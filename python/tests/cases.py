@@ -25,6 +25,8 @@ SILENCE_A = b"T 2202A1000000000104E0662A\n"
 SILENCE_B = b"T %s\n" % hex_of(bytes.fromhex("2202B2000000000104E0")).encode()
 LIST_A = b"U E0040100000000A1\n"
 LIST_B = b"U E0040100000000B2\n"
+#: A tag is heard and silenced, and then all are silent: in version 3 no reply hid another.
+ALONE = ALL + HEARD_A + SILENCE_A + ALL + b"S\n"
 COLLECTION = os.path.join(TOP, "examples/collection")
 SHELVES = [os.path.join(COLLECTION, f"shelf-{letter}.log") for letter in "abc"]
 #: The forms in which `reconcile` writes.

@@ -59,9 +59,10 @@ class Answers(Command):
             {"status": 4, "kind": "no answer",
              "error": "cannot read /nowhere.log: No such file or directory"},
         ]
-        self.assertEqual([{key: it[key] for key in it if key not in ("file", "schema", "captured")}
-                          for it in found], wanted)
-        self.assertEqual({it["schema"] for it in found}, {1})
+        others = "file", "schema", "captured", "deaf"
+        self.assertEqual([{key: it[key] for key in it if key not in others} for it in found],
+                         wanted)
+        self.assertEqual({it["schema"] for it in found}, {2})
         self.assertEqual(status, 4)
 
     def test_no_library(self):

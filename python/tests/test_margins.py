@@ -14,7 +14,7 @@ TWICE = ALL + HEARD_A + SILENCE_A + ALL + b"S\n"
 ONCE_B = ALL + HEARD_A + SILENCE_A + SILENCE_B + ALL + b"S\n"
 #: B is heard, and all are asked three times more.
 OFTEN = ALL + HEARD_B + SILENCE_B + (ALL + b"S\n") * 3
-SAID = "A tag would have had to be missed in"
+SAID, ASKED = "A tag would have had to be missed in", "Each other tag was asked"
 
 
 class Calls(Command):
@@ -107,9 +107,11 @@ class Said(Command):
                 (["--margin", "2"], {"status": 0, "kind": "complete", "count": 1}),
                 (["--margin", "3"], {"status": 1, "kind": "margin", "count": 1, "wanted": 3})):
             said, _, status = within("--json", *words, self.whole)
+            holds = {"holds": True, "margin": 1, "weakest": weakest}
             self.assertEqual(json.loads(said), {
-                "schema": 1, "file": self.whole, **wanted, "margin": 2, "weakest": weakest,
-                "captured": {"holds": True}})
+                "schema": 2, "file": self.whole, **wanted, "margin": 2, "weakest": weakest,
+                "captured": holds, "deaf": {"holds": False, "status": 1, "kind": "unsettled",
+                                            "mask_len": 1, "mask_value": "00"}})
             self.assertEqual(status, wanted["status"])
         told = json.loads(within("report", "--json", self.whole)[0])
         self.assertEqual((told["margin"], told["weakest"]), (2, weakest))
@@ -120,17 +122,16 @@ class Said(Command):
 
     def test_in_a_terminal(self):
         for lines, wanted in (
-                (TWICE + LIST_A,
-                 f"{SAID} 2 slots; that is enough for UIDs ending in an even digit."),
-                (ALL + b"S\n", f"{SAID} 1 slot, whatever its UID."),
-                (ONCE_B + LIST_A, f"{SAID} 1 slot; that is enough for E0040100000000B2."),
+                (TWICE + LIST_A, f"{ASKED}: 2 times or more"),
+                (ALL + b"S\n", f"{ASKED}: 1 time or more"),
+                (ONCE_B + LIST_A, f"{ASKED}: 1 time or more"),
                 (OFTEN + LIST_A + LIST_B,
-                 "absent: E0040100000000A1 would have been missed in 4 slots"),
+                 "line 3: absent E0040100000000A1 would have been missed in 4 slots"),
                 (ALL + b"S\n" + LIST_A,
-                 "absent: E0040100000000A1 would have been missed in 1 slot")):
+                 "line 3: absent E0040100000000A1 would have been missed in 1 slot")):
             said = within("show", self.write("one.log", log(lines)))[0].decode()
             self.assertIn(wanted, " ".join(said.split()))
-            self.assertEqual(SAID in said, said.startswith("complete"))
+            self.assertEqual(ASKED in said.replace("\n", " "), said.startswith("complete"))
 
     def test_on_a_page(self):
         told = drawn_in(vicinity.page(log(TWICE + LIST_A)))[0]

@@ -15,7 +15,7 @@ It is loaded on the first call; LIBVICINITY may name its file.
 """
 from ._answers import (Answer, Explanation, Fault, Finding, FindingKind, Kind, ListFault, Margin,
                        Mask, Report, Simulation, Survey, Weakest)
-from ._calls import (captured, check, check_listed, explain, explain_into, explain_listed, listed,
+from ._calls import (check, check_listed, explain, explain_into, explain_listed, listed,
                      margin, margin_listed, overlooked, page, reconcile, report, report_listed,
                      simulate, simulate_into, survey)
 from ._run import Written, run
@@ -25,7 +25,7 @@ from .frames import (HEADER_LINE, FrameFault, Reply, Request, add_crc, parse_uid
 
 __all__ = ["Answer", "Explanation", "Fault", "Finding", "FindingKind", "FrameFault", "HEADER_LINE",
            "Kind", "ListFault", "Margin", "Mask", "Reply", "Report", "Request", "Simulation",
-           "Survey", "Weakest", "Written", "add_crc", "captured", "check", "check_listed",
+           "Survey", "Weakest", "Written", "add_crc", "check", "check_listed",
            "explain", "explain_into", "explain_listed", "listed", "margin", "margin_listed",
            "overlooked", "page", "parse_uid", "read_request", "read_response", "reconcile",
            "report", "report_listed", "run", "simulate", "simulate_into", "slot_mask", "survey",

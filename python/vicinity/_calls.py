@@ -283,13 +283,6 @@ def simulate(text: BytesLike) -> Simulation:
         places = needed
 
 
-def captured(text: BytesLike) -> bytes:
-    """The text with each R line as an H line, under the header of version 3;
-    a text that is refused as it is. Raises what `check` raises."""
-    text = bytes_of(text)
-    return text if check(text).kind is Kind.REFUSED else with_captures(text)
-
-
 def with_captures(text: bytes) -> bytes:
     """The same for a text that isn't refused. The answer to it says whether that to the text also
     holds if strong replies hid weaker ones (capture)."""

@@ -12,6 +12,8 @@ BytesLike = Union[bytes, bytearray, memoryview, mmap.mmap]
 INTERFACE = 2
 #: The library's file.
 NAME = "vicinity.dll" if os.name == "nt" else "libvicinity.so.1"
+#: A buffer of so many elements isn't worth a mapping.
+FEW_PLACES = 4096
 X86_64_V2 = ("cx16", "lahf_lm", "popcnt", "sse4_1", "sse4_2", "ssse3")
 
 
@@ -90,6 +92,16 @@ def bytes_of(text: BytesLike) -> bytes:
     except TypeError:
         raise TypeError("the text of a log, and a frame, are bytes, "
                         f"not {type(text).__name__}") from None
+
+
+def room_of(place: Any, places: int) -> Any:
+    """A buffer with that many elements, which takes memory only as it is filled."""
+    if places <= FEW_PLACES:
+        return (place * places)()
+    try:
+        return (place * places).from_buffer(mmap.mmap(-1, places * ctypes.sizeof(place)))
+    except OSError as error:
+        raise MemoryError("vicinity: out of memory") from error
 
 
 def lacking_of(machine: str, flags: Sequence[str]) -> list[str]:

@@ -4,9 +4,11 @@ from __future__ import annotations
 import ctypes
 from typing import NamedTuple, Sequence
 
-from ._native import COMMANDS, BytesLike, bytes_of, library
+from ._native import COMMANDS, BytesLike, bytes_of, library, room_of
 
-FIRST_ROOM = 4096
+#: How much room there is at first, so that most answers aren't worked out twice: so much, and
+#: so many times that of the texts, where an answer isn't short.
+FIRST_ROOM, OF_TEXT, SHORT = 1 << 19, 4, ("check", "margin", "json")
 NO_ANSWER = 4
 
 
@@ -37,9 +39,9 @@ def run(command: str, *texts: BytesLike, names: Sequence[str] = ()) -> Written:
     given = [bytes_of(text) for text in texts]
     joined, lines = b"".join(given), _names(names, len(given))
     lengths = (ctypes.c_size_t * len(given))(*map(len, given))
-    places = FIRST_ROOM
+    places = FIRST_ROOM + OF_TEXT * len(joined) * (command not in SHORT)
     while True:
-        room, needed = (ctypes.c_uint8 * places)(), ctypes.c_size_t()
+        room, needed = room_of(ctypes.c_uint8, places), ctypes.c_size_t()
         status = library().vicinity_run(
             COMMANDS.index(command) + 1, lines, len(lines), joined, len(joined), lengths,
             len(given), room, places, ctypes.byref(needed))

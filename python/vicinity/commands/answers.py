@@ -3,27 +3,26 @@ from __future__ import annotations
 
 import argparse
 import json
-from typing import Any
+from typing import Any, Mapping
 
-from .._calls import check, if_captured, margin
-from .._fields import NOT_COMPLETE, object_of, small, small_fields
+from .._calls import check
 from .._native import library
+from .._objects import NOT_COMPLETE, OF_CHECK, SMALL, object_of, of_file, small
 from .._process import NO_ANSWER, complain, names_of, shown, tried, write
 
 
-def _judge(name: str, text: bytes, wanted: int, form: str) -> tuple[int, str, dict[str, Any]]:
-    """The status of a text, its answer, and for JSON its object, with the margin, and whether
-    the answer also holds under capture. A complete list counts as not complete if its margin
-    is less than was wanted."""
+def _judge(text: bytes, wanted: int, form: str) -> tuple[int, str, Mapping[str, Any]]:
+    """The status of a text, its answer, and for JSON its fields. A complete list counts as
+    not complete if its margin is less than was wanted."""
     if not wanted and form != "json":
         answer = check(text)
         return answer.status, answer.text, {}
-    answer, weakest = margin(text)
-    weakest = weakest if answer.is_complete else None
-    said = object_of(name, answer, weakest, if_captured(text, answer)) if form == "json" else {}
-    if weakest is None or weakest.margin >= wanted:
-        return answer.status, answer.text, said
-    return NOT_COMPLETE, small(weakest, wanted), {**said, **small_fields(answer, wanted)}
+    told = object_of(text)
+    said = {key: told[key] for key in OF_CHECK if key in told}
+    if said["status"] or said["margin"] >= wanted:
+        return said["status"], told["answer"], said
+    said.update(status=NOT_COMPLETE, kind=SMALL, wanted=wanted)
+    return NOT_COMPLETE, small(said, wanted), said
 
 
 def check_all(asked: argparse.Namespace) -> int:
@@ -31,11 +30,11 @@ def check_all(asked: argparse.Namespace) -> int:
     library()
     worst = 0
     for name in names_of(asked):
-        judged = tried(name, lambda text: _judge(name, text, asked.margin, asked.form))
+        judged = tried(name, lambda text: _judge(text, asked.margin, asked.form))
         status, answer, said = judged if isinstance(judged, tuple) else (
-            complain(judged), "no answer", object_of(name, judged))
+            complain(judged), "no answer", judged)
         worst = max(worst, status)
-        write([{"json": json.dumps(said) + "\n",
+        write([{"json": json.dumps(of_file(name, said)) + "\n",
                 "tabs": f"{shown(name)}\t{status}\t{answer}\n",
                 "lines": f"{shown(name)}: {answer}\n" * (status != NO_ANSWER)}[asked.form]])
     return worst
@@ -52,9 +51,9 @@ def report_all(asked: argparse.Namespace) -> int:
         found = tried(name, Told)
         if isinstance(found, str):
             worst = complain(found)
-            write([json.dumps(object_of(name, found)) + "\n"] if asked.form == "json" else [])
+            write([json.dumps(of_file(name, found)) + "\n"] if asked.form == "json" else [])
             continue
         worst = max(worst, found.answer.status)
-        write(object_of_report(name, found) if asked.form == "json" else
+        write([json.dumps(object_of_report(name, found)) + "\n"] if asked.form == "json" else
               lines_of_report(shown(name), found))
     return worst

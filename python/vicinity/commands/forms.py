@@ -19,8 +19,13 @@ from ..frames import uid_text
 from ..pages.document import document, version
 from ..pages.log import page_object
 from ..sessions.findings import Told
-from ..sessions.words import ALSO, ASK_AGAIN, HEARD, count, listing, missed
+from ..sessions.words import count, ending, listing
 
+#: What a terminal is told beside the lines.
+HEARD = ("This is said of tags that had power, heard the reader, "
+         "and were heard when they answered: one that never answers is in no log.")
+ASK_AGAIN = "Silence each tag that was heard, and ask all in one slot, until none answers"
+ALSO = "Would also hold if a strong reply hid a weaker one:"
 #: How much text of logs stands in a page.
 MOST_TEXT = 4_000_000
 #: Between the names of logs in a cell, and what stands for it inside of a name.
@@ -80,7 +85,10 @@ def notes(found: Collection) -> Iterator[str]:
         yield HEARD
     if found.least is not None:
         name, weakest = found.least
-        yield missed(weakest, f" in the field of {shown(name)}")
+        which = (f"; that is enough for {ending(weakest.mask)}" if weakest.mask.length
+                 else ", whatever its UID")
+        yield (f"A tag would have had to be missed in {count(weakest.margin, 'slot')} "
+               f"in the field of {shown(name)}{which}.")
     names = [shown(log.name) for log in found.logs if log.captured.get("holds") is False]
     if names:
         more = [count(len(names) - MOST_NAMES, "other log")] * (len(names) > MOST_NAMES)

@@ -2,16 +2,15 @@
 and as JSON, one object for each log."""
 from __future__ import annotations
 
-import json
 import re
 from typing import Iterator, Optional
 
 from .._answers import FindingKind, Mask
-from .._fields import UID_BITS, object_of
+from .._objects import UID_BITS, Object, of_file
 from ..frames import uid_text
 from .findings import WORDS, Told
 from .session import STAY_QUIET, Session, ask
-from .words import count, ending, meaning, sentence
+from .words import count, ending, headline, meaning
 
 REPLY = re.compile(rb"^[RH] ....(.{16})", re.MULTILINE)
 ALONE, SLOT = re.compile(rb"^R", re.MULTILINE), re.compile(rb"^[SRHCDN]", re.MULTILINE)
@@ -26,12 +25,12 @@ MOST = 2000
 def found(told: Told, most: Optional[int] = None) -> Iterator[tuple[FindingKind, int, str]]:
     """The findings, the first `most` of each kind: the kind, the line that shows it, or 0,
     and what is said of it. The unsettled mask is one of the open ones."""
-    slots = iter(told.overlooked)
     for kind in WORDS:
         for it in told.of(kind)[:most] if kind is not FindingKind.UNSETTLED else ():
             uid, said = uid_text(it.uid), ""
             if kind is FindingKind.ABSENT:
-                said = f"{uid} would have been missed in {count(next(slots), 'slot')}"
+                slots = told.overlooked.get(uid, 0)
+                said = uid + f" would have been missed in {count(slots, 'slot')}" * bool(slots)
             elif kind is FindingKind.UNLISTED:
                 said = uid
             elif kind is FindingKind.OPEN_MASK:
@@ -47,9 +46,10 @@ def lines_of_report(name: str, told: Told) -> Iterator[str]:
     of the log that shows it, or of the one after which further requests go.
     There is no finding if the list is complete."""
     if told.answer.status > 1:
-        fault = f"{told.answer.fault.word}: {told.answer.fault.wrong}" if told.refused_line else ""
-        yield (f"{name}:{told.answer.line}: {told.answer.kind.word}: "
-               f"{fault or sentence(told)}\n")
+        why = headline(told)
+        if told.refused_line:
+            why = f"{told.answer.fault.word}: {told.session.advice(told.answer.fault.word).wrong}"
+        yield f"{name}:{told.answer.line}: {told.answer.kind.word}: {why}\n"
     quoted = {line: meaning(told.session, line) for line in told.lines(MOST)}
     for kind, line, said in found(told):
         text = ": ".join(filter(None, (WORDS[kind], said, quoted.get(line))))
@@ -57,15 +57,10 @@ def lines_of_report(name: str, told: Told) -> Iterator[str]:
     yield from (f"{name}:{line}: note: {text}\n" for line, text in notes(told))
 
 
-def object_of_report(name: str, told: Told) -> Iterator[str]:
-    """One object on one line: what `--json` says about a log, with all findings and notes."""
-    head = object_of(name, told.answer, told.weakest, told.reread)
-    yield json.dumps({**head, "sentence": sentence(told)})[:-1]
-    yield ', "findings": ['
-    for index, finding in enumerate(told.objects()):
-        yield (", " if index else "") + json.dumps(finding)
+def object_of_report(name: str, told: Told) -> Object:
+    """What `--json` says of a log: its object, with a sentence and all notes."""
     said = [{"line": line, "text": text} for line, text in notes(told)]
-    yield '], "notes": ' + json.dumps(said) + "}\n"
+    return {**of_file(name, told.said), "sentence": headline(told), "notes": said}
 
 
 def notes(told: Told) -> Iterator[tuple[int, str]]:
@@ -90,7 +85,8 @@ def notes(told: Told) -> Iterator[tuple[int, str]]:
         if found[MOST_NOTES:]:
             more = count(len(found) - MOST_NOTES, "more note")
             yield found[MOST_NOTES][0], f"{more} like these"
-    none_was_hidden = told.weakest_reread or not ALONE.search(told.session.text)
+    none_was_hidden = (told.answer.is_complete and told.holds("captured")
+                       or not ALONE.search(told.session.text))
     if last and not (has_asked_all and none_was_hidden):
         missed = "stronger replies hid" if has_asked_all else "no earlier round asked"
         lacks = ("of a slot of the last round, which asked all tags, nothing is known: one there"

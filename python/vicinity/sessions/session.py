@@ -8,13 +8,22 @@ import re
 from array import array
 from bisect import bisect_right
 from functools import cached_property
-from typing import Container, NamedTuple, Optional
+from itertools import islice
+from typing import Container, NamedTuple, Optional, Sequence
 
 from .._answers import Mask
+from .._objects import UID_BITS
+from .._sentences import Advice, advice
 from ..frames import (Request, read_request, read_response, slot_mask, write_inventory,
                       write_line)
 
 FIRST_REQUEST = re.compile(rb"^T ([0-9A-Fa-f]{2})", re.MULTILINE)
+#: The UID of a Stay Quiet.
+SILENCED = re.compile(rb"^T ..02(.{16})", re.MULTILINE)
+#: How many bits the masks have at least of which each UID may have been silenced.
+LEAST_SILENCED = UID_BITS - 6
+#: In so many rounds, the last ones, collisions are looked at.
+MOST_ROUNDS = 1000
 #: The bits of the link in the flags of a request, and the link if there is no request.
 LINK, ANY_LINK = 3, 2
 STAY_QUIET = b"02"
@@ -114,6 +123,37 @@ class Session:
     def place(self, line: int) -> int:
         """The index of the row that a line belongs to."""
         return bisect_right(self.lines, line) - 1
+
+    def advice(self, fault: str) -> Advice:
+        """What the fault of the refused line means."""
+        return advice(fault, "replies" if self.refused[:2] in (b"R ", b"H ") else "faults")
+
+    def silenced(self, masks: Sequence[Mask]) -> tuple[int, int]:
+        """How many of these masks have no UIDs but those of tags that were silenced before they
+        were heard, and how many these are."""
+        narrow = {mask: 1 << UID_BITS - mask.length for mask in masks
+                  if mask.length >= LEAST_SILENCED}
+        if not narrow:
+            return 0, 0
+        uids = {int.from_bytes(bytes.fromhex(it.decode()), "little")
+                for it in SILENCED.findall(self.text)}
+        full = [number for mask, number in narrow.items()
+                if sum(map(mask.has, uids)) == number]
+        return len(full), sum(full)
+
+    def has_more(self, certain: Sequence[int]) -> bool:
+        """Whether in a slot of the last rounds, whose tags no later one asked, two or more tags
+        answered of which at most one is certain."""
+        asked = set[Mask]()
+        for index in range(len(self.lines) - 1, max(-1, len(self.lines) - 1 - MOST_ROUNDS), -1):
+            row = self.row(index)
+            if any(slot.letter == "C" and slot.mask not in asked
+                   and len([*islice(filter(slot.mask.has, certain), 2)]) < 2 for slot in row.slots):
+                return True
+            if row.slots and row.request:
+                length, value = row.request.mask
+                asked.update(Mask(less, value & (1 << less) - 1) for less in range(length + 1))
+        return False
 
 
 def ask(text: bytes, slots: int, mask: Mask) -> str:

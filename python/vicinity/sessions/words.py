@@ -1,21 +1,21 @@
 """What is said to people: numbers, masks and lines in words, the answer in one sentence,
-and what it is said under."""
+and how sure it is."""
 from __future__ import annotations
 
 from typing import Iterator, Sequence
 
-from .._answers import FindingKind, Kind, Mask, Weakest
-from .._fields import UID_BITS
+from .._answers import FindingKind, Kind, Mask
+from .._objects import UID_BITS, mask_of
+from .._sentences import SENTENCES, numbered
 from ..frames import uid_text
 from .findings import Told
-from .session import READINGS, Session, ask
+from .session import READINGS, Session
 
-HEARD = ("This is said of tags that had power, heard the reader, "
-         "and were heard when they answered: one that never answers is in no log.")
-ASK_AGAIN = "Silence each tag that was heard, and ask all in one slot, until none answers"
-ALSO = "Would also hold if a strong reply hid a weaker one:"
 #: How many lines of a contradiction a sentence names.
 MOST_NAMED = 4
+ANSWERS = SENTENCES["answers"]
+#: How an answer is read more cautiously.
+READ_AGAIN = {"captured": "If replies were hidden", "deaf": "If the reader went deaf"}
 
 
 def count(number: int, one: str, many: str = "") -> str:
@@ -33,17 +33,17 @@ def listing(items: Sequence[str], last: str = "and") -> str:
 
 
 def ending(mask: Mask) -> str:
-    """Which UIDs have a mask: all UIDs; UIDs ending in 61 or E1; E0040100000000A1."""
+    """Which UIDs have a mask: any UID; UIDs ending in 61 or E1; E0040100000000A1."""
     digits, bits = divmod(mask.length, 4)
     if not mask.length:
-        return "all UIDs"
+        return "any UID"
     if mask.length >= UID_BITS:
         whole = uid_text(mask.value | 0xE0 << UID_BITS)
         return whole if mask.length == UID_BITS else f"the UID {mask}"
     low = f"{mask.value & (1 << 4 * digits) - 1:0{digits}X}" if digits else ""
     if bits == 1:
         parity = "odd" if mask.value >> 4 * digits else "even"
-        return f"UIDs ending in x{low}, x {parity}" if low else f"UIDs ending in an {parity} digit"
+        return f"UIDs ending in an {parity} digit" + f" before {low}" * bool(low)
     heads = [head for head in range(16)
              if bits and (head ^ mask.value >> 4 * digits) & (1 << bits) - 1 == 0]
     return f"UIDs ending in {listing([f'{head:X}{low}' for head in heads] or [low], 'or')}"
@@ -55,54 +55,113 @@ def meaning(session: Session, line: int) -> str:
     for slot in row.slots:
         if slot.line == line:
             read = READINGS[slot.letter][2].format(uid_text(slot.uid or 0))
-            return f"{read}; asked: {ending(slot.mask)}"
+            asked = ending(slot.mask) if slot.mask.length else "all UIDs"
+            return f"{read}; asked: {asked}"
     return f"Stay Quiet to {uid_text(row.request.uid)}" if row.request else "field off and on"
 
 
-def sentence(told: Told) -> str:
-    """What is known about the list."""
+def headline(told: Told) -> str:
+    """The answer in a sentence, as the page says it."""
     answer = told.answer
     if answer.kind is Kind.REFUSED:
         cut = " The text ends in the middle of this line: was it cut?" * told.session.is_cut
-        return f"This text isn't a valid log. Line {answer.line}: {answer.fault.wrong}.{cut}"
+        what = ANSWERS["cannotBeUsed" if answer.line > 1 else "noLog"]
+        return f"{what}. Line {answer.line}: {told.session.advice(answer.fault.word).wrong}.{cut}"
     if answer.kind is Kind.IMPOSSIBLE:
-        return f"The log contradicts itself: {_contradiction(told)}."
-    if answer.kind is not Kind.COMPLETE:
-        return f"Not complete: {listing(list(_missing(told)))}."
-    if not answer.count:
-        return "Complete: the field is empty, and nothing is listed."
-    if answer.count == 1:
-        return "Complete: the one tag in the field is listed, and no other."
-    return f"Complete: all {answer.count:,} tags in the field are listed, and no others."
-
-
-def conditions(told: Told) -> Iterator[str]:
-    """What an answer is said under: of a complete list which tags it speaks of,
-    and how often one would have had to be missed; and whether it also holds under capture."""
-    answer, reread = told.answer, told.reread
+        return f"{ANSWERS['contradicts']}{_contradiction(told)}."
     if answer.kind is Kind.COMPLETE:
-        yield HEARD
-    if told.weakest is not None:
-        yield missed(told.weakest)
-    if reread is None:
+        here = numbered("allListed", answer.count) + _others(told, answer.count)
+        return here if answer.count else str(ANSWERS["empty"])
+    return _unfinished(told)
+
+
+def _others(told: Told, number: int) -> str:
+    """What is said of other tags behind those that are here, where nothing is left to ask."""
+    return numbered("noOthers", number) if told.settles("captured") else str(ANSWERS["ifHidden"])
+
+
+def _unfinished(told: Told) -> str:
+    """The sentence of a list that isn't complete."""
+    found, listed, left = told.said["found"], told.session.listed, told.said["open"]
+    certain, without = told.said["certain"], "" if listed else ANSWERS["noList"]
+    if not left["count"] and not listed:
+        number = certain["count"]
+        return f"{numbered('tagsHere', number)}{_others(told, number)}{without}"
+    if not left["count"] and not certain["count"]:
+        return numbered("noneAnswered", listed)
+    quiet, silenced = told.session.silenced(list(map(mask_of, left["masks"])))
+    is_quiet = 0 < quiet == left["count"]
+    is_more = told.is_more
+    others = str(ANSWERS["othersAre" if is_more else "othersMayBe"])
+    if is_quiet:
+        others = numbered("silencedListed" if silenced <= found["doubtful"] else "silenced",
+                          silenced)
+    head = ANSWERS["notFinished"] if left["count"] else ""
+    if not listed:
+        here = (f"{numbered('tagsHere', certain['count'])}; {others}" if certain["count"] else
+                others if is_quiet else ANSWERS["noneRead" if is_more else "noneProved"])
+        return f"{head}{here}.{without}"
+    if not any(found.values()):
+        return f"{head}{_inside(numbered('allListed', listed))}; {others}."
+    kinds = "absent", "unlisted", "doubtful"
+    parts = [numbered(kind, found[kind]) for kind in kinds[:3 - is_quiet] if found[kind]]
+    here = _of_listed(listed - found["absent"] - found["doubtful"], listed, left["count"] > 0)
+    return f"{head}{listing(parts + [others] * is_quiet)}; {here}."
+
+
+def _of_listed(here: int, listed: int, is_open: bool) -> str:
+    """How many listed tags are here, or proved to be, of a search that isn't finished."""
+    if here == listed:
+        return _inside(numbered("allListed", listed))
+    are = "is" if 1 in (here, listed) else "are"
+    return f"{here:,} of {count(listed, 'listed tag')} {are} {'proved to be ' * is_open}here"
+
+
+def _inside(sentence: str) -> str:
+    """A sentence behind the beginning of another."""
+    return sentence[0].lower() + sentence[1:]
+
+
+def lights(told: Told) -> Iterator[tuple[str, str]]:
+    """What else is known of an answer, by name: whether the search is finished, what the list is
+    worth, how often each other tag was asked, and whether the answer holds if replies were hidden,
+    and if the reader went deaf."""
+    said, kind, is_complete = told.said, told.answer.kind, told.answer.is_complete
+    if kind is Kind.REFUSED:
         return
-    if reread == answer:
-        least = told.weakest_reread
-        then = "; more may be open" if answer.status == 1 else "" if least is None else (
-            f"; a tag would then have had to be missed in {count(least.margin, 'slot')}")
-        yield f"{ALSO} yes{then}."
-    elif answer.kind is Kind.IMPOSSIBLE:
-        yield f"{ALSO} no, '{reread}'."
-    else:
-        all_tags = ask(told.session.text, 1, Mask(0, 0))
-        yield f"{ALSO} no, '{reread}'. {ASK_AGAIN} ({all_tags})."
+    is_known = kind is not Kind.IMPOSSIBLE
+    yield "Search finished", ("not known" if not is_known else "no" if said["open"]["count"] else
+                              "yes" if told.settles("captured") else "not known yet")
+    yield "List", "not known" if told.session.listed and not is_known else _list(told)
+    if is_complete:
+        yield "Each other tag was asked", f"{count(said['margin'], 'time')} or more"
+    for reading, name in READ_AGAIN.items():
+        if is_complete and told.holds(reading):
+            yield name, "still complete" if told.answer.count else "still empty"
+        elif _is_shaken(told, reading):
+            of_others = is_complete or not told.session.listed
+            yield name, "others may be here" if of_others else "the answer may be wrong"
 
 
-def missed(weakest: Weakest, where: str = "") -> str:
-    """How sure it is that no other tag is there."""
-    mask = weakest.mask
-    which = f"; that is enough for {ending(mask)}" if mask.length else ", whatever its UID"
-    return f"A tag would have had to be missed in {count(weakest.margin, 'slot')}{where}{which}."
+def _is_shaken(told: Told, reading: str) -> bool:
+    """Whether an answer that leaves nothing to ask may be another one by this reading; without a
+    list, whether others may be there."""
+    if told.answer.status > 1 or told.said["open"]["count"]:
+        return False
+    of_list = told.session.listed or told.answer.is_complete
+    return not (told.holds(reading) if of_list else told.settles(reading))
+
+
+def _list(told: Told) -> str:
+    """What the list is worth."""
+    found = told.said["found"]
+    if not told.session.listed:
+        return "none given"
+    if told.answer.is_complete:
+        return "matches" if told.holds("captured") else "matches what was heard"
+    if found["absent"] or found["unlisted"]:
+        return "differs"
+    return "incomplete" if told.is_more and not found["doubtful"] else "not known yet"
 
 
 def _contradiction(told: Told) -> str:
@@ -114,20 +173,3 @@ def _contradiction(told: Told) -> str:
     if len(lines) > MOST_NAMED:
         return f"{len(lines):,} lines from {lines[0]} to {lines[-1]} can't all be true"
     return f"lines {listing(list(map(str, lines)))} can't {'all' if lines[2:] else 'both'} be true"
-
-
-def _missing(told: Told) -> Iterator[str]:
-    """Why a list isn't complete."""
-    absent, unlisted, left, doubtful = (len(told.of(kind)) for kind in (
-        FindingKind.ABSENT, FindingKind.UNLISTED, FindingKind.OPEN_MASK, FindingKind.DOUBTFUL))
-    if absent:
-        yield count(absent, "listed tag isn't there", "listed tags aren't there")
-    if unlisted:
-        yield count(unlisted, "tag isn't listed", "tags aren't listed")
-    if left and not told.of(FindingKind.OPEN_MASK)[0].mask.length:
-        yield "all UIDs are still to be asked for"
-    elif left:
-        more = "or more " * bool(told.of(FindingKind.MORE_OPEN_MASKS))
-        yield f"{left} {more}mask{'s are' if left > 1 else ' is'} still to be asked"
-    if doubtful:
-        yield count(doubtful, "listed tag may be missing", "listed tags may be missing")

@@ -1,0 +1,153 @@
+"""Whether an answer also holds if strong replies hid weaker ones, and if the reader went deaf; and
+what is shown of a log in a terminal. The answers are the worked ones of version 3."""
+import json
+
+import vicinity
+from cases import (ALL, ALONE, ANSWERS, CAPTURED_A, CAPTURED_B, HEARD_A, HEARD_B, LIST_A, LIST_B,
+                   SILENCE_A, SILENCE_B, SIXTEEN, Command, log, third, within)
+from helpers.lines import log_of
+from helpers.records import drawn_in
+from test_page import BROKEN, LIGHTS, LOGS
+from vicinity.sessions.findings import Told
+from vicinity.sessions.words import headline, lights
+
+HOLDS = {"holds": True}
+NONE, EVEN = {"mask_len": 0, "mask_value": "-"}, {"mask_len": 1, "mask_value": "00"}
+ANY, OPEN = ({"holds": False, "status": 1, "kind": "unsettled", **mask} for mask in (NONE, EVEN))
+#: By their places in ANSWERS, what also holds if replies were hidden, and if the reader went deaf:
+#: not where only a reply alone, or only silence, rules out all others. Of a text that is refused
+#: nothing is said. Where nothing is left to ask, `settled` says whether that is so then.
+READINGS = [({**HOLDS, "margin": 1, "weakest": NONE}, ANY), (OPEN, OPEN),
+            ({**HOLDS, "settled": True}, {**OPEN, "settled": False}),
+            ({**HOLDS, "settled": False}, {**HOLDS, "settled": False}),
+            (HOLDS, ANY), (HOLDS, OPEN), (HOLDS, HOLDS), (None, None), (None, None)]
+#: Two tags, the first of which was read over the second: with R a contradiction, with H all tags.
+OVER = ALL + HEARD_A + SILENCE_A + ALL + HEARD_B + SILENCE_B + ALL + b"S\n" + LIST_A + LIST_B
+#: After the last silence, a tag that was found answers once more.
+CURED = ALONE + b"F\n" + b"T 260138A1000000000104618F\n" + HEARD_A
+
+
+class Said(Command):
+    def test_as_json(self):
+        for words in (["--json"], ["report", "--json"]):
+            said, _, status = within(*words, *self.names)
+            found = [json.loads(line) for line in said.splitlines()]
+            self.assertEqual([(it.get("captured"), it.get("deaf")) for it in found], READINGS)
+            self.assertEqual(status, 3)
+
+    def said(self, text):
+        told = json.loads(within("--json", self.write("one.log", text))[0])
+        return told["captured"], told["deaf"]
+
+    def test_what_holds(self):
+        least = {"margin": 1, "weakest": EVEN}
+        self.assertEqual(self.said(log(ALONE + LIST_A)), ({**HOLDS, **least}, OPEN))
+        self.assertEqual(self.said(b"vicinity-log 2\n" + CURED + LIST_A),
+                         ({**HOLDS, **least}, {**HOLDS, **least}))
+        self.assertEqual(self.said(log(OVER))[0], {
+            "holds": False, "status": 0, "kind": "complete", "count": 2})
+
+    def test_in_a_page(self):
+        """Where nothing is left to ask, also whether that is so then."""
+        for lines, wanted in ((ALL + HEARD_A, {**HOLDS, "settled": False}),
+                              (ALONE, {**HOLDS, "settled": True}),
+                              (SILENCE_B + ALL + HEARD_A, HOLDS)):
+            self.assertEqual(drawn_in(vicinity.page(log(lines)))[0]["captured"], wanted)
+
+    def test_it_is_no_part_of_the_answer(self):
+        """Neither of its line nor of its status."""
+        for (_, numbers, text, _), name in zip(ANSWERS, self.names):
+            self.assertEqual(within("--json", name)[2], numbers["status"])
+            self.assertEqual(within("show", name)[2], numbers["status"])
+            self.assertEqual(within(name), (f"{name}: {text}\n".encode(), b"", numbers["status"]))
+
+    def test_in_a_terminal(self):
+        """Of a text that is refused nothing is said."""
+        hidden, deaf = "If replies were hidden", "If the reader went deaf"
+        ask = "Silence each tag that was heard, and ask all in one slot, until none answers"
+        other = vicinity.write_line("T", vicinity.write_inventory(0, 1))
+        for text, wanted, not_said in (
+                (log(ALONE + LIST_A),
+                 f"{hidden}: still complete · {deaf}: others may be here", ask),
+                (b"vicinity-log 2\n" + CURED + LIST_A, f"{deaf}: still complete", ask),
+                (log(ALL + b"S\n"), f"{hidden}: still empty · {deaf}: others may be", ask),
+                (log(ALL + HEARD_A), f"{ask}: T 260100F60A", "still"),
+                (log(ALL + HEARD_A), f"{hidden}: others may be here · {deaf}: others", "still"),
+                (log(ALL + HEARD_A + LIST_A), f"{hidden}: others may be here", "still"),
+                (log(ALL + HEARD_A + LIST_A), f"{ask}: T 260100F60A", "and no other"),
+                (log(other + HEARD_A + LIST_A), f"{ask}: {other.decode().strip()}", "still"),
+                (log(ALL + HEARD_A + LIST_B), f"{hidden}: the answer may be wrong", "still"),
+                (log(ALL + b"S\n" + LIST_A), f"{deaf}: the answer may be wrong", hidden),
+                (log(ALL + b"S\nS\n"), "line 4: S", hidden)):
+            said = " ".join(within("show", self.write("one.log", text))[0].decode().split())
+            self.assertIn(wanted, said)
+            self.assertNotIn(not_said, said)
+
+
+class Page(Command):
+    """What the page says of logs, in tests/test_page.py."""
+
+    def test_headlines(self):
+        """Of a contradiction the page says more."""
+        for names, wanted in LOGS:
+            wanted = BROKEN if wanted.startswith(BROKEN) else wanted
+            self.assertEqual(headline(Told(log_of(names)))[:len(wanted)], wanted, names)
+
+    def test_lights(self):
+        for names, *wanted in LIGHTS:
+            said = dict(lights(Told(log_of(names))))
+            self.assertEqual([said["Search finished"], said["List"]], wanted, names)
+
+
+class Sessions(Command):
+    """What is shown of lines that only version 3 has."""
+
+    def shown(self, lines, *words):
+        return within("show", "--ascii", *words, self.write("one.log", third(lines)))[0].decode()
+
+    def test_they_are_drawn(self):
+        """A silenced tag has a q, another that may not have been alone a +,
+        and - is a slot of which nothing is known."""
+        asked = b"T 26010400AB05\n"
+        heard = CAPTURED_A + CAPTURED_B + b"S\n" * 13 + SILENCE_A
+        lines = SIXTEEN + b"N\n" + heard + asked + b"S\n" + LIST_A + LIST_B
+        said = self.shown(lines)
+        self.assertIn("\n\n   lines  asked 0  1  2  3  4  5  6  7  8  9  A  B  C  D  E  F\n"
+                      " 2 to 19  ..    - A1qB2+ .  .  .  .  .  .  .  .  .  .  .  .  .\n", said)
+
+    def test_they_are_quoted(self):
+        said = self.shown(ALL + b"S\n" + ALL + CAPTURED_A)
+        self.assertIn("line 5: E0040100000000A1 answered, perhaps with others; "
+                      "asked: all UIDs\n", said)
+
+    def test_contradictions(self):
+        """The lines that can't be true are named; their causes are said on the page."""
+        short = vicinity.write_line("T", vicinity.write_inventory(2, 1, vicinity.Mask(8, 0xB2)))
+        even, odd = b"T 26010100137B\n", b"T 260101019A6A\n"
+        for lines, sentence in (
+                (ALL + CAPTURED_A + ALL + HEARD_B, "lines 3 and 5 can't both be true."),
+                (ALL + HEARD_B + ALL + CAPTURED_A, "lines 3 and 5 can't both be true."),
+                (ALL + b"S\n" + ALL + CAPTURED_A, "lines 3 and 5 can't both be true."),
+                (ALL + CAPTURED_A + SILENCE_A + ALL + CAPTURED_A,
+                 "lines 4 and 6 can't both be true."),
+                (ALL + b"C\n" + even + b"S\n" + odd + HEARD_A + SILENCE_A,
+                 "lines 3, 5 and 7 can't all be true."),
+                (short + CAPTURED_A, "line 3 can't be true.")):
+            said = self.shown(lines)
+            self.assertIn(f"The log contradicts itself: {sentence}", " ".join(said.split()))
+            self.assertIn("Causes, and what to do: python3 -m vicinity page LOG", said)
+
+    def noted(self, lines):
+        return within("report", self.write("one.log", third(lines)))[0].decode()
+
+    def test_a_silenced_tag_that_was_heard_is_not_noted(self):
+        self.assertNotIn("never heard", self.noted(ALONE.replace(b"R ", b"H ")))
+        self.assertIn("never heard", self.noted(SILENCE_B + ALONE))
+
+    def test_a_last_round_with_a_slot_of_which_nothing_is_known(self):
+        """It asked all tags, though not all were heard."""
+        for last, noted in ((b"N\n", True), (b"S\n", False)):
+            note = "of a slot of the last round, which asked all tags, nothing is known"
+            said = self.noted(SIXTEEN + b"S\n" * 15 + last)
+            self.assertEqual(note in said, noted)
+            self.assertNotIn("didn't ask all", said)
