@@ -17,7 +17,7 @@ from helpers.program import TOP
 from helpers.records import drawn_in
 from helpers.screen import DROP, PHONE, Screen
 
-MOST_BYTES = 1_000_000
+MOST_BYTES = 1_200_000
 UNFINISHED = (TOP / "examples/unfinished-count.log").read_bytes()
 LONG = text_of(["vicinity-log 1", *biglog.search(biglog.new_tags(random.Random(1), 400))])
 BITS = text_of(["vicinity-log 1", *[biglog.ask((5, 2), 16), *["S"] * 16] * 20])

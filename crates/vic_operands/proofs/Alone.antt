@@ -30,8 +30,12 @@ surveys_either : (text : List ℕ) (line : ℕ) → IsTextOfSome text → IsFirs
 surveys_either text line some h = at h.rest h.split h.wrong
   where
     at : (rest : List ℕ) → text ≡ joined h.lines ++ rest → IsWrongAfter (joined h.lines) rest → ⊥
-    at rest split (inl w) = w.4 (some.0, w.1, some.1,
-        some.2 ∙ split ∙ ap (λ r. joined h.lines ++ r) (w.2 ∙ sym (append_assoc w.0 (lf ∷ []) w.1)) ∙ sym (append_assoc (joined h.lines) (w.0 ++ lf ∷ []) w.1))
+    at rest split (inl w) = w.4 (
+      some.0,
+      w.1,
+      some.1,
+      some.2 ∙ split ∙ ap (λ r. joined h.lines ++ r) (w.2 ∙ sym (append_assoc w.0 (lf ∷ []) w.1)) ∙ sym (append_assoc (joined h.lines) (w.0 ++ lf ∷ []) w.1),
+    )
     at rest split (inr w) = w.1 (some.0, some.1, some.2 ∙ split)
 
 either_by : (k : Kind) (text : List ℕ) (line : ℕ) (f : OperandFault) → IsRightBy k text → IsFaultBy k text line f → ⊥
