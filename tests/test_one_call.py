@@ -34,7 +34,7 @@ FAR = (1 << 64) - 1
 
 
 @pytest.mark.parametrize(("number", "names", "lengths"), [
-    *((number, b"a\nb\n", [len(LISTS), len(LOG)]) for number in (0, 9, 1 << 31, (1 << 32) - 1)),
+    *((number, b"a\nb\n", [len(LISTS), len(LOG)]) for number in (0, 13, 1 << 31, (1 << 32) - 1)),
     *((6, names, [len(LISTS), len(LOG)]) for names in (
         b"", b"\n", b"a\n", b"a\nb", b"a\nb\nc\n", b"a\nb\n\n", b"a\n\xff\n", b"\xc3\n\xa9\n")),
     *((6, b"a\nb\n", lengths) for lengths in (

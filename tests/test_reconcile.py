@@ -93,7 +93,7 @@ def test_a_catalogue_without_names_of_columns(program, tmp_path, catalogue, said
     (tmp_path / "a").write_bytes(log_of("I1 S"))
     if catalogue:
         (tmp_path / "catalogue.csv").write_text(catalogue)
-    assert program.run("reconcile", "catalogue.csv", "a", cwd=tmp_path) == said
+    assert program.run("collection", "catalogue.csv", "a", cwd=tmp_path) == said
 
 
 def frame_line(letter, *body):

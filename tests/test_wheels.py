@@ -164,7 +164,7 @@ def test_it_works(wheel, python, tmp_path):
     told(there / "pip", "install", "--no-index", wheel, **alone)
     logs = Program(there / "vicinity-logs", LIBVICINITY="", PYTHONPATH="")
     is_answered(logs)
-    for command in ("check", "report", "reconcile", "survey", "compare", "show", "page", "frame"):
+    for command in ("check", "report", "reconcile", "survey", "compare", "show", "page", "misread"):
         assert logs.told(command, "--help").startswith(f"usage: vicinity-logs {command}")
     assert logs.told("page", "examples/whole-shelf.log")
     said = told(there / "python", "-c", "import vicinity as it; print(it.__file__, it.check(b''))",
