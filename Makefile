@@ -59,7 +59,7 @@ $(programs): command = $(rattle) --backend llvm $(native) -o out/$1.o && \
         $(kit)/c/liblibc_c.a && mv out/$1.new out/$1
 vicinity_c: command = $(static) --toolchain $(kit)/toolchain -o ../../$(archive)
 
-.PHONY: program release help $(crates)
+.PHONY: program release definitions help $(crates)
 program: vicinity ## crates/vicinity/out/vicinity (a crate's name is a target too)
 
 # A crate that is made as it stands asks for none of those below it.
@@ -85,6 +85,9 @@ $(built)/vicinity: $(built)/libvicinity.a $(wildcard commands/*)
 	aarch64-linux-gnu-gcc -std=c99 -O2 -Wall -Wextra -Wpedantic -Werror -D_FORTIFY_SOURCE=2 \
 	    -fstack-protector-strong -fPIE -pie -Wl,-z,relro,-z,now -I$(@D) commands/*.c $< -o $@
 endif
+
+definitions: ## out/DEFINITIONS.md, what the contracts behind docs/HEADLINE.md rest on
+	PYTHONPATH=tests python3 -m helpers.headline
 
 help: ## these lines
 	@sed -nE 's/^([a-z]+):.*## (.*)/\1\t\2/p' $(MAKEFILE_LIST)

@@ -155,26 +155,17 @@ static void forget(struct given *given)
     given->texts.len = given->names.len = given->lengths.len = given->count = 0;
 }
 
-/* Why words are no names of files of a command; NULL if they are. Only `survey` is asked, of empty files: it takes the names
- * that the others take, but for a list and its logs, which may have any. */
-static const char *misnamed(int command, char **words, int count, struct given *given, struct array *written)
+/* Why words are no names of files; NULL if they are. `survey` is asked, of empty files: it takes the names that all commands
+ * over files take. */
+static const char *misnamed(char **words, int count, struct given *given, struct array *written)
 {
     const char *why = NULL;
     int status;
-    for (int i = 0; command != VICINITY_COMMAND_RECONCILE && i < count && !why; i++)
+    for (int i = 0; i < count && !why; i++)
         why = strchr(words[i], '\n') ? USAGE : add(given, words[i], NULL, 0);
     why = why || !given->count ? why : run(VICINITY_COMMAND_SURVEY, given, written, &status);
     forget(given);
     return why;
-}
-
-/* Whether the first text is a list of what is expected: then the first log that is refused or impossible ends the run, and
- * those behind it need not be there. */
-static bool begins_with_list(const struct given *given)
-{
-    static const char header[] = "vicinity-";
-    return given->count && *(const size_t *)given->lengths.bytes >= sizeof header - 1 &&
-           memcmp(given->texts.bytes, header, sizeof header - 1) == 0;
 }
 
 /* Ends with the answer to a command, or says why there is none. */
@@ -184,18 +175,17 @@ static int answer(int command, char **words, int count, struct given *given, str
     int status = VICINITY_STATUS_NO_ANSWER, i = 0;
     if (count == AN_OPTION || (are_files && count < 1) || (!are_files && !are_words && count > 1))
         return no_answer(USAGE, "");
-    const char *why = are_files   ? misnamed(command, words, count, given, written)
+    const char *why = are_files   ? misnamed(words, count, given, written)
                       : are_words ? add_words(given, words, count)
                       : count     ? NULL
                                   : add_file(given, NULL, "");
     for (; !are_words && i < count && !why; i++)
         why = add_file(given, words[i], are_files ? words[i] : "");
-    bool may_end_before = command == VICINITY_COMMAND_RECONCILE && begins_with_list(given);
-    const char *failed = !why || may_end_before ? run(command, given, written, &status) : why;
-    if (why && status != VICINITY_STATUS_IMPOSSIBLE && status != VICINITY_STATUS_REFUSED)
+    why = why ? why : run(command, given, written, &status);
+    if (why)
         return no_answer(why, why == CANNOT_OPEN && i ? words[i - 1] : "");
-    failed = failed ? failed : write_out(written);
-    return failed ? no_answer(failed, "") : status;
+    why = write_out(written);
+    return why ? no_answer(why, "") : status;
 }
 
 int main(int argc, char **argv)

@@ -7,8 +7,7 @@
  * What the caller has to ensure, since nothing checks it:
  * - `text` points to `text_len` readable bytes, `bytes` to `len`, at most PTRDIFF_MAX, and so for
  *   `names` and `texts`. No NUL is needed at the end, and one inside is an ordinary byte.
- * - `uids`, `expected` and `lengths` point to `count` readable numbers. Where vicinity_reconcile
- *   reads `certain` and `masks`, they point to `certain_count` numbers and `mask_count` structs.
+ * - `uids` and `lengths` point to `count` readable numbers.
  * - A buffer is passed before its `room`, the number of its writable elements: numbers, structs or
  *   bytes. `needed` points to one number, and any other pointer to a struct to one struct.
  * - All pointers are aligned, and none is NULL. Only one that is passed before a length, count or
@@ -20,9 +19,9 @@
  * - An x86-64 processor has x86-64-v2 (SSE4.2, POPCNT).
  * - The stack has 64 KiB left.
  * Calls share nothing: any number of threads may call at the same time. Only the calls that judge a
- * text, reconcile, fill in slots or run a command take memory. They can't be stopped. They take
- * about a quarter of a second and 40 MB for a session of 1,000,000 lines, and up to 2.5 seconds and
- * 165 MB for the worst logs that are known: bound the length of untrusted input.
+ * text, fill in slots or run a command take memory. They can't be stopped. They take about a quarter
+ * of a second and 40 MB for a session of 1,000,000 lines, and up to 2.5 seconds and 165 MB for the
+ * worst logs that are known: bound the length of untrusted input.
  */
 #ifndef VICINITY_H
 #define VICINITY_H
@@ -39,21 +38,21 @@ extern "C" {
 #define VICINITY_INTERFACE 2u
 
 /* The version of this header, as text and as a number like that of vicinity_version(). */
-#define VICINITY_VERSION "1.4.0"
-#define VICINITY_VERSION_NUMBER 10400u
+#define VICINITY_VERSION "2.0.0"
+#define VICINITY_VERSION_NUMBER 20000u
 
 /*
  * What a call that judges returns: the exit status of `vicinity check`. It is neither true nor
  * false, nor a kind of answer: gcc -Wall warns if the two are compared, and so do compilers of C++.
- * vicinity_listed and vicinity_simulate judge no list: of them 0 is VICINITY_STATUS_DONE, and so it
- * is of vicinity_run for a command that judges none.
+ * vicinity_simulate judges no list: of it 0 is VICINITY_STATUS_DONE, and so it is of vicinity_run
+ * for a command that judges none.
  */
 enum vicinity_status {
     VICINITY_STATUS_COMPLETE = 0, /* the list is complete */
     VICINITY_STATUS_DONE = 0, /* the result is written */
     VICINITY_STATUS_NOT_COMPLETE = 1, /* the log is possible, and its list isn't complete */
     VICINITY_STATUS_IMPOSSIBLE = 2, /* no tags could have produced the log */
-    VICINITY_STATUS_REFUSED = 3, /* the text is not a log, or not a list */
+    VICINITY_STATUS_REFUSED = 3, /* the text is not a log; of vicinity_run also another refusal */
     VICINITY_STATUS_NO_ANSWER = 4 /* memory was refused; of vicinity_run also a wrong use */
 };
 
@@ -66,8 +65,7 @@ enum vicinity_kind {
     VICINITY_UNSETTLED = 4, /* all UIDs of the mask may be there, none is listed; status 1 */
     VICINITY_DOUBTFUL = 5, /* the listed `uid` may be missing; status 1 */
     VICINITY_IMPOSSIBLE = 6, /* the lines up to `line` contradict each other; status 2 */
-    VICINITY_REFUSED = 7, /* the text is not a log: `line` has `fault`; status 3 */
-    VICINITY_LISTED = 12 /* of vicinity_listed alone: the text lists `count` UIDs; status 0 */
+    VICINITY_REFUSED = 7 /* the text is not a log: `line` has `fault`; status 3 */
 };
 
 /* The first fault of a text that is not a log, in the order in which a line's faults are tested. */
@@ -83,7 +81,6 @@ enum vicinity_fault {
     VICINITY_FAULT_SLOT_OUTSIDE_ROUND = 8,
     VICINITY_FAULT_ENTRY_AFTER_LIST = 9,
     VICINITY_FAULT_DUPLICATE_LISTED = 10,
-    VICINITY_FAULT_NOT_LISTED = 11, /* of vicinity_listed alone: the line has no `U` */
     /* of the frame on a T, R or H line */
     VICINITY_FAULT_FRAME_SHORT = 101,
     VICINITY_FAULT_FRAME_CRC = 102,
@@ -138,11 +135,11 @@ struct vicinity_answer {
     uint32_t status;     /* enum vicinity_status: what the call returns */
     uint32_t count;      /* how many UIDs are listed */
     uint32_t line;       /* from 1 */
-    uint32_t fault;      /* enum vicinity_fault, or VICINITY_WRONG_MASK of vicinity_reconcile */
+    uint32_t fault;      /* enum vicinity_fault */
     uint32_t mask_len;   /* in bits, 0 to 56 */
     uint64_t mask_value; /* below two to the power of mask_len */
     uint64_t uid;        /* its top byte is E0 */
-    char text[64]; /* the line that `vicinity check` prints, or "listed N"; LF, then zeros */
+    char text[64]; /* the line that `vicinity check` prints, LF included, then zeros */
 };
 
 /* Whether the list is complete: 1 if so, else 0. */
@@ -311,92 +308,6 @@ enum vicinity_status vicinity_check_listed(const uint8_t *text, size_t text_len,
                                            const uint64_t *uids, size_t count,
                                            struct vicinity_answer *answer);
 
-/* As vicinity_explain, for a text and a list of UIDs as vicinity_check_listed takes them. */
-enum vicinity_status vicinity_explain_listed(const uint8_t *text, size_t text_len,
-                                             const uint64_t *uids, size_t count,
-                                             struct vicinity_answer *answer, uint64_t *population,
-                                             size_t room, size_t *needed);
-
-/* As vicinity_report, for a text and a list of UIDs as vicinity_check_listed takes them. */
-enum vicinity_status vicinity_report_listed(const uint8_t *text, size_t text_len,
-                                            const uint64_t *uids, size_t count,
-                                            struct vicinity_answer *answer,
-                                            struct vicinity_finding *findings, size_t room,
-                                            size_t *needed);
-
-/*
- * Judges a log and lists its certain UIDs, those of tags that must be there, in rising order. Its
- * `U` lines change the answer, but not these UIDs. `*needed` is how many there are. If `room` is at
- * least that, they are at the start of `certain`; otherwise nothing is written there: call again
- * with a larger buffer. There is none, and `*needed` is 0, for VICINITY_IMPOSSIBLE, _REFUSED and
- * _NO_ANSWER.
- */
-enum vicinity_status vicinity_certain(const uint8_t *text, size_t text_len,
-                                      struct vicinity_answer *answer, uint64_t *certain,
-                                      size_t room, size_t *needed);
-
-/*
- * Judges a log and lists all its open masks, by length and then by value, each with `fault` 0. All
- * UIDs of an open mask, of at most 56 bits, may be there or not, and no wider mask around it is
- * like that. `U` lines, `*needed` and the buffer are as with vicinity_certain. A possible log
- * without open masks was read completely: only one population could have produced it.
- */
-enum vicinity_status vicinity_open_masks(const uint8_t *text, size_t text_len,
-                                         struct vicinity_answer *answer,
-                                         struct vicinity_mask *masks, size_t room, size_t *needed);
-
-/*
- * Judges a log once, and writes what vicinity_certain and vicinity_open_masks write, each into a
- * buffer of its own with its own number of elements.
- */
-enum vicinity_status vicinity_survey(const uint8_t *text, size_t text_len,
-                                     struct vicinity_answer *answer, uint64_t *certain,
-                                     size_t certain_room, size_t *certain_needed,
-                                     struct vicinity_mask *masks, size_t mask_room,
-                                     size_t *masks_needed);
-
-/*
- * Lists the UIDs of a text that has the header and `U` lines alone, comments aside, in rising
- * order: a list of what is expected, as vicinity_reconcile takes it. The kind is VICINITY_LISTED,
- * and `count` and `*needed` are how many there are. If `room` is at least that, they are at the
- * start of `uids`; otherwise nothing is written there: call again with a larger buffer.
- *
- * Any other text is VICINITY_REFUSED, and `*needed` is 0: at its first fault if it is not a log,
- * otherwise with VICINITY_FAULT_NOT_LISTED at the first of its lines that lists no UID.
- */
-enum vicinity_status vicinity_listed(const uint8_t *text, size_t text_len,
-                                     struct vicinity_answer *answer, uint64_t *uids, size_t room,
-                                     size_t *needed);
-
-/*
- * Reconciles the logs of many fields with the UIDs that are expected, in any order. `certain` and
- * `masks` are what vicinity_survey wrote for each log, in any order, also repeatedly. A UID is
- * possible if it is among `certain` or in one of the masks.
- *
- * Every log has to be possible: its status is 0 or 1. Of any other, nothing was written, and
- * without it the answer would be about the other logs alone: stop, or add the mask of length 0 and
- * value 0 to `masks` for it. Then any UID may be in its field, and the answer is never
- * VICINITY_COMPLETE.
- *
- * The answer and the findings are those of `vicinity reconcile`, without logs, lines and open
- * masks, which the caller has: first the absent UIDs, then the unlisted ones, the unsettled mask
- * and the doubtful UIDs. UIDs are in rising order. Where a kind says listed, read expected; `count`
- * is how many are expected. The buffer and `*needed` are as with vicinity_report.
- *
- * VICINITY_REFUSED means that an element of the arrays is wrong. `line` is the place of the first
- * one, counted from 1 through `expected`, then `certain`, then `masks`. Its fault is
- * VICINITY_FAULT_NOT_VICINITY for a UID that doesn't begin E0, _DUPLICATE_LISTED for a UID that is
- * expected a second time, VICINITY_WRONG_MASK for a mask that has a fault, more than 56 bits or a
- * value with more bits, and VICINITY_FAULT_TOO_MANY_LINES for a UID that is expected after
- * 4,294,967,295 others. A place beyond that is written as that number.
- */
-enum vicinity_status vicinity_reconcile(const uint64_t *expected, size_t count,
-                                        const uint64_t *certain, size_t certain_count,
-                                        const struct vicinity_mask *masks, size_t mask_count,
-                                        struct vicinity_answer *answer,
-                                        struct vicinity_finding *findings, size_t room,
-                                        size_t *needed);
-
 /*
  * Judges a log and writes its margin. A UID was overlooked in a slot in which, by the log, its tag
  * should have answered, and that is logged as silent, or as the reply `R` of another UID. The
@@ -414,21 +325,6 @@ enum vicinity_status vicinity_margin_listed(const uint8_t *text, size_t text_len
                                             const uint64_t *uids, size_t count,
                                             struct vicinity_answer *answer,
                                             struct vicinity_weakest *weakest);
-
-/*
- * Judges a log and writes in how many of its slots each UID was overlooked. vicinity_margin says
- * what that means. The UIDs may be any, listed or not, in any order, also repeatedly; they don't
- * change the answer. The numbers are at the start of `places`, in the order of `uids`, if `room` is
- * at least `count`; otherwise nothing is written there. They are counted in an impossible log too.
- * All `count` are 0 for VICINITY_REFUSED, and nothing is written for VICINITY_NO_ANSWER.
- *
- * If the text has no fault, a UID that doesn't begin E0 is VICINITY_REFUSED, with
- * VICINITY_FAULT_NOT_VICINITY: the first one, at the line that it would have if the text were
- * followed by a line for each UID. A line beyond 4,294,967,295 is written as that number.
- */
-enum vicinity_status vicinity_overlooked(const uint8_t *text, size_t text_len, const uint64_t *uids,
-                                         size_t count, struct vicinity_answer *answer,
-                                         uint32_t *places, size_t room);
 
 /*
  * Fills in the slots of a log, as the tags that it lists would answer. What `vicinity simulate`

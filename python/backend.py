@@ -19,7 +19,7 @@ PAGE, BUILD = "vicinity/pages/page.html", os.path.join(HERE, "../web/build")
 #: What the page and the package both say: a module of the page.
 SENTENCES, SOURCE = "vicinity/sentences.mjs", os.path.join(HERE, "../web/sentences.mjs")
 #: The library in a wheel of its own for a kind of machine; on Windows it has another name.
-LIBRARY, DLL = "vicinity/libvicinity.so.1", "vicinity/vicinity.dll"
+LIBRARY, DLL = "vicinity/libvicinity.so.2", "vicinity/vicinity.dll"
 EXECUTABLE, PLAIN = 0o755, 0o644
 
 

@@ -31,7 +31,7 @@ from helpers.wine import wine_in  # noqa: E402
 
 OUT = TOP / "out"
 # For each text there are so many lines of answers at least.
-ANSWERS = 7
+ANSWERS = 19
 ARM = ("qemu-aarch64-static", "-L", "/usr/aarch64-linux-gnu")
 # How many tests a process has before it at most.
 MOST_BEFORE = 4
@@ -287,10 +287,15 @@ def texts():
 
 
 @pytest.fixture(scope="session")
-def answered(release, texts, tmp_path_factory):
+def answers(release, tmp_path_factory):
+    """tests/c/answers.c over the library for C."""
+    return linked(release, tmp_path_factory.mktemp("answers") / "answers", "-O2",
+                  "tests/c/answers.c")
+
+
+@pytest.fixture(scope="session")
+def answered(answers, texts):
     """What the library for C answers to these texts, with every number."""
-    answers = linked(release, tmp_path_factory.mktemp("answers") / "answers", "-O2",
-                     "tests/c/answers.c")
     out, _, status = answers.run(given=texts)
     assert status == 0 and out.count(b"\n") >= ANSWERS * len(all_texts())
     return out

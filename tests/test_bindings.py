@@ -1,6 +1,5 @@
-"""Programs over the library in C, C++, Go, Rust and Python: they answer as the program does, what
-is expected is read by the library alone, and no text that isn't a list of UIDs, and no log that
-says nothing, gives a wrong `complete`."""
+"""Programs over the library in C, C++, Go, Rust and Python: they answer as the program does, and no
+text that isn't a list of UIDs, and no log that says nothing, gives a wrong `complete`."""
 import hashlib
 import os
 import platform
@@ -68,8 +67,6 @@ def example(request, once):
             shutil.copy(f"{environment['CARGO_TARGET_DIR']}/debug/vicinity-check", program)
 
     def of(language, library, name="check"):
-        if language == "commands":
-            return Program(*request.getfixturevalue("commands").words, "reconcile")
         path = request.getfixturevalue(library).path
         if language == "python":
             return Program(sys.executable, TOP / f"examples/python/{name}.py",
@@ -82,7 +79,7 @@ def example(request, once):
 @pytest.fixture(scope="session")
 def in_python(release):
     """Debian's Python, which has Dask, with the package over the library."""
-    return Program("/usr/bin/python3", LIBVICINITY=str(release / "libvicinity.so.1"), **PYTHON,
+    return Program("/usr/bin/python3", LIBVICINITY=str(release / "libvicinity.so.2"), **PYTHON,
                    **PATIENT)
 
 
@@ -276,57 +273,28 @@ def test_a_reader_loop_in_a_field_that_misbehaves(example, seed):
     assert (said.out[:12], said.status) == (b"complete 30 ", 0)
 
 
-# ---- lists of what is expected; logs in which all tags were asked
+# ---- logs in which all tags were asked
 
 A, B = "E0040100000000A1", "E0040100000000B2"
 # none answered; A alone did; first none, then A
 SILENT = "vicinity-log 1\nT 260100F60A\nS\n"
 HEARD = "vicinity-log 1\nT 260100F60A\nR 0000A1000000000104E06745\n"
 IMPOSSIBLE = SILENT + HEARD.partition("\n")[2]
-ABSENT = (f"absent {A}", 1)
 LISTS = {
-    "plain": (f"vicinity-log 1\nU {A}\n", ABSENT),
-    "without_its_last_lf": (f"vicinity-log 1\nU {A}", ABSENT),
-    "cr_lf": (f"vicinity-log 1\r\nU {A}\r\n", ABSENT),
-    "comments": (f"vicinity-log 1\n# shelf 3\n\nU {A}\n# end\n", ABSENT),
-    "comment_among_uids": (f"vicinity-log 1\nU {B}\n# shelf 3\nU {A}\n", ABSENT),
-    "cr_lf_and_comments": (f"vicinity-log 1\r\n\r\n# shelf\r\nU {A}\r\n", ABSENT),
-    "lower_case": (f"vicinity-log 1\nU {A.lower()}\n", ABSENT),
-    "version_2": (f"vicinity-log 2\nU {A}\n", ABSENT),
-    "nothing_expected": ("vicinity-log 1\n", ("complete 0", 0)),
-    "empty": ("", ("refused at line 1: Header", 3)),
+    "plain": (f"vicinity-log 1\nU {A}\n", (f"absent {A}", 1)),
+    "cr_lf": (f"vicinity-log 1\r\nU {A}\r\n", (f"absent {A}", 1)),
+    "comment_among_uids": (f"vicinity-log 1\nU {B}\n# shelf 3\nU {A}\n", (f"absent {A}", 1)),
     "csv": (f"uid,title\n{A},Of a winter\n", ("refused at line 1: Header", 3)),
-    "csv_of_digits": (f"{A}\n{B}\n", ("refused at line 1: Header", 3)),
-    "header_and_digits": (f"vicinity-log 1\n{A}\n", ("refused at line 2: UnknownEntry", 3)),
-    "byte_order_mark": (f"\ufeffvicinity-log 1\nU {A}\n", ("refused at line 1: Header", 3)),
-    "log": (HEARD + f"U {A}\n", ("refused at line 2: NotListed", 3)),
-    "log_without_list": (SILENT, ("refused at line 2: NotListed", 3)),
-    "log_behind_a_comment": ("vicinity-log 2\n# a log\nF\n", ("refused at line 3: NotListed", 3)),
-    "lower_case_letter": (f"vicinity-log 1\nu {A}\n", ("refused at line 2: UnknownEntry", 3)),
-    "no_space": (f"vicinity-log 1\nU{A}\n", ("refused at line 2: UnknownEntry", 3)),
-    "space_at_the_end": (f"vicinity-log 1\nU {A} \n", ("refused at line 2: Hex", 3)),
-    "short_uid": (f"vicinity-log 1\nU {A[:14]}\n", ("refused at line 2: ListedLength", 3)),
-    "not_e0": ("vicinity-log 1\nU 0123456789ABCDEF\n", ("refused at line 2: NotVicinity", 3)),
-    "twice": (f"vicinity-log 1\nU {A}\nU {A}\n", ("refused at line 3: DuplicateListed", 3)),
-    "fault_behind_a_request": ("vicinity-log 1\nT 260100F60A\nX\n",
-                               ("refused at line 3: UnknownEntry", 3)),
-}
-LOGS = {
-    "heard": (HEARD, (f"unlisted {A}", 1)),
-    "heard_with_cr_lf": (HEARD.replace("\n", "\r\n"), (f"unlisted {A}", 1)),
-    "nobody_asked": ("vicinity-log 1\n", ("unsettled 0 -", 1)),
-    "impossible": (IMPOSSIBLE, ("impossible at line 5", 2)),
-    "refused": ("uid\n", ("refused at line 1: Header", 3)),
     "empty": ("", ("refused at line 1: Header", 3)),
+    "log": (HEARD + f"U {A}\n", ("refused at line 2: NotListed", 3)),
 }
-PROGRAMS = [*((language, library) for language in ("cpp", "go", "rust") for library in LIBRARIES),
-            ("commands", None)]
-
-
-@pytest.fixture(scope="session", params=PROGRAMS, ids=lambda it: "-".join(filter(None, it)))
-def program_over_many(request, example):
-    """A program that takes a list and logs."""
-    return example(*request.param)
+# A list and logs, and what an example writes of them.
+MANY = {
+    "all": (f"vicinity-log 1\r\nU {A}\r\nU {B}\r\n", [HEARD, HEARD, "B"], b"complete 2\n", 0),
+    "absent": (f"vicinity-log 1\nU {B}\nU {A}\n", ["B"], f"absent {A}\n".encode(), 1),
+    "impossible": ("vicinity-log 1\n", [SILENT, IMPOSSIBLE], b"impossible at line 5 of b\n", 2),
+    "refused": ("vicinity-log 1\n", [SILENT, ""], b"refused at line 1 of b: Header\n", 3),
+}
 
 
 @pytest.fixture
@@ -340,28 +308,8 @@ def texts(tmp_path):
 
 
 def answered(said):
-    """The answer's line, in which the commands also name a file, and the status."""
+    """The answer's line, in which a file may be named, and the status."""
     return re.sub(r" (?:of|in) [^:]*", "", said.out.decode().split("\n")[0]), said.status
-
-
-@pytest.mark.parametrize("name", LISTS)
-def test_list(program_over_many, name, texts):
-    text, wanted = LISTS[name]
-    assert answered(program_over_many.run(*texts(list=text, log=SILENT))) == wanted
-
-
-@pytest.mark.parametrize("name", LOGS)
-def test_log(program_over_many, name, texts):
-    text, wanted = LOGS[name]
-    files = texts(list="vicinity-log 1\n", good=SILENT, log=text)
-    assert answered(program_over_many.run(*files)) == wanted
-
-
-def test_both_are_there(program_over_many, texts):
-    """Two logs, in each of which one was heard, and a third that repeats the first."""
-    expected = f"vicinity-log 1\r\nU {A}\r\nU {B}\r\n"
-    files = texts(list=expected, one=HEARD, again=HEARD, other=heard(B))
-    assert answered(program_over_many.run(*files)) == ("complete 2", 0)
 
 
 def heard(uid):
@@ -369,9 +317,22 @@ def heard(uid):
     return f"vicinity-log 1\nT 260100F60A\nR {hex_of(bytes(2) + bytes.fromhex(uid)[::-1])}\n"
 
 
-def test_file_that_is_not_there(program_over_many, texts):
+@pytest.mark.parametrize("name", MANY)
+@pytest.mark.parametrize("by", LIBRARIES)
+@pytest.mark.parametrize("language", ["cpp", "go", "rust"])
+def test_an_example_over_many_logs(example, language, by, name, texts, tmp_path):
+    """It writes what the program does: the list and the logs go through `run`."""
+    expected, logs, wanted, status = MANY[name]
+    logs = [heard(B) if log == "B" else log for log in logs]
+    texts(list=expected, **dict(zip("abc", logs)))
+    told = example(language, by).run("list", *"abc"[:len(logs)], cwd=tmp_path)
+    assert told == (wanted, b"", status)
+
+
+@pytest.mark.parametrize("language", ["cpp", "go", "rust"])
+def test_an_example_of_a_log_that_is_not_there(example, language, texts):
     files = texts(list="vicinity-log 1\n")
-    assert program_over_many.run(*files, files[0].parent / "nowhere")[::2] == (b"", 4)
+    assert example(language, LIBRARIES[0]).run(*files, files[0].parent / "nowhere")[::2] == (b"", 4)
 
 
 # ---- the libraries' own tests
@@ -428,7 +389,7 @@ def test_readme_of_go(release, tmp_path):
     module = fence("text", page).replace("/usr/share/doc/libvicinity-dev", str(TOP))
     (tmp_path / "go.mod").write_text(f"module first\n\ngo 1.19\n\n{module}")
     (tmp_path / "main.go").write_text(
-        'package main\n\nimport (\n"fmt"\n\n"vicinity"\n)\n\nfunc main() {\n'
+        'package main\n\nimport (\n"fmt"\n\n"vicinity/v2"\n)\n\nfunc main() {\n'
         + fence("go", page) + "}\n")
     said = made("go", "run", ".", cwd=tmp_path, **go_environment(release))
     assert said == "complete 0 <nil>\n1\n"
@@ -447,25 +408,6 @@ def test_readme_of_rust(rust_target, tmp_path):
 
 # ---- Python
 
-LISTED = """
-import sys, vicinity
-try:
-    print(vicinity.listed(sys.stdin.buffer.read()))
-except vicinity.ListFault as fault:
-    print(fault)
-    sys.exit(fault.answer.status)
-"""
-
-
-@pytest.mark.parametrize("name", LISTS)
-def test_listed_in_python(name, in_python):
-    text, (line, status) = LISTS[name]
-    said = in_python.run("-c", LISTED, given=text.encode())
-    uids = sorted(int(uid, 16) for uid in set(re.findall("[eE]0[0-9A-Fa-f]{14}", text)))
-    wanted = (line, 3) if status == 3 else (str(uids), 0)
-    assert (said.out.decode().rstrip("\n"), said.status) == wanted
-
-
 @pytest.fixture(scope="session")
 def fleet(in_python):
     def run(*words):
@@ -473,49 +415,52 @@ def fleet(in_python):
     return run
 
 
-@pytest.mark.parametrize("name", ("plain", "cr_lf", "comment_among_uids", "csv", "empty", "log"))
-def test_list_of_a_fleet(name, fleet, texts):
-    text, wanted = LISTS[name]
-    assert answered(fleet(*texts(list=text, log=SILENT))) == wanted
+TABLE = f"uid,title\n{A},Emma\n{B},Kim\n"
+HEAD = b"uid,title,vicinity state,vicinity certain in,vicinity may be in\n"
 
 
-BOTH = f"vicinity-log 1\nU {A}\nU {B}\n"
+def table_of(*cells):
+    """What is written of the two items, by the last three cells of each."""
+    return HEAD + b"".join(f"{uid},{title},{these}\n".encode()
+                           for (uid, title), these in zip(((A, "Emma"), (B, "Kim")), cells))
 
 
-def test_logs_of_a_fleet(fleet, texts):
-    files = texts(list=BOTH, one=HEARD, again=HEARD, other=heard(B), silent=SILENT)
-    assert answered(fleet(*files)) == ("complete 2", 0)
+def test_logs_of_a_fleet(fleet, texts, vicinity):
+    """A survey of a log, too, stands for it."""
+    table, one, again, other, silent = files = texts(
+        table=TABLE, one=HEARD, again=HEARD, other=heard(B), silent=SILENT)
+    assert fleet(*files) == (table_of(f"there,{one}; {again},", f"there,{other},"), b"", 0)
+    again.write_bytes(vicinity.survey(again.read_bytes(), str(again)).text)
+    assert fleet(*files)[::2] == (table_of(f"there,{one}; {again},", f"there,{other},"), 0)
 
 
 def test_logs_of_a_fleet_that_say_nothing(fleet, texts):
-    """They are named with the reason. All that is expected is there, but other tags may be in
-    their fields: the first mask without an expected UID has two bits, both 0."""
-    files = texts(list=BOTH, one=HEARD, other=heard(B), bad=IMPOSSIBLE, csv="uid\n")
-    said = fleet(*files, files[0].parent / "nowhere")
-    line, *named = said.out.decode().splitlines()
-    assert (line, said.status) == ("unsettled 2 00", 1)
-    assert [it.rpartition("/")[2] for it in named] == [
-        "bad: impossible at line 5", "csv: refused at line 1: Header",
-        "nowhere: No such file or directory"]
+    table, bad = texts(table=TABLE, bad=IMPOSSIBLE)
+    assert fleet(table, bad) == (
+        table_of(f"not provable,,{bad}", f"not provable,,{bad}"), b"", 2)
 
 
-def test_fleet_without_logs(fleet, texts):
-    assert fleet(*texts(list="vicinity-log 1\n"))[::2] == (b"", 4)
+def test_files_of_a_fleet_that_are_refused(fleet, texts):
+    table, log = texts(table="uid\nx\n", log=SILENT)
+    assert fleet(table, log) == (f"refused at line 2 of {table}: Uid\n".encode(), b"", 3)
+    assert fleet(log)[::2] == (b"", 4)
+    out, err, status = fleet(*texts(table=TABLE), log, log.parent / "nowhere")
+    assert (out, b"nowhere" in err, status) == (b"", True, 4)
 
 
 @pytest.mark.parametrize("scheduler", ["0", "", "shelf", "-1"])
 def test_fleet_without_workers(in_python, texts, scheduler):
     """There is no answer; a status of 1 would be one."""
-    words = texts(list="vicinity-log 1\n", silent=SILENT)
+    words = texts(table=TABLE, silent=SILENT)
     said = in_python.run(TOP / "examples/python/fleet.py", scheduler, *words)
     assert said[::2] == (b"", 4)
 
 
 @pytest.mark.parametrize("redirected", [">/dev/full", ">&-"])
-@pytest.mark.parametrize("expected", ["vicinity-log 1\n", "uid\n"])
-def test_answer_of_a_fleet_that_cannot_be_written(in_python, texts, expected, redirected):
+@pytest.mark.parametrize("table", [TABLE, "uid\nx\n"])
+def test_answer_of_a_fleet_that_cannot_be_written(in_python, texts, table, redirected):
     words = [*in_python.words, TOP / "examples/python/fleet.py", "1",
-             *texts(list=expected, silent=SILENT)]
+             *texts(table=table, silent=SILENT)]
     said = subprocess.run(["sh", "-c", f'"$@" {redirected}', "sh", *words],
                           env={**os.environ, **in_python.environment})
     assert said.returncode == 4
@@ -533,19 +478,20 @@ KILLING = """
 import os, signal, sys
 with open({fleet!r}) as file:
     exec(file.read().partition("if __name__")[0])
-told_before = told_by
+surveyed_before = surveyed
 
 
-def told_by(name):
-    if name.endswith("always") or name.endswith("once") and not os.path.exists(name + ".ended"):
-        open(name + ".ended", "w").close()
-        os.kill(os.getpid(), signal.SIGKILL)
-    return told_before(name)
+def surveyed(names):
+    for name in names:
+        if name.endswith("always") or name.endswith("once") and not os.path.exists(name + ".ended"):
+            open(name + ".ended", "w").close()
+            os.kill(os.getpid(), signal.SIGKILL)
+    return surveyed_before(names)
 
 
 if __name__ == "__main__":
     BATCH, SHARE = 2, 1
-    sys.exit(main(*sys.argv[1:3], sys.argv[3:]))
+    sys.exit(main(sys.argv[1], sys.argv[2:]))
 """
 
 
@@ -561,30 +507,32 @@ def killing_fleet(in_python, tmp_path):
 
 def test_worker_that_is_killed(killing_fleet, texts):
     """Its batch is read by another."""
-    files = texts(list=BOTH, once=HEARD, other=heard(B), silent=SILENT, more=SILENT, last=SILENT)
-    assert answered(killing_fleet(*files)) == ("complete 2", 0)
+    files = texts(table=TABLE, once=HEARD, other=heard(B), silent=SILENT, more=SILENT, last=SILENT)
+    assert killing_fleet(*files)[::2] == (table_of(f"there,{files[1]},", f"there,{files[2]},"), 0)
     assert (files[1].parent / "once.ended").exists()
 
 
 def test_log_that_kills_its_worker(killing_fleet, texts):
-    """It is named, it alone, and the answer isn't complete."""
-    files = texts(list=BOTH, one=HEARD, always=HEARD, other=heard(B), silent=SILENT, more=SILENT)
-    said = killing_fleet(*files)
-    assert said.out.decode().splitlines() == [
-        "unsettled 2 00", f"{files[2]}: the process that read it was ended"]
-    assert said.status == 1
+    """It is named, it alone, and the answer isn't complete: anything may be in its field."""
+    table, one, always, *others = files = texts(
+        table=TABLE, one=HEARD, always=HEARD, other=SILENT, silent=SILENT, more=SILENT)
+    out, err, status = killing_fleet(*files)
+    assert (out, status) == (table_of(f"there,{one},{always}", f"not provable,,{always}"), 3)
+    assert [line for line in err.decode().splitlines() if "set aside" in line] == [
+        f"{always}: set aside, since it ended the process that read it"]
 
 
 def test_fleet_listens_on_the_loopback_alone(in_python, texts, tmp_path):
     """While it waits for the end of a log, each of its sockets that listens is of 127.0.0.1."""
-    files = texts(list=BOTH)
+    files = texts(table=TABLE, one=HEARD)
     os.mkfifo(tmp_path / "endless")
     words = [*in_python.words, TOP / "examples/python/fleet.py", "2", *files, tmp_path / "endless"]
     with subprocess.Popen(words, env={**os.environ, **in_python.environment},
                           stdout=subprocess.PIPE, start_new_session=True) as going:
-        with open(tmp_path / "endless", "wb"):  # a worker has opened it
+        with open(tmp_path / "endless", "wb") as log:  # a worker has opened it
             found = listening(going.pid)
-        assert (going.communicate()[0].split(b"\n")[0], going.returncode) == (b"unsettled 2 00", 1)
+            log.write(b"vicinity-log 1\n")
+        assert (going.communicate()[0].startswith(HEAD), going.returncode) == (True, 1)
     assert len(found) >= 3 and {place.rpartition(":")[0] for place in found} == {"127.0.0.1"}
 
 
@@ -618,19 +566,17 @@ def test_processor(check, processor, status, said):
 
 def test_library_that_is_too_old(release, tmp_path):
     """What needs a call of a later release is told the version that the library lacks, before it
-    runs. The library without that version stands for the one of before."""
-    symbols = (TOP / "release/exports.map").read_text().partition("\n\n")[0]
-    (tmp_path / "old.map").write_text(symbols)
-    (tmp_path / "listed.c").write_text(
-        '#include "vicinity.h"\n#include <stdio.h>\nint main(void) { struct vicinity_answer told; '
-        'size_t n; vicinity_listed(NULL, 0, &told, NULL, 0, &n); puts(told.text); return 0; }\n')
-    compiled(tmp_path / "listed", f"-I{release}", tmp_path / "listed.c", f"-L{release}",
-             "-lvicinity")
-    made("cc", "-shared", "-o", tmp_path / "libvicinity.so.1", "-Wl,-soname,libvicinity.so.1",
+    runs. A library whose calls have an older version stands for one of before."""
+    exported = (TOP / "release/exports.map").read_text()
+    (tmp_path / "old.map").write_text(exported.replace("VICINITY_2 {", "VICINITY_1 {"))
+    check = compiled(tmp_path / "check", f"-I{release}", "examples/c/check.c", f"-L{release}",
+                     "-lvicinity")
+    made("cc", "-shared", "-o", tmp_path / "libvicinity.so.2", "-Wl,-soname,libvicinity.so.2",
          "-Wl,--whole-archive", release / "libvicinity.a", "-Wl,--no-whole-archive",
          f"-Wl,--version-script={tmp_path / 'old.map'}")
     for place, status, answered, why in (
-            (release, 0, b"refused at line 1: Header\n\n", b""),
-            (tmp_path, 1, b"", b"version `VICINITY_1.2' not found")):
-        out, err, ended = Program(tmp_path / "listed", LD_LIBRARY_PATH=str(place)).run()
+            (release, 0, b"complete 4\n", b""),
+            (tmp_path, 1, b"", b"version `VICINITY_2' not found")):
+        ran = Program(*check.words, LD_LIBRARY_PATH=str(place))
+        out, err, ended = ran.run("examples/whole-shelf.log")
         assert (ended, out) == (status, answered) and why in err

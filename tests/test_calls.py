@@ -1,5 +1,5 @@
-"""Asks the library's calls on frames, lines, lists, findings and many logs: of both compilers, and
-as WebAssembly. What is expected is worked out by hand, by the tables of docs/FRAMES.md and AIR.md;
+"""Asks the library's calls on frames, lines, lists and margins: of both compilers, and as
+WebAssembly. What is expected is worked out by hand, by the tables of docs/FRAMES.md and AIR.md;
 random frames are made by helpers/frames.py."""
 import ctypes
 import random
@@ -10,25 +10,20 @@ from vicinity import _native
 from vicinity._native import AnswerStruct, MaskStruct, WeakestStruct
 
 from helpers.frames import hex_of, inventory, reply, stay_quiet, with_crc
-from helpers.library import SIZE, U32, U64, answer_to, findings_of, masks, uids
-from helpers.lines import log_of, reconciled_rows
+from helpers.library import SIZE, U32, U64, answer_to, uids
+from helpers.lines import log_of
 from helpers.program import TOP
 
 LINK, SLOTS, MASK, SLOT, REPLY, TOO_LONG, LETTER = range(201, 208)
 KINDS = "complete absent unlisted unsettled doubtful impossible refused".split()
 LINE_FAULTS = """TooManyLines LineTooLong Header UnknownEntry Hex ListedLength NotVicinity
-    SlotOutsideRound EntryAfterList DuplicateListed NotListed""".split()
+    SlotOutsideRound EntryAfterList DuplicateListed""".split()
 REFUSALS = "WrongLink WrongSlots WrongMask WrongSlot WrongReply TooLong WrongLetter".split()
 FAULTS = """Short Crc Extension Reserved OptionFlag OtherCommand InventoryFlag Afi Length
     MaskTooLong MaskPadding SelectFlag NotAddressed ErrorFlag NotVicinity""".split()
 UID_A, UID_B = 0xE0040100000000A1, 0xE0040100000000B2
-UID_Z, UID_Y = 0xE000000000000000, 0xE080000000000000
 LITTLE_A = UID_A.to_bytes(8, "little")
 ALONE = 56, 0x040100000000A1
-# The masks around the low byte of A; and around both that of A and that of B.
-BESIDES_A = [(1, 0), (2, 3), (3, 5), (4, 9), (5, 0x11), (6, 1), (7, 0x61), (8, 0x21)]
-BESIDES_BOTH = sorted({*BESIDES_A[1:], (2, 0), (3, 6), (4, 0xA), (5, 2), (6, 0x12), (7, 0x72),
-                       (8, 0x32)})
 WITHOUT_TEXT = "refused at line 1: Header"
 # How many random frames of each kind are written and read.
 NUMBER = 200
@@ -158,32 +153,7 @@ def test_the_name_of_each_number(calls, what, first, words):
         assert name(number) == (0, b""), number
 
 
-# What the list of a log is changes nothing.
-SURVEYED = [
-    ("I1 S", 0, [], []), ("I1 RA UA", 0, [UID_A], []), ("I1 RA", 1, [UID_A], []),
-    ("I1 RA UB", 1, [UID_A], []),
-    ("I16 S RA RB S13", 1, [UID_A, UID_B], []), ("", 1, [], [(0, 0)]), ("UA", 1, [], [(0, 0)]),
-    ("I1 C UA", 1, [], [(0, 0)]), ("QA I1 S", 1, [], [ALONE]), ("MA RA", 1, [UID_A], BESIDES_A),
-    ("MA RA MB S UB", 1, [UID_A], BESIDES_BOTH), ("M55 C QZ QY I1 S", 1, [UID_Z, UID_Y], []),
-    ("V2 QZ QY QA I1 S F I1 C M55 C", 1, [UID_Z, UID_Y], [ALONE]),
-    ("V3 I1 HA QA I1 S", 1, [UID_A], []), ("V3 I16 N S15", 1, [], [(4, 0)]),
-    ("M55 S", 1, [], [(length, 1 << length - 1) for length in range(1, 56)]),
-    ("I1 S I1 RA", 2, [], []), ("UA UA", 3, [], [])]
-
-
-@pytest.mark.parametrize(("short", "status", "certain", "open_masks"), SURVEYED,
-                         ids=[row[0] or "nothing" for row in SURVEYED])
-def test_surveys(library_of, short, status, certain, open_masks):
-    """The certain UIDs and all open masks of a log, in buffers of every size. The answer is that of
-    `check`."""
-    log = log_of(short)
-    checked = library_of.told(AnswerStruct, "check", log)
-    for name, wanted in ("certain", certain), ("open_masks", masks(open_masks)):
-        told = library_of.into_each(wanted, name, log)
-        assert (told.status, bytes(told)) == (status, bytes(checked))
-
-
-A, B, Z = "E0040100000000A1", "E0040100000000B2", "E000000000000000"
+A, B = "E0040100000000A1", "E0040100000000B2"
 
 
 def refusable(line):
@@ -249,82 +219,9 @@ def test_a_list_beside_a_text_without_its_last_line_feed(library_of, name):
     text, beside = text.encode().decode("unicode_escape").encode(), uids([UID_A])
     wanted = bytes(refusable(line))
     assert bytes(library_of.told(AnswerStruct, "check_listed", text, beside)) == wanted
-    for call in "explain_listed", "report_listed":
-        told, _, _ = library_of.into(0, call, text, beside)
-        assert bytes(told) == wanted
     told, least = AnswerStruct(), WeakestStruct()
     library_of.call("margin_listed", text, beside, ctypes.byref(told), ctypes.byref(least))
     assert bytes(told) == wanted
-
-
-OVERLOOKED = [
-    ("I1 RA", [UID_A, UID_B, UID_Z], f"unlisted {A}", [0, 1, 1]),
-    ("I1 RA QA I1 S UA", [UID_B, UID_A, UID_B], "complete 1", [2, 0, 2]),
-    ("I1 RA QA QB I1 S UA", [UID_B, UID_Z], "complete 1", [1, 2]), ("I1 S", [], "complete 0", []),
-    ("I1 S I1 RA", [UID_A, UID_B], "impossible at line 5", [1, 2]),
-    ("UA UA", [UID_A, 0], "refused at line 3: DuplicateListed", [0, 0]),
-    ("I1 S", [UID_A, 0xDF << 56, 0], "refused at line 5: NotVicinity", [0, 0, 0]),
-    ("I1 S UA", [0xE1 << 56], "refused at line 5: NotVicinity", [0]),
-    (r'"vicinity-log 1\r\n\n\n# the end"', [0], "refused at line 5: NotVicinity", [0]),
-    ('""', [0], WITHOUT_TEXT, [0])]
-
-
-@pytest.mark.parametrize(("short", "asked", "line", "places"), OVERLOOKED,
-                         ids=[f"{row[0]}: {row[2]}" for row in OVERLOOKED])
-def test_how_often_uids_were_overlooked(library_of, short, asked, line, places):
-    """In buffers of every size, whose bytes were 7 before."""
-    for count in sorted({0, max(len(places) - 1, 0), len(places), len(places) + 3}):
-        told, room = AnswerStruct.from_buffer_copy(b"\x09" * 104), (U32 * count)()
-        ctypes.memset(room, 7, ctypes.sizeof(room))
-        status = library_of.call("overlooked", log_of(short), uids(asked), ctypes.byref(told), room)
-        assert (status, bytes(told)) == (told.status, bytes(refusable(line)))
-        written = bytes((U32 * len(places))(*places)) if len(places) <= count else b""
-        assert bytes(room) == written.ljust(ctypes.sizeof(room), b"\7")
-
-
-def reconciled(library, expected, certain, open_masks, lines, fault=0):
-    """What many logs say, in buffers of every size; faultless arrays also in other orders, and with
-    elements twice."""
-    ways = [(expected, certain, open_masks)]
-    if not fault:
-        ways += [(expected[::-1], [*certain, *certain[::-1]], open_masks[::-1] * 2)]
-    for listed, heard, asked in ways:
-        told = library.into_each([] if fault else findings_of(lines), "reconcile", uids(listed),
-                                 uids(heard), masks(asked))
-        assert bytes(told) == bytes(answer_to(lines[0], fault))
-
-
-@pytest.mark.parametrize(("expected", "certain", "open_masks", "entry", "name"), [
-    ([UID_A, 0], [], [], 2, "NotVicinity"), ([UID_A, 0xDF << 56, UID_A], [], [], 2, "NotVicinity"),
-    ([UID_A, UID_B, UID_B, UID_A], [], [], 3, "DuplicateListed"),
-    ([UID_A, UID_A], [0], [], 2, "DuplicateListed"),
-    ([UID_A], [UID_A, 0xE1 << 56], [(57, 0)], 3, "NotVicinity"),
-    ([0], [0], [(57, 0)], 1, "NotVicinity"),
-    ([], [], [(57, 0)], 1, "WrongMask"),
-    ([UID_A], [UID_B], [(56, 0), (1 << 31, 0)], 4, "WrongMask"),
-    ([], [], [(0, 1)], 1, "WrongMask"), ([], [], [(4, 15), (4, 16)], 2, "WrongMask"),
-    ([], [], [(56, 1 << 56)], 1, "WrongMask"),
-    ([], [UID_A], [(0, 0, 0), (MASK, 0, 0)], 3, "WrongMask")])
-def test_each_refusal_of_many_logs(library_of, expected, certain, open_masks, entry, name):
-    fault = MASK if name == "WrongMask" else 1 + LINE_FAULTS.index(name)
-    lines = [f"refused at line {entry}: {name}"]
-    reconciled(library_of, expected, certain, open_masks, lines, fault)
-
-
-@pytest.mark.parametrize(("expected", "logs", "lines"), [
-    pytest.param(*row, id=place) for place, *row, status in reconciled_rows() if status < 2])
-def test_row_of_many_logs(library_of, expected, logs, lines):
-    """By the two calls for one log and the one for many. The logs, lines and open masks are the
-    program's alone."""
-    certain, asked = [], []
-    for log in logs:
-        for name, known in ("certain", certain), ("open_masks", asked):
-            _, needed, room = library_of.into(64, name, log)
-            known += room[:needed]
-    listed = [int(uid, 16) for uid in expected.decode().split()[3::2]]
-    found = [line.partition(" in ")[0] for line in lines
-             if not line.startswith(("by ", "open ", "more "))]
-    reconciled(library_of, listed, certain, [(mask.len, mask.value) for mask in asked], found)
 
 
 # Nothing at a pointer, or an address that isn't aligned: what has no length isn't looked at.
@@ -334,15 +231,8 @@ LIST, SILENT = log_of("UA"), log_of("I1 S")
 # Calls by what stands before the answer, with the answer and how many elements each array needs.
 EMPTY = [
     ("check", [0], WITHOUT_TEXT, []), ("explain", [0], WITHOUT_TEXT, [0]),
-    ("report", [0], WITHOUT_TEXT, [0]), ("certain", [0], WITHOUT_TEXT, [0]),
-    ("open_masks", [0], WITHOUT_TEXT, [0]), ("survey", [0], WITHOUT_TEXT, [0, 0]),
-    ("listed", [0], WITHOUT_TEXT, [0]), ("check_listed", [SILENT, 0], "complete 0", []),
-    ("explain_listed", [SILENT, 0], "complete 0", [0]),
-    ("report_listed", [SILENT, uids([UID_A])], "absent E0040100000000A1", [1]),
-    ("explain", [LIST], "unsettled 1 00", [1]), ("survey", [LIST], "unsettled 1 00", [0, 1]),
-    ("open_masks", [LIST], "unsettled 1 00", [1]), ("listed", [LIST], "listed 1", [1]),
-    ("reconcile", [0, 0, 0], "complete 0", [0]),
-    ("reconcile", [uids([UID_A]), 0, 0], "absent E0040100000000A1", [1])]
+    ("report", [0], WITHOUT_TEXT, [0]), ("check_listed", [SILENT, 0], "complete 0", []),
+    ("explain", [LIST], "unsettled 1 00", [1])]
 
 
 @pytest.mark.parametrize("nothing", NOTHING, ids=["NULL", "not aligned"])
@@ -362,7 +252,6 @@ def test_nothing_at_a_pointer(native, nothing):
     assert room.value == f"{WITHOUT_TEXT}\n".encode() and number.value == len(room.value)
     beside, weakest = (SILENT, SIZE(len(SILENT)), *empty, ctypes.byref(told)), WeakestStruct()
     assert calls.vicinity_margin_listed(*beside, ctypes.byref(weakest)) == 0
-    assert calls.vicinity_overlooked(*beside, *empty) == 0
     for command, lengths, wanted in (1, [0], WITHOUT_TEXT), (6, [], "vicinity: usage"):
         names = (b"\n", SIZE(1)) if lengths else empty
         lengths = (uids(lengths), SIZE(1)) if lengths else empty

@@ -19,6 +19,7 @@ from helpers.families import case_of
 from helpers.fuzz import LISTED, changed, session
 from helpers.lines import log_of
 from helpers.memory import WANT, refused, shim
+from helpers.names import NUMBERS
 from helpers.program import TOP, linked
 from helpers.random_logs import text_of
 
@@ -72,7 +73,7 @@ OPERANDS = ([], [""], ["-"], ["-x"], ["--x"], ["--"], ["--", "-"], ["--", "-x"],
             ["26"], ["0" * 128], ["0" * 129], *([name] for name in (*NO_UTF8, *UTF8)))
 
 
-@pytest.mark.parametrize("command", [*COMMANDS, "reconcile", "frame", "spell"])
+@pytest.mark.parametrize("command", NUMBERS)
 def test_words_after_a_command(ask, command):
     for operand in OPERANDS:
         ask([command, *operand])

@@ -100,17 +100,18 @@ def test_each_read_of_several_files_fails(run, over_files):
         assert run(words, READ=str(number)) == (b"", READ_FAULT, 4), f"read {number}"
 
 
-@pytest.mark.parametrize(("texts", "reads", "line", "status"), [
-    # no further byte can change the fault, or the text is read to its end
-    ([FAULTY, EMPTY], len(FAULTY), "refused at line 1 of 0: Header", 3),
-    ([NO_LIST, EMPTY], len(NO_LIST) + 1, "refused at line 2 of 0: NotListed", 3),
-    ([EMPTY, FAULTY, EMPTY], len(EMPTY) + 1 + len(FAULTY), "refused at line 1 of 1: Header", 3),
-    ([EMPTY, IMPOSSIBLE, EMPTY], len(EMPTY + IMPOSSIBLE) + 2, "impossible at line 5 of 1", 2)])
-def test_no_read_follows_the_text_that_ends_the_run(run, tmp_path, texts, reads, line, status):
-    """The next read would fail."""
+@pytest.mark.parametrize(("texts", "line", "status"), [
+    ([FAULTY, EMPTY], "refused at line 1 of 0: Header", 3),
+    ([NO_LIST, EMPTY], "refused at line 2 of 0: NotListed", 3),
+    ([EMPTY, FAULTY, EMPTY], "refused at line 1 of 1: Header", 3),
+    ([EMPTY, IMPOSSIBLE, EMPTY], "impossible at line 5 of 1", 2)])
+def test_all_files_are_read_before_the_text_that_ends_the_run_is_named(
+        run, tmp_path, texts, line, status):
+    """The read behind their ends would fail; so does the last one, which tells the last's end."""
     for number, text in enumerate(texts):
         (tmp_path / str(number)).write_text(text)
     words = " ".join(["reconcile", *map(str, range(len(texts)))])
+    reads = sum(len(text) + 1 for text in texts)
     assert run(words, cwd=tmp_path, READ=str(reads + 1)) == (f"{line}\n".encode(), b"", status)
     assert run(words, cwd=tmp_path, READ=str(reads)) == (b"", READ_FAULT, 4)
 

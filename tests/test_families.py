@@ -1,6 +1,5 @@
 """Reconciles random logs with random lists by brute force (helpers/families.py), and asks the
-program, the Python package and the library for the same. The library answers by the surveys of the
-logs, in the opposite order. It names no log, line or open mask.
+program and the Python package for the same.
 
 The cases are the same each time, or others with `--logs NUMBER` and `--seed`, as those of
 test_oracle.py. Wrong reconcilers are put in the program's place, each wrong in one rule, and have
@@ -10,7 +9,6 @@ import random
 
 import pytest
 
-from cases import here
 from helpers.air import Listed
 from helpers.families import NAMES, WRONG, Families, case_of
 from helpers.library import STATUSES
@@ -29,22 +27,6 @@ def same(told, wanted):
             for line in told] == wanted
 
 
-def plain(lines):
-    """The lines without the logs, lines and open masks that they name."""
-    return [line.split(" in ")[0] for line in lines
-            if not line.startswith(("by line ", "open ", "more open "))]
-
-
-def by_surveys(vicinity, expected, texts):
-    """The lines of what the library answers."""
-    surveys = [vicinity.survey(text) for text in texts]
-    for name, survey in zip(NAMES, surveys):
-        if survey.answer.kind is vicinity.Kind.IMPOSSIBLE:
-            return [f"{survey.answer} of {name}"]
-    report = vicinity.reconcile(expected, surveys[::-1])
-    return list(map(str, report.findings)) or [str(report.answer)]
-
-
 @pytest.fixture
 def answer(program, vicinity, tmp_path, monkeypatch):
     """The lines of the program, which ends with the status of the first, and of the package."""
@@ -58,9 +40,7 @@ def answer(program, vicinity, tmp_path, monkeypatch):
         out, err, status = program.run("reconcile", *names, cwd=tmp_path)
         told = out.decode().splitlines()
         assert (err, status) == (b"", STATUSES.get(told[0].split()[0], 1))
-        # of no log at all Python says nothing
-        if texts[1:]:
-            assert here("lines", *names, options=["--strict"]) == (out.decode(), "", status)
+        assert vicinity.run("reconcile", *texts, names=names) == (out, status)
         return told
     return ask
 
@@ -73,13 +53,12 @@ def cases_of(number, seed, part):
 
 @pytest.mark.slow
 @pytest.mark.parametrize("part", range(PARTS))
-def test_random_logs(vicinity, answer, logs, part):
+def test_random_logs(answer, logs, part):
     number, seen = logs[0], collections.Counter()
     for seed, uids, expected, given in cases_of(*logs, part):
         texts = [text_of(version, lines) for version, lines in given]
         wanted = Families(uids, expected, given).answer()
         assert same(answer(expected, texts), wanted), seed
-        assert not given or by_surveys(vicinity, expected, texts) == plain(wanted), seed
         seen.update(line.split()[0] for line in wanted)
     if number >= NUMBER // PARTS:
         assert not [kind for kind in KINDS if not seen[kind]]

@@ -8,6 +8,7 @@ import sys
 import pytest
 
 from helpers.library import CALLS
+from helpers.names import OPERANDS
 from helpers.program import TOP, Program, compiled, linked, needs, told
 from helpers.trees import copy, tree
 
@@ -15,7 +16,7 @@ VERSION = (TOP / "VERSION").read_text().strip().removesuffix("~dev")
 LOG = TOP / "examples/whole-shelf.log"
 COMPLETE = (b"complete 4\n", b"", 0)
 EXAMPLES = sorted(TOP.glob("examples/c/*.c"))
-COMMANDS = sorted(set(re.findall(r"^\.Cm ([a-z-]+)$", (TOP / "docs/vicinity.1").read_text(), re.M)))
+COMMANDS = sorted(OPERANDS)
 
 
 def install(*words):
@@ -138,7 +139,7 @@ def test_man_finds_the_pages(root, pages):
         told("man", "-M", root / "usr/share/man", "-P", "cat", section, name)
 
 
-# Completions, which offer the commands of the man page.
+# Completions, which are made of the man page.
 
 BASH = """source "$0"; compopt() { :; }; COMP_WORDS=(vicinity "$@"); COMP_CWORD=$#; _vicinity
 printf '%s\\n' "${COMPREPLY[@]}" """

@@ -90,7 +90,7 @@ def test_both_compilers_make_the_same_of_every_text(library, library_rattle):
     listed = uids([0xE0040100000000B2, 0xE0040100000000A1])
 
     def said(one, text):
-        for name in "explain", "report", "certain", "open_masks", "simulate", "listed":
+        for name in "explain", "report", "simulate":
             told, needed, room = one.into(MANY, name, text)
             yield name, told if name == "simulate" else bytes(told), needed, bytes(room)
         for name, given in ("check", []), ("check_listed", [listed]):

@@ -1,13 +1,16 @@
 """Counts in random logs how often UIDs were overlooked (helpers/margins.py), and asks the program
-and the library for the same. Of small logs the margins are also found by trying: how many slots
-have to be unknown for a UID to be possible.
+and the library for the same; the object of a log has the number of an absent UID. Of small logs the
+margins are also found by trying: how many slots have to be unknown for a UID to be possible.
 
 The logs are the same each time; `pytest tests/test_margins.py --logs 100000` takes others, as
 tests/test_oracle.py does. Wrong counts, each wrong in one rule, have to be found."""
+import ctypes
 import itertools
+import json
 import random
 
 import pytest
+from vicinity._native import AnswerStruct, WeakestStruct
 
 from helpers.air import UNKNOWN, is_slot
 from helpers.margins import WRONG, Margins
@@ -21,22 +24,36 @@ SMALL, MOST_SLOTS = 60, 8
 PLANTED = 2000
 
 
+@pytest.fixture
+def overlooked(program):
+    """How often each of these UIDs was overlooked in a possible log, by its object with these UIDs
+    as its list: where one may be there it isn't absent, and was overlooked in no slot."""
+    def of(text, uids):
+        lines = [line for line in text.splitlines() if not line.startswith(b"U")]
+        lines += [b"U %016X" % uid for uid in dict.fromkeys(uids)]
+        found = json.loads(program.run("json", given=b"\n".join(lines)).out)["findings"]
+        absent = {int(it["uid"], 16): it["overlooked"] for it in found if it["kind"] == "absent"}
+        return [absent.get(uid, 0) for uid in uids]
+    return of
+
+
 @pytest.mark.parametrize("part", [0, *(pytest.param(part, marks=pytest.mark.slow)
                                        for part in range(1, PARTS))])
-def test_random_logs(program, vicinity, logs, part):
+def test_random_logs(program, library, overlooked, logs, part):
     number, seed = logs
     rng = random.Random(f"{seed} {part}")
     for _ in range(number):
         version = rng.randint(1, 3)
         uids, lines = random_log(rng, version)
-        text, answer = text_of(version, lines), vicinity.check(text_of(version, lines))
+        text, told, weakest = text_of(version, lines), AnswerStruct(), WeakestStruct()
+        library.call("margin", text, ctypes.byref(told), ctypes.byref(weakest))
         margins, uids = Margins(lines), [*uids, *eight_uids(rng)]
         said = program.run("margin", given=text).out.decode().splitlines()
-        assert said == margins.said(answer.text, lines), text.decode()
-        assert vicinity.overlooked(text, uids) == list(map(margins.of, uids)), text.decode()
-        if answer.kind is not vicinity.Kind.IMPOSSIBLE:
-            weakest = vicinity.margin(text).weakest
-            assert (weakest.margin, *weakest.mask) == margins.weakest(), text.decode()
+        assert said == margins.said(told.text.decode().rstrip("\n"), lines), text.decode()
+        if told.status < 2:
+            assert overlooked(text, uids) == list(map(margins.of, uids)), text.decode()
+            found = weakest.margin, weakest.mask_len, weakest.mask_value
+            assert found == margins.weakest(), text.decode()
 
 
 def by_trying(uids, lines):
@@ -63,10 +80,10 @@ def small_logs(seed):
             yield uids, lines
 
 
-def test_a_margin_is_exact(vicinity, logs):
+def test_a_margin_is_exact(overlooked, logs):
     for uids, lines in itertools.islice(small_logs(logs[1]), SMALL):
         text, least = text_of(3, lines), by_trying(uids, lines)
-        assert vicinity.overlooked(text, uids) == least == list(map(Margins(lines).of, uids)), text
+        assert overlooked(text, uids) == least == list(map(Margins(lines).of, uids)), text
 
 
 @pytest.mark.parametrize("rule", WRONG)

@@ -57,8 +57,10 @@ def test_what_does_not_go_together(library_of, number, names, lengths):
     ("frame", [b"26\x0001"], None, b"refused Hex\n", 3),
     ("spell", [b"", b"\0\n"], None, b"refused Words\n", 3),
     ("reconcile", [LISTS], [b"a"], b"absent E0040100000000A1\n", 1),
-    ("reconcile", [LISTS, LOG], [b"", b""], b"complete 1\n", 0),
-    ("reconcile", [LOG, b""], [b"a \0\r", b"b"], b"refused at line 2 of a \0\r: NotListed\n", 3),
+    ("reconcile", [LISTS, LOG], [b"a", b"a"], b"complete 1\n", 0),
+    ("reconcile", [LISTS, LOG], [b"", b""], b"vicinity: usage\n", 4),
+    ("reconcile", [LOG, b""], [b"a \0\r", b"b"], b"vicinity: usage\n", 4),
+    ("reconcile", [LOG, b""], [b"a b", b"b"], b"refused at line 2 of a b: NotListed\n", 3),
     ("reconcile", [LISTS, LOG, b"", b""], ["a", "b", "\u00e9", "d"],
      "refused at line 1 of \u00e9: Header\n".encode(), 3)])
 def test_what_a_command_writes(library_of, command, texts, names, written, status):

@@ -18,10 +18,12 @@ from helpers.trees import copy
 LOG = TOP / "examples/whole-shelf.log"
 COMPLETE = (b"complete 4\n", b"", 0)
 VERSION = (TOP / "VERSION").read_text().strip()
-KINDS = {"vicinity": "foreign", "libvicinity1": "same", "libvicinity-dev": "same",
+KINDS = {"vicinity": "foreign", "libvicinity2": "same", "libvicinity-dev": "same",
          "python3-vicinity": "no"}
+# The library's package in the last release, whose number is that of its interface.
+RELEASED = {deb.name.partition("_")[0] for deb in TOP.glob("dist/libvicinity[0-9]*_amd64.deb")}
 FOR_USERS = "LOG_FORMAT VERDICTS COLLECTIONS READERS COMMANDS AIR FRAMES GLOSSARY RUNNING".split()
-FOR_DEVELOPERS = "WORKING ARCHITECTURE PROOFS HEADLINE DEFINITIONS DECISIONS".split()
+FOR_DEVELOPERS = "WORKING ARCHITECTURE PROOFS HEADLINE DECISIONS".split()
 LINK = re.compile(r"\]\(([^#): ]+)[#)]")
 TARGETS = ["amd64", "arm64"]
 #: What is kept of building.
@@ -53,7 +55,7 @@ def test_the_command_that_installs_them(page, folder):
     """In a plain sh its words are the packages in dist/, each once."""
     words = re.search(r"apt install ([^`\n]*)", (TOP / page).read_text())[1]
     named = told("sh", "-c", f"printf '%s\\n' {words}", cwd=TOP / folder).split()
-    packages = "vicinity", "libvicinity1", "python3-vicinity"
+    packages = "vicinity", *RELEASED, "python3-vicinity"
     assert [re.match(r".*/([^/_]*)_", name)[1] for name in named] == list(packages)
     assert all((TOP / folder / name).is_file() for name in named)
 
@@ -75,12 +77,11 @@ def test_names_and_fields(packages, target):
 
 def test_symbols(packages):
     """Each call stands beside the first version that has it, or one before a release to come."""
-    deb, = packages("amd64").glob("libvicinity1_*.deb")
+    deb, = packages("amd64").glob("libvicinity2_*.deb")
     symbols = told("dpkg-deb", "-I", deb, "symbols")
     listed = dict(re.findall(r"^ (vicinity_\w+)@VICINITY_\S+ (.*)$", symbols, re.M))
     assert sorted(listed) == sorted(CALLS)
-    assert [listed[f"vicinity_{call}"] for call in ("check", "certain", "listed")] == [
-        "1.0.0", "1.1.0", "1.2.0~"]
+    assert set(listed.values()) == {"2.0.0~"}
 
 
 def test_the_changes_of_the_packages():
@@ -194,7 +195,7 @@ def test_installed_upgraded_tested_and_purged(cell, packages):
     for test in re.findall("^Tests: (.*)", (TOP / "debian/tests/control").read_text(), re.M):
         run(f"/tmp/tests/{test}")
     assert [*cell.glob("usr/lib/python3/dist-packages/vicinity/**/*.pyc")]
-    run("dpkg", "--purge", *KINDS)
+    run("dpkg", "--purge", *KINDS, *RELEASED - KINDS.keys())
     assert others() == before
 
 

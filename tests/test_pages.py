@@ -58,9 +58,9 @@ OLD_WORDS = re.compile(r"\b([Ww]hole|could have given|tells? against|[Nn]obody|[
                        r"[Gg]rowths?|strangers?|[Dd]ear(er|est)?|"
                        r"wrong bod(y|ies)|[Mm]end(s|ed|ing)?|[Mm]akers?|[Hh]eadline|statements of "
                        r"std|gives|[Rr]esponses?)\b")
-# The standard's and a chip's own words, and pages that quote the comments of definitions.
+# The standard's and a chip's own words, and a page that quotes the comments of definitions.
 THEIR_WORDS = {"docs/GLOSSARY.md": r"response", "docs/READERS.md": r"response",
-               "docs/HEADLINE.md": r".*", "docs/DEFINITIONS.md": r".*"}
+               "docs/HEADLINE.md": r".*"}
 
 
 def own_words(text):
@@ -411,7 +411,20 @@ def test_what_is_decided_outside_of_the_proof_is_named():
     """Beside what is proved: each part that works something out by itself, and what."""
     page = text_of("docs/PROOFS.md")
     part, = re.findall(r"### What is decided outside of the proof\n(.*?)\n#", page, re.S)
-    for what in ("Python", "JavaScript", "C++", "Go", "Rust", "catalogue", "state of each item",
-                 "refused, impossible or unreadable", "margin of a collection", "`captured`",
-                 "JSON", "CSV", "`compare`", "causes", "`bindings/`"):
+    for what in ("Python", "JavaScript", "C++", "Go", "Rust", "`--margin K`", "notes", "`compare`",
+                 "sentences", "causes", "requests", "`bindings/`"):
         assert what in part
+
+
+def test_the_man_page_has_the_lines_of_other_pages():
+    """The answers to a log of README, and those of a margin and of standard error of COMMANDS."""
+    def table(page, heading):
+        return text_of(page).partition(f"\n## {heading}\n")[2].partition("\n## ")[0]
+
+    of_a_log = re.findall(r"^\| `([^`]*)` \|.*\| \d \|$", table("README.md", "Answers"), re.M)
+    others = [form for heading in ("margin", "Standard error")
+              for row in table("docs/COMMANDS.md", heading).split("\n") if row.startswith("| `")
+              for form in re.findall(r"`([^`]*)`", row.split("|")[1]) if not form.endswith("-")]
+    items = re.findall(r"^\.It (?!Cm |\d)(.*)$", text_of("docs/vicinity.1"), re.M)
+    assert sorted(item.replace("Ar ", "").replace(" :", ":").lower() for item in items) == sorted(
+        form.lower() for form in of_a_log + others)

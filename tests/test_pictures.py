@@ -352,7 +352,7 @@ def reconciled(run, browser, tmp_path):
     one = Screen(browser)
 
     def open_page(*logs):
-        words = "reconcile", "--page", "--expected", COLLECTION / "catalogue.csv"
+        words = "collection", "--page", *sorted(COLLECTION.glob("*.csv"))
         (tmp_path / "page.html").write_bytes(run(*words, *logs).stdout)
         one.open(tmp_path / "page.html")
         one.until("header h1", "")
@@ -364,23 +364,24 @@ def reconciled(run, browser, tmp_path):
 
 def test_page_of_a_collection(reconciled):
     page = reconciled(*SHELVES)
-    assert page.texts("h1") == ["1 item missing and 1 not known yet; count 1 log again."]
-    assert page.texts(".lights dd") == ["2 of 3 logs", "10 of 12 items"]
-    groups = ["Count again (1 log)", "At the shelves (1)", "Not known yet (1)",
+    assert page.texts("h1") == [
+        "1 item missing, 1 in the wrong place and 1 not known yet; count C again."]
+    assert page.texts(".lights dd") == ["2 of 3 logs", "9 of 12 items"]
+    groups = ["Count again (1 log)", "At the shelves (2)", "Not known yet (1)",
               "Nothing left to ask (2 logs)", "What this takes for granted (10)"]
     assert page.texts("details > summary h2") == groups
-    assert page.texts(".items tbody tr")[0] == (
-        "missing: look for it\nWalden\nA\n1 slot or more\nE00401502B91C435")
+    assert page.texts(".items tbody tr")[:2] == [
+        "missing: look for it\nWalden\nE00401502B91C435",
+        "take to B\nThe Time Machine\nE00401504477EB73"]
     assert page.texts(".logs summary")[0] == (
-        "shelf-c.log: 3 tags proved; left to ask, by 1 request or more: UIDs ending in E or F")
+        "C (shelf-c.log): 3 tags proved; left to ask: UIDs ending in E or F")
 
 
 def test_page_of_a_collection_that_is_not_sure_enough(run, browser, tmp_path):
     """Shelf A alone, of which more misses were wanted than its log bears. It isn't green."""
-    listed = b"".join(line for line in SHELVES[0].read_bytes().splitlines(keepends=True)
-                      if line[:1] in b"vU")
-    (tmp_path / "expected.log").write_bytes(listed)
-    words = "reconcile", "--page", "--expected", tmp_path / "expected.log", SHELVES[0]
+    uids = [line[2:] for line in SHELVES[0].read_bytes().splitlines() if line[:1] == b"U"]
+    (tmp_path / "expected.csv").write_bytes(b"\n".join([b"uid", *uids]))
+    words = "collection", "--page", tmp_path / "expected.csv", SHELVES[0]
     missed = "a tag would have had to be missed in 2 slots"
     page = Screen(browser)
     for most, status, headline in (
@@ -410,12 +411,12 @@ def test_a_log_of_a_collection_is_drawn_when_it_is_opened(reconciled):
     assert page.texts(".logs h4")[0] == "At the shelf" and page.texts(".logs h1, .logs h2") == []
 
 
-def test_a_broken_log_comes_first(reconciled):
-    page = reconciled(*SHELVES, TOP / "examples/contradiction.log", "nowhere.log", "README.md")
-    assert page.texts("h1") == ["2 items not known yet; count 4 logs again."]
-    assert page.texts("details > summary h2")[0] == "Count again (4 logs)"
-    assert [it.split(":")[0] for it in page.texts(".log")[:4]] == [
-        "contradiction.log", "nowhere.log", "README.md", "shelf-c.log"]
+def test_a_broken_log_comes_first(reconciled, tmp_path):
+    (tmp_path / "none.log").write_bytes(b"vicinity-log 1\nX\n")
+    page = reconciled(*SHELVES, TOP / "examples/contradiction.log", tmp_path / "none.log")
+    assert page.texts("details > summary h2")[0] == "Count again (3 logs)"
+    assert [it.split(":")[0] for it in page.texts(".log")[:3]] == [
+        "contradiction.log", "none.log", "C (shelf-c.log)"]
     assert page.texts(".banner.yes") == []
 
 

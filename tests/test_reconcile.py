@@ -52,22 +52,25 @@ def test_the_last_of_many_logs(reconcile, tmp_path):
 
 @pytest.mark.parametrize(("words", "said"), [
     (["EXPECTED", "a", "none"], "cannot open none"), (["none", "a"], "cannot open none"),
-    (["EXPECTED", "folder"], "read failed"), ([], "usage")], ids=repr)
+    (["EXPECTED", "folder"], "read failed")], ids=repr)
 def test_what_ends_without_an_answer(reconcile, words, said):
     assert reconcile(*words) == (b"", f"vicinity: {said}\n".encode(), 4)
 
 
-@pytest.mark.parametrize("behind", ["none", "folder", "b"])
+@pytest.mark.parametrize(("behind", "said"), [
+    ("none", "cannot open none"), ("folder", "read failed"), ("b", None)])
 @pytest.mark.parametrize(("expected", "log", "lines", "status"), [
     ("I1 S", "I1 RA", "refused at line 2 of EXPECTED: NotListed", 3),
     ("UA UA", "I1 RA", "refused at line 3 of EXPECTED: DuplicateListed", 3),
     ("UA", '"vicinity-log 1\\nT 260100F60B\\n"', "refused at line 2 of a: Crc", 3),
     ("UA", "I1 S I1 RA", "impossible at line 5 of a", 2)])
-def test_what_is_behind_the_end(reconcile, tmp_path, expected, log, lines, status, behind):
-    """A file that can't be opened, one that can't be read, an impossible log: none is looked at."""
+def test_what_is_behind_the_end(reconcile, tmp_path, expected, log, lines, status, behind, said):
+    """All files are read before anything is said; then the text that ends the run is named."""
     for name, text in (("EXPECTED", expected), ("a", log), ("b", "I1 RA I1 S")):
         (tmp_path / name).write_bytes(log_of(text))
-    assert reconcile("EXPECTED", "a", behind) == (f"{lines}\n".encode(), b"", status)
+    unread = (b"", f"vicinity: {said}\n".encode(), 4)
+    wanted = unread if said else (f"{lines}\n".encode(), b"", status)
+    assert reconcile("EXPECTED", "a", behind) == wanted
 
 
 @pytest.mark.parametrize(("before", "said"), [
@@ -77,6 +80,57 @@ def test_what_is_before_a_text_that_would_end_the_run(reconcile, tmp_path, befor
     (tmp_path / "a").write_bytes(log_of(log))
     for words in ([before, "a"], ["EXPECTED", before, "a"]):
         assert reconcile(*words) == (b"", f"vicinity: {said}\n".encode(), 4)
+
+
+A, B = "E0040100000000A1", "E0040100000000B2"
+BOTH = "HA QA I1 HB QB I1 S"
+
+
+@pytest.mark.parametrize(("table", "logs", "lines", "status"), [
+    (f"uid,place\n{A},a\n{B},b\n", {"a.log": "I1 RA", "b.log": "I1 RB"}, "complete 2", 0),
+    (f"uid,place\n{A},a\n{B},b\n", {"a.log": "I1 RB", "b.log": "I1 RA"},
+     f"misplaced {A} in b.log, belongs to a\nmisplaced {B} in a.log, belongs to b", 1),
+    (f"uid,place\n{A},a\n{B},b\n", {"a.log": "QA I1 S", "b.log": f"V3 I1 {BOTH}"},
+     f"misplaced {A} in b.log, belongs to a", 1),
+    (f"uid,place\n{A},a\n{B},b\n", {"a.log": "I1 RA"},
+     f"not counted {B}, belongs to b\nno log of b", 1),
+    (f"uid,place\n{A},a\n", {"a.log": "I1 RA", "b.log": "I1 S"}, "left over b.log", 1),
+    (f"uid,away\n{A},\n{B},away\n", {"a": f"V3 I1 {BOTH}"}, f"returned {B} in a", 1),
+    (f"uid,away\n{A},\n{B},away\n", {"a": "QB I1 RA"}, f"doubtful {B} in a", 1),
+    (f"uid\n{A}\n", {"a": "I1 RA", "b": "I1 RB"}, f"unlisted {B}\nby line 3 of b", 1),
+    (f"uid,away\n{A},no\n", {"a": "I1 RA"}, "refused at line 2 of EXPECTED: Away", 3),
+    (f"uid\n{A}\n", {"x/a": "I1 RA", "a": "I1 S I1 RA"}, "impossible at line 5 of a", 2)])
+def test_against_a_catalogue(program, tmp_path, table, logs, lines, status):
+    (tmp_path / "x").mkdir()
+    (tmp_path / "EXPECTED").write_text(table)
+    for name, names in logs.items():
+        (tmp_path / name).write_bytes(log_of(names))
+    found = program.run("reconcile", "EXPECTED", *logs, cwd=tmp_path)
+    assert found == (f"{lines}\n".encode(), b"", status)
+
+
+def test_surveys_beside_a_list(program, tmp_path):
+    """They stand for their logs, also where they were cut; what is no text of surveys is a log."""
+    for name, text in (("EXPECTED", "UA UB"), ("a", "I1 RA"), ("b", "I1 RB")):
+        (tmp_path / name).write_bytes(log_of(text))
+    text = program.run("survey", "a", "b", cwd=tmp_path).out
+    (tmp_path / "all").write_bytes(text)
+    (tmp_path / "cut").write_bytes(text[:-1])
+    (tmp_path / "table").write_text("uid\n")
+    last = text.count(b"\n")
+    for name, said, status in (("all", "complete 2", 0),
+                               ("cut", f"refused at line {last} of cut: Survey", 3),
+                               ("table", "refused at line 1 of table: Header", 3)):
+        found = program.run("reconcile", "EXPECTED", name, cwd=tmp_path)
+        assert found == (f"{said}\n".encode(), b"", status)
+
+
+def test_a_name_that_no_log_has(program, tmp_path):
+    """It could be taken for another line."""
+    for name, text in (("EXPECTED", "UA"), ("a\nb", "I1 RA")):
+        (tmp_path / name).write_bytes(log_of(text))
+    assert program.run("reconcile", "EXPECTED", "a\nb", cwd=tmp_path) == (
+        b"", b"vicinity: usage\n", 4)
 
 
 def test_a_full_disk(reconcile):

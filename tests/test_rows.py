@@ -34,14 +34,3 @@ def test_beginnings_of_an_impossible_log(asked):
     kinds = [asked.begins(log[:length]).split()[0] for length in range(len(log) + 1)]
     assert b"impossible" not in kinds[:possible + 1]
     assert set(kinds[possible + 1:]) == {b"impossible", b"refused"}
-
-
-@pytest.mark.parametrize(("line", "start", "end"), [(2, 17, 27), (3, 30, 54)])
-@pytest.mark.parametrize("asked", EVERYBODY, indirect=True)
-def test_a_changed_bit_is_found_by_the_crc(asked, line, start, end):
-    log = log_of("I1 RA UA")
-    for at in range(start, end):
-        for bit in 1, 2, 4, 8:
-            digit = b"%X" % (int(log[at:at + 1], 16) ^ bit)
-            said = asked.begins(log[:at] + digit + log[at + 1:])
-            assert said == b"refused at line %d: Crc\n" % line, f"bit {bit} at {at}"

@@ -9,9 +9,10 @@ import re
 import pytest
 from vicinity._native import AnswerStruct, WeakestStruct
 
-from helpers.library import CALLS, LISTING, U32, WRITING, masks, run_of, uids
+from helpers.library import CALLS, LISTING, U32, WRITING, run_of, uids
 from helpers.lines import log_of
 from helpers.program import MAKE, TOP, Program, told
+from helpers.texts import texts as all_texts
 from helpers.wasm import WasmLibrary
 
 MOST_BYTES = 560_000
@@ -22,55 +23,42 @@ const it = new WebAssembly.Module(require("fs").readFileSync(process.argv[1]));
 const exported = WebAssembly.Module.exports(it).map((one) => one.name);
 console.log(JSON.stringify([WebAssembly.Module.imports(it), exported]));
 """
-# Lists beside a log of silence, masks beside a tag that is certain, what is expected by texts that
-# are no lists, and requests: what is said of each, and that the module is as it was.
-BESIDE = """
+# What isn't a text, names that aren't lines, and texts that a command doesn't take: what is said of
+# each, and that the module is as it was.
+WRONG = """
 import { readFileSync } from "node:fs";
 import { Library } from "./web/library.mjs";
-const library = await Library.of(readFileSync(process.argv[1])), uid = 0xE0040100000000A1n;
-const silent = "vicinity-log 1\\nT 260100F60A\\nS", value = BigInt.asUintN(56, uid);
-const wide = Uint16Array.from(silent, (it) => it.charCodeAt(0) + 256);
-const mask = { fault: 0, len: 56, value }, none = ["", () => 0, new Uint8Array(0), new Set()];
-const said = (call) => {
+const library = await Library.of(readFileSync(process.argv[1]));
+const silent = "vicinity-log 1\\nT 260100F60A\\nS\\n";
+const wide = Uint16Array.from(silent, (it) => it.charCodeAt(0)), table = "uid\\nnone\\n";
+const said = (command, ...texts) => {
   try {
-    return call().answer.text.trim();
+    const { status, written } = library.run(command, texts);
+    return [status, new TextDecoder().decode(written)];
   } catch (error) {
     return error.constructor.name;
   }
 };
-const empty = library.survey(silent);
-const listed = (text, uids) => said(() => library.marginListed(text, uids));
-const sent = BigUint64Array.of(uid), request = { slots: 16, maskLen: 4, maskValue: 1n };
-structuredClone(sent, { transfer: [sent.buffer] });
 console.log(JSON.stringify([
-  [silent, silent + "\\n", silent + "\\n# end"].map((text) => listed(text, [uid])),
-  [[], [uid + 2n ** 64n], [uid - 2n ** 64n], ["E0"], [,], sent, ...none]
-    .map((uids) => listed(silent, uids)),
-  [wide, [...silent], new DataView(wide.buffer), wide.buffer].map((text) => listed(text, [])),
-  [[mask], [{ ...mask, value: value + 2n ** 64n }], [{ ...mask, value: value - 2n ** 64n }],
-    [{ ...mask, len: 56 + 2 ** 32 }], [{ ...mask, len: 56.5 }], [{ ...mask, value: "A1" }],
-    ["56 A1"], [,], null, ...none]
-    .map((open) => said(() => library.reconcile([uid], [{ certain: [uid], open }]))),
-  [silent, "vicinity-log 1\\nU E00401000000A1\\n", ""]
-    .map((text) => said(() => library.reconcile(library.listed(text).list, [empty]))),
-  [[[], [empty]], [[uid], [empty, empty]], [[], [empty, library.survey("vicinity-log 1")]],
-    [[], []], [[], [], []], [[], [null]], [[], [{}]], [[], [{ certain: [] }]], [[], [{ open: [] }]],
-    [[], [{ certain: null, open: [] }]], [[], [{ certain: sent, open: [] }]], [[], undefined],
-    [[], new Set([empty])], [[uid], [uid], [mask]]]
-    .map((words) => said(() => library.reconcile(...words))),
-  [[1, undefined, 0n], [1, 2 ** 32, 0n], [1, 4, 2n ** 64n], [1, 4, 1], [1, 4, "E"], ["1", 4, 1n]]
-    .map((words) => said(() => library.writeInventory(...words))),
-  [[request, undefined], [request, 1.5], [{ ...request, maskValue: 1n + 2n ** 64n }, 3]]
-    .map((words) => said(() => library.slotMask(...words))),
-  library.check(silent).text]));
+  [wide, [...silent], new DataView(wide.buffer), wide.buffer, 1]
+    .map((text) => said("check", { text })),
+  [["check"], ["check", { text: silent }, { text: silent }],
+    ["survey", { name: "a\\nb", text: silent }], ["survey", { name: "", text: silent }],
+    ["collection", { name: "a", text: silent }],
+    ["collection", { name: "K", text: table }, { name: "L", text: table }]]
+    .map(([command, ...texts]) => said(command, ...texts)),
+  said("json-collection", { name: "K", text: table }, { name: "a", text: silent })[0],
+  said("check", { text: silent })]));
 """
 # A module whose stack is too small, as Firefox says it, and what is said of it next.
 SPENT = """
 import { Library } from "./web/library.mjs";
 const library = new Library({ exports: { memory: new WebAssembly.Memory({ initial: 1 }),
   vicinity_interface: () => 2, vicinity_allocate: () => 16n, vicinity_free() {},
-  vicinity_check() { throw new Error("too much recursion"); } } });
-const said = () => { try { library.check(""); } catch (error) { console.log(error.message); } };
+  vicinity_run() { throw new Error("too much recursion"); } } });
+const said = () => {
+  try { library.run("check", [{ text: "" }]); } catch (error) { console.log(error.message); }
+};
 said();
 said();
 """
@@ -125,17 +113,12 @@ def test_what_belongs_to_one_system_is_refused(wasm_module, tmp_path, old, new, 
     assert not (tmp_path / "out.ll").exists()
 
 
-def test_a_list_is_taken_whole_or_not_at_all(wasm_module):
-    """Also behind a last line that doesn't end; and so are masks."""
-    ended, lists, texts, masked, refused, joined, written, asked, after = json.loads(
-        told("node", "--input-type=module", "-e", BESIDE, wasm_module, cwd=TOP))
-    assert ended == [f"absent {UID_A:X}"] * 3
-    assert lists == ["complete 0", *["TypeError"] * 9] and texts == ["TypeError"] * 4
-    assert masked == ["complete 1", *["TypeError"] * 12] and refused == ["TypeError"] * 3
-    assert joined == ["complete 0", f"absent {UID_A:X}", "unsettled 0 -", *["RangeError"] * 2,
-                      *["TypeError"] * 9]
-    assert written == ["TypeError"] * 6 and asked == ["TypeError"] * 3
-    assert after == "complete 0\n"
+def test_what_is_no_text_is_refused(wasm_module):
+    """And leaves the module as it was."""
+    texts, asked, status, after = json.loads(
+        told("node", "--input-type=module", "-e", WRONG, wasm_module, cwd=TOP))
+    assert texts == ["TypeError"] * 5 and asked == ["RangeError"] * 6
+    assert (status, after) == (0, [0, "complete 0\n"])
 
 
 def test_a_module_that_failed_is_not_asked_again():
@@ -143,15 +126,13 @@ def test_a_module_that_failed_is_not_asked_again():
     assert said == "too much recursion\nthe module has failed: load it again\n"
 
 
-def test_every_number_by_node(wasm_module, texts, answered):
-    node = Program("node", TOP / "tests/wasm/answers.mjs", wasm_module)
-    assert node.run(given=texts) == (answered, b"", 0)
-
-
-def test_every_number_in_a_browser(browser, wasm_module, texts, answered, tmp_path):
+def test_a_browser_writes_what_node_writes(browser, wasm_module, texts, tmp_path):
+    """Whose answers tests/test_shims.py compares with the rows."""
     (tmp_path / "texts").write_bytes(texts)
+    node = Program("node", TOP / "tests/wasm/answers.mjs", wasm_module).run(given=texts)
     given = browser.run_module("tests/wasm/in_browser.mjs", wasm_module, tmp_path / "texts")
-    assert given.encode() == answered
+    assert (given.encode(), b"") == node[:2]
+    assert given.count("\ncheck ") + 1 == len(all_texts())
 
 
 def test_a_session_of_a_million_lines(wasm, program, million, tmp_path):
@@ -215,13 +196,11 @@ def growing(wasm_module, tmp_path_factory):
 def test_each_growth_is_refused(growing, names):
     listed = uids([UID_B, UID_A])
     beside = log_of(" ".join(name for name in names.split() if not name.startswith("U")))
-    for name in "check", "explain", "report", "certain", "open_masks", "margin":
+    for name in "check", "explain", "report", "margin":
         growing.refuse_each(name, log_of(names))
-    for name in "check_listed", "explain_listed", "report_listed", "margin_listed":
+    for name in "check_listed", "margin_listed":
         growing.refuse_each(name, beside, listed)
-    growing.refuse_each("reconcile", listed, uids([UID_A]), masks([]))
-    growing.refuse_each("listed", log_of("UA UB"))
     growing.refuse_each("simulate", log_of("I1 QA I1 UA UB"))
     growing.refuse_each("run", *run_of("report", [log_of(names)]))
-    reconciled = run_of("reconcile", [log_of("UA UB"), log_of(names)])
+    reconciled = run_of("reconcile", [log_of("UA UB"), log_of(names)], [b"EXPECTED", b"a"])
     growing.refuse_each("run", *reconciled, or_right=True)

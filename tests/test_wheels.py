@@ -76,7 +76,7 @@ def test_the_same_bytes_of_a_source_distribution(sdist, tmp_path, another_day):
     assert file.read_bytes() == sdist.read_bytes()
     with tarfile.open(file) as archive:
         names = {name.partition("/")[2] for name in archive.getnames()}
-    assert {*LICENSES, "README.md", "PKG-INFO", "vicinity/commands/reconcile.py",
+    assert {*LICENSES, "README.md", "PKG-INFO", "vicinity/commands/collection.py",
             backend.PAGE} <= names
 
 
@@ -149,9 +149,8 @@ def is_answered(program, *words):
     assert (answers, err, status) == (
         [["2", "impossible at line 6"], ["1", "unsettled 7 61"], ["0", "complete 4"]], b"", 2)
     out, err, status = program.run(
-        *words, "reconcile", "--csv", "--expected", "examples/collection/catalogue.csv",
-        *sorted(TOP.glob("examples/collection/shelf-*.log")))
-    assert (out.count(b",there,"), err, status) == (10, b"", 1)
+        *words, "collection", "--csv", *sorted(TOP.glob("examples/collection/*")))
+    assert (out.count(b",in place,"), err, status) == (9, b"", 1)
 
 
 @pytest.mark.slow
@@ -164,7 +163,7 @@ def test_it_works(wheel, python, tmp_path):
     told(there / "pip", "install", "--no-index", wheel, **alone)
     logs = Program(there / "vicinity-logs", LIBVICINITY="", PYTHONPATH="")
     is_answered(logs)
-    for command in ("check", "report", "reconcile", "survey", "compare", "show", "page", "misread"):
+    for command in ("check", "report", "collection", "compare", "show", "page", "misread"):
         assert logs.told(command, "--help").startswith(f"usage: vicinity-logs {command}")
     assert logs.told("page", "examples/whole-shelf.log")
     said = told(there / "python", "-c", "import vicinity as it; print(it.__file__, it.check(b''))",

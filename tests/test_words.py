@@ -58,13 +58,13 @@ def test_frame_and_spell_end_with_their_status(one):
 
 
 @pytest.mark.parametrize("words", [
-    [], ["frame"], ["spell"], ["check", "a", "b"], ["help"], ["list"], ["explain", "a", "b"],
-    ["report", "a", "b"], ["margin", "a", "b"], ["json", "a", "b"], ["json", "-x"],
-    ["survey"], ["survey", "--"], ["survey", "-x"], ["survey", ""], ["survey", "a\tb"],
+    [], ["help"], ["list"], ["json", "-x"],
+    ["survey", "--"], ["survey", "-x"], ["survey", ""], ["survey", "a\tb"],
     ["survey", "a", "b\nc"], ["survey", b"\xff"],
     ["check", "-x"], ["frame", "--"], ["spell", "--"], ["check", b"\xff"],
     ["spell", b"\xed\xa0\x80"]], ids=repr)
 def test_words_that_are_no_command(one, words):
+    """How many operands each takes: test_names.py."""
     assert one.run(*words) == USAGE
 
 

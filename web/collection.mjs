@@ -1,99 +1,114 @@
-/** Draws a collection: what to count again, what to do at each shelf, what isn't known yet, and each log. */
-import { contradiction } from "./contradiction.mjs";
-import { el, folded, lowered } from "./elements.mjs";
+/** Draws a collection: what isn't sure of its logs, what to count again, what to do at each shelf, what isn't known yet, and each log. */
+import { el, folded, lowered, oneStop } from "./elements.mjs";
 import { maskOf } from "./frames.mjs";
-import { KIND } from "./kinds.mjs";
+import { doubted, doubtsOf } from "./logs.mjs";
 import { Pane } from "./pane.mjs";
 import { noOthers } from "./say.mjs";
 import { inOrder, MOST_NAMES, nameOf, shelved, Shelves } from "./shelves.mjs";
-import { ALLOWED, granted, HOLDS, mayBeWrong, missed, notSure, stillHolds } from "./sure.mjs";
-import { tell } from "./told.mjs";
+import { deafIn, granted, HOLDS, mayBeWrong, missed, notSure, stillHolds } from "./sure.mjs";
 import { banner, signed, view } from "./view.mjs";
-import { count, EDITED, endings, hex, listing, printable, TRIAL } from "./words.mjs";
+import { count, EDITED, endings, KIND, listing, printable } from "./words.mjs";
 
 /** @typedef {import("./told.mjs").LogObject} LogObject */
+/** @typedef {import("./told.mjs").Told} Told */
 /** @typedef {import("./view.mjs").Names} Names */
-/** @typedef {"there" | "misplaced" | "missing" | "not provable" | "unexpected" | "no tag"} State */
-/** @typedef {{uid: string | null, state: State, columns: Record<string, string>, certain_in: string[], may_be_in: string[],
- *   belongs?: string, overlooked?: number}} Item */
-/** @typedef {{file: string, places?: string[], certain: number, open: {mask_len: number, mask_value: string, ask?: string}[], more_open: boolean,
- *   list: {kind: string, status: number, line?: number, error?: string}, captured?: OfField, object?: LogObject}} OneLog */
-/** @typedef {{holds: boolean, mask_len?: number, mask_value?: string}} OfField whether a log says the same of its field if strong
- *   replies hid weaker ones, and if not, a mask that may have more tags */
+/** @typedef {{mask_len: number, mask_value: string}} MaskFields */
+/** @typedef {"no tag" | "returned" | "in place" | "misplaced" | "there" | "not provable" | "away" | "not counted" | "missing" | "unexpected"} State */
+/** @typedef {{uid: string | null, state: State, place: string | null, cells?: string[], certain_in: number[], possible_in: number[]}} Item */
+/** @typedef {Omit<Item, "state" | "place" | "cells"> & {line: number}} Unexpected */
+/** @typedef {{name: string, place: string | null, left_over: boolean, field: string, answers?: number, certain?: number, shared?: number, open?: MaskFields[],
+ *   more?: boolean, margin?: number, hidden?: MaskFields | null, deaf?: MaskFields | null, sha256?: string, object?: LogObject}} OneLog */
 /**
  * The object of a collection, as docs/answers.schema.json has it.
  * @typedef {Object} CollectionObject
- * @property {1} schema
+ * @property {number} schema
  * @property {string} version
- * @property {string} name of the catalogue
- * @property {string} kind
+ * @property {string} file the catalogue's name
  * @property {number} status
- * @property {Record<string, number>} counts how many items there are of each state
- * @property {{mask_len: number, mask_value: string} | null} unsettled
- * @property {{file: string, kind: string, do: string}[]} set_aside
- * @property {{what: string, file: string, sha256: string}[]} [files] what was given beside the logs
- * @property {Item[]} items
- * @property {OneLog[]} logs
- * @property {number} [margin] of a complete collection
+ * @property {string} answer
+ * @property {{margin: number, weakest: MaskFields, log: number}} [margin] of a complete collection
  * @property {number} [wanted] the margin that was asked for, where its own is less or isn't known
- * @property {import("./told.mjs").Margin["weakest"]} [weakest]
+ * @property {Record<State, number>} counts how many items there are of each state
+ * @property {string[]} columns
+ * @property {boolean} ended whether the catalogue ends by LF
+ * @property {Item[]} items
+ * @property {Unexpected[]} unexpected
+ * @property {string[]} without_log
+ * @property {OneLog[]} logs
+ * @property {{file: string, sha256: string}[]} files what was given beside the logs
+ * @property {string[]} [both] logs that are called like copies and are none, as was said
  */
+/** @typedef {(at: number) => null | (() => Promise<Told | undefined>)} Opener what is told of a log, by its number, if it can be had */
 
-/** How many logs are drawn, how many items are seen unfolded, and how many masks are named. */
-const MOST_LOGS = 2000, FEW_ITEMS = 200, MOST_MASKS = 3;
+/** How many logs are drawn, how many items are seen unfolded, how many masks are named, and by how many doubts a headline is explained. */
+const MOST_LOGS = 2000, FEW_ITEMS = 200, MOST_MASKS = 3, MOST_DOUBTS = 2;
 /** How many cells of the catalogue are the name of an item. */
 const MOST_CELLS = 2;
-const CANNOT_BE_READ = 4;
-/** How much text of logs stands in a page that is saved. */
-const MOST_TEXT = 4_000_000;
 const LOOK_FOR = "If it is in plain sight, its tag is broken, covered, or another than in the catalogue, or its reply was lost: move it, and count again. " +
   "If it isn't found, leave its row in the catalogue.";
-const NOT_EXPECTED = "What isn't in the catalogue: find it by reading the items one by one, and bring it to where it belongs, or add it.";
-const AWAY = "Count again first, as said above. The logs of their shelves rule these out: they are in none of the fields, or";
-const STILL_AWAY = "What isn't found then: look on its own shelf, as its tag may be broken or covered.";
-const AGAIN_BROKEN = "If it happens again, send the log and this page to whoever maintains the reader.";
+const NOT_EXPECTED = "What isn't in the catalogue: find it by reading the items one by one, and bring it to where it belongs, or add it. ";
+const IS_BACK = "What is back was away, as the catalogue says: record that it is here.";
+const ELSEWHERE = "Count again first, as said above. The logs of their shelves rule these out: they are in none of the fields, or in a field that has to " +
+  "be counted again. What isn't found then: look on its own shelf, as its tag may be broken or covered.";
 const NO_TAG = "These rows of the catalogue have no UID, so nothing is known of them: look for them by eye.";
 const UNKNOWN_YET = "Whether these are here isn't known until the logs above are counted again.";
-const OF_LOGS = ["Nothing was carried from one field to another while the logs were written.", "Each place of the catalogue has " +
-  "a log: what stands in a place without one is called missing.", "The state of each item (here, missing, in the wrong place) follows from " +
-  "what is proved of the logs: this step is tested, not proved."];
+const NOT_COUNTED = "Nothing is known of these, as their places have no log.";
+const WAITS = "The catalogue can be read, and waits here: open or drop the logs, in any order. They are compared with it at once.";
+const AGAIN_BROKEN = " If a log contradicts itself again, send it and this page to whoever maintains the reader.";
+const CARRIED = "Nothing was carried from one field to another while the logs were written.";
+const PROVED = "What is said of each item and log is what the library writes of these files, which is proved; how the page draws it is tested.";
 
 /** @param {OneLog} log */
-const isAside = (log) => log.list.status > 1;
+const isAside = ({ field }) => field !== "possible";
 
 /** @param {OneLog} log */
-const isOpen = (log) => log.open.length > 0;
+const isOpen = (log) => isAside(log) || log.open?.length;
 
 /** @param {number} logs */
 const countAgain = (logs) => `Run ${logs === 1 ? "its inventory" : "the inventory of each"} again, to its end, in a new log.`;
 
 /**
+ * Items, and what is unexpected as such, by their states.
  * @param {CollectionObject} object
+ * @returns {(...states: State[]) => Item[]}
+ */
+function byState({ items, unexpected }) {
+  const all = [...items, ...unexpected.map((found) => ({ ...found, state: /** @type {State} */ ("unexpected"), place: null }))];
+  return (...states) => states.flatMap((state) => all.filter((item) => item.state === state));
+}
+
+/**
+ * @param {CollectionObject} object
+ * @param {Opener} [opener]
+ * @param {(name: string) => boolean} [canLeave] whether a log can be left out
  * @returns {Node[]}
  */
-export function collectionView(object) {
-  const of = (/** @type {State} */ state) => object.items.filter((item) => item.state === state), shelves = new Shelves(object.logs);
-  const home = (/** @type {Item} */ { belongs = "" }) => printable(belongs), known = new Set(["", ...of("there").map(home)]);
-  const slots = { "asked in": (/** @type {Item} */ { overlooked }) => overlooked ? `${count(overlooked, "slot")}${object.logs.length > 1 ? " or more" : ""}` : "" };
-  const mayBe = { "may be in": (/** @type {Item} */ item) => shelves.names(item.may_be_in, "or") }, unknown = of("not provable");
-  const away = unknown.filter((item) => shelves.isAway(item)), others = unknown.filter((item) => !shelves.isAway(item));
+export function collectionView(object, opener = () => null, canLeave = () => false) {
+  const of = byState(object), shelves = new Shelves(object), doubts = doubtsOf(object, shelves), { counts } = object;
+  const home = (/** @type {Item} */ { place }) => printable(place ?? ""), known = new Set(["", ...of("in place").map(home)]);
+  const mayBe = { "may be in": (/** @type {Item} */ item) => shelves.names(item.possible_in, "or") }, unknown = of("not provable");
+  const elsewhere = unknown.filter((item) => shelves.isElsewhere(item)), others = unknown.filter((item) => !shelves.isElsewhere(item));
   const some = others.filter((item) => known.has(home(item))), none = others.filter((item) => !known.has(home(item)));
   // of a shelf of which nothing is known to be in place no items are named
   const all = listing([...new Set(none.map(home))].sort(inOrder)), these = some.length ? ", and these:" : ".";
   const which = none.length ? ` They are ${count(none.length, "item")} of ${all}, not named here${these}` : "";
-  const open = object.logs.filter(isOpen), isShelf = away.every((item) => item.may_be_in.every((file) => shelves.placeOf(file)));
-  const todo = [...of("missing"), ...of("misplaced"), ...of("unexpected")], isKnown = !todo.length && !unknown.length;
-  const edited = object.logs.filter(({ file }) => file.endsWith(EDITED)).length, changes = edited ? ` (${edited.toLocaleString("en")} edited)` : "";
-  const said = { ...lookOf(object), headline: headlineOf(object), lights: lights(object) }, rests = conditionsOfAll(object, shelves);
-  return [banner(said, `${printable(object.name)} · ${count(object.logs.length, "log")}${changes}`), ...isKnown ? rests : [],
-    ...logs("Count again", countAgain(open.length), open, true, object, shelves),
-    ...part("At the shelves", todo, true, howTo(object), shelved(todo, (item) => shelves.at(item), object.counts.missing ? slots : {}, (item) => shelves.toDo(item))),
-    ...part("Not heard on their shelves", away, true, `${AWAY} ${isShelf ? "on a shelf" : "in a field"} that has to be counted again. ${STILL_AWAY}`,
-      shelved(away, home, mayBe)),
-    ...part("Without a tag", of("no tag"), true, NO_TAG, shelved(of("no tag"), home, {}, () => "look for")),
-    ...part("Not known yet", others, false, UNKNOWN_YET + which, shelved(some, home, some.every(home) ? {} : mayBe)),
-    ...inPlace(object), ...isKnown ? [] : rests,
-    ...logs("Nothing left to ask", "", object.logs.filter((log) => !isOpen(log)), false, object, shelves),
+  const numbers = [...object.logs.keys()], open = numbers.filter((at) => isOpen(object.logs[at]));
+  const todo = of("missing", "misplaced", "unexpected", "returned"), isKnown = !todo.length && !unknown.length && !counts["not counted"];
+  const edited = object.logs.filter(({ name }) => name.endsWith(EDITED)).length, changes = edited ? ` (${edited.toLocaleString("en")} edited)` : "";
+  const said = { ...lookOf(object, doubts), headline: headlineOf(object), lights: lights(object) }, rests = conditionsOfAll(object, shelves);
+  if (!object.logs.length) return [banner({ look: "read", sign: "…", headline: headlineOf(object), lights: [] }, printable(object.file)), el("p", {}, WAITS)];
+  const table = (/** @type {Item[]} */ list, /** @type {import("./shelves.mjs").Cell} */ shelf, where = {}, /** @type {import("./shelves.mjs").Cell} */ toDo) =>
+    shelved(list, shelves, shelf, where, toDo);
+  const drawn = (/** @type {string} */ title, /** @type {string} */ words, /** @type {number[]} */ list, /** @type {boolean} */ isFirst) =>
+    logs(title, words, list, isFirst, object, shelves, opener);
+  return [banner(said, `${printable(object.file)} · ${count(object.logs.length, "log")}${changes}`), ...doubted(doubts, canLeave), ...isKnown ? rests : [],
+    ...drawn("Count again", countAgain(open.length) + (open.some((at) => object.logs[at].field.startsWith(KIND.IMPOSSIBLE)) ? AGAIN_BROKEN : ""), open, true),
+    ...part("At the shelves", todo, true, howTo(object), table(todo, (item) => shelves.at(item), {}, (item) => shelves.toDo(item))),
+    ...part("Not heard on their shelves", elsewhere, true, ELSEWHERE, table(elsewhere, home, mayBe)),
+    ...part("Without a tag", of("no tag"), true, NO_TAG, table(of("no tag"), home, {}, () => "look for")),
+    ...part("Not counted", of("not counted"), false, NOT_COUNTED, table(of("not counted"), home)),
+    ...part("Not known yet", others, false, UNKNOWN_YET + which, table(some, home, some.every(home) ? {} : mayBe)),
+    ...inPlace(object), ...isKnown ? [] : rests, ...drawn("Nothing left to ask", "", numbers.filter((at) => !isOpen(object.logs[at])), false),
     ...grantedOfAll(object), recordOfAll(object)];
 }
 
@@ -115,90 +130,87 @@ function part(title, list, open, words, drawn) {
 /** @param {CollectionObject} object */
 function howTo({ counts, logs: fields }) {
   const look = counts.missing ? `What is missing ${fields.length > 1 ? "answered in none of the fields" : "didn't answer"}. ${LOOK_FOR} ` : "";
-  return look + (counts.unexpected ? NOT_EXPECTED : "");
+  return look + (counts.unexpected ? NOT_EXPECTED : "") + (counts.returned ? IS_BACK : "");
 }
 
 /** @param {CollectionObject} object */
-function inPlace({ counts, items: all }) {
-  const place = all.every((item) => item.belongs || item.state !== "there") ? ", and in place" : "", { there } = counts;
-  if (!there || there === all.length - counts.unexpected) return [];
-  return [el("p", {}, `The ${count(there, "other item")} of the catalogue ${there === 1 ? "is" : "are"} here${place}.`)];
+const found = ({ counts }) => counts["in place"] + counts.there;
+
+/** @param {CollectionObject} object */
+function inPlace(object) {
+  const { counts: { away, there }, items } = object, here = found(object), other = here < items.length - away ? "other " : "";
+  const gone = away ? `${count(away, "item")} ${away === 1 ? "is" : "are"} away, as the catalogue says.` : "";
+  const said = here && other ? `The ${count(here, `${other}item`)} of the catalogue ${here === 1 ? "is" : "are"} here${there ? "" : ", and in place"}. ` : "";
+  return said || gone ? [el("p", {}, said + gone)] : [];
 }
 
 /**
- * What the catalogue says of each UID, in as many of its cells as name it.
+ * What the catalogue says of each UID.
  * @param {CollectionObject} object
+ * @param {Shelves} shelves
  * @returns {Names}
  */
-function namesIn({ items: all }) {
-  const said = (/** @type {Item} */ { columns }) => Object.values(columns).filter((cell) => cell.trim()).slice(0, MOST_CELLS).join(" · ");
-  return new Map(all.flatMap((item) => item.uid ? [[item.uid, said(item)]] : []));
-}
-
-/**
- * A collection as it is saved: with so many of its logs as there is room for, those first that have to be counted again.
- * @param {CollectionObject} object
- * @returns {CollectionObject}
- */
-export function withRoom(object) {
-  let room = MOST_TEXT;
-  const ordered = [...object.logs.filter(isOpen), ...object.logs.filter((log) => !isOpen(log))];
-  const kept = new Set(ordered.filter((log) => room >= 0 && (room -= log.object?.text.length ?? 0) >= 0));
-  return { ...object, logs: object.logs.map((log) => kept.has(log) ? log : { ...log, object: undefined }) };
-}
+const namesIn = ({ items }, shelves) => new Map(items.flatMap((item) => item.uid ? [[item.uid, shelves.said(item, MOST_CELLS)]] : []));
 
 /** @param {CollectionObject} object */
-const isComplete = ({ kind, status }) => kind === KIND.COMPLETE && status === 0;
-
-/**
- * Whether a line of some log is only tried.
- * @param {CollectionObject} object
- */
-const isTried = ({ logs: all }) => all.some(({ file }) => TRIAL.test(file));
+const isComplete = ({ answer, status }) => status === 0 && answer.startsWith(KIND.COMPLETE);
 
 /**
  * Whether other tags may be in some field if strong replies hid weaker ones.
  * @param {CollectionObject} object
  */
-const isHiding = ({ logs: all }) => all.some(({ captured }) => captured?.holds === false);
+const isHiding = ({ logs: all }) => all.some(({ hidden }) => hidden);
 
 /**
- * As of one log, what is complete isn't green without a tag that was expected, nor where others may be hidden. What is only tried never is.
+ * As of one log, what is complete isn't green without a tag that was expected, nor where others may be hidden, nor where anything isn't sure of
+ * its logs.
  * @param {CollectionObject} object
+ * @param {import("./logs.mjs").Doubt[]} doubts
  * @returns {Pick<import("./say.mjs").Said, "look" | "sign">}
  */
-function lookOf(object) {
-  if (isTried(object)) return { look: "read", sign: "?" };
+function lookOf(object, doubts) {
   if (!isComplete(object)) return { look: "no", sign: "!" };
-  return object.counts.there && !isHiding(object) ? { look: "yes", sign: "✓" } : { look: "read", sign: "i" };
+  const isSure = found(object) && !object.counts["no tag"] && !isHiding(object) && !doubts.length;
+  return isSure ? { look: "yes", sign: "✓" } : { look: "read", sign: "i" };
 }
 
 /** @param {CollectionObject} object */
-const isOfAll = (object) => isComplete(object) || object.kind === KIND.SMALL;
+export function headlineOf(object) {
+  const shelves = new Shelves(object);
+  if (!object.logs.length) return waiting(object);
+  if (!isComplete(object)) return object.wanted ? notSure(object.margin?.margin, object.wanted) : lacking(object, shelves);
+  const doubts = doubtsOf(object, shelves).map(({ short }) => short), more = doubts.length - MOST_DOUBTS, number = found(object), without = object.counts["no tag"];
+  const untagged = without ? [`${count(without, "item")} ${without === 1 ? "has" : "have"} no tag`] : [];
+  const but = [...untagged, ...doubts.slice(0, MOST_DOUBTS), ...more > 0 ? [`${more} more`] : []];
+  const here = number ? `${number === 1 ? "The one expected item is" : `All ${count(number, "expected item")} are`} here${noOthers(number, isHiding(object))}`
+    : `Nothing is expected here, and no tag answered.`;
+  return but.length ? `${here} But ${listing(but)}.` : here;
+}
 
 /** @param {CollectionObject} object */
-export const headlineOf = (object) => isTried(object) ? `A trial: ${sentenceOf(object)}` : sentenceOf(object);
+function waiting({ items, without_log: places }) {
+  const where = places.length ? ` on ${count(places.length, "place")}` : "";
+  return `The catalogue has ${count(items.length, "item")}${where}. Now open the logs.`;
+}
 
-/** @param {CollectionObject} object */
-function sentenceOf(object) {
-  const { counts } = object, tags = object.items.filter((item) => item.uid !== null && item.state !== "unexpected").length;
-  const which = counts["no tag"] ? " that have a tag" : "", again = object.logs.filter(isOpen), shelves = new Shelves(object.logs);
-  if (isComplete(object)) {
-    if (tags === 0) return counts["no tag"] ? "No expected item has a tag, and no tag is here." : "Nothing is expected, and nothing is here.";
-    return `${tags === 1 ? "The one expected item is" : `All ${count(tags, "expected item")}${which} are`} here${noOthers(tags, isHiding(object))}`;
-  }
-  if (object.kind === KIND.SMALL) return notSure(object.margin, object.wanted ?? 0);
-  const unknown = object.items.filter((item) => item.state === "not provable"), away = unknown.filter((item) => shelves.isAway(item)).length;
-  const parts = /** @type {[number, string][]} */ ([[counts.missing, "missing"], [away, `not heard on ${away === 1 ? "its shelf" : "their shelves"}`],
-    [counts.misplaced, "in the wrong place"], [counts.unexpected, "not in the catalogue"], [unknown.length - away, "not known yet"],
-    [counts["no tag"], "without a tag"]]);
+/**
+ * What isn't as it should be, the most important first, and what to count.
+ * @param {CollectionObject} object
+ * @param {Shelves} shelves
+ */
+function lacking(object, shelves) {
+  const { counts, items, logs: fields } = object, unknown = items.filter((item) => item.state === "not provable");
+  const elsewhere = unknown.filter((item) => shelves.isElsewhere(item)).length, again = [...fields.keys()].filter((at) => isOpen(fields[at])).sort((one, other) => inOrder(shelves.name(one), shelves.name(other)));
+  const parts = /** @type {[number, string][]} */ ([[counts.missing, "missing"], [elsewhere, `not heard on ${elsewhere === 1 ? "its shelf" : "their shelves"}`],
+    [counts.misplaced, "in the wrong place"], [counts.unexpected, "not in the catalogue"], [counts.returned, "back that should be away"],
+    [counts["not counted"], "not counted"], [unknown.length - elsewhere, "not known yet"], [counts["no tag"], "without a tag"]]);
   const said = parts.filter(([number]) => number).map(([number, words], at) => at ? `${number.toLocaleString("en")} ${words}`
     : `${count(number, "item")} ${words}`);
-  const isNamed = again.length <= MOST_NAMES && again.every(({ file }) => shelves.placeOf(file));
-  const number = isNamed ? shelves.names(again.map((log) => log.file))
-    : again.length < object.logs.length || again.length === 1 ? count(again.length, "log") : "all logs";
-  const todo = again.length ? `count ${number} again` : "";
-  const text = [listing(said), todo].filter((it) => it).join("; ") || "the logs and the catalogue differ";
+  const isNamed = again.length <= MOST_NAMES && again.every((at) => shelves.isPlaced(at));
+  const number = isNamed ? shelves.names(again) : again.length < fields.length || again.length === 1 ? count(again.length, "log") : "all logs";
+  const here = said.length || again.length ? listing(said) : `all ${count(found(object), "expected item")} are here`;
+  const text = [here, ...again.length ? [`count ${number} again`] : [], ...doubtsOf(object, shelves).flatMap(({ short, isFirst }) => isFirst ? [short] : [])]
+    .filter((it) => it).join("; ");
   return `${text[0].toUpperCase()}${text.slice(1)}.`;
 }
 
@@ -207,17 +219,29 @@ function sentenceOf(object) {
  * @returns {import("./say.mjs").Light[]}
  */
 function lights(object) {
-  const { counts, logs } = object, done = logs.filter((log) => !isOpen(log) && log.captured?.holds !== false).length;
-  const differs = counts.missing || counts.misplaced || counts.unexpected;
-  // a headline of items that are all here doesn't count these
-  const untagged = isOfAll(object) && counts["no tag"] ? `, ${counts["no tag"].toLocaleString("en")} without a tag` : "";
-  const items = object.items.length - counts.unexpected, isPlaced = object.items.some((item) => item.belongs);
-  const loose = isPlaced ? object.items.filter(({ uid, state, belongs }) => uid && !belongs && state !== "unexpected").length : 0;
-  const unplaced = loose ? `, ${loose.toLocaleString("en")} without a place` : "";
-  const read = `${done.toLocaleString("en")} of ${count(logs.length, "log")}`;
-  return [{ name: "Search finished", value: read, look: done === logs.length ? "yes" : "no" },
-    { name: isPlaced ? "In place" : "Here", value: `${counts.there.toLocaleString("en")} of ${count(items, "item")}${untagged}${unplaced}`,
-      look: counts.there === items ? "yes" : differs ? "no" : "plain" }];
+  const { counts, items, logs, without_log: places } = object, done = logs.filter((log) => !isOpen(log) && !log.hidden).length, here = found(object);
+  if (!logs.length) return [];
+  const more = (/** @type {number} */ number, /** @type {string} */ words) => number ? `, ${number.toLocaleString("en")} ${words}` : "";
+  const isPlaced = new Shelves(object).isAsked, differs = counts.missing || counts.misplaced || counts.unexpected || counts.returned;
+  const value = `${here.toLocaleString("en")} of ${count(items.length, "item")}${more(counts.away, "away")}${more(counts["no tag"], "without a tag")}` +
+    more(isPlaced ? counts.there : 0, "without a place");
+  const lost = places.length ? `, no log of ${count(places.length, "place")}` : "";
+  return [{ name: "Search finished", value: `${done.toLocaleString("en")} of ${count(logs.length, "log")}${lost}`, look: done === logs.length && !lost ? "yes" : "no" },
+    { name: isPlaced ? "In place" : "Here", value, look: here + counts.away === items.length ? "yes" : differs ? "no" : "plain" }, ...sureOfAll(object)];
+}
+
+/**
+ * How sure a complete collection is, as of a list that is complete.
+ * @param {CollectionObject} object
+ * @returns {import("./say.mjs").Light[]}
+ */
+function sureOfAll(object) {
+  const { margin, logs } = object;
+  if (!margin) return [];
+  const light = (/** @type {string} */ name, /** @type {boolean} */ holds) => ({ name, value: holds ? "still complete" : "others may be here",
+    look: /** @type {import("./say.mjs").Look} */ (holds ? "yes" : "no") });
+  return [{ name: "Each other tag was asked", value: `${count(margin.margin, "time")} or more`, look: "plain" }, light("If replies were hidden", !isHiding(object)),
+    light("If the reader went deaf", logs.every(({ deaf }) => deaf === null))];
 }
 
 /**
@@ -226,121 +250,95 @@ function lights(object) {
  * @param {Shelves} shelves
  */
 function conditionsOfAll(object, shelves) {
-  const { counts } = object, all = object.logs.filter((log) => !isAside(log));
-  const hiding = all.filter((log) => log.captured?.holds === false), isAll = isOfAll(object);
+  const { counts, logs: fields, margin } = object, numbers = [...fields.keys()], hiding = numbers.filter((at) => fields[at].hidden);
   // what else is in fields that have to be counted again is known then
-  const hidden = hiding.filter((log) => !isOpen(log)), isAgain = hiding.length > 0 && !hidden.length;
-  if (!isAll && (isAgain || !counts.missing && !counts.unexpected)) return [];
-  const known = all.every((log) => log.captured);
-  const fields = shelves.names(hidden.map((log) => log.file));
-  const also = hidden.length ? `${mayBeWrong(` in the field of ${fields},`)}.` : allowsHidden(object) ? ALLOWED
-    : stillHolds(isAll ? object.margin : undefined);
-  const sure = isAll ? [HOLDS, ...missed(object, ` in the field of ${shelves.name(object.weakest?.file ?? "")}`)] : [];
-  return [el("section", { class: "holds" }, ...sure.map((it) => el("p", {}, it)),
-    ...known || hidden.length ? [el("p", {}, also)] : [])];
+  const hidden = hiding.filter((at) => !isOpen(fields[at])), isAgain = hiding.length > 0 && !hidden.length;
+  if (!fields.length || !margin && (isAgain || !counts.missing && !counts.unexpected)) return [];
+  const deaf = margin ? numbers.filter((at) => fields[at].deaf) : [];
+  const also = hidden.length ? `${mayBeWrong(` in the field of ${shelves.names(hidden)},`)}.` : stillHolds(margin?.margin);
+  const sure = margin ? [HOLDS, ...missed(margin, ` in the field of ${shelves.name(margin.log)}`)] : [];
+  return [el("section", { class: "holds" }, [...sure, also, ...deaf.length ? [deafIn(shelves.names(deaf))] : []].map((it) => el("p", {}, it)))];
 }
 
 /**
  * Logs, each drawn when it is opened; those first that say nothing.
  * @param {string} title
  * @param {string} words
- * @param {OneLog[]} list
+ * @param {number[]} list
  * @param {boolean} open
  * @param {CollectionObject} object
  * @param {Shelves} shelves
+ * @param {Opener} opener
  */
-function logs(title, words, list, open, object, shelves) {
+function logs(title, words, list, open, object, shelves, opener) {
   if (!list.length) return [];
   const more = list.length > MOST_LOGS ? [el("p", {}, `and ${(list.length - MOST_LOGS).toLocaleString("en")} more`)] : [];
-  const names = namesIn(object), byName = [...list].sort((one, other) => inOrder(shelves.name(one.file), shelves.name(other.file)));
-  const sorted = [...byName.filter(isAside), ...byName.filter((log) => !isAside(log))];
-  return [folded(`${title} (${count(list.length, "log")})`, open, ...words ? [el("p", {}, words)] : [],
-    el("ul", { class: "logs" }, sorted.slice(0, MOST_LOGS).map((log) => el("li", {}, oneLog(log, names, shelves)))), ...more)];
+  const names = namesIn(object, shelves), byName = [...list].sort((one, other) => inOrder(shelves.name(one), shelves.name(other)));
+  const isFirst = (/** @type {number} */ at) => isAside(object.logs[at]), sorted = [...byName.filter(isFirst), ...byName.filter((at) => !isFirst(at))];
+  const items = sorted.slice(0, MOST_LOGS).map((at) => el("li", {}, oneLog(object.logs[at], shelves.name(at), names, opener(at))));
+  return [folded(`${title} (${count(list.length, "log")})`, open, ...words ? [el("p", {}, words)] : [], oneStop(el("ul", { class: "logs" }, items), ".log > summary"), ...more)];
 }
 
 /**
  * @param {OneLog} log
+ * @param {string} name
  * @param {Names} names
- * @param {Shelves} shelves
+ * @param {ReturnType<Opener>} opens
  */
-function oneLog(log, names, shelves) {
-  const { object } = log, sha256 = object?.sha256;
+function oneLog(log, name, names, opens) {
+  const sha256 = log.sha256 ?? log.object?.sha256, file = nameOf(log.name), isSame = [file, file.replace(/\.[^. ]*$/, "")].includes(name);
   const sum = sha256 ? [el("span", { class: "sum" }, "\u00A0· ", el("code", {}, `SHA-256 ${sha256}`))] : [];
-  const name = shelves.name(log.file), file = nameOf(log.file), isSame = [file, file.replace(/\.[^. ]*$/, "")].includes(name);
-  const broken = log.list.kind === KIND.IMPOSSIBLE ? brokenBy(log, names) : null, advice = broken ? [el("p", { class: "advice" }, broken.advice)] : [];
-  const said = broken ? `nothing is known of its field, since its log contradicts itself${broken.why}` : saidOf(log);
-  const words = [el("b", { title: printable(log.file) }, name), `${isSame ? "" : ` (${file})`}: ${said}`, ...sum];
-  if (!object) return [el("p", { class: "log" }, words), ...advice];
+  const words = [el("b", { title: printable(log.name) }, name), `${isSame ? "" : ` (${file})`}: ${saidOf(log)}`, ...sum];
+  if (!opens) return el("p", { class: "log" }, words);
   const it = /** @type {HTMLDetailsElement} */ (el("details", { class: "log aside" }, el("summary", {}, words)));
-  it.addEventListener("toggle", () => {
-    if (it.open && it.childElementCount === 1) it.append(drawnLog(object, names));
+  it.addEventListener("toggle", async () => {
+    if (!it.open || it.childElementCount > 1) return;
+    const place = it.appendChild(el("p", {}, "..")), told = await opens();
+    place.replaceWith(told ? drawnLog(told, names) : el("p", {}, "There is no answer to this log."));
   });
-  return [it, ...advice];
+  return it;
 }
 
 /**
  * A log and its text.
- * @param {LogObject} object
+ * @param {Told} told
  * @param {Names} names
  */
-function drawnLog(object, names) {
-  const label = `The text of ${printable(object.file)}`, shown = lowered(view(tell(object), names, false));
+function drawnLog(told, names) {
+  const label = `The text of ${printable(told.object.file)}`, shown = lowered(view(told, names, false));
   const field = /** @type {HTMLTextAreaElement} */ (el("textarea", { class: "text", readonly: "", "aria-label": label }));
-  new Pane(field, shown).put(object.text);
+  new Pane(field, shown).put(told.object.text);
   return el("div", { class: "both" }, shown, el("div", { class: "beside" }, field));
 }
 
 /**
- * Why a log contradicts itself, and what to do.
- * @param {OneLog} log
- * @param {Names} names
- */
-function brokenBy({ list, object }, names) {
-  const conflict = object && tell(object).conflict;
-  if (!conflict) return { why: ` (line ${list.line})`, advice: AGAIN_BROKEN };
-  const { sentence, shelf = "" } = contradiction(conflict), uids = new Set(conflict.heard.map((slot) => hex(slot.uid ?? 0n)));
-  const name = uids.size === 1 ? names.get([...uids][0]) : "", move = name ? shelf.replace(/the item with tag (\w+)/, (_, tag) => `${printable(name)} (tag ${tag})`) : shelf;
-  return { why: `: ${sentence.replace(/\.$/, "")}`, advice: `${move} ${AGAIN_BROKEN}`.trim() };
-}
-
-/**
- * What a log says that doesn't contradict itself, and what is left to ask in its field.
+ * What a log says, and what is left to ask in its field.
  * @param {OneLog} log
  */
-function saidOf({ list, certain, open, more_open, object }) {
-  if (list.status === CANNOT_BE_READ) return `can't be read: ${list.error ?? ""}`;
-  const told = object && tell(object);
-  if (list.kind === KIND.REFUSED) {
-    const isCut = object && !object.ended && object.lines > 1 && list.line === object.lines;
-    return `${isCut ? "is cut off" : "isn't a log"} (line ${list.line}), so nothing is known of its field${isCut ? ": copy it again first" : ""}`;
-  }
-  const proved = `${count(certain, "tag")} proved`;
-  if (!open.length) return proved;
-  // its own masks are wider than what no other log has proved
-  const masks = object?.open.masks ?? open, more = (object?.open.count ?? open.length) - MOST_MASKS;
-  const others = more_open && !object ? "more masks" : more > 1 ? `${more.toLocaleString("en")}\u00A0more masks` : "";
-  const number = told?.quiet ? 0 : told?.requests.open.concat(told.requests.hidden).length, by = number ? `, by ${count(number, "request")} or more` : "";
-  if (by && others) return `${proved}; left to ask${by}`;
-  return `${proved}; left to ask${by}: ${endings(masks.slice(0, others ? MOST_MASKS : MOST_MASKS + 1).map(maskOf), others)}`;
+function saidOf({ field, certain = 0, open = [], more }) {
+  const [kind, , , line] = field.split(" "), where = `line ${parseInt(line)}`;
+  if (kind === KIND.IMPOSSIBLE) return `nothing is known of its field, since its log contradicts itself (${where})`;
+  if (kind === KIND.REFUSED) return `this log can't be read (${where}), so nothing is known of its field: copy it again, or count again`;
+  const proved = `${count(certain, "tag")} proved`, rest = open.length - MOST_MASKS;
+  const others = more ? "more masks" : rest > 1 ? `${rest.toLocaleString("en")}\u00A0more masks` : "";
+  return open.length ? `${proved}; left to ask: ${endings(open.slice(0, others ? MOST_MASKS : MOST_MASKS + 1).map(maskOf), others)}` : proved;
 }
-
-/**
- * Whether no log has a reply that is said to be alone.
- * @param {CollectionObject} object
- */
-const allowsHidden = ({ logs: all }) => all.every(({ object }) => object && !/^R /m.test(object.text));
 
 /** @param {CollectionObject} object */
 function grantedOfAll(object) {
-  const all = [...OF_LOGS, ...granted(allowsHidden(object) || isComplete(object) && object.logs.every((log) => log.captured?.holds))];
+  if (!object.logs.length) return [];
+  const end = object.ended ? "" : ", of which the last has no line end, so the file may have been cut off";
+  const catalogue = `The catalogue is complete. It has ${count(object.items.length, "row")}${end}: what isn't in it is never missed.`;
+  const all = [...granted(!isHiding(object)), CARRIED, catalogue, PROVED];
   return [folded(`What this takes for granted (${all.length})`, !object.status, el("ul", {}, all.map((it) => el("li", {}, it))))];
 }
 
 /** @param {CollectionObject} object */
 function recordOfAll(object) {
-  const expected = object.items.filter((item) => item.state !== "unexpected").length;
-  const said = [count(expected, "item"), count(object.logs.length, "log"), `vicinity ${object.version}`];
-  const known = (object.files ?? []).filter(({ sha256 }) => sha256);
-  const sums = known.map(({ file, sha256 }) => el("p", {}, `${nameOf(file)}\u00A0· SHA-256 `, el("code", {}, sha256)));
-  return el("footer", { class: "record" }, el("p", {}, said.join("\u00A0· ")), ...sums, ...signed(headlineOf(object), printable(object.name)));
+  const { counts, items, logs: fields, files, version, answer, file } = object;
+  const states = /** @type {[State, number][]} */ (Object.entries(counts)).filter(([, number]) => number).map(([state, number]) => `${number.toLocaleString("en")} ${state}`);
+  const said = [count(items.length, "item"), ...states, count(fields.length, "log")].join("\u00A0· ");
+  const sums = files.map((it) => el("p", {}, `${printable(it.file)}${it.sha256 ? " · SHA-256 " : ""}`, el("code", {}, it.sha256)));
+  return el("footer", { class: "record" }, el("p", {}, said), el("p", {}, `vicinity ${version}: `, el("code", {}, printable(answer))), ...sums,
+    ...fields.length ? signed(headlineOf(object), printable(file)) : []);
 }

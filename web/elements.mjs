@@ -14,12 +14,6 @@ globalThis.document?.body.classList.toggle("reading", isForReader);
 export const at = (id) => /** @type {HTMLElement} */ (document.getElementById(id));
 
 /**
- * What is written in base64.
- * @param {string} text
- */
-export const bytesOf = (text) => Uint8Array.from(atob(text), (letter) => letter.charCodeAt(0));
-
-/**
  * An element with attributes and children, whose texts need no escaping.
  * @param {string} tag
  * @param {Record<string, string>} attributes
@@ -45,14 +39,16 @@ export function toLine(line, ...words) {
 /**
  * A part of whose buttons one is a stop for the keyboard: arrows lead to the others.
  * @param {HTMLElement} part
+ * @param {string} [which]
  */
-export function oneStop(part) {
-  const buttons = () => [...part.querySelectorAll("button")], stop = (/** @type {Element} */ one) => buttons().forEach((it) => { it.tabIndex = it === one ? 0 : -1; });
+export function oneStop(part, which = "button") {
+  const buttons = () => /** @type {HTMLElement[]} */ ([...part.querySelectorAll(which)]);
+  const stop = (/** @type {Element} */ one) => buttons().forEach((it) => { it.tabIndex = it === one ? 0 : -1; });
   stop(buttons()[0]);
   part.addEventListener("keydown", (event) => {
     const all = buttons(), step = event.key === "ArrowDown" ? 1 : event.key === "ArrowUp" ? -1 : 0;
-    const next = all[all.findIndex((it) => it === document.activeElement) + step];
-    if (!step || !next) return;
+    const at = all.findIndex((it) => it === document.activeElement), next = all[at + step];
+    if (!step || at < 0 || !next) return;
     event.preventDefault();
     stop(next);
     next.focus();

@@ -1,14 +1,32 @@
-/** The object of a log: what the library writes of it, and what only who opens it knows. */
+/** Objects of logs and of collections: what the library writes of them, and what only who opens them knows. */
+import { isPlaces, isSpreadsheet, kindOf, PACKED, SAVE_AS_CSV, TABLE, utf8Of } from "./files.mjs";
 import { LF } from "./log.mjs";
-import { hex } from "./words.mjs";
-import { adaptedLog } from "./written.mjs";
+import { wrongTable } from "./refused.mjs";
+import { hex, printable } from "./words.mjs";
 
 /** @typedef {import("./library.mjs").Library} Library */
 /** @typedef {import("./told.mjs").LogObject} LogObject */
+/** @typedef {import("./collection.mjs").CollectionObject} CollectionObject */
+/** @typedef {import("./files.mjs").Given} Given */
 
-/** How much of a refused line is kept. */
+/** How much of a line is kept that was refused. */
 const MOST_QUOTED = 160;
 const DECODED = new TextDecoder("utf-8", { ignoreBOM: true });
+const REFUSED = /^refused at line (\d+) of ([^]*): (\w+)\n$/;
+const NOT_ONE = "these aren't the files of a collection";
+const ONE_OF_EACH = ["Open one catalogue (a table with a column uid), at most one table of places (with the columns place and log), and logs."];
+
+/** Why there is no answer, and what to do. */
+export class Wrong extends Error {
+  /**
+   * @param {string} message
+   * @param {string[]} [cure]
+   */
+  constructor(message, cure = []) {
+    super(message);
+    this.cure = cure;
+  }
+}
 
 /**
  * @param {Library} library
@@ -17,20 +35,75 @@ const DECODED = new TextDecoder("utf-8", { ignoreBOM: true });
  * @returns {Promise<LogObject>}
  */
 export async function judge(library, text, name) {
-  const said = adaptedLog(JSON.parse(DECODED.decode(library.run("json", [{ text }]).written)));
-  return { ...said, version: versionOf(library.version), file: name, sha256: await sumOf(text), text: DECODED.decode(untilRefused(text, said)) };
+  const said = JSON.parse(DECODED.decode(library.run("json", [{ text }]).written));
+  const kept = said.fault ? DECODED.decode(untilLine(text, said.line)) : DECODED.decode(text);
+  return { ...said, version: versionOf(library.version), file: name, sha256: await sumOf(text), text: kept };
 }
 
 /**
- * A text as far as it is told: one that is refused until its refused line.
- * @param {Uint8Array} text
- * @param {LogObject} said
+ * A collection, or why it is none.
+ * @param {Library} library
+ * @param {Given[]} files
+ * @returns {Promise<CollectionObject>}
  */
-function untilRefused(text, { fault, line = 0 }) {
-  if (!fault) return text;
+export async function judgeAll(library, files) {
+  const texts = files.map(({ name, text }) => ({ name, text: utf8Of(text) }));
+  const said = DECODED.decode(written(library, texts, files)), refused = said.match(REFUSED);
+  if (refused) throw wrongIn(texts, Number(refused[1]), refused[2], refused[3]);
+  const object = JSON.parse(said), tables = files.filter((file) => kindOf(file) === "table");
+  const sums = new Map(await Promise.all(files.map(async ({ name, text }) => /** @type {const} */ ([name, await sumOf(text)]))));
+  return { ...object, version: versionOf(library.version), file: tables.find((file) => !isPlaces(file))?.name ?? "",
+    files: tables.map(({ name }) => ({ file: name, sha256: sums.get(name) ?? "" })),
+    logs: object.logs.map((/** @type {{name: string}} */ log) => ({ ...log, sha256: sums.get(log.name) ?? "" })) };
+}
+
+/**
+ * @param {Library} library
+ * @param {Given[]} texts
+ * @param {Given[]} files
+ */
+function written(library, texts, files) {
+  try {
+    return library.run("json-collection", texts).written;
+  } catch (error) {
+    if (!(error instanceof RangeError)) throw error;
+    const tables = files.filter((file) => kindOf(file) === "table").map(({ name }) => printable(name));
+    throw new Wrong(`${NOT_ONE}${tables.length ? `: the tables are ${tables.join(", ")}` : ""}`, ONE_OF_EACH);
+  }
+}
+
+/**
+ * @param {Given[]} texts
+ * @param {number} line
+ * @param {string} name
+ * @param {string} fault
+ */
+function wrongIn(texts, line, name, fault) {
+  const text = texts.find((it) => it.name === name)?.text ?? new Uint8Array(), start = lineAt(text, line);
+  const quoted = DECODED.decode(untilLine(text, line).subarray(start)).trimEnd(), { wrong, fix } = wrongTable(quoted, line, fault);
+  if (isSpreadsheet(quoted)) return new Wrong(`${name} is a ${TABLE.test(name) ? "spreadsheet" : PACKED}`, [`If it has the catalogue, ${SAVE_AS_CSV}, and open that; else leave it out.`]);
+  if (fault === "SameName") return new Wrong(`${name}: ${wrong}`, [fix]);
+  return new Wrong(`${name}, line ${line}: ${wrong}`, [fix, ...quoted ? [`Line ${line} is: ${printable(quoted)}`] : []]);
+}
+
+/**
+ * Where a line begins.
+ * @param {Uint8Array} text
+ * @param {number} line
+ */
+function lineAt(text, line) {
   let start = 0;
   for (let number = 1; number < line; number++) start = text.indexOf(LF, start) + 1;
-  const end = text.indexOf(LF, start);
+  return start;
+}
+
+/**
+ * A text as far as a line, of which the beginning is kept.
+ * @param {Uint8Array} text
+ * @param {number} line
+ */
+function untilLine(text, line) {
+  const start = lineAt(text, line), end = text.indexOf(LF, start);
   return text.subarray(0, Math.min(end < 0 ? text.length : end + 1, start + MOST_QUOTED));
 }
 
@@ -40,7 +113,7 @@ function versionOf(number) {
 }
 
 /** @param {Uint8Array} text */
-export async function sumOf(text) {
+async function sumOf(text) {
   if (!globalThis.crypto?.subtle) return "";
   return Array.from(new Uint8Array(await crypto.subtle.digest("SHA-256", text)), (byte) => hex(byte, 2)).join("").toLowerCase();
 }

@@ -1,7 +1,7 @@
 /** Draws what whoever maintains the reader needs: the causes, what tells them apart, and what is left to ask. */
 import { el, forReader, linked, oneStop, toLine } from "./elements.mjs";
 import { alsoHolds, ifDeaf, settled, TO_KNOW } from "./sure.mjs";
-import { count, visible } from "./words.mjs";
+import { count, UID_BITS, visible } from "./words.mjs";
 
 /** @typedef {import("./told.mjs").Told} Told */
 
@@ -44,8 +44,8 @@ function left(told) {
   const isAll = told.open.length === told.object.open.count, each = `${open.length > 1 ? "one for each" : "for the"} ${by}`;
   const how = !by ? "What is left to ask, in sixteen slots, or in one." : isAll ? `${requests(open.length)} left${hidden.length ? "" : `, ${each}`}.`
     : `What is left to ask first, ${each}: send ${open.length > 1 ? "these" : "it"}, and judge the log again.`;
-  const last = told.notes.last && !hidden.length ? ` At last, ${TO_KNOW}.` : "", { count: masks, share } = told.object.open;
-  if (masks > told.quiet) parts.push(el("p", {}, `Of all possible UIDs ${settled(share)} are settled.`));
+  const last = told.notes.last && !hidden.length ? ` At last, ${TO_KNOW}.` : "", { count: masks, uids } = told.object.open;
+  if (masks > told.quiet) parts.push(el("p", {}, `Of all possible UIDs ${settled(Number(uids) / 2 ** UID_BITS)} are settled.`));
   if (open.length) parts.push(el("p", {}, `${how} ${INSERT}${end}${last}`), ...copied(open));
   if (hidden.length) parts.push(el("p", {}, `${open.length ? "Then " : ""}${requests(hidden.length)} left${ASK_UNDER}`), ...copied(hidden));
   if (silenced.length && !told.cycles) parts.push(el("p", {}, NEW_VERSION));

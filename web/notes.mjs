@@ -1,6 +1,5 @@
 /** What is worth a look in a log, and isn't part of its answer. */
-import { KIND } from "./kinds.mjs";
-import { count } from "./words.mjs";
+import { count, KIND } from "./words.mjs";
 
 /** @typedef {import("./log.mjs").Log} Log */
 /** @typedef {{line: number, uid: string, at: number}} Lost a listed tag that the reader silenced, and that a line before rules out */

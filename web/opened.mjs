@@ -1,12 +1,13 @@
 /** What is opened: files as logs, each with its text, or together a collection, which has none of its own. */
-import { looksLikeTable, sorted } from "./catalogue.mjs";
+import { isPlaces, kindOf, stemOf } from "./files.mjs";
 import { STOPPED } from "./work.mjs";
+import { listing, printable } from "./words.mjs";
 
-/** @typedef {import("./catalogue.mjs").Given} Given */
-/** @typedef {{expected: Entry, places: Entry | null, logs: Entry[]}} Collection */
+/** @typedef {import("./files.mjs").Given} Given */
+/** @typedef {{tables: Entry[], logs: Entry[], both: string[]}} Collection with the logs of which it was said that they are no copies */
 /**
- * A log, with what it was before a line was tried, or a collection.
- * @typedef {Given & import("./work.mjs").Done & {before?: Entry, given?: Collection, pause?: number, words?: string}} Entry
+ * A log, or a collection, with what was done to it last; or one that waits for its catalogue.
+ * @typedef {Given & import("./work.mjs").Done & {given?: Collection, waits?: string, note?: string, pause?: number, words?: string}} Entry
  */
 
 /** Larger files are no logs, and no text for each browser. */
@@ -15,9 +16,14 @@ const NO_FILE = "it can't be read; open it again, or the files in it if it is a 
 /** How the name of a file ends while it is downloaded, or written. */
 const UNFINISHED = /\.(crdownload|opdownload|download|part|partial|filepart|tmp)$/i;
 const NOT_WHOLE = "by its name it is still being downloaded or written: wait for that, or copy it again";
+/** What no name of a log has. */
+const CONTROL = /[\0-\x1F\x7F]/g;
+const NO_CATALOGUE = "Now open the catalogue: a table (CSV) with a column uid.";
+/** What is pasted has no name by which it could be of a place. */
+export const PASTED = "pasted text";
 
 /** @param {Entry} entry */
-export const isUnanswered = ({ told, collection, error }) => !told && !collection && !error;
+export const isUnanswered = ({ told, collection, error, waits }) => !told && !collection && !error && !waits;
 
 /**
  * Without its text; what was stopped while it was judged has one.
@@ -32,7 +38,7 @@ export const isLacking = ({ error, text }) => error && (error !== STOPPED || !te
  * @returns {Promise<Entry>}
  */
 export async function read(file, signal) {
-  const { name } = file, text = new Uint8Array();
+  const name = file.name.replace(CONTROL, "?"), text = new Uint8Array();
   if (UNFINISHED.test(name)) return { name, text, error: NOT_WHOLE };
   if (file.size > MOST_BYTES) return { name, text, error: TOO_LARGE };
   try {
@@ -43,29 +49,43 @@ export async function read(file, signal) {
   }
 }
 
+/** @param {Entry} entry */
+const isATable = (entry) => kindOf(entry) === "table";
+/** @param {Entry} entry */
+const isCatalogue = (entry) => isATable(entry) && !isPlaces(entry);
+/** @param {Entry} entry */
+const joins = (entry) => kindOf(entry) !== "other" && (isATable(entry) || entry.name !== PASTED);
+
 /**
- * What was opened, as it is judged. Tables alone belong to the logs that are here, as these were before a trial: in place of a
- * catalogue, or of its places, that were opened with them.
+ * What was opened, as it is judged. Tables, or logs beside a collection that is here, belong to what is here; a catalogue
+ * with its logs is a collection of its own.
  * @param {Entry[]} taken
  * @param {Entry[]} entries those that are here
  * @returns {Entry[]}
  */
 export function gathered(taken, entries) {
-  const here = taken.every(looksLikeTable) ? entries : [], earlier = here[0]?.given;
-  // a list may be the log of a field in which nothing was asked: beside a table it is one, as if all were opened at once
-  const list = earlier && !looksLikeTable(earlier.expected) ? [earlier.expected] : [];
-  const files = [...list, ...here.flatMap((entry) => entry.given?.logs ?? entry.before ?? entry), ...taken];
-  const found = sorted(files), { expected, places, logs } = found.expected || !earlier ? found : sorted([...files, earlier.expected]);
-  if (!expected || !logs.length) return taken;
-  const given = { expected, places: places ?? earlier?.places ?? null, logs };
-  return [{ name: expected.name, text: new Uint8Array(), given, ...lacking(given) }];
+  const tables = taken.filter(isATable), logs = taken.filter((entry) => !isATable(entry)), earlier = entries[0]?.given;
+  const isWhole = taken.some(isCatalogue) && logs.length > 0, isJoining = !isWhole && taken.every(joins) && (earlier || !logs.length);
+  if (!tables.length && !(isJoining && earlier)) return taken;
+  const here = !isJoining ? { tables: [], logs: [], both: [] } : earlier ?? { tables: [], logs: entries, both: [] };
+  const stems = new Set(logs.map(({ name }) => stemOf(name))), replaced = here.logs.filter(({ name }) => stems.has(stemOf(name)));
+  const left = here.logs.filter((log) => !replaced.includes(log)), all = [...left, ...logs];
+  const kept = here.tables.filter((table) => !tables.some((other) => isPlaces(other) === isPlaces(table)));
+  const names = (/** @type {Entry[]} */ list) => listing(list.map(({ name }) => printable(name)));
+  const note = replaced.length ? `${names(replaced)} ${replaced.length > 1 ? "were" : "was"} replaced by what you opened under the same name.`
+    : left.length && logs.length ? `${names(logs)} joined the logs that were here.` : "";
+  return [collected({ tables: [...kept, ...tables], logs: all, both: here.both }, note)];
 }
 
 /**
- * Without one of its files nothing is said of a collection.
+ * A collection that is judged, or waits for its catalogue. Without one of its files nothing is said of it.
  * @param {Collection} given
+ * @param {string} [note]
+ * @returns {Entry}
  */
-function lacking({ expected, places, logs }) {
-  const which = [...logs, expected, ...places ? [places] : []].filter(isLacking);
-  return which.length ? { error: which.map(({ name, error }) => `${name}: ${error}`).join("; ") } : {};
+export function collected(given, note) {
+  const { tables, logs } = given, catalogue = tables.find(isCatalogue), lacking = [...logs, ...tables].filter(isLacking);
+  const entry = { name: (catalogue ?? tables[0]).name, text: new Uint8Array(), given, note };
+  if (lacking.length) return { ...entry, error: lacking.map(({ name, error }) => `${name}: ${error}`).join("; ") };
+  return catalogue ? entry : { ...entry, waits: NO_CATALOGUE };
 }

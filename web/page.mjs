@@ -1,26 +1,25 @@
 /** The page that judges: what is opened or typed is judged, and one of it is shown. */
-import { withRoom } from "./collection.mjs";
-import { at, bytesOf, setForReader } from "./elements.mjs";
-import { gathered, isLacking, isUnanswered, read } from "./opened.mjs";
+import { at, setForReader } from "./elements.mjs";
+import { isSpreadsheet, kindOf, utf8Of } from "./files.mjs";
+import { collected, gathered, isLacking, isUnanswered, PASTED, read } from "./opened.mjs";
+import { bytesOf, unpacked } from "./packed.mjs";
 import { Pane } from "./pane.mjs";
 import { unfold, unfoldOnPaper } from "./printing.mjs";
-import { pageOf, save } from "./saving.mjs";
+import { pageOf, save, withObjects } from "./saving.mjs";
 import { headed, overview, show, shown, titleOfEntry } from "./shown.mjs";
-import { isSpreadsheet } from "./tables.mjs";
-import { Trial } from "./trial.mjs";
 import { count, EDITED, printable } from "./words.mjs";
-import { Work } from "./work.mjs";
+import { STOPPED, Work } from "./work.mjs";
 
 /** @typedef {import("./opened.mjs").Entry} Entry */
 
 /** How long after the last key a text is judged, and how long a judging goes on before it can be stopped, in ms. */
 const PAUSE = 250, PATIENCE = 400;
-const PASTE = "Paste a log here", PASTED = "pasted text";
+const PASTE = "Paste a log here";
 const NO_DROP = "No file was dropped, so nothing has changed. Save the text as a file, and open that.";
 const SAVED_COPY = "This is what a browser has saved of the page: its answers, without the logs. To go on, open these again.";
 
 const field = /** @type {HTMLTextAreaElement} */ (at("text")), files = /** @type {HTMLInputElement} */ (at("files"));
-const stop = at("stop"), status = at("status"), saves = at("save"), beside = at("beside"), pane = new Pane(field, shown, PASTE);
+const stop = at("stop"), status = at("status"), saves = at("save"), back = at("back"), close = at("close"), beside = at("beside"), pane = new Pane(field, shown, PASTE);
 
 /** @type {Entry[]} */
 let entries = [];
@@ -38,6 +37,11 @@ let patience;
  * @type {number | undefined}
  */
 let drawing;
+/**
+ * What was shown before each drop, paste or leave.
+ * @type {{entries: Entry[], current: number}[]}
+ */
+const past = [];
 /** What is opened, after all that was opened before it; and until it is read, the last of these, of which nothing is known yet. */
 let opening = Promise.resolve();
 /** @type {Entry | undefined} */
@@ -45,11 +49,10 @@ let pending;
 let stopping = new AbortController();
 
 /**
- * The worker's script, and in base64 the library as WebAssembly and the page that is saved. They stand within this script, which
- * the browser runs only if its hash is right: a page of which a bit was turned over judges nothing.
+ * The worker's script, and compressed and in base64 the library as WebAssembly and the page that is saved. They stand within this script,
+ * which the browser runs only if its hash is right: a page of which a bit was turned over judges nothing.
  */
 const WORKER = "{{worker}}", MODULE = "{{module}}", RECORD = "{{record}}";
-
 const work = new Work(WORKER, bytesOf(MODULE));
 
 // What is judged
@@ -57,7 +60,9 @@ const work = new Work(WORKER, bytesOf(MODULE));
 /** @param {Entry} entry */
 async function ask(entry) {
   wait();
-  const done = await work.ask(entry.given ? { given: entry.given } : { name: entry.name, text: entry.text });
+  const { given, name, text } = entry;
+  const done = await work.ask(given ? { files: [...given.tables, ...given.logs].map((file) => ({ name: file.name, text: file.text })) } : { name, text });
+  if (done.collection) done.collection.both = given?.both;
   // of one that was asked twice the first answer stays
   if (isUnanswered(entry)) Object.assign(entry, done);
   if (!pending && !entries.some(isUnanswered)) quiet();
@@ -98,10 +103,12 @@ stop.addEventListener("click", () => {
 function draw() {
   const entry = pending ?? entries[current];
   document.body.classList.toggle("empty", !entries.length);
+  back.hidden = !past.length;
+  close.hidden = !entries.length;
   drawList();
   saves.hidden = !entry?.told && !entry?.collection;
   beside.hidden = !!pending || entry?.given !== undefined || current < 0;
-  show(entry, entry === answered);
+  show(entry, entry === answered, opener, (name) => Boolean(logOf(entry, name)));
   answered = entry;
   pane.mark();
 }
@@ -127,15 +134,52 @@ at("logs").addEventListener("click", ({ target }) => {
 /**
  * What is still judged of others isn't needed any more.
  * @param {Entry[]} taken
+ * @param {number} [which]
  */
-function take(taken) {
+function take(taken, which = taken.length > 1 ? -1 : 0) {
   if (work.isBusy) work.stop();
   entries = taken;
-  current = taken.length > 1 ? -1 : 0;
-  entries.filter((entry) => !entry.error).forEach(ask);
+  current = which;
+  entries.filter(isUnanswered).forEach(ask);
   edit();
   draw();
 }
+
+/** Keeps what is here, so that one can go back to it. */
+const keep = () => past.push({ entries: [...entries], current });
+
+back.addEventListener("click", () => {
+  const before = past.pop();
+  if (before) take(before.entries.map((entry) => entry.error === STOPPED ? { ...entry, error: undefined } : entry), before.current);
+});
+close.addEventListener("click", () => {
+  keep();
+  take([]);
+});
+
+/**
+ * A log of a collection.
+ * @param {Entry} entry
+ * @param {string} [name]
+ */
+const logOf = ({ given }, name) => given?.logs.find((log) => log.name === name && kindOf(log) === "log");
+
+/**
+ * What is told of a log of the collection that is shown, by its number: it is judged when it is asked for.
+ * @param {number} number
+ */
+function opener(number) {
+  const entry = entries[current], log = logOf(entry, entry.collection?.logs[number].name);
+  return log ? async () => (await work.ask({ name: log.name, text: utf8Of(log.text) })).told : null;
+}
+
+shown.addEventListener("click", ({ target }) => {
+  const { leave, both } = /** @type {HTMLElement} */ (target).closest("button")?.dataset ?? {}, given = entries[current]?.given;
+  if (!given || !leave && !both) return;
+  keep();
+  take([collected({ ...given, logs: given.logs.filter(({ name }) => name !== leave), both: [...given.both, ...both ? [both] : []] },
+    leave ? `${leave} was left out.` : "")]);
+});
 
 /**
  * Files are taken in the order in which they were opened, however long each is read. Until then nothing is shown.
@@ -155,13 +199,14 @@ function open(chosen) {
       pending = undefined;
       quiet();
     }
-    take(gathered(taken, entries));
+    const made = gathered(taken, entries);
+    if (entries.length) keep();
+    take(made);
   }).catch(({ message }) => take([{ ...mine, error: message }]));
 }
 
 /** Puts the text of the log that is shown into its field. */
 function edit() {
-  trial.end();
   const text = new TextDecoder().decode(entries[current]?.text ?? new Uint8Array());
   pane.put(isSpreadsheet(text) ? "" : text);
 }
@@ -169,46 +214,31 @@ function edit() {
 /**
  * A changed text belongs to the log that is shown now, whichever is shown when it is judged.
  * @param {string} name
- * @param {number} pause
- * @param {Entry} [before]
  */
-function changed(name, pause, before) {
+function changed(name) {
   shown.setAttribute("aria-busy", "true");
   clearTimeout(entries[current]?.pause);
   /** @type {Entry} */
-  const entry = { name, text: new TextEncoder().encode(field.value), before };
+  const entry = { name, text: new TextEncoder().encode(field.value) };
   entries[current] = entry;
   answered = entry;
   saves.hidden = true;
   headed(titleOfEntry(entry), "");
   drawList();
-  entry.pause = window.setTimeout(() => { if (entries.includes(entry)) ask(entry); }, pause);
+  entry.pause = window.setTimeout(() => { if (entries.includes(entry)) ask(entry); }, PAUSE);
 }
 
 const shownLog = () => entries[current];
 field.addEventListener("input", () => {
-  trial.end();
   setForReader(true);
   // what is typed is no text of a file that wasn't read
-  changed(entries.length && !isLacking(shownLog()) ? shownLog().name.replace(EDITED, "") + EDITED : PASTED, PAUSE);
+  changed(entries.length && !isLacking(shownLog()) ? shownLog().name.replace(EDITED, "") + EDITED : PASTED);
 });
-const trial = new Trial(at("trial"), pane, shownLog, (name) => changed(name, 0, shownLog().before ?? shownLog()), asBefore);
-
-/** Takes a trial back: the log is the file again, byte for byte. */
-function asBefore() {
-  const { before } = shownLog();
-  if (!before) return;
-  entries[current] = before;
-  edit();
-  draw();
-  if (isUnanswered(before)) ask(before);
-}
-
-saves.addEventListener("click", () => {
-  const log = shownLog(), object = log.told?.object ?? (log.collection && withRoom(log.collection));
-  const template = new TextDecoder().decode(bytesOf(RECORD)), fold = unfold(), text = shown.innerText;
+saves.addEventListener("click", async () => {
+  const log = shownLog(), fold = unfold(), text = shown.innerText, title = titleOfEntry(log);
   fold();
-  if (object) save(pageOf(template, object, titleOfEntry(log), text), `${log.name}.html`);
+  const object = log.told?.object ?? (log.collection && await withObjects(log.collection, opener));
+  if (object) save(pageOf(new TextDecoder().decode(await unpacked(bytesOf(RECORD))), object, title, text), `${log.name}.html`);
 });
 
 // How logs come

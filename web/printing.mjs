@@ -1,4 +1,8 @@
-/** What is folded is unfolded on paper, and where only text is kept. */
+/** What is folded is unfolded on paper, and where only text is kept; the sheets behind the first one say of what they are. */
+
+/** How much of that stands on a sheet. */
+const MOST_TITLE = 110;
+let rule = -1;
 
 /**
  * Unfolds all.
@@ -14,4 +18,15 @@ export function unfoldOnPaper() {
   let fold = () => {};
   window.addEventListener("beforeprint", () => { fold = unfold(); });
   window.addEventListener("afterprint", () => fold());
+}
+
+/**
+ * Puts a title at the head of each sheet of paper but the first.
+ * @param {string} title
+ */
+export function nameOnPaper(title) {
+  const [sheet] = document.styleSheets, said = JSON.stringify(title.length > MOST_TITLE ? `${title.slice(0, MOST_TITLE)} …` : title).replace(/\\[nrt]/g, " ");
+  if (!sheet) return;
+  if (rule >= 0) sheet.deleteRule(rule);
+  rule = sheet.insertRule(`@page { @top-left { content: ${said}; font: 8pt system-ui, sans-serif; } }`, sheet.cssRules.length);
 }

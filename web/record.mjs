@@ -1,23 +1,19 @@
 /** A page that was saved: draws the object that stands in it. */
-import { adaptedCollection } from "./adapted.mjs";
 import { collectionView, headlineOf } from "./collection.mjs";
 import { at } from "./elements.mjs";
+import { isSpreadsheet } from "./files.mjs";
 import { Pane } from "./pane.mjs";
-import { unfoldOnPaper } from "./printing.mjs";
+import { nameOnPaper, unfoldOnPaper } from "./printing.mjs";
 import { nameOfText } from "./refused.mjs";
-import { isSpreadsheet } from "./tables.mjs";
 import { tell } from "./told.mjs";
 import { titleOf, view } from "./view.mjs";
 import { printable } from "./words.mjs";
-import { adaptedLog } from "./written.mjs";
 
-const said = JSON.parse(at("object").textContent ?? ""), shown = at("told");
-const object = said.schema === 1 ? said : "items" in said ? adaptedCollection(said) : adaptedLog(said);
-// until Python writes collections as the library does
-for (const log of object.logs ?? []) if (log.object?.schema === 2) log.object = adaptedLog(log.object);
+const object = JSON.parse(at("object").textContent ?? ""), shown = at("told");
 if ("items" in object) {
-  shown.replaceChildren(...collectionView(object));
-  document.title = `${headlineOf(object)} ${printable(object.name)}`;
+  const opener = (/** @type {number} */ number) => object.logs[number].object ? async () => tell(object.logs[number].object) : null;
+  shown.replaceChildren(...collectionView(object, opener));
+  document.title = `${headlineOf(object)} ${printable(object.file)}`;
 } else {
   const told = tell(object), pane = new Pane(/** @type {HTMLTextAreaElement} */ (at("text")), shown);
   shown.replaceChildren(...view(told));
@@ -26,6 +22,7 @@ if ("items" in object) {
   at("beside").hidden = isSpreadsheet(object.text);
   document.title = titleOf(told);
 }
+nameOnPaper(document.title);
 unfoldOnPaper();
 // not in what a browser has saved of it
 at("old")?.remove();

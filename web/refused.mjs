@@ -1,11 +1,16 @@
 /** What a person is told of a text that isn't a log. */
-import { advice } from "./faults.mjs";
+import { isSpreadsheet, PACKED, SAVE_AS_CSV, TABLE } from "./files.mjs";
 import { crcOf, CRC_DIGITS } from "./frames.mjs";
-import { KIND } from "./kinds.mjs";
 import { SENTENCES } from "./sentences.mjs";
-import { isSpreadsheet, SAVE_AS_CSV, TABLE } from "./tables.mjs";
+import { KIND } from "./words.mjs";
 
 /** @typedef {import("./told.mjs").Told} Told */
+/** @typedef {{wrong: string, fix: string}} Advice */
+
+const FAULTS = /** @type {Record<string, Advice>} */ (SENTENCES.faults);
+/** What differs if the line is a reply. */
+const OF_REPLY = /** @type {Record<string, Advice>} */ (SENTENCES.replies);
+const PARTS = /** @type {Record<string, string>} */ (SENTENCES.parts);
 
 const COUNT = "Count again, in a new log. If that is refused too, no count will help: send the log and this page (printed as PDF) " +
   "to whoever maintains the software that writes it.";
@@ -14,20 +19,27 @@ const BOTH = ["To compare this table with what the logs show, open both at once 
   "A log is a file that the reader's software writes; its first line begins with 'vicinity-log'."];
 const NAME = "In its first row, name the column of tag numbers (16 characters, 0 to 9 and A to F) 'uid'";
 const NAMED = [`${NAME}.`, ...BOTH], SAVED = [`${NAME}, and save it as CSV.`, ...BOTH];
-/** A first line in which a column has this name. */
-const HAS_UID = /(?:^|[,;\t|"])uid(?:$|[,;\t|"])/i;
-/** A file that isn't called a table, but begins as spreadsheets do. */
-const PACKED = "ZIP file, a spreadsheet or a document", UNPACK = "If it is a ZIP file with logs in it, unpack it, and open the logs.";
+const UNPACK = "If it is a ZIP file with logs in it, unpack it, and open the logs.";
 const IF_SPREADSHEET = "If it is a spreadsheet with tag numbers:";
 const ANOTHER = "Choose another file, or count again.";
 /** Files that aren't logs, by how their first line begins. */
-const FOREIGN = /** @type {[RegExp, "pdf" | "page" | "trace" | "list"][]} */ ([[/^%PDF/, "pdf"], [/^\s*<(?:!doctype html|html)/i, "page"],
+const FOREIGN = /** @type {[RegExp, "pdf" | "page" | "trace" | "surveys" | "list"][]} */ ([[/^vicinity-survey /, "surveys"], [/^%PDF/, "pdf"], [/^\s*<(?:!doctype html|html)/i, "page"],
   [/^\s*(?:\[[+=!#?|-]\] |\[(?:usb|bt|fpc)|pm3 |proxmark|Recorded activity|Start \| +End \| Src)/i, "trace"],
   [/^\W{0,3}(?:uid|E0(?:[ :.-]?[0-9A-F]{2}){7}|(?:[0-9A-F]{2}[ :.-]?){7}E0)\W{0,3}$/i, "list"]]);
 /** How a text begins that somebody meant as a log: with a header, or with a line of it. */
-const OF_A_LOG = /^(vicinity-log|[TRHU] [0-9A-F]|[SCDNF]$|#)/i;
+const OF_A_LOG = /^(vicinity-(?!survey )|[TRHU] [0-9A-F]|[SCDNF]$|#)/i;
 /** What an editor adds to it, or a coding makes of it. */
 const CODING = /[\0\uFEFF\uFFFD]/g;
+
+/**
+ * @param {string} fault
+ * @param {string} line
+ * @returns {Advice}
+ */
+function advice(fault, line) {
+  const ofReply = /^[RH] /.test(line) ? OF_REPLY[fault] : undefined, { wrong, fix } = ofReply ?? FAULTS[fault] ?? FAULTS[""];
+  return { wrong, fix: fix.replace(/\{(\w+)\}/g, (_, name) => PARTS[name]) };
+}
 
 /** @param {Told} told */
 export function refused(told) {
@@ -44,12 +56,25 @@ export function refused(told) {
     return { headline: `This file isn't a log, but ${wrong}.`, shelf: fix, causes: [] };
   }
   if (foreign && isTable(told.faulty)) {
-    return { headline: "This file isn't a log, but a table.", shelf: HAS_UID.test(told.faulty) ? BOTH : NAMED, causes: [] };
+    return { headline: "This file isn't a log, but a table.", shelf: NAMED, causes: [] };
   }
   return { headline: `${line > 1 ? SENTENCES.answers.cannotBeUsed : SENTENCES.answers.noLog}. Line ${line}: ${wrong}.`,
     shelf: foreign ? [ANOTHER] : last ? [COPY, COUNT] : [COUNT],
     causes: [...last && !ended ? ["The file may end in the middle of this line: it was cut off, or the software was still writing."] : [],
       ...line === 1 ? ofFirst(told.faulty) : [], ...fault === "Crc" ? [rightCrc(told.faulty)] : [], fix] };
+}
+
+/**
+ * What is wrong with a line of a table or of surveys, and how to fix it.
+ * @param {string} text the line
+ * @param {number} line
+ * @param {string} fault
+ */
+export function wrongTable(text, line, fault) {
+  const known = line === 1 && FOREIGN.find(([begins, what]) => begins.test(text) && !["surveys", "list"].includes(what));
+  if (!known) return /** @type {Record<string, Advice>} */ (SENTENCES.tables)[fault] ?? SENTENCES.faults[""];
+  const { wrong, fix } = SENTENCES.files[known[1]];
+  return { wrong: `this is ${wrong}`, fix: fix.join(" ") };
 }
 
 /**

@@ -58,7 +58,7 @@ export function requestsOf(log, object, { open, quiet, hidden, causes, lost }) {
 function openRequests(causes, masks, link, isAll) {
   const ask = askFor(causes, link), plain = masks.flatMap((mask) => ask(maskOf(mask), mask.ask));
   // pages of Python have both ways to ask all tags
-  if (masks.length === 1 && plain.length > 1 && plain.join() === masks[0].ask.join()) return { open: plain, by: "" };
+  if (masks.length === 1 && plain.length === 2 && plain.join() === masks[0].ask.join()) return { open: plain, by: "" };
   const { asked, by } = isAll ? around(causes, masks.map(maskOf), plain.length) : { asked: [], by: BY_MASK };
   if (asked.length) return { open: asked.map((mask) => sixteen(mask, link)), by };
   return { open: plain, by: plain.length > masks.length ? `${BY_MASK} or slot` : by };

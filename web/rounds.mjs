@@ -68,7 +68,7 @@ function scrolled(table) {
 
 /**
  * A bar of the strip: of its height each thing that slots held has a share.
- * @param {import("./strip.mjs").Bar} bar
+ * @param {import("./drawn.mjs").Bar} bar
  */
 function barOf({ line, isMarked, held }) {
   const parts = held.map(([look, many]) => {

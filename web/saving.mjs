@@ -6,6 +6,25 @@ const TEXT_MARKUP = /[&<]/g;
 /** How long a file is there to be saved, in ms: Safari reads it after the click. */
 const KEPT = 40_000;
 
+/** How much text of logs stands in a page that is saved. */
+const MOST_TEXT = 4_000_000;
+
+/**
+ * A collection as it is saved: with the objects of as many of its logs as there is room for, those first that have to be counted again.
+ * @param {import("./collection.mjs").CollectionObject} object
+ * @param {import("./collection.mjs").Opener} opener
+ */
+export async function withObjects(object, opener) {
+  const logs = [...object.logs], isDone = (/** @type {number} */ at) => logs[at].field === "possible" && !logs[at].open?.length;
+  let room = MOST_TEXT;
+  for (const at of [...logs.keys()].sort((one, other) => Number(isDone(one)) - Number(isDone(other)))) {
+    const told = room > 0 ? await opener(at)?.() : undefined;
+    room -= told?.object.text.length ?? 0;
+    if (told && room >= 0) logs[at] = { ...logs[at], object: told.object };
+  }
+  return { ...object, logs };
+}
+
 /**
  * A page's template with an object in it, a title, and the text for whom no script draws it.
  * @param {string} template

@@ -1,11 +1,10 @@
 /** What a person is told of a log, in sentences: the answer, what to do at the shelf, and what the reader's maintainer needs. */
 import { contradiction, HIDDEN } from "./contradiction.mjs";
-import { KIND } from "./kinds.mjs";
 import { MOST_NOTES } from "./notes.mjs";
 import { refused } from "./refused.mjs";
 import { SENTENCES } from "./sentences.mjs";
 import { isShaken } from "./sure.mjs";
-import { count, listing, numbered } from "./words.mjs";
+import { count, KIND, listing, numbered } from "./words.mjs";
 import { mainly, whyOpen } from "./why.mjs";
 
 /** @typedef {import("./told.mjs").Told} Told */

@@ -1,11 +1,12 @@
 /** Shows what is here: several logs, each with what it says, and what is told of one. */
 import { collectionView, headlineOf } from "./collection.mjs";
 import { at, el } from "./elements.mjs";
-import { KIND } from "./kinds.mjs";
 import { isLacking, isUnanswered } from "./opened.mjs";
+import { nameOnPaper } from "./printing.mjs";
 import { nameOfText } from "./refused.mjs";
-import { headOf, titleOf, view } from "./view.mjs";
-import { count, printable, TRIAL } from "./words.mjs";
+import { say } from "./say.mjs";
+import { titleOf, view } from "./view.mjs";
+import { count, KIND, printable } from "./words.mjs";
 
 /** @typedef {import("./opened.mjs").Entry} Entry */
 
@@ -21,33 +22,36 @@ export const shown = at("told");
  * Shows what is told of a log or a collection. Until it is judged, what is shown is that to its text before it was changed.
  * @param {Entry | undefined} entry
  * @param {boolean} isShown whether what is shown is of it
+ * @param {import("./collection.mjs").Opener} opener
+ * @param {(name: string) => boolean} canLeave
  */
-export function show(entry, isShown) {
+export function show(entry, isShown, opener, canLeave) {
   const isOld = entry !== undefined && isUnanswered(entry);
   shown.setAttribute("aria-busy", String(isOld));
   at("named").textContent = entry?.told ? nameOfText(entry.told, false) : "The log";
-  // beside the buttons of a trial, since the answer may be off the screen
-  const tried = entry?.told && !isOld && TRIAL.test(entry.name) ? headOf(entry.told).headline : "";
-  at("tried").textContent = tried;
-  at("tried").hidden = !tried;
   if (!entry || isOld && isShown) return;
-  shown.replaceChildren(...nodesOf(entry));
+  shown.replaceChildren(...nodesOf(entry, opener, canLeave));
   headed(titleOfEntry(entry));
 }
 
 /**
  * @param {Entry} entry
+ * @param {import("./collection.mjs").Opener} opener
+ * @param {(name: string) => boolean} canLeave
  * @returns {Node[]}
  */
-function nodesOf({ told, collection, error, given, name }) {
-  if (error) return [el("h1", { class: "error" }, unanswered(name, error)), ...given ? [el("p", {}, kept(given.logs))] : []];
-  return told ? view(told) : collection ? collectionView(collection) : [];
+function nodesOf({ told, collection, error, cure, waits, given, name, note }, opener, canLeave) {
+  const said = [...cure ?? [], ...given && (waits || error) ? kept(given.logs) : []].map((it) => el("p", {}, it));
+  if (error) return [el("h1", { class: "error" }, unanswered(name, error)), ...said];
+  if (waits) return [el("h1", {}, waits), ...said];
+  if (!collection) return told ? view(told) : [];
+  return [...note ? [el("p", { class: "note", role: "status" }, printable(note))] : [], ...collectionView(collection, opener, canLeave)];
 }
 
 /** @param {Entry} entry */
-export function titleOfEntry({ told, collection, error, name }) {
+export function titleOfEntry({ told, collection, error, waits, name }) {
   if (error) return unanswered(name, error);
-  return told ? titleOf(told) : printable(collection ? `${headlineOf(collection)} ${collection.name}` : `${name} ..`);
+  return told ? titleOf(told) : printable(collection ? `${headlineOf(collection)} ${collection.file}` : waits ?? `${name} ..`);
 }
 
 /**
@@ -62,7 +66,7 @@ export function overview(entries, current) {
   each.replaceChildren();
   if (isOne) return;
   list.querySelectorAll("button").forEach((button, index) => label(button, entries[index], index === current));
-  const whole = entries.filter(({ told, name }) => told?.object.kind === KIND.COMPLETE && !TRIAL.test(name)).length;
+  const whole = entries.filter(({ told }) => told?.object.kind === KIND.COMPLETE).length;
   const how = entries.some(isUnanswered) ? "" : ` Complete: ${whole.toLocaleString("en")} of ${many.toLocaleString("en")}.`;
   const words = `${count(many, "log")}, each with its own answer.${how}`;
   each.append(el(current < 0 ? "h1" : "p", {}, words), el("p", { class: "hint" }, TOGETHER));
@@ -86,7 +90,7 @@ function label(button, entry, isPressed) {
 
 /** @param {import("./told.mjs").Told} told */
 function saidBy(told) {
-  const { sign, headline } = headOf(told);
+  const { sign, headline } = say(told);
   return `${sign} ${headline}`;
 }
 
@@ -101,9 +105,9 @@ const unanswered = (name, error) => printable((error.startsWith(name) ? `No answ
  * What becomes of the logs of a collection that has no answer.
  * @param {Entry[]} logs
  */
-const kept = (logs) => logs.some(isLacking) ? OPEN_AGAIN
-  : logs.length === 1 ? "The log is still here: the next catalogue will be compared with it."
-    : `The ${count(logs.length, "log")} are still here: the next catalogue will be compared with them.`;
+const kept = (logs) => logs.some(isLacking) ? [OPEN_AGAIN] : !logs.length ? []
+  : logs.length === 1 ? ["The log is still here: the next catalogue will be compared with it."]
+    : [`The ${count(logs.length, "log")} are still here: the next catalogue will be compared with them.`];
 
 /**
  * Says what is shown, to whoever doesn't see it.
@@ -112,6 +116,7 @@ const kept = (logs) => logs.some(isLacking) ? OPEN_AGAIN
  */
 export function headed(title, words = document.querySelector("#each h1, #told h1")?.textContent ?? "") {
   document.title = title;
+  nameOnPaper(title);
   const said = at("said");
   if (said.textContent !== words) said.textContent = words;
 }

@@ -1,7 +1,6 @@
 /** How sure an answer is, in sentences: what it speaks of, what it takes for granted, and whether it also holds if replies were hidden. */
 import { maskOf } from "./frames.mjs";
-import { KIND } from "./kinds.mjs";
-import { count, ending } from "./words.mjs";
+import { count, ending, KIND } from "./words.mjs";
 
 /** @typedef {import("./told.mjs").Told} Told */
 /** @typedef {import("./told.mjs").Margin} Margin */
@@ -12,10 +11,13 @@ export const HOLDS = "This is said of tags that had power, heard the reader, and
 const IF_HIDDEN = "If a strong reply hid a weaker one, the answer ";
 const IF_DEAF = "If the reader had gone deaf after the last answer of a tag, the answer ";
 const HEARS_STILL = "To know, switch its field off and on, and let it ask once more for a tag that was found.";
+/** @param {string} where */
+export const deafIn = (where) => `${IF_DEAF}may be wrong in the field of ${where}. To know, switch the field off and on there, and let the reader ask once ` +
+  "more for a tag that was found.";
 const DEAF = "A reader that is deaf writes the same log: only a tag at its antenna shows that it hears.";
 export const ONCE_MORE = "Asking all of them once more, when none answers, adds one.";
 export const TO_KNOW = "silence each tag that was heard, and ask all in one slot, until none answers";
-export const ALLOWED = "The answer allows for strong replies that hid weaker ones.";
+const ALLOWED = "The answer allows for strong replies that hid weaker ones.";
 
 /**
  * What no program can check. If one of these fails, an answer may be wrong.

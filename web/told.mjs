@@ -7,13 +7,12 @@
  */
 import { causesOf, silencedUnheard, widthOf } from "./causes.mjs";
 import { conflictOf, isLarge, keyLines } from "./conflict.mjs";
-import { drawn } from "./drawn.mjs";
+import { drawn, strip } from "./drawn.mjs";
 import { hasUid, maskOf } from "./frames.mjs";
-import { KIND } from "./kinds.mjs";
 import { Log } from "./log.mjs";
 import { notesOf } from "./notes.mjs";
 import { NO_REQUESTS, requestsOf } from "./requests.mjs";
-import { strip } from "./strip.mjs";
+import { KIND } from "./words.mjs";
 
 /** @typedef {import("./frames.mjs").Mask} Mask */
 /** @typedef {import("./causes.mjs").Cause} Cause */
@@ -24,7 +23,7 @@ import { strip } from "./strip.mjs";
 /**
  * The object of a log, as docs/answers.schema.json has it.
  * @typedef {Object} LogObject
- * @property {1} schema
+ * @property {number} schema
  * @property {string} version of the library
  * @property {string} file
  * @property {string} kind
@@ -44,7 +43,7 @@ import { strip } from "./strip.mjs";
  *   of a conflict; an absent UID was overlooked in so many slots
  * @property {{absent: number, unlisted: number, doubtful: number}} found how many there are
  * @property {{count: number, uids: string[]}} certain
- * @property {{count: number, share: number, masks: {mask_len: number, mask_value: string, ask: string[]}[]}} open
+ * @property {{count: number, uids: string, masks: {mask_len: number, mask_value: string, ask: string[]}[]}} open
  * @property {string | null} unnoticed a UID that isn't listed, and could be there
  * @property {Captured} [captured] of a log: how it is read if strong replies hid weaker ones
  * @property {Captured} [deaf] and if moreover the reader went deaf behind the last slot in which a tag answered
@@ -52,8 +51,8 @@ import { strip } from "./strip.mjs";
  * @property {Margin["weakest"]} [weakest]
  */
 /**
- * In how many slots a tag that isn't listed would have had to be missed, and the weakest mask; of a collection also in which log.
- * @typedef {{margin: number, weakest: {file?: string, mask_len: number, mask_value: string}}} Margin
+ * In how many slots a tag that isn't listed would have had to be missed, and the weakest mask.
+ * @typedef {{margin: number, weakest: {mask_len: number, mask_value: string}}} Margin
  */
 /**
  * @typedef {Object} Captured
@@ -81,7 +80,7 @@ import { strip } from "./strip.mjs";
  * @property {import("./notes.mjs").Notes} notes
  * @property {Log["counts"]} counts
  * @property {(Row | Gap)[]} rows those drawn
- * @property {import("./strip.mjs").Bar[]} strip the whole session, if not all rows are drawn
+ * @property {import("./drawn.mjs").Bar[]} strip the whole session, if not all rows are drawn
  * @property {number[]} marked the lines of the rows that are marked in it
  * @property {string[]} ringed the slots that are marked, as ROUND:NUMBER
  * @property {number[]} named the lines that are marked

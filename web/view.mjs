@@ -1,14 +1,13 @@
 /** Draws what is told of a log. */
 import { isLarge } from "./conflict.mjs";
 import { el, folded, linked, oneStop, toLine } from "./elements.mjs";
+import { isSpreadsheet } from "./files.mjs";
 import { maintainer } from "./maintainer.mjs";
-import { KIND } from "./kinds.mjs";
 import { noted } from "./notes.mjs";
 import { LOOKS, rounds } from "./rounds.mjs";
 import { say } from "./say.mjs";
 import { alsoHolds, granted, HOLDS, ifDeaf, isApart, missed, ONCE_MORE, silentIn } from "./sure.mjs";
-import { isSpreadsheet } from "./tables.mjs";
-import { count, hex, lines, listing, printable, TRIAL, whom } from "./words.mjs";
+import { count, hex, KIND, lines, listing, printable, whom } from "./words.mjs";
 
 /** @typedef {import("./told.mjs").Told} Told */
 /** @typedef {Map<string, string>} Names what a catalogue says of UIDs */
@@ -24,28 +23,17 @@ const FEW = 24, MOST_ROUNDS = 60;
  * @returns {Node[]}
  */
 export function view(told, names = new Map(), isAlone = true) {
-  const said = say(told, isAlone), head = headOf(told, isAlone), file = printable(told.object.file), { answer, kind } = told.object;
+  const said = say(told, isAlone), file = printable(told.object.file), { answer, kind } = told.object;
   // without a list, its first tag isn't more than the others
   const what = kind === KIND.UNLISTED && !told.counts.listed ? [file] : [file, el("span", { class: "paper" }, " · ", el("code", {}, answer))];
-  return [banner(head, what), ...shelf(said), ...conditions(told, isAlone), ...findings(told, names), ...tags(told, names),
+  return [banner(said, what), ...shelf(said), ...conditions(told, isAlone), ...findings(told, names), ...tags(told, names),
     ...maintainer(told, said, [...rounds(told, names), ...notes(told), ...conflict(told)]), ...takenForGranted(told),
-    record(told, isAlone, head.headline)];
-}
-
-/**
- * What is said first. What is only tried is never green.
- * @param {Told} told
- * @param {boolean} [isAlone]
- * @returns {import("./say.mjs").Said}
- */
-export function headOf(told, isAlone) {
-  const said = say(told, isAlone);
-  return TRIAL.test(told.object.file) ? { ...said, look: "read", sign: "?", headline: `A trial: ${said.headline}` } : said;
+    record(told, isAlone, said.headline)];
 }
 
 /** @param {Told} told */
 export function titleOf(told) {
-  return `${headOf(told).headline} ${printable(told.object.file)}`;
+  return `${say(told).headline} ${printable(told.object.file)}`;
 }
 
 /**

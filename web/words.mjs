@@ -2,6 +2,10 @@
 
 /** @typedef {import("./frames.mjs").Mask} Mask */
 
+/** The kinds of answers and findings: the words of docs/answers.schema.json. */
+export const KIND = Object.freeze({ COMPLETE: "complete", ABSENT: "absent", UNLISTED: "unlisted", UNSETTLED: "unsettled",
+  DOUBTFUL: "doubtful", IMPOSSIBLE: "impossible", REFUSED: "refused", SMALL: "margin" });
+
 /** The bits in which UIDs differ; the others are those of E0. */
 export const UID_BITS = 56;
 const E0 = 0xE0n << BigInt(UID_BITS);
@@ -12,9 +16,7 @@ const E0 = 0xE0n << BigInt(UID_BITS);
  */
 const uidOf = (mask) => mask.value | E0;
 
-/** What the name of a log ends with of which a line was tried otherwise. */
-export const TRIAL = / \(trial: .*\)$/;
-/** And of which the text was changed. */
+/** What the name of a log ends with of which the text was changed. */
 export const EDITED = " (edited)";
 /** Why there is no answer where no worker runs, or no WebAssembly. */
 export const FAILED = "this browser doesn't run what judges it";
@@ -47,13 +49,6 @@ export function numbered(sentence, number) {
 export function listing(items, last = "and") {
   return items.length < 2 ? items.join("") : `${items.slice(0, -1).join(", ")} ${last} ${items[items.length - 1]}`;
 }
-
-/**
- * What names have in common that differ in case alone, as Python's casefold has it, or in how letters with accents are encoded. The
- * case of one letter may depend on those around it.
- * @param {string} name
- */
-export const caseless = (name) => name.normalize().toLowerCase().replace(/[^\0-\x7Fı]/gu, (it) => it.toUpperCase().toLowerCase());
 
 /**
  * @param {bigint | number} value

@@ -3,7 +3,7 @@ import { FAILED } from "./words.mjs";
 
 /** @typedef {import("./told.mjs").Told} Told */
 /** @typedef {import("./collection.mjs").CollectionObject} CollectionObject */
-/** @typedef {{told?: Told, collection?: CollectionObject, error?: string}} Done */
+/** @typedef {{told?: Told, collection?: CollectionObject, error?: string, cure?: string[]}} Done */
 
 /** Why there is no answer to what was ended. */
 export const STOPPED = "stopped";
@@ -17,7 +17,7 @@ export class Work {
 
   /**
    * @param {string} code the worker's script
-   * @param {Uint8Array} module the library as WebAssembly
+   * @param {Uint8Array} module the library as WebAssembly, compressed
    */
   constructor(code, module) {
     this.code = URL.createObjectURL(new Blob([code], { type: "text/javascript" }));

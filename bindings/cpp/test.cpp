@@ -4,27 +4,8 @@
 #include <cstdlib>
 #include <cstring>
 #include <iostream>
-#include <new>
-#include <utility>
 
 static int passed;
-static bool has_memory = true;
-
-void *operator new(std::size_t size)
-{
-    void *block = has_memory ? std::malloc(size) : nullptr;
-    return block ? block : throw std::bad_alloc();
-}
-
-void operator delete(void *block) noexcept
-{
-    std::free(block);
-}
-
-void operator delete(void *block, std::size_t) noexcept
-{
-    std::free(block);
-}
 
 static void is(bool holds, const char *what)
 {
@@ -57,12 +38,8 @@ static void try_answers()
     IS(vicinity::check(SILENT).is_complete());
     IS(vicinity::check(SILENT).line_text() == "complete 0");
     IS(!vicinity::check("").is_complete());
-    // what no call returned, or what was moved away, is no answer
+    // what no call returned is no answer
     IS(vicinity::Answer().status == 4 && !vicinity::Answer().is_complete());
-    vicinity::Answer one = vicinity::check(SILENT), other(std::move(one));
-    IS(other.is_complete() && one.status == 4 && !one.is_complete());
-    one = std::move(other);
-    IS(one.is_complete() && other.status == 4 && !other.is_complete());
     IS(!vicinity::Mask({65, 0}).holds(A));
     IS(vicinity::explain(ONE).population == std::vector<std::uint64_t>{A});
     IS(vicinity::report(ONE).findings.size() == 1);
@@ -70,8 +47,7 @@ static void try_answers()
     // a comment without LF before the list doesn't swallow its first UID
     for (const std::string &text : {ONE, ONE + "# end", ONE.substr(0, ONE.size() - 1)}) {
         IS(vicinity::check_listed(text, {A}).line_text() == "complete 1");
-        IS(vicinity::explain_listed(text, {}).population == std::vector<std::uint64_t>{A});
-        IS(vicinity::report_listed(text, {B, A}).answer.line_text() == "absent E0040100000000B2");
+        IS(vicinity::check_listed(text, {B, A}).line_text() == "absent E0040100000000B2");
     }
 }
 
@@ -120,63 +96,26 @@ static void try_margins()
     IS(listed.answer.line_text() == "complete 1");
     IS(listed.weakest.margin == 2 && listed.weakest.mask.text() == "1 00");
     IS(listed.weakest.hidden.text() == "-" && listed.weakest.deaf.text() == "1 00");
-    IS((vicinity::overlooked(quiet, {B, A, B}) == std::vector<std::uint32_t>{2, 0, 2}));
-    IS(vicinity::overlooked(quiet, {}).empty());
-    IS(thrown<vicinity::Refused>([] { vicinity::overlooked("x", {A}); }) ==
-       "refused at line 1: Header");
-    IS(thrown<vicinity::Refused>([] { vicinity::overlooked(SILENT, {A, 1}); }) ==
-       "refused at line 5: NotVicinity");
 }
 
-static void try_many()
+static vicinity::Written run(vicinity_command command, const std::vector<vicinity::Named> &texts)
 {
-    IS((vicinity::listed("vicinity-log 1\r\n# shelf 3\r\nU e0040100000000a1\r\n") ==
-        std::vector<std::uint64_t>{A}));
-    IS(vicinity::listed("vicinity-log 1\n").empty());
-    IS(thrown<vicinity::Refused>([] { vicinity::listed(ONE); }) == "refused at line 2: NotListed");
-    IS(thrown<vicinity::Refused>([] { vicinity::listed(""); }) == "refused at line 1: Header");
-    IS(thrown<vicinity::Refused>([] { vicinity::survey("uid\n"); }) == "refused at line 1: Header");
-    IS(thrown<vicinity::Impossible>([] {
-           vicinity::survey(SILENT + "T 260100F60A\nR 0000A1000000000104E06745\n");
-       }) == "impossible at line 5");
-    const vicinity::Survey one = vicinity::survey(ONE);
-    IS(one.certain == std::vector<std::uint64_t>{A} && one.masks.empty());
-    IS(vicinity::reconcile({A}, {one, one}).answer.is_complete());
-    IS(vicinity::reconcile({A, B}, {one}).answer.line_text() == "absent E0040100000000B2");
-    IS(thrown<vicinity::NoLogs>([] { vicinity::reconcile({}, {}); }) == "no logs");
-    vicinity::Survey read = vicinity::survey(ONE), kept(std::move(read));
-    IS(thrown<vicinity::NoLogs>([&] { vicinity::reconcile({A}, {kept, read}); }) == "no logs");
-    vicinity::Survey &same = kept; // as in a loop that keeps some elements of a vector
-    kept = std::move(same);
-    IS(vicinity::reconcile({A}, {kept}).answer.is_complete());
-    // also one from which the UIDs or the masks alone were taken
-    vicinity::Survey taken = vicinity::survey("vicinity-log 1\n");
-    const std::vector<vicinity_mask> masks = std::move(taken.masks);
-    IS(masks.size() == 1 && !taken.is_whole());
-    IS(thrown<vicinity::NoLogs>([&] { vicinity::reconcile({}, {taken}); }) == "no logs");
-    taken.masks = masks;
-    IS(vicinity::reconcile({}, {taken}).answer.line_text() == "unsettled 0 -");
-    taken = kept;
-    taken.certain.clear();
-    IS(thrown<vicinity::NoLogs>([&] { vicinity::reconcile({}, {taken}); }) == "no logs");
-    const vicinity::Survey unread = vicinity::survey("vicinity-log 1\n");
-    has_memory = false;
-    try {
-        read = unread;
-    } catch (const std::bad_alloc &) {
-        has_memory = true;
-    }
-    IS(has_memory);
-    IS(thrown<vicinity::NoLogs>([&] { vicinity::reconcile({}, {read}); }) == "no logs");
-    IS(thrown<vicinity::NoLogs>([] { vicinity::reconcile({}, {vicinity::Survey()}); }) ==
-       "no logs");
-    IS(thrown<vicinity::Refused>([&] {
-           vicinity::reconcile({A, A}, {one});
-       }) == "refused at line 2: DuplicateListed");
-    // one UID is ruled out: one mask of each length is left, the last beside it
-    const std::string asked =
-        vicinity::write_line('T', vicinity::write_inventory(2, 1, {56, 0x040100000000A1}));
-    IS(vicinity::survey("vicinity-log 2\n" + asked + "S\n").masks.size() == 56);
+    return vicinity::run(command, texts);
+}
+
+static void try_run()
+{
+    const vicinity::Named catalogue = {"books.csv", "uid,title\nE0040100000000A1,Emma\n"};
+    const vicinity::Written told =
+        run(VICINITY_COMMAND_SURVEY, {{"shelf", ONE}, {"cart", SILENT}});
+    IS(told.status == 0 && told.text.compare(0, 24, "vicinity-survey 1 shelf\n") == 0);
+    const std::string &sent = told.text;
+    IS(run(VICINITY_COMMAND_COLLECTION, {catalogue, {"sent", sent}}).status == 0);
+    // a part of a survey is none
+    IS(run(VICINITY_COMMAND_COLLECTION, {catalogue, {"sent", {sent.data(), sent.size() - 1}}})
+           .status == 3);
+    IS(thrown<vicinity::Usage>([] { run(VICINITY_COMMAND_CHECK, {}); }) == "usage");
+    IS(thrown<vicinity::Usage>([] { run(VICINITY_COMMAND_CHECK, {{"\n", SILENT}}); }) == "usage");
 }
 
 static void try_frames()
@@ -210,7 +149,7 @@ int main()
     try_answers();
     try_texts();
     try_margins();
-    try_many();
+    try_run();
     try_frames();
     std::cout << passed << " passed\n";
 }

@@ -1,7 +1,6 @@
 // Is the list of tags that an RFID reader claims complete? The library of vicinity.h for C++11 and
-// later: what C would have to free is owned, memory that runs out is std::bad_alloc, and a text
-// that is no list or no possible log is an exception. Nothing here reads a log: each answer is that
-// of a proved call.
+// later: what C would have to free is owned, and memory that runs out is std::bad_alloc. Nothing here
+// reads a log: each answer is that of a proved call.
 //
 //     vicinity::Answer answer = vicinity::check("vicinity-log 1\nT 260100F60A\nS\n");
 //     if (answer.is_complete())
@@ -19,7 +18,6 @@
 #include <stdexcept>
 #include <string>
 #include <type_traits>
-#include <utility>
 #include <vector>
 #if __cplusplus >= 201703L
 #include <string_view>
@@ -79,37 +77,11 @@ class Text
 
 // ---- errors
 
-// The text is not a log, or not a list: the line and its enum vicinity_fault. Of lists that are
-// reconciled, the line counts the elements up to the one that has the fault.
-struct Refused : std::runtime_error {
-    std::uint32_t line, fault;
-    Refused(std::uint32_t at, std::uint32_t why)
-        : std::runtime_error("refused at line " + std::to_string(at) + ": " + fault_name(why)),
-          line(at), fault(why)
-    {
-    }
-};
-
-// The lines of the log up to this one contradict each other.
-struct Impossible : std::runtime_error {
-    std::uint32_t line;
-    explicit Impossible(std::uint32_t at)
-        : std::runtime_error("impossible at line " + std::to_string(at)), line(at)
-    {
-    }
-};
-
 // A frame, mask or line can't be made, or a frame not be read: an enum vicinity_refusal or
 // vicinity_fault.
 struct WrongFrame : std::invalid_argument {
     std::uint32_t fault;
     explicit WrongFrame(std::uint32_t why) : std::invalid_argument(fault_name(why)), fault(why) {}
-};
-
-// There are no logs to reconcile, or a survey isn't what `survey` returned, as one from which the
-// masks were moved away.
-struct NoLogs : std::invalid_argument {
-    NoLogs() : std::invalid_argument("no logs") {}
 };
 
 // The texts aren't what a command takes, as two logs for `check`, or a name has LF.
@@ -157,19 +129,8 @@ struct Mask {
 
 // The answer to a text. Its fields are those of struct vicinity_answer.
 struct Answer : vicinity_answer {
-    // No answer: the kind is VICINITY_NO_ANSWER and the status 4. So is one that was moved away, and
-    // with it a Survey: without its masks it would say that nothing else can be there.
+    // No answer: the kind is VICINITY_NO_ANSWER and the status 4.
     Answer() noexcept : vicinity_answer() { status = VICINITY_STATUS_NO_ANSWER; }
-    Answer(const Answer &) = default;
-    Answer &operator=(const Answer &) = default;
-    Answer(Answer &&from) noexcept : Answer() { std::swap<vicinity_answer>(*this, from); }
-    // Moved to itself it is none too.
-    Answer &operator=(Answer &&from) noexcept
-    {
-        vicinity_answer::operator=(from);
-        from.vicinity_answer::operator=(Answer());
-        return *this;
-    }
 
     // Whether the list is complete.
     bool is_complete() const { return kind == VICINITY_COMPLETE; }
@@ -235,39 +196,6 @@ struct Margin {
     Weakest weakest; // zeros if the text is refused or the log impossible
 };
 
-// What a possible log says of its field, whatever it lists.
-struct Survey {
-    Answer answer;                      // which says what the list of the log is worth
-    std::vector<std::uint64_t> certain; // the UIDs that must be there, in rising order
-    std::vector<vicinity_mask> masks;   // all whose UIDs may be there or not
-
-    Survey() = default;
-    Survey(const Survey &) = default;
-    Survey(Survey &&) = default;
-    // All is assigned, also of itself, or nothing where memory runs out: without its masks a survey
-    // would say that nothing else can be there.
-    Survey &operator=(Survey other) noexcept
-    {
-        std::swap(answer, other.answer);
-        certain.swap(other.certain);
-        masks.swap(other.masks);
-        std::swap(certain_count, other.certain_count);
-        std::swap(mask_count, other.mask_count);
-        return *this;
-    }
-
-    // Whether it is of a possible log, and has all that `survey` found.
-    bool is_whole() const
-    {
-        return answer.kind >= VICINITY_COMPLETE && answer.kind <= VICINITY_DOUBTFUL &&
-               certain.size() >= certain_count && masks.size() >= mask_count;
-    }
-
-  private:
-    friend Survey survey(Text text);
-    std::size_t certain_count = 0, mask_count = 0; // how many were found
-};
-
 // ---- what the calls share
 
 namespace detail
@@ -303,13 +231,6 @@ inline Margin measured(const Answer &answer, const vicinity_weakest &told)
              {told.mask_len, told.mask_value},
              {told.has_hidden != 0, {told.hidden_len, told.hidden_value}},
              {told.has_deaf != 0, {told.deaf_len, told.deaf_value}}}};
-}
-
-// A text whose last line ends, so that lines can follow.
-inline std::string ended(Text text)
-{
-    std::string whole(text.bytes(), text.bytes() + text.size());
-    return !whole.empty() && whole.back() == '\n' ? whole : whole + '\n';
 }
 
 inline void refuse(std::uint32_t fault)
@@ -364,37 +285,13 @@ inline Report report(Text text)
     return told;
 }
 
-// The same for a text without `U` lines, followed by one for each of these UIDs, in any order.
+// The same for a text without `U` lines, followed by one for each of these UIDs, in any order. Its
+// last line may lack its LF.
 inline Answer check_listed(Text text, const std::vector<std::uint64_t> &uids)
 {
-    const std::string whole = detail::ended(text);
     Answer answer{};
-    vicinity_check_listed(Text(whole).bytes(), whole.size(), uids.data(), uids.size(), &answer);
+    vicinity_check_listed(text.bytes(), text.size(), uids.data(), uids.size(), &answer);
     return detail::answered(answer);
-}
-
-inline Explained explain_listed(Text text, const std::vector<std::uint64_t> &uids)
-{
-    const std::string whole = detail::ended(text);
-    Explained told{};
-    told.answer = detail::fill(told.population, [&](Answer *answer, std::uint64_t *found,
-                                                    std::size_t room, std::size_t *needed) {
-        vicinity_explain_listed(Text(whole).bytes(), whole.size(), uids.data(), uids.size(),
-                                answer, found, room, needed);
-    });
-    return told;
-}
-
-inline Report report_listed(Text text, const std::vector<std::uint64_t> &uids)
-{
-    const std::string whole = detail::ended(text);
-    Report told{};
-    told.answer = detail::fill(told.findings, [&](Answer *answer, vicinity_finding *found,
-                                                  std::size_t room, std::size_t *needed) {
-        vicinity_report_listed(Text(whole).bytes(), whole.size(), uids.data(), uids.size(), answer,
-                               found, room, needed);
-    });
-    return told;
 }
 
 // The answer to a log, and its margin, as `vicinity margin`.
@@ -408,113 +305,10 @@ inline Margin margin(Text text)
 
 inline Margin margin_listed(Text text, const std::vector<std::uint64_t> &uids)
 {
-    const std::string whole = detail::ended(text);
     Answer answer{};
     vicinity_weakest told;
-    vicinity_margin_listed(Text(whole).bytes(), whole.size(), uids.data(), uids.size(), &answer,
-                           &told);
+    vicinity_margin_listed(text.bytes(), text.size(), uids.data(), uids.size(), &answer, &told);
     return detail::measured(answer, told);
-}
-
-// In how many slots of a log each of these UIDs was overlooked. A text that is not a log is
-// Refused, and so is a UID that doesn't begin E0.
-inline std::vector<std::uint32_t> overlooked(Text text, const std::vector<std::uint64_t> &uids)
-{
-    std::vector<std::uint32_t> slot_counts(uids.size());
-    Answer answer{};
-    vicinity_overlooked(text.bytes(), text.size(), uids.data(), uids.size(), &answer,
-                        slot_counts.data(), slot_counts.size());
-    if (detail::answered(answer).kind == VICINITY_REFUSED)
-        throw Refused(answer.line, answer.fault);
-    return slot_counts;
-}
-
-// The UIDs, in rising order, of a text that only lists UIDs: a list of what is expected. Any other
-// text is Refused.
-inline std::vector<std::uint64_t> listed(Text text)
-{
-    std::vector<std::uint64_t> uids;
-    const Answer told = detail::fill(
-        uids, [&](Answer *answer, std::uint64_t *found, std::size_t room, std::size_t *needed) {
-            vicinity_listed(text.bytes(), text.size(), answer, found, room, needed);
-        });
-    if (told.kind != VICINITY_LISTED)
-        throw Refused(told.line, told.fault);
-    return uids;
-}
-
-// What a log says of its field. A text that is not a log is Refused, one that no tags could have
-// produced Impossible.
-inline Survey survey(Text text)
-{
-    Survey told{};
-    told.certain.resize(64);
-    told.masks.resize(64);
-    for (;;) {
-        std::size_t uids = 0, masks = 0;
-        vicinity_survey(text.bytes(), text.size(), &told.answer, told.certain.data(),
-                        told.certain.size(), &uids, told.masks.data(), told.masks.size(), &masks);
-        detail::answered(told.answer);
-        if (told.answer.kind == VICINITY_REFUSED)
-            throw Refused(told.answer.line, told.answer.fault);
-        if (told.answer.kind == VICINITY_IMPOSSIBLE)
-            throw Impossible(told.answer.line);
-        bool held = uids <= told.certain.size() && masks <= told.masks.size();
-        told.certain.resize(uids);
-        told.masks.resize(masks);
-        told.certain_count = uids;
-        told.mask_count = masks;
-        if (held)
-            return told;
-    }
-}
-
-// The answer for many logs and the UIDs that are expected in their fields, in any order, and every
-// finding, without lines. The surveys are one at least, each once or more. A UID that is expected
-// twice is Refused.
-inline Report reconcile(const std::vector<std::uint64_t> &expected,
-                        const std::vector<Survey> &surveys)
-{
-    std::vector<std::uint64_t> certain;
-    std::vector<vicinity_mask> masks;
-    if (surveys.empty())
-        throw NoLogs();
-    for (const Survey &one : surveys) {
-        if (!one.is_whole())
-            throw NoLogs();
-        certain.insert(certain.end(), one.certain.begin(), one.certain.end());
-        masks.insert(masks.end(), one.masks.begin(), one.masks.end());
-    }
-    Report told{};
-    told.answer = detail::fill(told.findings, [&](Answer *answer, vicinity_finding *found,
-                                                  std::size_t room, std::size_t *needed) {
-        vicinity_reconcile(expected.data(), expected.size(), certain.data(), certain.size(),
-                           masks.data(), masks.size(), answer, found, room, needed);
-    });
-    if (told.answer.kind == VICINITY_REFUSED)
-        throw Refused(told.answer.line, told.answer.fault);
-    return told;
-}
-
-// The log that conforming tags would produce: the text has the requests, and lists the tags.
-inline std::string simulate(Text text)
-{
-    std::vector<std::uint8_t> room(64 + 4 * text.size());
-    for (;;) {
-        std::size_t needed = 0;
-        const vicinity_status status =
-            vicinity_simulate(text.bytes(), text.size(), room.data(), room.size(), &needed);
-        if (status == VICINITY_STATUS_NO_ANSWER)
-            throw std::bad_alloc();
-        if (needed > room.size()) {
-            room.resize(needed);
-            continue;
-        }
-        std::string filled(room.begin(), room.begin() + static_cast<std::ptrdiff_t>(needed));
-        if (status != VICINITY_STATUS_DONE)
-            throw NotSimulated(filled.substr(0, filled.find('\n')));
-        return filled;
-    }
 }
 
 // A text with its name, such as that of its file: UTF-8, without LF.
@@ -557,6 +351,15 @@ inline Written run(vicinity_command command, const std::vector<Named> &texts)
         if (held)
             return {{room.begin(), room.end()}, status};
     }
+}
+
+// The log that conforming tags would produce: the text has the requests, and lists the tags.
+inline std::string simulate(Text text)
+{
+    const Written told = run(VICINITY_COMMAND_SIMULATE, {{"", text}});
+    if (told.status != VICINITY_STATUS_DONE)
+        throw NotSimulated(told.text.substr(0, told.text.find('\n')));
+    return told.text;
 }
 
 // ---- frames and lines: each is a WrongFrame where it can't be made or read

@@ -1,3 +1,3 @@
-module vicinity
+module vicinity/v2
 
 go 1.19

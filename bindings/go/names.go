@@ -77,9 +77,6 @@ const (
 // Fault is the first fault of a text or a frame, by its number in vicinity.h.
 type Fault uint32
 
-// NotListed is the fault of a text that should only list UIDs: the line has another entry.
-const NotListed Fault = C.VICINITY_FAULT_NOT_LISTED
-
 // String returns the name of the fault, as the program writes it.
 func (fault Fault) String() string {
 	return faultName(uint32(fault))

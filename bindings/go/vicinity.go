@@ -50,7 +50,7 @@ func (answer Answer) String() string {
 // Finding is one finding of a report. Fields that the kind doesn't use are zero.
 type Finding struct {
 	Kind FindingKind
-	Line uint32 // 0 in what Reconcile returns
+	Line uint32
 	Mask Mask
 	UID  UID
 }
@@ -76,30 +76,6 @@ func (reading Reading) String() string {
 		return "-"
 	}
 	return reading.Mask.String()
-}
-
-// Survey is what a possible log says of its field, whatever it lists.
-type Survey struct {
-	Answer    Answer // which says what the list of the log is worth
-	Certain   []UID  // the UIDs that must be there, in rising order
-	OpenMasks []Mask // all masks whose UIDs may be there or not, by length and then by value
-
-	certain, openMasks int // how many of each SurveyOf found
-}
-
-// isWhole reports whether it is of a possible log, and lacks nothing that SurveyOf found: without its masks it would say that
-// nothing else can be there. One that came as JSON has no such numbers, but the kind of its answer needs a UID or a mask.
-func (survey Survey) isWhole() bool {
-	isWhole := len(survey.Certain) >= survey.certain && len(survey.OpenMasks) >= survey.openMasks
-	switch survey.Answer.Kind {
-	case Complete, Absent:
-		return isWhole
-	case Unlisted:
-		return isWhole && len(survey.Certain) > 0
-	case Unsettled, Doubtful:
-		return isWhole && len(survey.OpenMasks) > 0
-	}
-	return false
 }
 
 // Fits reports whether the linked library has the interface of the header.
@@ -138,34 +114,12 @@ func Report(text []byte) (Answer, []Finding, error) {
 	return found, findings(list), err
 }
 
-// CheckListed returns the answer to a text without `U` lines, followed by one for each of these UIDs, in any order.
+// CheckListed returns the answer to a text without `U` lines, followed by one for each of these UIDs, in any order. Its last
+// line may lack its LF.
 func CheckListed(text []byte, listed []UID) (Answer, error) {
-	text = ended(text)
 	var told C.struct_vicinity_answer
 	C.vicinity_check_listed(bytes(text), size(text), numbers(listed), size(listed), &told)
 	return answer(&told)
-}
-
-// ExplainListed is Explain, for a text and a list as CheckListed takes them.
-func ExplainListed(text []byte, listed []UID) (Answer, []UID, error) {
-	text = ended(text)
-	told, uids := fill(func(told *C.struct_vicinity_answer, room []UID, needed *C.size_t) {
-		C.vicinity_explain_listed(bytes(text), size(text), numbers(listed), size(listed), told, numbers(room), size(room),
-			needed)
-	})
-	found, err := answer(&told)
-	return found, uids, err
-}
-
-// ReportListed is Report, for a text and a list as CheckListed takes them.
-func ReportListed(text []byte, listed []UID) (Answer, []Finding, error) {
-	text = ended(text)
-	told, list := fill(func(told *C.struct_vicinity_answer, room []C.struct_vicinity_finding, needed *C.size_t) {
-		C.vicinity_report_listed(bytes(text), size(text), numbers(listed), size(listed), told, first(room), size(room),
-			needed)
-	})
-	found, err := answer(&told)
-	return found, findings(list), err
 }
 
 // Margin returns the answer to a log, and its margin, as `vicinity margin`.
@@ -178,117 +132,20 @@ func Margin(text []byte) (Answer, Weakest, error) {
 
 // MarginListed is Margin, for a text and a list as CheckListed takes them.
 func MarginListed(text []byte, listed []UID) (Answer, Weakest, error) {
-	text = ended(text)
 	var told C.struct_vicinity_answer
 	var least C.struct_vicinity_weakest
 	C.vicinity_margin_listed(bytes(text), size(text), numbers(listed), size(listed), &told, &least)
 	return measured(&told, &least)
 }
 
-// Overlooked returns in how many slots of a log each of these UIDs was overlooked. A text that is not a log is a
-// *RefusedError, and so is a UID that doesn't begin E0.
-func Overlooked(text []byte, uids []UID) ([]uint32, error) {
-	var told C.struct_vicinity_answer
-	slots := make([]uint32, len(uids))
-	C.vicinity_overlooked(bytes(text), size(text), numbers(uids), size(uids), &told,
-		(*C.uint32_t)(unsafe.Pointer(first(slots))), size(slots))
-	switch told.kind {
-	case C.VICINITY_NO_ANSWER:
-		return nil, ErrOutOfMemory
-	case C.VICINITY_REFUSED:
-		return nil, &RefusedError{uint32(told.line), Fault(told.fault)}
-	}
-	return slots, nil
-}
-
-// Listed returns the UIDs, in rising order, of a text that only lists UIDs: a list of what is expected. Any other text is a
-// *RefusedError.
-func Listed(text []byte) ([]UID, error) {
-	told, uids := fill(func(told *C.struct_vicinity_answer, room []UID, needed *C.size_t) {
-		C.vicinity_listed(bytes(text), size(text), told, numbers(room), size(room), needed)
-	})
-	switch told.kind {
-	case C.VICINITY_LISTED:
-		return uids, nil
-	case C.VICINITY_REFUSED:
-		return nil, &RefusedError{uint32(told.line), Fault(told.fault)}
-	}
-	return nil, ErrOutOfMemory
-}
-
-// SurveyOf returns what a log says of its field. A text that is not a log is a *RefusedError, and a log that no tags could
-// have produced an *ImpossibleError.
-func SurveyOf(text []byte) (Survey, error) {
-	uids, masks := make([]UID, firstRoom), make([]C.struct_vicinity_mask, firstRoom)
-	for {
-		var told C.struct_vicinity_answer
-		var count, open C.size_t
-		C.vicinity_survey(bytes(text), size(text), &told, numbers(uids), size(uids), &count, first(masks), size(masks), &open)
-		found, err := answer(&told)
-		switch {
-		case err != nil:
-			return Survey{Answer: found}, err
-		case found.Kind == Refused:
-			return Survey{Answer: found}, &RefusedError{found.Line, found.Fault}
-		case found.Kind == Impossible:
-			return Survey{Answer: found}, &ImpossibleError{found.Line}
-		case int(count) <= len(uids) && int(open) <= len(masks):
-			survey := Survey{Answer: found, Certain: uids[:count], certain: int(count), openMasks: int(open)}
-			for _, mask := range masks[:open] {
-				survey.OpenMasks = append(survey.OpenMasks, Mask{uint32(mask.len), uint64(mask.value)})
-			}
-			return survey, nil
-		}
-		uids, masks = make([]UID, count), make([]C.struct_vicinity_mask, open)
-	}
-}
-
-// Reconcile returns the answer for many logs and the UIDs that are expected in their fields, in any order, and every finding.
-// The surveys are one at least, each once or more. A UID that is expected twice is a *RefusedError.
-func Reconcile(expected []UID, surveys []Survey) (Answer, []Finding, error) {
-	if len(surveys) == 0 {
-		return Answer{Status: noAnswer}, nil, ErrNoLogs
-	}
-	var certain []UID
-	var masks []C.struct_vicinity_mask
-	for _, survey := range surveys {
-		if !survey.isWhole() {
-			return Answer{Status: noAnswer}, nil, ErrNoLogs
-		}
-		certain = append(certain, survey.Certain...)
-		for _, mask := range survey.OpenMasks {
-			masks = append(masks, C.struct_vicinity_mask{len: C.uint32_t(mask.Len), value: C.uint64_t(mask.Value)})
-		}
-	}
-	told, list := fill(func(told *C.struct_vicinity_answer, room []C.struct_vicinity_finding, needed *C.size_t) {
-		C.vicinity_reconcile(numbers(expected), size(expected), numbers(certain), size(certain), first(masks), size(masks),
-			told, first(room), size(room), needed)
-	})
-	found, err := answer(&told)
-	if err == nil && found.Kind == Refused {
-		return found, nil, &RefusedError{found.Line, found.Fault}
-	}
-	return found, findings(list), err
-}
-
 // Simulate returns the log that conforming tags would produce: the text has the requests, and lists the tags. A text that is
 // no such log is the line of the program as an error.
 func Simulate(text []byte) ([]byte, error) {
-	room := make([]byte, firstRoom+4*len(text))
-	for {
-		var needed C.size_t
-		status := C.vicinity_simulate(bytes(text), size(text), bytes(room), size(room), &needed)
-		switch {
-		case status == noAnswer:
-			return nil, ErrOutOfMemory
-		case int(needed) > len(room):
-			room = make([]byte, needed)
-		case status != 0:
-			return nil, simulateError(strings.TrimSuffix(string(room[:needed]), "\n"))
-		default:
-			return room[:needed], nil
-		}
+	written, status, err := Run(CommandSimulate, Named{Text: text})
+	if err == nil && status != 0 {
+		return nil, simulateError(strings.TrimSuffix(string(written), "\n"))
 	}
+	return written, err
 }
 
 // Named is a text with its name, such as that of its file.
@@ -339,14 +196,6 @@ func fill[Element any](call func(*C.struct_vicinity_answer, []Element, *C.size_t
 		}
 		buffer = make([]Element, needed)
 	}
-}
-
-// ended returns a text whose last line ends, so that lines can follow.
-func ended(text []byte) []byte {
-	if len(text) > 0 && text[len(text)-1] == '\n' {
-		return text
-	}
-	return append(append(make([]byte, 0, len(text)+1), text...), '\n')
 }
 
 // first points to the first of some elements; it is nil if there are none.

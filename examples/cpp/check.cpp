@@ -1,6 +1,5 @@
 // Checks a log, FILE or standard input; shows how sure a complete list is, or a counterexample. If
-// logs follow, reconciles these with the list of FILE, and shows every finding:
-// check [FILE [LOG ..]]
+// logs follow, reconciles these with the list of FILE, as vicinity reconcile: check [FILE [LOG ..]]
 #include "vicinity.hpp"
 
 #include <cstdio>
@@ -28,16 +27,11 @@ static std::string read(const std::string &name, std::FILE *opened)
 }
 
 // An answer that can't be written is none.
-static int show(const std::string &line, int status)
+static int show(const std::string &text, int status)
 {
-    if (!(std::cout << line << '\n').flush())
+    if (!(std::cout << text).flush())
         throw std::runtime_error("cannot write");
     return status;
-}
-
-static int show(const vicinity::Answer &answer)
-{
-    return show(answer.line_text(), static_cast<int>(answer.status));
 }
 
 static int check(const std::string &text)
@@ -50,31 +44,13 @@ static int check(const std::string &text)
         std::cerr << "margin " << weakest.margin << "\nweakest " << weakest.mask.text() << "\nhidden "
                   << weakest.hidden.text() << "\ndeaf " << weakest.deaf.text() << '\n';
     }
-    return show(explained.answer);
+    return show(explained.answer.text, static_cast<int>(explained.answer.status));
 }
 
-static int reconcile(const std::string &list, const std::vector<std::string> &logs)
+static int reconcile(const std::vector<vicinity::Named> &texts)
 {
-    const std::vector<std::uint64_t> expected = vicinity::listed(list);
-    std::vector<vicinity::Survey> surveys;
-    for (const std::string &log : logs)
-        surveys.push_back(vicinity::survey(log));
-    const vicinity::Report told = vicinity::reconcile(expected, surveys);
-    for (const vicinity_finding &finding : told.findings)
-        std::cerr << vicinity::finding_text(finding) << '\n';
-    return show(told.answer);
-}
-
-static int run(const std::vector<std::string> &texts)
-{
-    try {
-        return texts.size() == 1 ? check(texts[0])
-                                 : reconcile(texts[0], {texts.begin() + 1, texts.end()});
-    } catch (const vicinity::Refused &refused) {
-        return show(refused.what(), 3);
-    } catch (const vicinity::Impossible &impossible) {
-        return show(impossible.what(), 2);
-    }
+    const vicinity::Written told = vicinity::run(VICINITY_COMMAND_RECONCILE, texts);
+    return show(told.text, told.status);
 }
 
 int main(int argc, char **argv)
@@ -88,9 +64,14 @@ int main(int argc, char **argv)
     try {
         for (int i = 1; i < argc; i++)
             texts.push_back(read(argv[i], std::fopen(argv[i], "rb")));
-        if (texts.empty())
+        if (argc == 1)
             texts.push_back(read("standard input", stdin));
-        return run(texts);
+        if (argc <= 2)
+            return check(texts[0]);
+        std::vector<vicinity::Named> named;
+        for (int i = 1; i < argc; i++)
+            named.push_back({argv[i], texts[static_cast<std::size_t>(i) - 1]});
+        return reconcile(named);
     } catch (const std::exception &error) {
         std::cerr << error.what() << '\n';
         return 4;

@@ -1,14 +1,13 @@
 // Checks a log, FILE or standard input; shows how sure a complete list is, or a counterexample. If logs follow, reconciles
-// these with the list of FILE, and shows every finding:  vicinity-check [FILE [LOG ..]]
+// these with the list of FILE, as vicinity reconcile:  vicinity-check [FILE [LOG ..]]
 package main
 
 import (
-	"errors"
 	"fmt"
 	"io"
 	"os"
 
-	"vicinity"
+	"vicinity/v2"
 )
 
 func read() ([]byte, error) {
@@ -40,47 +39,30 @@ func check(text []byte) (int, error) {
 	return answer.Status, err
 }
 
-func reconcile(list []byte, logs []string) (int, error) {
-	expected, err := vicinity.Listed(list)
-	if err != nil {
-		return 0, err
-	}
-	var surveys []vicinity.Survey
-	for _, log := range logs {
-		text, err := os.ReadFile(log)
+// reconcile does what the program does for a list and logs.
+func reconcile(files []string) (int, error) {
+	var texts []vicinity.Named
+	for _, file := range files {
+		text, err := os.ReadFile(file)
 		if err != nil {
 			return 0, err
 		}
-		survey, err := vicinity.SurveyOf(text)
-		if err != nil {
-			return 0, err
-		}
-		surveys = append(surveys, survey)
+		texts = append(texts, vicinity.Named{Name: file, Text: text})
 	}
-	answer, findings, err := vicinity.Reconcile(expected, surveys)
-	if err != nil {
-		return 0, err
+	written, status, err := vicinity.Run(vicinity.CommandReconcile, texts...)
+	if err == nil {
+		_, err = os.Stdout.Write(written)
 	}
-	if _, err := fmt.Println(answer); err != nil {
-		return 0, err
-	}
-	for _, it := range findings {
-		if it.Kind == vicinity.FindingUnsettled {
-			fmt.Fprintln(os.Stderr, it.Kind, it.Mask)
-		} else {
-			fmt.Fprintln(os.Stderr, it.Kind, it.UID)
-		}
-	}
-	return answer.Status, nil
+	return status, err
 }
 
 func run() (int, error) {
+	if len(os.Args) > 2 {
+		return reconcile(os.Args[1:])
+	}
 	text, err := read()
 	if err != nil {
 		return 0, err
-	}
-	if len(os.Args) > 2 {
-		return reconcile(text, os.Args[2:])
 	}
 	return check(text)
 }
@@ -90,16 +72,6 @@ func main() {
 		os.Exit(4)
 	}
 	status, err := run()
-	var refused *vicinity.RefusedError
-	var impossible *vicinity.ImpossibleError
-	switch {
-	case errors.As(err, &refused):
-		status = 3
-		_, err = fmt.Println(refused)
-	case errors.As(err, &impossible):
-		status = 2
-		_, err = fmt.Println(impossible)
-	}
 	// also of what can't be written there is no answer
 	if err != nil {
 		fmt.Fprintln(os.Stderr, err)

@@ -11,8 +11,7 @@ from unittest import mock
 
 from helpers.frames import hex_of
 from vicinity import Fault, Kind, _process
-from vicinity.__main__ import main, words
-from vicinity.commands import reconcile
+from vicinity.__main__ import main
 
 TOP = os.path.dirname(os.path.dirname(os.path.dirname(os.path.abspath(__file__))))
 ALL = b"T 260100F60A\n"
@@ -29,8 +28,6 @@ LIST_B = b"U E0040100000000B2\n"
 ALONE = ALL + HEARD_A + SILENCE_A + ALL + b"S\n"
 COLLECTION = os.path.join(TOP, "examples/collection")
 SHELVES = [os.path.join(COLLECTION, f"shelf-{letter}.log") for letter in "abc"]
-#: The forms in which `reconcile` writes.
-FORMS_OF_RECONCILE: tuple[list[str], ...] = ([], ["--csv"], ["--json"], ["--page"])
 #: Names of files, and how they are shown.
 NAMES = {
     b"a: complete 4.log": "a: complete 4.log",
@@ -71,8 +68,6 @@ def third(lines):
 
 
 NOTHING = log(ALL + b"S\n")
-#: The words of each command.
-WORDS = words()[1]
 
 
 def frame(content):
@@ -123,24 +118,11 @@ def on_a_terminal(*words, streams=("stdin", "stdout"), **env):
 
 def least():
     """How many KiB of address space the commands take by themselves."""
-    code = ("import vicinity.__main__, vicinity.commands.draw, vicinity.commands.reconcile; "
+    code = ("import vicinity.__main__, vicinity.commands.draw, vicinity.commands.collection; "
             "vicinity.check(b'')\n"
             "with open('/proc/self/status') as file: "
             "print(*(it.split()[1] for it in file if it.startswith('VmPeak')))")
     return int(subprocess.run([sys.executable, "-c", code], capture_output=True).stdout)
-
-
-def here(form, expected, *logs, options=()):
-    """What the command writes, also to standard error, and its status,
-    without a process of its own."""
-    given = ["--expected", expected, f"--{form}", *options, "--", *logs]
-    asked = WORDS["reconcile"].parse(given)
-    with mock.patch.multiple(reconcile, write=mock.DEFAULT, complain=mock.DEFAULT) as calls:
-        status = reconcile.reconcile(asked)
-        said = [piece for call in calls["write"].call_args_list for piece in call[0][0]]
-        said = b"".join(piece if isinstance(piece, bytes) else piece.encode() for piece in said)
-        errors = "".join(call[0][0] for call in calls["complain"].call_args_list)
-        return said.decode("utf-8", "surrogateescape"), errors, status
 
 
 class Command(unittest.TestCase):
@@ -157,9 +139,11 @@ class Command(unittest.TestCase):
             file.write(text)
         return name
 
+    def write_in(self, folder, name, text):
+        """A file in a folder of its own."""
+        os.makedirs(os.path.join(self.folder, folder), exist_ok=True)
+        return self.write(os.path.join(folder, name), text)
+
     def catalogue(self, content):
         return self.write("catalogue.csv",
                           content if isinstance(content, bytes) else content.encode())
-
-    def ask(self, *words, **more):
-        return command("reconcile", *words, **more) if more else within("reconcile", *words)

@@ -7,8 +7,8 @@ import subprocess
 import sys
 from unittest import mock
 
-from cases import (ALL, ANSWERS, FORMS_OF_RECONCILE, HEARD_A, LIST_A, NAMES, SILENCE_A, SIXTEEN,
-                   Command, command, least, log, on_a_terminal, within)
+from cases import (ALL, ANSWERS, HEARD_A, LIST_A, NAMES, SILENCE_A, SIXTEEN, Command, command,
+                   least, log, on_a_terminal, within)
 import vicinity.__main__
 
 COMPLETE = log(ALL + b"S\n")
@@ -91,10 +91,14 @@ class Words(Command):
 
     def test_what_was_a_command(self):
         """One line names what to use instead; a log of that name is still judged."""
-        for name in ("explain", "frame", "margin", "simulate", "spell"):
-            said = f"vicinity: {name} is no command here: it is a command of the program: "
+        gone = {name: f"it is a command of the program: vicinity {name}"
+                for name in ("explain", "frame", "margin", "simulate", "spell", "survey")}
+        gone["reconcile"] = ("use collection CATALOGUE [PLACES] LOG .., "
+                             "or vicinity reconcile for a list")
+        for name, instead in gone.items():
+            said = f"vicinity: {name} is no command here: {instead}\n".encode()
             for words in ([name], [name, self.names[0]], [name, "--help"]):
-                self.assertEqual(within(*words), (b"", f"{said}vicinity {name}\n".encode(), 4))
+                self.assertEqual(within(*words), (b"", said, 4))
         self.write("frame", COMPLETE)
         ran = subprocess.run([sys.executable, "-m", "vicinity", "./frame"], cwd=self.folder,
                              capture_output=True)
@@ -171,10 +175,8 @@ class Words(Command):
 
     def test_an_option_that_is_given_twice(self):
         """None of its values is ignored."""
-        listed = self.write("listed", log(LIST_A))
         for words in (["check", "--margin", "2", "--margin", "1", self.names[0]],
-                      ["reconcile", "--expected", listed, "--expected", listed, self.names[1]],
-                      ["reconcile", "--expected", listed, self.names[1], "--jobs=1", "--jobs=1"],
+                      ["collection", self.names[1], "--jobs=1", "--jobs=1"],
                       ["misread", "--miss", "1", "--miss", "0", self.names[1]]):
             said, errors, status = within(*words)
             self.assertEqual((said, status), (b"", 4))
@@ -183,22 +185,6 @@ class Words(Command):
                       for name, number in (("one", 2), ("other", 0)))
         self.assertEqual(within("--logs-from", one, "--logs-from", other),
                          within(self.names[2], self.names[0]))
-        # of another field, in which two slots weren't asked
-        rest = self.write("rest.log", log(SIXTEEN + b"S\n" * 14))
-        words = ["reconcile", "--expected", listed]
-        for name in rest, self.names[1]:
-            words += ["--surveys", self.write(f"{len(words)}", within("survey", name)[0])]
-        said = f"unsettled 4 0E\nopen 4 0E in {rest}\nopen 4 0F in {rest}\n"
-        self.assertEqual(within(*words), (said.encode(), b"", 1))
-
-    def test_an_option_that_is_blank(self):
-        """A column without a name would say where items belong, and another one than the one that
-        is meant which tags they have."""
-        name = self.catalogue("uid,tag,shelf,\nE0040100000000A1,E0040100000000B2,0,\n")
-        for blank in (["--place", ""], ["--place= "], ["--column", ""], ["--encoding="]):
-            said, errors, status = within("reconcile", "--expected", name, *blank, *self.names[:2])
-            self.assertEqual((said, status), (b"", 4), blank)
-            self.assertIn(b": it is blank\nusage: ", errors)
 
     def test_logs_that_are_named_in_a_file(self):
         wanted = within(*self.names)
@@ -249,9 +235,8 @@ class Memory(Command):
 class Streams(Command):
     def test_standard_output_that_takes_nothing(self):
         words = [[*form, self.names[0]] for form in FORMS] + [["--help"], ["--version"]]
-        listed = self.write("listed", log(LIST_A))
-        words += [["reconcile", *form, "--expected", listed, self.names[1]]
-                  for form in FORMS_OF_RECONCILE]
+        words += [["collection", form, self.catalogue("uid\nnone\n"), self.names[1]]
+                  for form in ("--csv", "--json", "--page")]
         for redirected, why in ((">&-", "Bad file descriptor"),
                                 (">/dev/full", "No space left on device")):
             for these in words:

@@ -3,8 +3,8 @@ What is wanted is counted by hand."""
 import json
 
 import vicinity
-from cases import (A, ALL, B, HEARD_A, HEARD_B, LIST_A, LIST_B, SILENCE_A, SILENCE_B, SIXTEEN,
-                   Command, here, log, on_a_terminal, within)
+from cases import (A, ALL, B, HEARD_A, HEARD_B, LIST_A, LIST_B, SILENCE_A, SILENCE_B, Command,
+                   log, within)
 from helpers.records import drawn_in
 from vicinity import Mask, Weakest
 
@@ -14,7 +14,7 @@ TWICE = ALL + HEARD_A + SILENCE_A + ALL + b"S\n"
 ONCE_B = ALL + HEARD_A + SILENCE_A + SILENCE_B + ALL + b"S\n"
 #: B is heard, and all are asked three times more.
 OFTEN = ALL + HEARD_B + SILENCE_B + (ALL + b"S\n") * 3
-SAID, ASKED = "A tag would have had to be missed in", "Each other tag was asked"
+ASKED = "Each other tag was asked"
 
 
 class Calls(Command):
@@ -53,31 +53,11 @@ class Calls(Command):
         self.assertEqual(str(vicinity.margin_listed(log(TWICE), [1])),
                          "refused at line 7: NotVicinity")
 
-    def test_how_often_uids_were_overlooked(self):
-        other = 0xE0 << 56
-        for lines, wanted in ((ALL + HEARD_A, [0, 1, 1]), (TWICE, [0, 2, 2]), (ONCE_B, [0, 1, 2]),
-                              (OFTEN, [4, 0, 4]), (ALL + b"C\n", [0, 0, 0]), (b"", [0, 0, 0]),
-                              (SIXTEEN + b"S\n" * 2, [1, 0, 1]),
-                              (ALL + b"S\n" + ALL + HEARD_A + LIST_A, [1, 2, 2])):
-            self.assertEqual(vicinity.overlooked(log(lines), [A, B, other]), wanted)
-            self.assertEqual(vicinity.overlooked(log(lines), (other, A, A)),
-                             [wanted[2], wanted[0], wanted[0]])
-        cycled = b"vicinity-log 2\n" + ONCE_B + b"F\n" + ALL + b"S\n"
-        self.assertEqual(vicinity.overlooked(cycled, [A, B]), [1, 2])
-        self.assertEqual(vicinity.overlooked(log(TWICE), []), [])
-        uids = [other + number for number in range(1000)]
-        self.assertEqual(vicinity.overlooked(log(TWICE), uids), [2] * 1000)
-
-    def test_what_has_no_numbers(self):
-        for lines, uids, wanted in ((b"X\n", [A], "refused at line 2: UnknownEntry"),
-                                    (TWICE, [A, B, 5], "refused at line 9: NotVicinity")):
-            with self.assertRaisesRegex(ValueError, wanted):
-                vicinity.overlooked(log(lines), uids)
-        for call in (vicinity.margin_listed, vicinity.overlooked):
-            with self.assertRaises(OverflowError):
-                call(log(TWICE), [1 << 64])
-            with self.assertRaisesRegex(TypeError, "bytes, not str"):
-                call("", [])
+    def test_what_is_no_list(self):
+        with self.assertRaises(OverflowError):
+            vicinity.margin_listed(log(TWICE), [1 << 64])
+        with self.assertRaisesRegex(TypeError, "bytes, not str"):
+            vicinity.margin_listed("", [])
 
 
 class Said(Command):
@@ -140,83 +120,3 @@ class Said(Command):
         told = drawn_in(vicinity.page(log(OFTEN + LIST_A + LIST_B)))[0]
         self.assertEqual([it["overlooked"] for it in told["findings"]], [4])
         self.assertNotIn("margin", told)
-
-
-class Collections(Command):
-    def setUp(self):
-        super().setUp()
-        self.listed = self.write("expected.log", log(LIST_A + LIST_B))
-        self.logs = [self.write(name, log(lines)) for name, lines in (
-            ("a.log", TWICE + LIST_A), ("b.log", OFTEN))]
-
-    def margin(self, *words, listed="", form="json"):
-        said, errors, status = here(form, listed or self.listed, *words)
-        return json.loads(said), errors, status
-
-    def test_the_least_of_its_logs(self):
-        weakest = {"file": self.logs[0], "mask_len": 1, "mask_value": "00"}
-        for logs in (self.logs, self.logs[::-1]):
-            told, _, status = self.margin(*logs)
-            self.assertEqual((told["margin"], told["weakest"], status), (2, weakest, 0))
-        self.assertEqual([it["margin"] for it in told["logs"]], [4, 2])
-        other = self.write("c.log", log((ALL + b"S\n") * 2))
-        for logs, first in (([*self.logs, other], self.logs[0]), ([other, *self.logs], other)):
-            self.assertEqual(self.margin(*logs)[0]["weakest"]["file"], first)
-
-    def test_where_all_that_are_weakest_are_expected(self):
-        """B was asked only once in the first field. It is in the second, so it is no tag that
-        was missed; the next were asked twice. A survey alone doesn't say that."""
-        once = self.write("once.log", log(ONCE_B + LIST_A))
-        told = self.margin(once, self.logs[1])[0]
-        self.assertEqual((told["margin"], told["weakest"]),
-                         (2, {"file": once, "mask_len": 2, "mask_value": "00"}))
-        self.assertEqual(told["logs"][0]["margin"], 1)
-        records = self.write("records", within("survey", once, self.logs[1])[0])
-        self.assertNotIn("margin", self.margin("--surveys", records)[0])
-
-    def test_surveys_of_other_machines(self):
-        records = self.write("records", within("survey", *self.logs)[0])
-        said, _, status = within("reconcile", "--json", "--expected", self.listed, "--surveys",
-                                 records)
-        self.assertEqual((json.loads(said), "", status), self.margin(*self.logs))
-
-    def test_of_what_is_not_complete(self):
-        told = self.margin(self.logs[0])[0]
-        self.assertNotIn("margin", told)
-        self.assertEqual({it["uid"]: it.get("overlooked") for it in told["items"]},
-                         {"E0040100000000A1": None, "E0040100000000B2": 2})
-        more = self.write("more.log", log(ALL + b"S\n"))
-        items = self.margin(self.logs[0], more)[0]["items"]
-        self.assertEqual([it.get("overlooked") for it in items], [None, 1])
-
-    def test_a_margin_that_is_too_small(self):
-        where = f"margin 2 below 3 in {self.logs[0]}, weakest 1 00"
-        words = "reconcile", "--expected", self.listed, *self.logs, "--margin"
-        self.assertEqual(within(*words, "2"), (b"complete 2\n", b"", 0))
-        self.assertEqual(within(*words, "3"), (f"{where}\n".encode(), b"", 1))
-        said, errors, status = within(*words, "3", "--csv")
-        self.assertEqual((errors.decode(), status), (f"vicinity: {where}\n", 1))
-        self.assertEqual(said, within(*words, "1", "--csv")[0])
-        for form in ("json", "page"):
-            said, _, status = within(*words, "3", f"--{form}")
-            told = json.loads(said) if form == "json" else drawn_in(said.decode())[0]
-            self.assertEqual((told["status"], told["kind"], told["count"], told["wanted"]),
-                             (1, "margin", 2, 3))
-            self.assertEqual((told["margin"], status), (2, 1))
-        self.assertIn(f"<title>expected.log: {where}</title>", said.decode())
-
-    def test_a_margin_that_is_not_known(self):
-        """It counts as too small."""
-        records = [json.loads(line) for line in within("survey", *self.logs)[0].splitlines()]
-        del records[1]["margin"], records[1]["weakest"]
-        name = self.write("records", "\n".join(map(json.dumps, records)).encode())
-        words = "reconcile", "--expected", self.listed, "--surveys", name
-        self.assertEqual(within(*words), (b"complete 2\n", b"", 0))
-        self.assertEqual(within(*words, "--margin", "1"),
-                         (b"margin unknown, 1 asked for\n", b"", 1))
-
-    def test_a_terminal_is_told(self):
-        told, _ = on_a_terminal("reconcile", "--expected", self.listed, *self.logs,
-                                streams=["stderr"])
-        self.assertIn(f"{SAID} 2 slots in the field of {self.logs[0]}; "
-                      "that is enough for UIDs ending in an even digit.", told.decode())

@@ -6,7 +6,7 @@ import os
 
 import jsonschema
 
-from cases import COLLECTION, LIST_A, SHELVES, TOP, Command, command, here, log, within
+from cases import COLLECTION, SHELVES, TOP, Command, command, within
 from helpers.records import drawn_in
 
 
@@ -30,22 +30,17 @@ class Schema(Command):
                 told = json.loads(line)
                 yield told, "check" if told["status"] == 4 else kind
         yield json.loads(within("--json", "--margin", "2", self.names[0])[0]), "check"
-        for line in within("survey", *names)[0].splitlines():
-            told = json.loads(line)
-            if told["status"] < 2:
-                yield told, "survey"
         yield from ((drawn_in(command("page", name)[0].decode())[0], "log")
                     for name in names if name != "/nowhere")
-        catalogue = os.path.join(COLLECTION, "catalogue.csv")
-        place = ["--place", "place", "--places", os.path.join(COLLECTION, "places.csv")]
-        answers = [here("json", catalogue, *logs, options=place)[0]
-                   for logs in (SHELVES, [*SHELVES[:2], *self.names], [*SHELVES, self.names[7]])]
-        listed = self.write("expected.log", log(LIST_A))
-        answers += [here("json", listed, self.names[1], options=["--margin", most])[0]
-                    for most in "12"]
+        tables = [os.path.join(COLLECTION, name) for name in ("catalogue.csv", "places.csv")]
+        expected = self.write("expected.csv", b"uid\nE0040100000000A1\nnone\n")
+        answers = [within("collection", "--json", *words)[0] for words in (
+            [*tables, *SHELVES], [*tables, *SHELVES[:2], *self.names], [*tables, self.names[6]],
+            [expected, self.names[1]], ["--margin", "2", expected, self.names[1]])]
         yield from ((json.loads(answer), "collection") for answer in answers)
-        yield drawn_in(here("page", catalogue, *SHELVES, options=place)[0])[0], "collection"
-        old, *others = [self.write(f"{index}.json", answer.encode())
+        yield (drawn_in(within("collection", "--page", *tables, *SHELVES)[0].decode())[0],
+               "collection")
+        old, *others = [self.write(f"{index}.json", answer)
                         for index, answer in enumerate(answers)]
         for new in others:
             yield json.loads(within("compare", "--json", old, new)[0]), "comparison"
@@ -55,11 +50,11 @@ class Schema(Command):
         for told, kind in self.objects():
             self.assertEqual(self.fits(told, kind), [True, True], told)
             met.add(kind)
-        self.assertEqual(met, {"check", "report", "survey", "collection", "comparison", "log"})
+        self.assertEqual(met, {"check", "report", "collection", "comparison", "log"})
 
     def test_each_field_is_needed(self):
         for told, kind in {kind: (told, kind) for told, kind in self.objects()}.values():
-            has_more = kind in ("collection", "log", "survey")
+            has_more = kind in ("collection", "log")
             for field in self.schema["$defs"][kind]["required"] if has_more else told:
                 left = {key: value for key, value in told.items() if key != field}
                 self.assertFalse(self.fits(left, kind)[1], (kind, field))

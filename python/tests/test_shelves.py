@@ -3,20 +3,13 @@ a log that contradicts itself, misplaced and missing items, tags that aren't in 
 rows without a tag.
 
 The logs are made here: a field of tags is asked, and each answer noted, without the package.
-What is wanted was worked out by hand, once with the log that contradicts itself and once
-with another in its place: in data/shelves, the lines, the rows of all items that aren't just there,
-and the answer in JSON. The UID of an item ends in its number.
-"""
-import csv
-import io
+What is wanted follows from what was planted, once with the log that contradicts itself and once
+with another in its place. The UID of an item ends in its number."""
 import json
 import os
-from hashlib import sha256
 
-from cases import TOP, Command, command, frame, here, within
-from helpers.records import drawn_in
+from cases import Command, frame, within
 
-WANTED = os.path.join(TOP, "python/tests/data/shelves")
 ITEMS, EACH = 2000, 50
 SHELVES = [f"S{number:02}" for number in range(1, 41)]
 BROKEN = "S17"
@@ -27,8 +20,6 @@ MISSING = (110, 455, 1013)
 MISPLACED = {3: "S02", 220: "S40", 820: "S05", 1205: "S01", 1999: "S18"}
 UNEXPECTED = {0xE0040199000000A1: "S09", 0xE0040199000000B7: "S30"}
 SPLIT = 4
-#: Each log asks each UID once, besides those in collisions, and its items end in every digit.
-ONCE = {"margin": 1, "weakest": {"mask_len": 4, "mask_value": "0A"}}
 
 
 def reply(uid):
@@ -73,26 +64,23 @@ class Shelves:
         return b"".join(lines + [b"T 260100F60A\n", b"S\n"] * is_broken)
 
     def rows(self):
-        yield ["Barcode", "Title", "Tag ID", "Shelf"]
+        """The cells of each item: its barcode, title, UID and place."""
         for item in range(ITEMS):
-            uid = f"{self.uids[item]:016X}" if item in self.uids else ""
-            yield [f"B{item:05}", f"Title, {item}", uid, belongs(item)]
+            uid = f"{self.uids[item]:016X}" if item in self.uids else "none"
+            yield [f"B{item:05}", f"Title {item}", uid, belongs(item)]
 
 
-def as_csv(rows):
-    written = io.StringIO()
-    csv.writer(written, lineterminator="\n").writerows(rows)
-    return written.getvalue()
-
-
-def wanted(name):
-    with open(os.path.join(WANTED, name), encoding="utf-8") as file:
-        return file.read()
+def state_of(item, is_broken):
+    """The state of an item, and the shelf in whose log its tag is certain."""
+    if item in UNTAGGED:
+        return "no tag", ""
+    where = MISPLACED.get(item, belongs(item))
+    if item in MISSING or is_broken and where == BROKEN:
+        return "not provable" if is_broken else "missing", ""
+    return "in place" if where == belongs(item) else "misplaced", where
 
 
 class Collection(Command):
-    OPTIONS = ("--column", "tag id", "--place", "shelf")
-
     def setUp(self):
         super().setUp()
         self.addCleanup(os.chdir, os.getcwd())
@@ -102,54 +90,29 @@ class Collection(Command):
         for shelf in SHELVES:
             self.write(f"{shelf}.log", self.shelves.log(shelf, shelf == BROKEN))
         self.rows = list(self.shelves.rows())
-        self.write("catalogue.csv", as_csv(self.rows).encode())
-        self.maxDiff = 2000
+        self.catalogue("".join(",".join(row) + "\n" for row in [
+            ["Barcode", "Title", "UID", "Place"], *self.rows]))
 
     def states(self):
-        """What the log of one shelf is, with the status: it is broken, and then counted again."""
-        yield "broken", 2
+        """Whether the log of one shelf is broken, with the status; then it is counted again."""
+        yield True, 2
         self.write(f"{BROKEN}.log", self.shelves.log(BROKEN))
-        yield "mended", 1
+        yield False, 1
 
-    def ask(self, form, *options):
-        return here(form, "catalogue.csv", *self.logs, options=[*self.OPTIONS, *options])
+    def ask(self, *options):
+        return within("collection", *options, "catalogue.csv", *self.logs)
 
-    def wanted_rows(self, state):
-        """The rows of the file; each other item is there, where it belongs."""
-        planted = list(csv.reader(io.StringIO(wanted(f"{state}.csv"))))
-        by_code = {row[0]: row for row in planted if row[0]}
-        yield [*self.rows[0], "state", "certain in", "may be in"]
-        yield from (by_code.get(row[0], [*row, "there", f"{row[3]}.log", ""])
-                    for row in self.rows[1:])
-        yield from (row for row in planted if not row[0])
-
-    def wanted_object(self, state):
-        """The answer of the file, with the items and logs of these rows."""
-        told = json.loads(wanted(f"{state}.json"))
-        rows = list(self.wanted_rows(state))[1:]
-        told["items"] = [{"uid": uid or None, "state": known,
-                          "columns": {"Barcode": barcode, "Title": title, "Shelf": shelf},
-                          "certain_in": [certain] * bool(certain),
-                          "may_be_in": [may_be] * bool(may_be),
-                          **({"overlooked": 1} if known == "missing" else {}),
-                          **({"belongs": shelf} if shelf else {})}
-                         for barcode, title, uid, shelf, known, certain, may_be in rows]
-        with open("catalogue.csv", "rb") as file:
-            told["files"] = [{"what": "catalogue", "file": "catalogue.csv",
-                              "sha256": sha256(file.read()).hexdigest()}]
-        told["logs"] = []
-        for log in self.logs:
-            uids = [row[2] for row in rows if row[5] == log]
-            said = {"status": 1, "kind": "unlisted", "uid": min(uids, default="")}
-            told["logs"].append({"file": log, "places": [log.removesuffix(".log")],
-                                 "certain": len(uids), "open": [], "more_open": False,
-                                 "list": said, **ONCE})
-        for aside in told["set_aside"]:
-            said = {key: aside[key] for key in ("status", "kind", "line")}
-            broken = told["logs"][self.logs.index(aside["file"])]
-            broken.update(open=[{"mask_len": 0, "mask_value": "-"}], list=said)
-            del broken["margin"], broken["weakest"]
-        return told
+    def table(self, is_broken):
+        """What is wanted. In the field of the broken log anything may be."""
+        found = [["Barcode", "Title", "UID", "Place", *(f"vicinity {it}" for it in (
+            "state", "certain in", "may be in"))]]
+        for item, row in enumerate(self.rows):
+            state, where = state_of(item, is_broken)
+            found.append([*row, state, f"{where}.log" if where else "",
+                          f"{BROKEN}.log" if is_broken and state != "no tag" else ""])
+        found += [["", "", f"?{uid:016X}", "", "unexpected", f"{where}.log",
+                   f"{BROKEN}.log" * is_broken] for uid, where in sorted(UNEXPECTED.items())]
+        return "".join(",".join(row) + "\n" for row in found).encode()
 
     def test_what_is_planted(self):
         self.assertEqual((len(UNTAGGED), len(MISSING), len(MISPLACED), len(self.logs)),
@@ -157,118 +120,44 @@ class Collection(Command):
         self.assertEqual((len(self.shelves.uids), sum(map(len, self.shelves.fields.values()))),
                          (1980, 1979))
 
-    def test_lines(self):
-        for state, status in self.states():
-            for jobs in "13":
-                self.assertEqual(self.ask("lines", "--jobs", jobs),
-                                 (wanted(f"{state}.lines"), "", status))
-
     def test_csv(self):
-        for state, status in self.states():
-            why = wanted("broken.lines").partition("\n")[0] * (state == "broken")
-            for _ in range(2):
-                said = self.ask("csv")
-                self.assertEqual(said, (as_csv(self.wanted_rows(state)), why, status))
-                # which is the catalogue of the next time
-                self.write("catalogue.csv", said[0].encode())
+        for is_broken, status in self.states():
+            for jobs in "13":
+                self.assertEqual(self.ask("--csv", "--jobs", jobs),
+                                 (self.table(is_broken), b"", status))
 
     def test_json(self):
-        for state, status in self.states():
-            said, errors, ended = self.ask("json")
+        for is_broken, status in self.states():
+            said, errors, ended = self.ask("--json")
             told = json.loads(said)
-            holds = [it.pop("captured")["holds"] for it in told["logs"]]  # no log asks again
-            self.assertEqual(holds,
-                             [state == "broken" and log == f"{BROKEN}.log" for log in self.logs])
-            self.assertEqual((told, errors, ended), (self.wanted_object(state), "", status))
-
-    def test_page(self):
-        said, _, status = self.ask("page")
-        told, plain = drawn_in(said)
-        self.assertEqual(status, 2)
-        self.assertEqual(plain, wanted("broken.lines"))
-        broken = [log for log in told["logs"] if log["list"]["status"] > 1]
-        self.assertEqual([log["object"]["answer"] for log in broken], ["impossible at line 190"])
-        self.assertTrue(told.pop("version") and told.pop("name"))
-        for log in told["logs"]:
-            self.assertTrue(log.pop("object"))
-            self.assertIn("captured", log)
-            del log["captured"]
-        self.assertEqual(told, self.wanted_object("broken"))
-
-    def test_strict_ends_as_the_program_does(self):
-        self.assertEqual(self.ask("lines", "--strict"),
-                         ("impossible at line 190 of S17.log\n", "", 2))
-
-    def test_surveys_of_other_machines(self):
-        for state, _ in self.states():
-            for name, some in (("one.jsonl", self.logs[:25]), ("two.jsonl", self.logs[25:])):
-                said, errors, ended = within("survey", *some)
-                self.assertEqual((errors, ended),
-                                 (b"", 2 * (state == "broken" and name == "one.jsonl")))
-                self.write(name, said)
-            options = [*self.OPTIONS, "--surveys", "one.jsonl", "two.jsonl"]
-            for form in ("lines", "csv", "json"):
-                said, errors, ended = self.ask(form)
-                # how often a missing item was asked only a log says
-                said = said.replace(', "overlooked": 1', "")
-                self.assertEqual(here(form, "catalogue.csv", options=options),
-                                 (said, errors, ended), form)
-            told, plain = drawn_in(here("page", "catalogue.csv", options=options)[0])
-            self.assertEqual(([log.get("object") for log in told["logs"]], plain),
-                             ([None] * len(self.logs), wanted(f"{state}.lines")))
-
-    def test_some_logs_and_the_surveys_of_others(self):
-        self.write("one.jsonl", within("survey", *self.logs[:25])[0])
-        said = here("lines", "catalogue.csv", *self.logs[25:],
-                    options=[*self.OPTIONS, "--surveys", "one.jsonl"])
-        self.assertEqual(said, (wanted("broken.lines"), "", 2))
-
-    def test_tags_in_a_file_of_their_own(self):
-        titles = [[barcode, title, shelf] for barcode, title, _, shelf in self.rows]
-        self.write("titles.csv", as_csv(titles).encode())
-        tags = [["uid", "barcode"],
-                *([uid, barcode] for barcode, _, uid, _ in self.rows[1:] if uid),
-                ["E0040188000000A1", "B90001"]]
-        self.write("tags.csv", as_csv(tags).encode())
-        options = ["--tags", "tags.csv", "--place", "Shelf"]
-        said, _, status = here("csv", "titles.csv", *self.logs, options=options)
-        rows = as_csv([[barcode, title, shelf, uid if barcode != "Barcode" else "uid", *rest]
-                       for barcode, title, uid, shelf, *rest in self.wanted_rows("broken")])
-        self.assertEqual((said, status), (rows, 2))
-        self.write("titles.csv", rows.encode())
-        self.assertEqual(here("csv", "titles.csv", *self.logs, options=options)[0], rows)
-
-    def test_logs_that_are_named_in_a_file(self):
-        lines = wanted("broken.lines")
-        for listed in ("\0".join(self.logs), "\n".join(self.logs) + "\n",
-                       "\0".join(self.logs) + "\0"):
-            name = self.write("names", listed.encode())
-            said = here("lines", "catalogue.csv", options=[*self.OPTIONS, "--logs-from", name])
-            self.assertEqual(said, (lines, "", 2))
-        said = command("reconcile", "--expected", "catalogue.csv", *self.OPTIONS,
-                       "--logs-from", "-", given="\n".join(self.logs).encode())
-        self.assertEqual(said, (lines.encode(), b"", 2))
+            self.assertEqual((errors, ended, told["status"]), (b"", status, status))
+            states = [(it["state"], [told["logs"][log]["name"] for log in it["certain_in"]])
+                      for it in told["items"]]
+            self.assertEqual(states, [(state, [f"{where}.log"] if where else []) for state, where
+                                      in (state_of(item, is_broken) for item in range(ITEMS))])
 
     def test_what_has_changed_since(self):
         """One item was moved, one is gone, one is back, and of one shelf no tag was asked."""
         list(self.states())  # so the broken log is counted again
-        self.write("old.json", self.ask("json")[0].encode())
+        self.write("old.json", self.ask("--json")[0])
         fields, uids = self.shelves.fields, self.shelves.uids
         fields["S02"] = [uid for uid in fields["S02"] if uid not in (uids[60], uids[61])]
         fields["S03"] += uids[60], uids[110]
         for shelf in ("S02", "S03"):
             self.write(f"{shelf}.log", self.shelves.log(shelf))
         self.write("S39.log", b"vicinity-log 1\n")
-        self.write("new.json", self.ask("json")[0].encode())
+        self.write("new.json", self.ask("--json")[0])
         self.assertEqual(within("compare", "old.json", "old.json"), (b"", b"", 0))
         said, errors, status = within("compare", "old.json", "new.json")
         self.assertEqual((errors, status), (b"", 1))
+        was = "was in place in"
         self.assertEqual(said.decode(), "".join([
-            "not counted to the end S39.log\n",
-            "no longer provable E004015000000061 from S02.log: B00061, Title, 61, S02\n",
-            "no longer provable E004015000000455: B00455, Title, 455, S10\n",
-            "no longer provable E004015000001013: B01013, Title, 1013, S21\n",
-            *(f"no longer provable E00401500000{item} from S39.log: B0{item}, Title, {item}, S39\n"
+            "answer: unlisted E0040199000000A1, was absent E004015000000110\n",
+            "log S39.log: possible, not to its end, was possible\n",
+            "in place E004015000000110 in S03.log, was missing: B00110, Title 110, S03\n",
+            f"misplaced E004015000000060 in S03.log, {was} S02.log: B00060, Title 60, S02\n",
+            f"not provable E004015000000061, {was} S02.log: B00061, Title 61, S02\n",
+            *(f"not provable E00401500000{item}, {was} S39.log: B0{item}, Title {item}, S39\n"
               for item in range(1900, 1950) if item != 1907),
-            "moved E004015000000060 from S02.log to S03.log: B00060, Title, 60, S02\n",
-            "back again E004015000000110 in S03.log: B00110, Title, 110, S03\n"]))
+            "not provable E004015000000455, was missing: B00455, Title 455, S10\n",
+            "not provable E004015000001013, was missing: B01013, Title 1013, S21\n"]))

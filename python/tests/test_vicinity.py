@@ -14,8 +14,8 @@ import threading
 import unittest
 from array import array
 
-from cases import (A, ALL, ANSWERS, B, HEARD_A, HEARD_B, LIST_A, LIST_B, SILENCE_A, SIXTEEN, TOP,
-                   frame, log)
+from cases import (A, ALL, ANSWERS, B, HEARD_A, HEARD_B, LIST_A, LIST_B, NOTHING, SILENCE_A,
+                   SIXTEEN, TOP, frame, log)
 import vicinity
 from vicinity import Fault, Kind, _calls, _native
 
@@ -113,8 +113,7 @@ class Calls(unittest.TestCase):
                 self.assertEqual(vicinity.explain(log(lines)), (wanted, population))
                 self.assertEqual(str(wanted), text)
                 self.assertEqual(wanted.is_complete, wanted.status == 0)
-                for found in (vicinity.check, vicinity.explain, vicinity.report, vicinity.margin,
-                              vicinity.survey):
+                for found in (vicinity.check, vicinity.explain, vicinity.report, vicinity.margin):
                     self.assertEqual(bool(found(log(lines))), wanted.status == 0)
 
     def test_masks_of_answers(self):
@@ -126,8 +125,6 @@ class Calls(unittest.TestCase):
     def test_arrays_for_the_library_are_aligned(self):
         for numbers in ([], [A], [A] * 3):
             self.assertEqual(ctypes.addressof(_calls._numbers(numbers)) % 8, 0)
-        for masks in ([], [vicinity.Mask(4, 1)]):
-            self.assertEqual(ctypes.addressof(_calls._masks(masks)) % 8, 0)
 
     def test_the_page_of_a_log(self):
         text = log(ALL + HEARD_A)
@@ -149,17 +146,13 @@ class Calls(unittest.TestCase):
         self.assertIs(answer.fault, Fault.HEADER)
 
     def test_a_list_beside_the_text(self):
-        for lines, _, text, population in ANSWERS:
+        for lines, _, text, _ in ANSWERS:
             if lines.endswith(LIST_A):
                 given = log(lines.removesuffix(LIST_A)), [A]
                 self.assertEqual(str(vicinity.check_listed(*given)), text)
-                self.assertEqual(vicinity.explain_listed(*given),
-                                 (vicinity.check_listed(*given), population))
         heard = log(ALL + b"C\n")
         self.assertEqual(str(vicinity.check_listed(heard, [])), "unsettled 0 -")
         self.assertEqual(str(vicinity.check_listed(heard, (B, A))), "unsettled 2 00")
-        self.assertEqual(vicinity.explain_listed(heard, [B, A]).answer,
-                         vicinity.check_listed(heard, [A, B]))
         self.assertEqual(str(vicinity.check_listed(heard, [B, A, B])),
                          "refused at line 6: DuplicateListed")
         self.assertEqual(str(vicinity.check_listed(heard, [A, 0])),
@@ -169,24 +162,20 @@ class Calls(unittest.TestCase):
                 vicinity.check_listed(heard, [wrong])
 
     def test_a_text_is_no_list_of_numbers(self):
-        """Nor is that of a list, which would be none if it is empty."""
-        silent, there = log(ALL + b"S\n"), vicinity.survey(log(ALL + b"S\n"))
+        silent = log(ALL + b"S\n")
         file = tempfile.NamedTemporaryFile()
         self.addCleanup(file.close)
         for text in (b"", log(LIST_A), b"\xa1\0\0\0\0\1\4\xe0", "", io.StringIO(), io.BytesIO(),
                      file):
             for uids in (text,) if not isinstance(text, bytes) else (
                     text, bytearray(text), memoryview(text)):
-                for call in (vicinity.check_listed, vicinity.report_listed, vicinity.overlooked):
+                for call in (vicinity.check_listed, vicinity.margin_listed):
                     with self.assertRaisesRegex(TypeError, "UIDs are numbers, not "):
                         call(silent, uids)
-                with self.assertRaisesRegex(TypeError, "listed reads those of a list"):
-                    vicinity.reconcile(uids, [there])
 
     def test_an_iterator_is_no_list(self):
         """Used up it would be an empty one, and of this log the answer `complete 0`."""
         silent = log(ALL + b"S\n")
-        there = vicinity.survey(silent)
         iterators = {"generator": (uid for uid in [A]), "map": map(int, [A]),
                      "filter": filter(None, [A]), "zip": zip([A]), "reader": csv.reader([str(A)]),
                      "list_iterator": iter([A]), "set_iterator": iter({A}),
@@ -194,16 +183,9 @@ class Calls(unittest.TestCase):
                      "enumerate": enumerate([A]), "reversed": reversed((A,))}
         for is_used_up in (False, True):
             for name, uids in iterators.items():
-                for call in (vicinity.check_listed, vicinity.explain_listed,
-                             vicinity.report_listed, vicinity.margin_listed, vicinity.overlooked):
+                for call in (vicinity.check_listed, vicinity.margin_listed):
                     with self.assertRaisesRegex(TypeError, f"UIDs are a list, not {name}, which"):
                         call(silent, uids)
-                with self.assertRaisesRegex(TypeError, "UIDs are a list"):
-                    vicinity.reconcile(uids, [there])
-                with self.assertRaisesRegex(TypeError, "UIDs are a list"):
-                    _calls.reconcile_parts([], uids, [])
-                with self.assertRaisesRegex(TypeError, "masks are a list"):
-                    _calls.reconcile_parts([], [], uids)
                 self.assertEqual(len(list(uids)), 0 if is_used_up else 1)
         for uids in ([A], (A,), {A}, {A: 1}, {A: 1}.keys(), range(A, A + 1), array("Q", [A])):
             self.assertEqual(str(vicinity.check_listed(silent, uids)), f"absent {A:016X}")
@@ -223,8 +205,7 @@ class Calls(unittest.TestCase):
             report = vicinity.report(log(lines))
             self.assertEqual(str(report), text)
             self.assertEqual(report.answer, vicinity.check(log(lines)))
-        found = vicinity.report_listed(log(ALL + b"C\n"), [A])
-        self.assertEqual(found, vicinity.report(log(ALL + b"C\n" + LIST_A)))
+        found = vicinity.report(log(ALL + b"C\n" + LIST_A))
         self.assertEqual(found.findings[2], (vicinity.FindingKind.DOUBTFUL, 0, 0, 0, A))
 
     def test_a_list_beside_a_text_without_a_last_end_of_line(self):
@@ -233,16 +214,15 @@ class Calls(unittest.TestCase):
             for uids in ([], [A]):
                 self.assertEqual(vicinity.check_listed(text, uids),
                                  vicinity.check_listed(whole, uids))
-                self.assertEqual(vicinity.explain_listed(text, uids),
-                                 vicinity.explain_listed(whole, uids))
-                self.assertEqual(vicinity.report_listed(text, uids),
-                                 vicinity.report_listed(whole, uids))
+                self.assertEqual(vicinity.margin_listed(text, uids),
+                                 vicinity.margin_listed(whole, uids))
         self.assertEqual(str(vicinity.check_listed(log(ALL + HEARD_A.rstrip()), [A])), "complete 1")
         self.assertEqual(str(vicinity.check_listed(b"", [A])), "refused at line 1: Header")
 
     def test_a_report_larger_than_the_first_room(self):
         uids = [0xE0 << 56 | it for it in range(100)]
-        report = vicinity.report_listed(log(ALL + b"S\n"), uids)
+        listed = b"".join(vicinity.write_line("U", uid=uid) for uid in uids)
+        report = vicinity.report(log(ALL + b"S\n" + listed))
         self.assertEqual(report.findings,
                          [(vicinity.FindingKind.ABSENT, 3, 0, 0, uid) for uid in uids])
 
@@ -310,12 +290,13 @@ class Calls(unittest.TestCase):
         self.assertEqual(str(vicinity.check(log(b"\0"))), "refused at line 2: UnknownEntry")
 
     def test_threads(self):
-        wrong = []
+        wrong, nothing = [], vicinity.survey(NOTHING, "a").text
 
         calls = {
-            "report": (lambda: str(vicinity.report_listed(log(ALL + b"S\n"), [A])),
+            "report": (lambda: str(vicinity.report(log(ALL + b"S\n" + LIST_A))),
                        "absent E0040100000000A1\nby line 3"),
-            "explain": (lambda: vicinity.explain_listed(log(ALL + HEARD_A), []).population, [A]),
+            "explain": (lambda: vicinity.explain(log(ALL + HEARD_A)).population, [A]),
+            "survey": (lambda: vicinity.survey(NOTHING, "a").text, nothing),
             "simulate": (lambda: vicinity.simulate(log(ALL + LIST_A)).text,
                          log(ALL + HEARD_A + LIST_A)),
             "written": (lambda: vicinity.write_line("T", vicinity.write_inventory(2, 1)), ALL),
@@ -342,7 +323,7 @@ class Calls(unittest.TestCase):
             header = file.read()
         of_kinds = r"VICINITY_(?!FINDING_|STATUS_|COMMAND_)([A-Z_]+) = (\d),? /\*"
         kinds = {name: int(it) for name, it in re.findall(of_kinds, header)}
-        of_faults = r"VICINITY_(?:FAULT_(?=\w)|(?=WRONG_MASK))(\w+) = (\d+)"
+        of_faults = r"VICINITY_FAULT_(\w+) = (\d+)"
         faults = {name: int(it) for name, it in re.findall(of_faults, header)}
         self.assertEqual(kinds, {"NO_ANSWER": 0, **{it.name: it.value for it in Kind}})
         self.assertEqual(faults, {it.name: it.value for it in Fault})

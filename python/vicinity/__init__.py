@@ -6,28 +6,28 @@
     (True, 0)
 
 The log text and the answers are the same as for the program `vicinity`.
-The answers come from the shared library libvicinity.so.1: nothing is judged in Python.
+The answers come from the shared library libvicinity.so.2: nothing is judged in Python.
 It is loaded on the first call; LIBVICINITY may name its file.
 
 `python3 -m vicinity FILE ..` answers for many files in one process;
 `python3 -m vicinity show LOG` and `page LOG` draw one;
-`python3 -m vicinity reconcile --expected FILE LOG ..` compares many with what should be there.
+`python3 -m vicinity collection CATALOGUE LOG ..` compares many with what should be there.
 """
-from ._answers import (Answer, Explanation, Fault, Finding, FindingKind, Kind, ListFault, Margin,
-                       Mask, Report, Simulation, Survey, Weakest)
-from ._calls import (check, check_listed, explain, explain_into, explain_listed, listed,
-                     margin, margin_listed, overlooked, page, reconcile, report, report_listed,
-                     simulate, simulate_into, survey)
+from ._answers import (Answer, Explanation, Fault, Finding, FindingKind, Kind, Margin, Mask, Report,
+                       Simulation, Weakest)
+from ._calls import (check, check_listed, explain, explain_into, margin, margin_listed, page,
+                     report, simulate, simulate_into)
+from ._collections import Collection, CollectionRefused, Found, Item, Least, Log, collection, survey
 from ._run import Written, run
 from .frames import (HEADER_LINE, FrameFault, Reply, Request, add_crc, parse_uid, read_request,
                      read_response, slot_mask, uid_text, write_inventory, write_line,
                      write_response, write_stay_quiet)
 
-__all__ = ["Answer", "Explanation", "Fault", "Finding", "FindingKind", "FrameFault", "HEADER_LINE",
-           "Kind", "ListFault", "Margin", "Mask", "Reply", "Report", "Request", "Simulation",
-           "Survey", "Weakest", "Written", "add_crc", "check", "check_listed",
-           "explain", "explain_into", "explain_listed", "listed", "margin", "margin_listed",
-           "overlooked", "page", "parse_uid", "read_request", "read_response", "reconcile",
-           "report", "report_listed", "run", "simulate", "simulate_into", "slot_mask", "survey",
-           "uid_text", "write_inventory", "write_line", "write_response", "write_stay_quiet"]
-__version__ = "1.4.0.dev0"
+__all__ = ["Answer", "Collection", "CollectionRefused", "Explanation", "Fault", "Finding",
+           "FindingKind", "Found", "FrameFault", "HEADER_LINE", "Item", "Kind", "Least", "Log",
+           "Margin", "Mask", "Reply", "Report", "Request", "Simulation", "Weakest", "Written",
+           "add_crc", "check", "check_listed", "collection", "explain", "explain_into", "margin",
+           "margin_listed", "page", "parse_uid", "read_request", "read_response", "report", "run",
+           "simulate", "simulate_into", "slot_mask", "survey", "uid_text", "write_inventory",
+           "write_line", "write_response", "write_stay_quiet"]
+__version__ = "2.0.0.dev0"

@@ -7,7 +7,8 @@ import os
 import sys
 from contextlib import suppress
 from importlib import import_module
-from typing import Any, Callable, Mapping
+from itertools import takewhile
+from typing import Any, Callable, Mapping, Sequence
 
 from . import __version__
 from ._process import NoAnswer, Words, run
@@ -20,9 +21,10 @@ STATUSES = """\
 The exit status is the worst of all: 0 complete, 1 not complete, 2 impossible,
 3 refused, 4 no answer. Standard error says why there is no answer; other logs
 are still judged."""
-SURVEYED = """\
-The exit status is the worst of all: 0 each log says something, 2 one contradicts
-itself, 3 one is refused, 4 one can't be read, or there is no answer."""
+COUNTED = """\
+What a file is, its first bytes say. The exit status is that of the answer:
+0 complete, 1 not complete, 2 a log is impossible, 3 a file is refused,
+4 no answer."""
 COMPARED = """\
 The exit status: 0 nothing has changed, 1 something has, 3 a file is no such
 answer, 4 no answer."""
@@ -41,10 +43,16 @@ LOOK: Mapping[str, Any] = {"allow_abbrev": False, "formatter_class": Help}
 ANY = sys.maxsize
 #: A log has fewer slots than this.
 MOST_MARGIN = 999_999
-#: What was a command here, and what is used instead.
+#: What was a command here, and an option, and what is used instead.
 OF_PROGRAM = "it is a command of the program: vicinity {}"
-GONE = {name: OF_PROGRAM.format(name)
-        for name in ("explain", "frame", "margin", "simulate", "spell")}
+GONE = {**{name: OF_PROGRAM.format(name)
+           for name in ("explain", "frame", "margin", "simulate", "spell", "survey")},
+        "reconcile": "use collection CATALOGUE [PLACES] LOG .., "
+                     "or vicinity reconcile for a list"}
+OPTIONS_GONE = frozenset(f"--{name}" for name in (
+    "expected", "column", "tags", "place", "places", "encoding", "sep", "surveys", "strict"))
+JOIN = ("{} is no option any more: a collection is read as it stands. Join the tables first, and "
+        "name the columns uid and place: see COLLECTIONS")
 
 
 def words() -> tuple[Words, Mapping[str, Words]]:
@@ -75,23 +83,22 @@ def words() -> tuple[Words, Mapping[str, Words]]:
     report = add("report", "answers.report_all", "every finding of each log", "[LOG ..]", 0, ANY,
                  lines="FILE:LINE: text, like a compiler",
                  json="an object a line, with the findings")
-    reconcile = add("reconcile", "reconcile.reconcile",
-                    "compares many logs with a list or catalogue of what should be there",
-                    "[LOG ..]", 0, ANY, lines="lines like those of `vicinity reconcile`",
-                    csv="the catalogue, with the state of each item", page="one HTML file",
-                    json="one object: the answer, each item and each log")
-    _of_collections(reconcile)
-    survey = add("survey", "reconcile.survey", "what each log says of its field, an object a line, "
-                 "for reconcile --surveys", "[LOG ..]", 0, ANY, SURVEYED)
-    for command in (check, report, reconcile, survey):
+    collection = add("collection", "collection.collection",
+                     "compares many logs, or their surveys, with a catalogue", "FILE ..", 0, ANY,
+                     COUNTED, lines="a line for each finding", csv="the catalogue, with the state "
+                     "of each item", json="one object: the answer, each item and each log",
+                     page="one HTML file")
+    collection.add_argument("--jobs", metavar="N", type=_number(), default=1,
+                            help="how many logs are surveyed at once")
+    for command in (check, report, collection):
         command.add_argument("--logs-from", metavar="FILE", action="append", default=[],
                              help="a file that lists more logs, separated by NUL or line ends")
-    for command in (check, reconcile):
+    for command in (check, collection):
         command.add_argument("--margin", metavar="K", type=_number(MOST_MARGIN), default=0,
                              help="a list is complete only if a tag that isn't on it would have "
                                   "had to be missed in K slots or more")
-    add("compare", "compare.compare", "what has changed between two answers of reconcile --json",
-        "OLD NEW", 2, 2, COMPARED, lines="a line for each item that has changed", json="one object")
+    add("compare", "compare.compare", "what has changed between two answers of collection --json",
+        "OLD NEW", 2, 2, COMPARED, lines="a line for each change", json="one object")
     show = add("show", "draw.draw", "draws the rounds of a log for a terminal")
     show.add_argument("--ascii", action="store_true", help="only ASCII characters")
     add("page", "draw.page", "draws a log as one HTML file")
@@ -104,33 +111,6 @@ def words() -> tuple[Words, Mapping[str, Words]]:
     misread.add_argument("--seed", metavar="N", type=int, default=0,
                          help="the seed of the random numbers")
     return top, commands.choices
-
-
-def _of_collections(reconcile: Words) -> None:
-    """The options of the command over many logs and a catalogue."""
-    catalogue = reconcile.add_argument_group("the catalogue")
-    for option, metavar, what in (
-            ("--expected", "FILE",
-             "a log with U lines alone, or a CSV file with a header and a column of UIDs"),
-            ("--column", "NAME", "the column of the UIDs; without it the one that is named uid"),
-            ("--tags", "FILE",
-             "a CSV file with the columns uid and, say, barcode, which the catalogue has as well"),
-            ("--place", "NAME",
-             "the column that says where each item belongs: the name of its log, "
-             "as far as the dot"),
-            ("--places", "FILE",
-             "a CSV file with the columns place and log, if logs aren't named like places"),
-            ("--encoding", "NAME",
-             "of the CSV files, if they aren't UTF-8: windows-1252, utf-16-le, ..")):
-        catalogue.add_argument(option, metavar=metavar, help=what, required=option == "--expected")
-    logs = reconcile.add_argument_group("the logs")
-    logs.add_argument("--surveys", metavar="FILE", nargs="+", action="extend", default=[],
-                      help="what `survey` has written of logs, here or on other machines")
-    logs.add_argument("--strict", action="store_true",
-                      help="end at the first log that is impossible, refused or unreadable, "
-                           "as the program does")
-    logs.add_argument("--jobs", metavar="N", type=_number(), default=1,
-                      help="how many processes read logs")
 
 
 def _number(most: int = ANY) -> Callable[[str], int]:
@@ -149,6 +129,14 @@ def _chance(word: str) -> float:
     raise argparse.ArgumentTypeError("a probability, from 0 to 1")
 
 
+def _refuse_gone(name: str, given: Sequence[str]) -> None:
+    """Raises NoAnswer for an option that collections had."""
+    options = (word.partition("=")[0] for word in takewhile(lambda word: word != "--", given))
+    gone = next((option for option in options if option in OPTIONS_GONE), "")
+    if name == "collection" and gone:
+        raise NoAnswer(JOIN.format(gone))
+
+
 def main() -> int:
     """Does what the words ask for, and returns the status."""
     (top, commands), given = words(), sys.argv[1:]
@@ -157,7 +145,9 @@ def main() -> int:
         top.error("name a command or a log")
     if given[0] in GONE:
         raise NoAnswer(f"{given[0]} is no command here: {GONE[given[0]]}")
-    asked = commands[given.pop(0) if given[0] in commands else "check"].parse(given)
+    name = given.pop(0) if given[0] in commands else "check"
+    _refuse_gone(name, given)
+    asked = commands[name].parse(given)
     module, _, function = asked.does.partition(".")
     status: int = getattr(import_module(f"vicinity.commands.{module}"), function)(asked)
     return status

@@ -50,8 +50,7 @@ class Kind(enum.IntEnum):
 
 
 class Fault(enum.IntEnum):
-    """Why a text isn't a log. Those that begin with FRAME are about the frame of a T or R line,
-    NOT_LISTED about a log that should only list UIDs, WRONG_MASK about a mask of a survey."""
+    """Why a text isn't a log. Those that begin with FRAME are about the frame of a T or R line."""
 
     NONE = 0
     TOO_MANY_LINES = 1
@@ -64,7 +63,6 @@ class Fault(enum.IntEnum):
     SLOT_OUTSIDE_ROUND = 8
     ENTRY_AFTER_LIST = 9
     DUPLICATE_LISTED = 10
-    NOT_LISTED = 11
     FRAME_SHORT = 101
     FRAME_CRC = 102
     FRAME_EXTENSION = 103
@@ -80,7 +78,6 @@ class Fault(enum.IntEnum):
     FRAME_NOT_ADDRESSED = 113
     FRAME_ERROR_FLAG = 114
     FRAME_NOT_VICINITY = 115
-    WRONG_MASK = 203
 
     @property
     def wrong(self) -> str:
@@ -130,14 +127,6 @@ class Answer(NamedTuple):
 
     def __str__(self) -> str:
         return self.text
-
-
-class ListFault(ValueError):
-    """A text isn't a list of UIDs: `answer` says at which line, and why."""
-
-    def __init__(self, answer: Answer):
-        super().__init__(str(answer))
-        self.answer = answer
 
 
 class Explanation(NamedTuple):
@@ -205,8 +194,7 @@ class Report(NamedTuple):
 
     answer: Answer
     findings: list[Finding]
-    """In the order of the lines of `vicinity report`, or for many logs
-    in that of `vicinity reconcile`, without lines and open masks; none for COMPLETE and REFUSED."""
+    """In the order of the lines of `vicinity report`; none for COMPLETE and REFUSED."""
 
     def __str__(self) -> str:
         """What `vicinity report` writes, without its last LF."""
@@ -250,19 +238,6 @@ class Margin(NamedTuple):
             for name, mask in zip(names, masks))])
 
 
-class Survey(NamedTuple):
-    """What a log says of its field, whatever it lists.
-    A log that is refused or impossible says nothing of it."""
-
-    answer: Answer
-    """The answer to the log and its own list."""
-    certain: list[int]
-    """The UIDs that must be there, in rising order."""
-    open_masks: list[Mask]
-    """The masks of the UIDs that may be there or not, by length and then by value;
-    none if everything was asked."""
-
-
 class Simulation(NamedTuple):
     """What `vicinity simulate` writes for a text, and its status."""
 
@@ -272,5 +247,5 @@ class Simulation(NamedTuple):
 
 
 # so that `if margin(log)` isn't true of every answer
-for _found in (Explanation, Report, Margin, Survey):
+for _found in (Explanation, Report, Margin):
     setattr(_found, "__bool__", lambda found: found.answer.is_complete)

@@ -2,26 +2,20 @@
 from __future__ import annotations
 
 import ctypes
-import mmap
-import re
 import struct
 from array import array
 from html import escape
-from typing import Any, Collection, Iterable, Optional, Sequence
+from typing import Any, Collection, Iterator, Sequence
 
-from ._answers import (Answer, Explanation, Fault, Finding, FindingKind, Kind, ListFault, Margin,
-                       Mask, Report, Simulation, Survey, Weakest)
-from ._native import (AnswerStruct, BytesLike, FindingStruct, MaskStruct, WeakestStruct, bytes_of,
-                      library)
+from ._answers import (Answer, Explanation, Fault, Finding, FindingKind, Kind, Margin, Mask, Report,
+                       Simulation, Weakest)
+from ._native import (AnswerStruct, BytesLike, FindingStruct, WeakestStruct, bytes_of, library,
+                      room_of)
 
 FIRST_ROOM = 64
-#: struct vicinity_mask and struct vicinity_finding.
-PACKED_MASK, PACKED_FINDING = struct.Struct("IIQ"), struct.Struct("IIIIQQ")
+#: struct vicinity_finding.
+PACKED_FINDING = struct.Struct("IIIIQQ")
 NO_ANSWER = 4
-#: The header of version 3, and a line that it has otherwise in a text read under capture.
-HEADER, REPLY = b"vicinity-log 3", re.compile(rb"^R ", re.MULTILINE)
-#: The kind of the answer to a list.
-LISTED = 12
 
 
 def _text(text: BytesLike) -> tuple[bytes, int]:
@@ -31,41 +25,21 @@ def _text(text: BytesLike) -> tuple[bytes, int]:
 
 
 def _text_and_list(text: BytesLike, uids: Collection[int]) -> Sequence[Any]:
-    """A text with a separate list, with an LF after its last line."""
-    text, listed = bytes_of(text), _numbers(uids)
-    text = text if text.endswith(b"\n") else text + b"\n"
-    return text, len(text), listed, len(listed)
-
-
-def _kept(what: str, elements: Iterable[Any]) -> None:
-    """Raises TypeError if elements are an iterator: one that is used up, in part or to its end,
-    can't be told from one with fewer elements or none."""
-    if iter(elements) is elements:
-        raise TypeError(f"{what} are a list, not {type(elements).__name__}, which may be used up")
+    """A text with a separate list."""
+    listed = _numbers(uids)
+    return *_text(text), listed, len(listed)
 
 
 def _numbers(uids: Collection[int]) -> ctypes.Array[ctypes.c_uint64]:
     """UIDs as a C array. Raises OverflowError if a number doesn't fit into 64 bits."""
     if isinstance(uids, (str, bytes, bytearray, memoryview)) or hasattr(uids, "read"):
-        raise TypeError(f"UIDs are numbers, not {type(uids).__name__}: "
-                        "listed reads those of a list, parse_uid one")
-    _kept("UIDs", uids)
+        raise TypeError(f"UIDs are numbers, not {type(uids).__name__}: parse_uid reads one")
+    if isinstance(uids, Iterator):
+        raise TypeError(f"UIDs are a list, not {type(uids).__name__}, which may be used up")
     numbers = array("Q", uids)
     place = ctypes.c_uint64 * len(numbers)
     # what an empty array points to isn't aligned
     return place.from_buffer(numbers) if numbers else place()
-
-
-def _masks(masks: Collection[Mask]) -> ctypes.Array[ctypes.Structure]:
-    """Masks as a C array.
-    Raises OverflowError if a number of one doesn't fit into 32 or 64 bits."""
-    _kept("masks", masks)
-    try:
-        structs = [PACKED_MASK.pack(0, length, value) for length, value in masks]
-    except struct.error as error:
-        raise OverflowError(str(error)) from None
-    place = MaskStruct * len(structs)
-    return place.from_buffer(bytearray(b"".join(structs))) if structs else place()
 
 
 def _asked(name: str, given: Sequence[Any], *filled: Any) -> ctypes.Structure:
@@ -82,22 +56,12 @@ def _answer(told: ctypes.Structure) -> Answer:
                   told.mask_len, told.mask_value, told.uid, told.text.decode("ascii").rstrip("\n"))
 
 
-def _room(place: Any, places: int) -> Any:
-    """A buffer with that many elements, which takes memory only as it is filled."""
-    if places <= FIRST_ROOM:
-        return (place * places)()
-    try:
-        return (place * places).from_buffer(mmap.mmap(-1, places * ctypes.sizeof(place)))
-    except OSError as error:
-        raise MemoryError("vicinity: out of memory") from error
-
-
 def _filled(place: Any, places: int, name: str,
             given: Sequence[Any]) -> tuple[ctypes.Structure, Any, int]:
     """Makes a call that fills a buffer, first with that many elements, and again if it needs more:
     what it answers, the buffer, and how many of its elements are filled."""
     while True:
-        room, needed = _room(place, places), ctypes.c_size_t()
+        room, needed = room_of(place, places), ctypes.c_size_t()
         told = _asked(name, given, room, places, ctypes.byref(needed))
         if needed.value <= places:
             return told, room, needed.value
@@ -150,12 +114,6 @@ def explain(text: BytesLike) -> Explanation:
     return _explanation("explain", _text(text))
 
 
-def explain_listed(text: BytesLike, uids: Collection[int]) -> Explanation:
-    """The answer of `check_listed`, and the UIDs of tags that show it.
-    Raises what `check_listed` raises."""
-    return _explanation("explain_listed", _text_and_list(text, uids))
-
-
 def explain_into(text: BytesLike, room: ctypes.Array[ctypes.c_uint64]) -> tuple[Answer, int]:
     """The answer to a text, and the number of UIDs in the counterexample.
     They are put at the start of the buffer `room` if they fit; otherwise it stays as it is.
@@ -170,11 +128,6 @@ def report(text: BytesLike) -> Report:
     return _report("report", _text(text))
 
 
-def report_listed(text: BytesLike, uids: Collection[int]) -> Report:
-    """The answer of `check_listed`, and every finding. Raises what `check_listed` raises."""
-    return _report("report_listed", _text_and_list(text, uids))
-
-
 def margin(text: BytesLike) -> Margin:
     """The answer to a text, and in how many slots a tag that isn't listed
     would have had to be missed. Raises what `check` raises."""
@@ -185,78 +138,6 @@ def margin_listed(text: BytesLike, uids: Collection[int]) -> Margin:
     """The answer of `check_listed`, and the margin against this list.
     Raises what `check_listed` raises."""
     return _margin("margin_listed", _text_and_list(text, uids))
-
-
-def overlooked(text: BytesLike, uids: Collection[int]) -> list[int]:
-    """In how many slots of a log each of these UIDs was overlooked, in their order:
-    its tag should have answered, and the slot is logged as silent, or as the reply R of another.
-    They may be any, listed or not, also of an impossible log.
-
-    Raises ValueError, with the line of the refusal, if the text is refused or a UID doesn't begin
-    E0, what `check` raises, and OverflowError if a UID doesn't fit into 64 bits."""
-    asked = _numbers(uids)
-    places = (ctypes.c_uint32 * len(asked))()
-    answer = _answer(_asked("overlooked", [*_text(text), asked, len(asked)], places, len(places)))
-    if answer.kind is Kind.REFUSED:
-        raise ValueError(answer.text)
-    return list(places)
-
-
-def survey(text: BytesLike) -> Survey:
-    """What a log says of its field: the UIDs that must be there, and all masks whose UIDs may be.
-    Raises what `check` raises."""
-    text = bytes_of(text)
-    places = most = FIRST_ROOM + 2 * text.count(b"\n")
-    while True:
-        uids, count = _room(ctypes.c_uint64, places), ctypes.c_size_t()
-        masks, left = _room(MaskStruct, most), ctypes.c_size_t()
-        told = _asked("survey", _text(text), uids, places, ctypes.byref(count),
-                      masks, most, ctypes.byref(left))
-        if count.value <= places and left.value <= most:
-            return Survey(_answer(told), uids[:count.value],
-                          [Mask(it.len, it.value) for it in masks[:left.value]])
-        places, most = count.value, left.value
-
-
-def listed(text: BytesLike) -> list[int]:
-    """The UIDs, in rising order, of a text that only lists UIDs: a list of what is expected.
-
-    Raises ListFault if the text is not a log or has other entries, and what `check` raises."""
-    text = bytes_of(text)
-    places = FIRST_ROOM + text.count(b"\n")
-    told, room, count = _filled(ctypes.c_uint64, places, "listed", _text(text))
-    if told.kind != LISTED:
-        raise ListFault(_answer(told))
-    found: list[int] = room[:count]
-    return found
-
-
-def reconcile(expected: Collection[int], surveys: Collection[Survey], *,
-              strict: bool = True) -> Report:
-    """The answer for many logs, of which these are the surveys, and every finding;
-    `expected` are the UIDs that should be in their fields, in any order.
-    If a log is refused or impossible, the answer is that to the first one;
-    if it isn't strict, any UID may be in the field of such a log, and the answer is never complete.
-
-    Raises ValueError if there is no survey, TypeError if they are an iterator,
-    what `check_listed` raises, and OverflowError if a mask doesn't fit into 64 bits."""
-    _kept("surveys", surveys)
-    found = list(surveys)
-    if not found:
-        raise ValueError("no logs: there is nothing to reconcile")
-    broken = [one for one in found if one.answer.status > 1]
-    if broken and strict:
-        return Report(broken[0].answer, [])
-    return reconcile_parts(expected, [uid for one in found for uid in one.certain],
-                           [*(mask for one in found for mask in one.open_masks),
-                            *[Mask(0, 0)] * bool(broken)])
-
-
-def reconcile_parts(expected: Collection[int], certain: Collection[int],
-                    masks: Collection[Mask]) -> Report:
-    """What `reconcile` returns for all certain UIDs and open masks of some logs."""
-    listed, known, left = _numbers(expected), _numbers(certain), _masks(masks)
-    return _report("reconcile", [listed, len(listed), known, len(known), left, len(left)])
 
 
 def simulate_into(text: BytesLike, room: ctypes.Array[ctypes.c_uint8]) -> tuple[int, int]:
@@ -281,17 +162,6 @@ def simulate(text: BytesLike) -> Simulation:
         if needed <= places:
             return Simulation(status, bytes(memoryview(room)[:needed]))
         places = needed
-
-
-def with_captures(text: bytes) -> bytes:
-    """The same for a text that isn't refused. The answer to it says whether that to the text also
-    holds if strong replies hid weaker ones (capture)."""
-    return HEADER + REPLY.sub(b"H ", text[len(HEADER):])
-
-
-def if_captured(text: bytes, answer: Answer) -> Optional[Answer]:
-    """The answer if any reply may have hidden others; nothing if the text is refused."""
-    return None if answer.kind is Kind.REFUSED else check(with_captures(text))
 
 
 class Page(str):

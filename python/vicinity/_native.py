@@ -11,7 +11,7 @@ from typing import Any, Sequence, Union
 BytesLike = Union[bytes, bytearray, memoryview, mmap.mmap]
 INTERFACE = 2
 #: The library's file.
-NAME = "vicinity.dll" if os.name == "nt" else "libvicinity.so.1"
+NAME = "vicinity.dll" if os.name == "nt" else "libvicinity.so.2"
 #: A buffer of so many elements isn't worth a mapping.
 FEW_PLACES = 4096
 X86_64_V2 = ("cx16", "lahf_lm", "popcnt", "sse4_1", "sse4_2", "ssse3")
@@ -42,7 +42,7 @@ NameStruct = _struct("vicinity_name", len=U32, text=ctypes.c_char * 28)
 
 SIZE, POINTER = ctypes.c_size_t, ctypes.POINTER
 TEXT = [ctypes.c_char_p, SIZE]  # bytes, whose address C gets: never None, and read only
-UIDS, MASKS = [POINTER(U64), SIZE], [POINTER(MaskStruct), SIZE]
+UIDS = [POINTER(U64), SIZE]
 ANSWER, WEAKEST, FRAME = POINTER(AnswerStruct), POINTER(WeakestStruct), POINTER(FrameStruct)
 POPULATION = [*UIDS, POINTER(SIZE)]
 FINDINGS = [POINTER(FindingStruct), SIZE, POINTER(SIZE)]
@@ -58,14 +58,8 @@ CALLS = {
     "explain": [*TEXT, ANSWER, *POPULATION],
     "report": [*TEXT, ANSWER, *FINDINGS],
     "check_listed": [*TEXT, *UIDS, ANSWER],
-    "explain_listed": [*TEXT, *UIDS, ANSWER, *POPULATION],
-    "report_listed": [*TEXT, *UIDS, ANSWER, *FINDINGS],
-    "survey": [*TEXT, ANSWER, *POPULATION, *MASKS, POINTER(SIZE)],
-    "listed": [*TEXT, ANSWER, *POPULATION],
-    "reconcile": [*UIDS, *UIDS, *MASKS, ANSWER, *FINDINGS],
     "margin": [*TEXT, ANSWER, WEAKEST],
     "margin_listed": [*TEXT, *UIDS, ANSWER, WEAKEST],
-    "overlooked": [*TEXT, *UIDS, ANSWER, POINTER(U32), SIZE],
     "simulate": [*TEXT, POINTER(ctypes.c_uint8), SIZE, POINTER(SIZE)],
     "run": [U32, *TEXT, *TEXT, POINTER(SIZE), SIZE, POINTER(ctypes.c_uint8), SIZE, POINTER(SIZE)],
     "kind_name": [U32, POINTER(NameStruct)],
@@ -135,7 +129,7 @@ def library() -> ctypes.CDLL:
         lib = ctypes.CDLL(name)
     except OSError as error:
         raise OSError(f"the library {name} can't be loaded ({error}): "
-                      "install vicinity or the package libvicinity1, or "
+                      "install vicinity or the package libvicinity2, or "
                       "name the file in the environment variable LIBVICINITY") from None
     for call_name, arguments in CALLS.items():
         call = getattr(lib, f"vicinity_{call_name}", None)

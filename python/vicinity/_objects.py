@@ -42,10 +42,6 @@ def mask_of(said: Fields) -> Mask:
     return Mask(said["mask_len"], 0 if value == "-" else int(value, 16))
 
 
-def mask_or_none(said: Optional[Fields]) -> Optional[Mask]:
-    return None if said is None else mask_of(said)
-
-
 def small(said: Optional[Fields], wanted: int, where: str = "") -> str:
     """The line of what is complete with a smaller margin than was asked for, by the object that
     has that. It hasn't the words of a complete answer anywhere."""

@@ -109,7 +109,7 @@ def tried(name: str, call: Callable[[bytes], T]) -> Union[T, str]:
         return f"out of memory: {shown(name)}"
 
 
-def names_of(asked: argparse.Namespace, are_needed: bool = True) -> list[str]:
+def names_of(asked: argparse.Namespace) -> list[str]:
     """The names of logs among the words, and those in files, separated by NUL if there is any,
     else by line ends. Each of these files has to name one."""
     names = list(asked.names)
@@ -120,7 +120,7 @@ def names_of(asked: argparse.Namespace, are_needed: bool = True) -> list[str]:
         if not within:
             raise NoAnswer(f"no logs: {shown(file)} names none")
         names += within
-    if are_needed and not names:
+    if not names:
         raise NoAnswer("no logs: name at least one, or a file that lists them by --logs-from")
     return names
 
@@ -167,7 +167,7 @@ def counted(things: Iterable[T], total: int) -> Generator[T, None, None]:
     try:
         for number, thing in enumerate(things):
             if is_shown and number % TOLD_EACH == 0:
-                _note(f"\r{number:,} of {total:,} logs")
+                _note(f"\r{number:,} of {total:,} files")
             yield thing
     finally:
         if is_shown:
@@ -203,15 +203,12 @@ def has_unicode() -> bool:
 
 
 class Once(argparse.Action):
-    """An option that may be given once: of two values, one would be ignored.
-    So would one that is blank, as a variable of a shell may be."""
+    """An option that may be given once: of two values, one would be ignored."""
 
     def __call__(self, parser: argparse.ArgumentParser, asked: argparse.Namespace, value: Any,
                  option: Optional[str] = None) -> None:
         if option in vars(asked).setdefault("once", []):
             raise argparse.ArgumentError(self, "it is given twice")
-        if not str(value).strip():
-            raise argparse.ArgumentError(self, "it is blank")
         asked.once += [option] * (option is not None)
         setattr(asked, self.dest, value)
 

@@ -1,8 +1,8 @@
 /* Everything that the library answers to texts:  answers <TEXTS
  *
  * A text is given as its length in decimal on a line, and its bytes. For each, the answer of each call is written with every
- * field; the population in buffers of none, one and as many elements as it needs; the certain UIDs and the open masks, and
- * what these say of two UIDs; the margin of the log, and of these UIDs. */
+ * field; the population in buffers of none, one and as many elements as it needs; the findings; the margin of the log; and
+ * then what the program writes for each command. */
 #include "vicinity.h"
 
 #include <inttypes.h>
@@ -39,9 +39,6 @@ static void explain(const uint8_t *text, size_t len, size_t room)
         explain(text, len, room == 0 && needed > 1 ? 1 : needed);
 }
 
-/* Where a call that has no space for what it lists would write it. */
-static uint64_t nothing[4];
-
 static void *elements(size_t count, size_t size)
 {
     void *room = calloc(count + 1, size);
@@ -50,53 +47,48 @@ static void *elements(size_t count, size_t size)
     return room;
 }
 
-static const uint64_t expected[] = {UINT64_C(0xE0040100000000B2), UINT64_C(0xE0040100000000A1)};
-
-static void reconcile(const uint64_t *certain, size_t uids, const struct vicinity_mask *masks, size_t count)
+static void report(const uint8_t *text, size_t len)
 {
     struct vicinity_answer answer;
+    struct vicinity_finding nothing;
     size_t needed;
-    vicinity_reconcile(expected, 2, certain, uids, masks, count, &answer, (struct vicinity_finding *)nothing, 0, &needed);
+    vicinity_report(text, len, &answer, &nothing, 0, &needed);
     struct vicinity_finding *findings = elements(needed, sizeof *findings);
-    show(&answer, vicinity_reconcile(expected, 2, certain, uids, masks, count, &answer, findings, needed, &needed));
+    show(&answer, vicinity_report(text, len, &answer, findings, needed, &needed));
     for (size_t i = 0; i < needed; i++)
         printf("%" PRIu32 " %" PRIu32 " %" PRIu32 " %" PRIX64 " %" PRIX64 "\n", findings[i].kind, findings[i].line,
                findings[i].mask_len, findings[i].mask_value, findings[i].uid);
     free(findings);
 }
 
-static void survey(const uint8_t *text, size_t len)
-{
-    struct vicinity_answer answer;
-    size_t uids, count;
-    vicinity_certain(text, len, &answer, nothing, 0, &uids);
-    vicinity_open_masks(text, len, &answer, (struct vicinity_mask *)nothing, 0, &count);
-    uint64_t *certain = elements(uids, sizeof *certain);
-    struct vicinity_mask *masks = elements(count, sizeof *masks);
-    show(&answer, vicinity_certain(text, len, &answer, certain, uids, &uids));
-    show(&answer, vicinity_open_masks(text, len, &answer, masks, count, &count));
-    for (size_t i = 0; i < uids; i++)
-        printf(" %" PRIX64, certain[i]);
-    for (size_t i = 0; i < count; i++)
-        printf(" %" PRIu32 " %" PRIu32 " %" PRIX64, masks[i].fault, masks[i].len, masks[i].value);
-    printf("\n");
-    reconcile(certain, uids, masks, count);
-    free(certain);
-    free(masks);
-}
-
 static void measure(const uint8_t *text, size_t len)
 {
     struct vicinity_answer answer;
     struct vicinity_weakest weakest;
-    /* one more than there are UIDs, which stays as it is */
-    uint32_t places[] = {7, 7, 7};
     show(&answer, vicinity_margin(text, len, &answer, &weakest));
     printf("%" PRIu32 " %" PRIu32 " %" PRIX64 "\n", weakest.margin, weakest.mask_len, weakest.mask_value);
-    show(&answer, vicinity_overlooked(text, len, expected, 2, &answer, places, 3));
-    printf("%" PRIu32 " %" PRIu32 "\n", places[0], places[1]);
-    if (places[2] != 7)
-        abort();
+    printf("%" PRIu32 " %" PRIu32 " %" PRIX64 " %" PRIu32 " %" PRIu32 " %" PRIX64 "\n", weakest.has_hidden,
+           weakest.hidden_len, weakest.hidden_value, weakest.has_deaf, weakest.deaf_len, weakest.deaf_value);
+}
+
+/* What the program writes for each command of one log, behind its status and its length. */
+static void run(const uint8_t *text, size_t len)
+{
+    static const enum vicinity_command commands[] = {VICINITY_COMMAND_CHECK,  VICINITY_COMMAND_EXPLAIN,
+                                                     VICINITY_COMMAND_REPORT, VICINITY_COMMAND_MARGIN,
+                                                     VICINITY_COMMAND_SURVEY, VICINITY_COMMAND_JSON};
+    static const uint8_t name[] = "log\n";
+    for (size_t i = 0; i < sizeof commands / sizeof *commands; i++) {
+        uint8_t nothing;
+        size_t needed;
+        vicinity_run(commands[i], name, sizeof name - 1, text, len, &len, 1, &nothing, 0, &needed);
+        uint8_t *written = elements(needed, 1);
+        enum vicinity_status status =
+            vicinity_run(commands[i], name, sizeof name - 1, text, len, &len, 1, written, needed, &needed);
+        printf("%d %zu\n", (int)status, needed);
+        fwrite(written, 1, needed, stdout);
+        free(written);
+    }
 }
 
 int main(void)
@@ -110,8 +102,9 @@ int main(void)
         memset(&answer, 9, sizeof answer);
         show(&answer, vicinity_check(text, len, &answer));
         explain(text, len, 0);
-        survey(text, len);
+        report(text, len);
         measure(text, len);
+        run(text, len);
         free(text);
     }
     return ferror(stdin) || fflush(stdout) ? 1 : 0;

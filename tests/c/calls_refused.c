@@ -12,18 +12,10 @@ enum which {
     CHECK,
     EXPLAIN,
     REPORT,
-    CERTAIN,
-    OPEN_MASKS,
-    SURVEY,
-    RECONCILE,
     MARGIN,
-    OVERLOOKED,
     CHECK_LISTED,
-    EXPLAIN_LISTED,
-    REPORT_LISTED,
     MARGIN_LISTED,
     SIMULATE,
-    LISTED,
     RUN_REPORT,
     RUN_RECONCILE,
     RUN_SPELL,
@@ -31,11 +23,6 @@ enum which {
 };
 
 static size_t growths, refused, held;
-
-/* What a log says of its field. */
-static uint64_t certain[PLACES];
-static struct vicinity_mask open_masks[PLACES];
-static size_t certain_count, mask_count;
 
 void *__real_malloc(size_t size);
 void *__real_realloc(void *memory, size_t size);
@@ -68,12 +55,10 @@ void __wrap_free(void *memory)
 struct given {
     struct vicinity_answer answer;
     uint64_t status;
-    size_t needed, masks_needed;
+    size_t needed;
     uint64_t room[PLACES];
     struct vicinity_finding findings[PLACES];
-    struct vicinity_mask masks[PLACES];
     struct vicinity_weakest weakest;
-    uint32_t places[PLACES];
     uint8_t filled[ROOM];
 };
 
@@ -113,45 +98,17 @@ static void call(enum which which, const uint8_t *text, size_t len, size_t numbe
     case REPORT:
         given->status = vicinity_report(text, len, &given->answer, given->findings, PLACES, &given->needed);
         break;
-    case CERTAIN:
-        given->status = vicinity_certain(text, len, &given->answer, given->room, PLACES, &given->needed);
-        break;
-    case OPEN_MASKS:
-        given->status = vicinity_open_masks(text, len, &given->answer, given->masks, PLACES, &given->needed);
-        break;
-    case SURVEY:
-        given->status = vicinity_survey(text, len, &given->answer, given->room, PLACES, &given->needed,
-                                        given->masks, PLACES, &given->masks_needed);
-        break;
-    case RECONCILE:
-        given->status = vicinity_reconcile(uids, 2, certain, certain_count, open_masks, mask_count, &given->answer,
-                                           given->findings, PLACES, &given->needed);
-        break;
     case MARGIN:
         given->status = vicinity_margin(text, len, &given->answer, &given->weakest);
         break;
-    case OVERLOOKED:
-        given->status = vicinity_overlooked(text, len, uids, 2, &given->answer, given->places, PLACES);
-        break;
     case CHECK_LISTED:
         given->status = vicinity_check_listed(text, len, uids, 2, &given->answer);
-        break;
-    case EXPLAIN_LISTED:
-        given->status =
-            vicinity_explain_listed(text, len, uids, 2, &given->answer, given->room, PLACES, &given->needed);
-        break;
-    case REPORT_LISTED:
-        given->status =
-            vicinity_report_listed(text, len, uids, 2, &given->answer, given->findings, PLACES, &given->needed);
         break;
     case MARGIN_LISTED:
         given->status = vicinity_margin_listed(text, len, uids, 2, &given->answer, &given->weakest);
         break;
     case SIMULATE:
         given->status = vicinity_simulate(text, len, given->filled, ROOM, &given->needed);
-        break;
-    case LISTED:
-        given->status = vicinity_listed(text, len, &given->answer, given->room, PLACES, &given->needed);
         break;
     case RUN_REPORT:
     case RUN_RECONCILE:
@@ -163,28 +120,16 @@ static void call(enum which which, const uint8_t *text, size_t len, size_t numbe
     }
 }
 
-/* Notes what a log says of its field; whether that fits. */
-static int survey(const uint8_t *text, size_t len)
-{
-    struct vicinity_answer answer;
-    refused = 0;
-    vicinity_certain(text, len, &answer, certain, PLACES, &certain_count);
-    vicinity_open_masks(text, len, &answer, open_masks, PLACES, &mask_count);
-    return certain_count <= PLACES && mask_count <= PLACES;
-}
-
 /* The result of a call that was refused memory: no answer, if it would have one. */
 static void none(enum which which, struct given *given)
 {
     memset(given, UNWRITTEN, sizeof *given);
-    if (which < SIMULATE || which == LISTED) {
+    if (which < SIMULATE) {
         memset(&given->answer, 0, sizeof given->answer);
         given->answer.status = 4;
     }
     given->status = 4;
     given->needed = 0;
-    if (which == SURVEY)
-        given->masks_needed = 0;
     if (which == MARGIN || which == MARGIN_LISTED)
         memset(&given->weakest, 0, sizeof given->weakest);
 }
@@ -229,13 +174,12 @@ int main(int argc, char **argv)
     size_t calls = 0;
     for (int i = 1; i < argc; i++) {
         size_t len = read_log(argv[i], text);
-        if (len == NO_LOG || !survey(text, len))
+        if (len == NO_LOG)
             return 1;
         for (int which = 0; which < CALLS; which++) {
             memcpy(changed, text, len);
-            /* a text to fill in has no slot lines, a list only UIDs, a text with a separate list none */
+            /* a text to fill in has no slot lines, one with a separate list no UIDs */
             const char *letters = which == SIMULATE       ? "SRCD"
-                                  : which == LISTED       ? "TSRCDF"
                                   : which >= RUN_REPORT   ? ""
                                   : which >= CHECK_LISTED ? "U"
                                                           : "";

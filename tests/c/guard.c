@@ -9,7 +9,7 @@
 #include <sys/mman.h>
 
 enum { PAGE = 4096, COUNT = 2 };
-enum { TEXT, BUFFER, CERTAIN, MASKS, EXPECTED, NAMES, ENDS };
+enum { TEXT, BUFFER, LENGTHS, TEXTS, EXPECTED, NAMES, ENDS };
 
 typedef struct vicinity_answer answer;
 typedef uint32_t list_call(const uint8_t *, size_t, answer *, void *, size_t, size_t *);
@@ -19,15 +19,11 @@ static const struct {
     list_call *call;
     size_t size;
 } LISTS[] = {{(list_call *)vicinity_explain, sizeof(uint64_t)},
-             {(list_call *)vicinity_report, sizeof(struct vicinity_finding)},
-             {(list_call *)vicinity_certain, sizeof(uint64_t)},
-             {(list_call *)vicinity_open_masks, sizeof(struct vicinity_mask)},
-             {(list_call *)vicinity_listed, sizeof(uint64_t)}};
+             {(list_call *)vicinity_report, sizeof(struct vicinity_finding)}};
 
 /* Where memory ends, behind ROOM bytes each. */
 static uint8_t *ends[ENDS];
-static uint64_t *expected, *certain;
-static struct vicinity_mask *masks;
+static uint64_t *expected;
 
 static int have_ends(void)
 {
@@ -57,29 +53,6 @@ static int lists(list_call *call, size_t size, const uint8_t *text, size_t len)
     return 1;
 }
 
-/* The calls with a separate list, which ends where memory ends. */
-static uint32_t explain_beside(const uint8_t *text, size_t len, answer *told, void *room, size_t places, size_t *needed)
-{
-    return vicinity_explain_listed(text, len, expected, COUNT, told, room, places, needed);
-}
-
-static uint32_t report_beside(const uint8_t *text, size_t len, answer *told, void *room, size_t places, size_t *needed)
-{
-    return vicinity_report_listed(text, len, expected, COUNT, told, room, places, needed);
-}
-
-/* What many logs say, by the arrays of a survey. */
-static uint32_t reconcile(const uint8_t *text, size_t len, answer *told, void *room, size_t places, size_t *needed)
-{
-    answer ignored;
-    size_t uids, count;
-    vicinity_survey(text, len, &ignored, (uint64_t *)ends[CERTAIN], 0, &uids, (struct vicinity_mask *)ends[MASKS], 0, &count);
-    certain = (uint64_t *)ends[CERTAIN] - uids;
-    masks = (struct vicinity_mask *)ends[MASKS] - count;
-    vicinity_survey(text, len, &ignored, certain, uids, &uids, masks, count, &count);
-    return vicinity_reconcile(expected, COUNT, certain, uids, masks, count, told, room, places, needed);
-}
-
 static uint32_t simulate(const uint8_t *text, size_t len, answer *told, void *room, size_t places, size_t *needed)
 {
     memset(told, 0, sizeof *told);
@@ -87,11 +60,11 @@ static uint32_t simulate(const uint8_t *text, size_t len, answer *told, void *ro
 }
 
 /* What the program writes of a list and of a text, with the lengths and the names where memory ends, too. */
-static uint32_t reconcile_by_name(const uint8_t *text, size_t len, answer *told, void *room, size_t places, size_t *needed)
+static uint32_t reconcile(const uint8_t *text, size_t len, answer *told, void *room, size_t places, size_t *needed)
 {
     static const char list[] = "vicinity-log 1\nU E0040100000000A1\n", names[] = "list\nlog\n";
-    size_t listed = sizeof list - 1, *lengths = (size_t *)ends[CERTAIN] - 2, named = sizeof names - 1;
-    uint8_t *texts = ends[MASKS] - listed - len;
+    size_t listed = sizeof list - 1, *lengths = (size_t *)ends[LENGTHS] - 2, named = sizeof names - 1;
+    uint8_t *texts = ends[TEXTS] - listed - len;
     memcpy(texts, list, listed);
     memcpy(texts + listed, text, len);
     lengths[0] = listed;
@@ -101,16 +74,13 @@ static uint32_t reconcile_by_name(const uint8_t *text, size_t len, answer *told,
                                        listed + len, lengths, 2, room, places, needed);
 }
 
-/* What a log is measured by, into structs and buffers that end where memory ends, the last with too few places. */
+/* What a log is measured by, into a struct that ends where memory ends. */
 static int measures(const uint8_t *text, size_t len)
 {
     answer told, again;
     struct vicinity_weakest *weakest = (struct vicinity_weakest *)ends[BUFFER] - 1;
-    uint32_t *places = (uint32_t *)ends[BUFFER];
     return vicinity_margin(text, len, &told, weakest) == told.status &&
-           vicinity_margin_listed(text, len, expected, COUNT, &again, weakest) == again.status &&
-           vicinity_overlooked(text, len, expected, COUNT, &again, places - COUNT, COUNT) == told.status &&
-           vicinity_overlooked(text, len, expected, COUNT, &again, places - COUNT + 1, COUNT - 1) == told.status;
+           vicinity_margin_listed(text, len, expected, COUNT, &again, weakest) == again.status;
 }
 
 /* Makes each call on a text whose end is the end of memory. */
@@ -122,11 +92,7 @@ static int judges(const uint8_t *text, size_t len)
             return 0;
     return vicinity_check(text, len, &told) == told.status &&
            vicinity_check_listed(text, len, expected, COUNT, &again) == again.status &&
-           lists(explain_beside, sizeof(uint64_t), text, len) &&
-           lists(report_beside, sizeof(struct vicinity_finding), text, len) &&
-           lists(reconcile, sizeof(struct vicinity_finding), text, len) && lists(simulate, 1, text, len) &&
-           lists(reconcile_by_name, 1, text, len) &&
-           measures(text, len);
+           lists(simulate, 1, text, len) && lists(reconcile, 1, text, len) && measures(text, len);
 }
 
 /* Whether a frame that is both a request and a reply is read, and no part of it; CRCs and lines are written of all parts. */

@@ -7,7 +7,7 @@ from unittest import mock
 
 import vicinity
 from vicinity import Kind, _native
-from vicinity._native import COMMANDS, AnswerStruct, FindingStruct, MaskStruct
+from vicinity._native import COMMANDS, AnswerStruct, FindingStruct
 
 from helpers.program import TOP, Said
 
@@ -18,9 +18,7 @@ U8, U32, U64, SIZE = ctypes.c_uint8, ctypes.c_uint32, ctypes.c_uint64, ctypes.c_
 STATUSES = {"complete": 0, "impossible": 2, "refused": 3}
 UNSETTLED, OPEN, MORE, CONFLICT, SILENCED = 4, 8, 9, 10, 11
 # The calls that list something, with its elements.
-LISTING = {"explain": U64, "certain": U64, "listed": U64, "explain_listed": U64,
-           "open_masks": MaskStruct, "report": FindingStruct, "report_listed": FindingStruct,
-           "reconcile": FindingStruct, "simulate": U8, "run": U8}
+LISTING = {"explain": U64, "report": FindingStruct, "simulate": U8, "run": U8}
 # Of these, the calls that fill no struct in: they return a status alone.
 WRITING = ("simulate", "run")
 
@@ -68,11 +66,6 @@ def findings_of(lines):
 def uids(numbers):
     """UIDs, as calls take them."""
     return (U64 * len(numbers))(*numbers)
-
-
-def masks(pairs):
-    """Masks, as calls take them; one of three numbers begins with a fault."""
-    return (MaskStruct * len(pairs))(*((*(0,) * (3 - len(it)), *it) for it in pairs))
 
 
 class Library:

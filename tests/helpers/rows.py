@@ -152,16 +152,13 @@ class OfLibrary:
         assert bytes(told) == self.answered(line, log, status)
 
     def in_both_ways(self, name, elements, log, answer):
-        """Has a call write these elements; also with the list of the log removed and passed
-        separately, where the answer is that of `check` too, and so it is if the last line of what
-        is left lacks its LF."""
+        """Has a call write these elements. The answer is that of `check` too, and with the list of
+        the log removed and passed separately, also if the last line of what is left lacks its
+        LF."""
         text, listed, rest = log.partition(b"U ")
         beside = uids([int(line, 16) for line in (listed + rest).split() if line != b"U"])
         cut = text if text.endswith(b"\n\n") else text.removesuffix(b"\n")
-        for call, *words in ((name, log), (f"{name}_listed", text, beside),
-                             (f"{name}_listed", cut, beside)):
-            told = self.library.into_each(elements, call, *words)
-            assert bytes(told) == answer
+        assert bytes(self.library.into_each(elements, name, log)) == answer
         for given in text, cut:
             assert bytes(self.library.told(AnswerStruct, "check_listed", given, beside)) == answer
 

@@ -3,7 +3,7 @@ import re
 from collections.abc import Iterable, Iterator
 from pathlib import Path
 
-from helpers.program import TOP
+TOP = Path(__file__).resolve().parent.parent.parent
 
 WORD = re.compile(
     r"(?<![\w.])(?:◌\S+?◌|[^\W\d][\w'-]*(?:\.[^\W\d][\w'-]*)*|[^\w\s(){}\[\],;.:]+)")

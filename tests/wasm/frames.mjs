@@ -6,30 +6,41 @@
  */
 import { readFileSync } from "node:fs";
 
-import { inventoryOf, linkOf, requestOf, slotMask, stayQuietOf, uidIn } from "../../web/frames.mjs";
+import { inventoryOf, linkOf, maskOf, requestOf, slotMask, stayQuietOf, uidIn } from "../../web/frames.mjs";
 import { Library } from "../../web/library.mjs";
 import { Log } from "../../web/log.mjs";
 
-const library = await Library.of(readFileSync(process.argv[2]));
-const bytes = (/** @type {string} */ digits) => Uint8Array.from(digits.match(/../g) ?? [], (pair) => parseInt(pair, 16));
+const bytes = readFileSync(process.argv[2]), library = await Library.of(bytes);
+const calls = /** @type {any} */ ((await WebAssembly.instantiate(bytes)).instance.exports), at = calls.vicinity_allocate(16n);
+const READ = /^request (?:inventory link (\d) slots (\d+) mask (\d+) (\S+)|stay-quiet link (\d) uid (\w+))$|^response flags \w+ dsfid \w+ uid (\w+)$/;
 let tried = 0;
 
 /** @param {string} digits */
 function differs(digits) {
-  const request = library.readRequest(bytes(digits)), reply = library.readReply(bytes(digits));
-  tried += Number(!request.fault) + Number(!reply.fault);
-  if (!reply.fault && uidIn(digits) !== reply.uid) return true;
-  if (request.fault) return false;
-  const log = new Log(new TextEncoder().encode(`vicinity-log 1\nT ${digits}\n`)), shape = log.shape(0);
-  if (linkOf(digits) !== request.link || log.isQuiet(0) !== (request.slots === 0)) return true;
-  if (request.slots === 0) return uidIn(digits) !== request.uid || stayQuietOf(request.uid, request.link) !== digits.toUpperCase();
-  const read = inventoryOf(digits), asks = requestOf(read.slots, read.mask, request.link);
-  if (shape.slots !== request.slots || shape.len !== request.maskLen || BigInt(shape.low) !== BigInt.asUintN(16, request.maskValue) || asks !== digits.toUpperCase()) return true;
-  if (read.slots !== request.slots || read.mask.len !== request.maskLen || read.mask.value !== request.maskValue) return true;
-  return [...Array(request.slots).keys()].some((slot) => {
-    const one = library.slotMask(request, slot), other = slotMask(read, slot);
-    return one.len !== other.len || one.value !== other.value;
+  const lines = new TextDecoder().decode(library.run("frame", [{ text: digits }]).written).trim().split("\n");
+  return lines.map((line) => line.match(READ)).filter((it) => it).some((it) => {
+    const [, link, slots, len, value, quietLink, quiet, replied] = it ?? [];
+    tried++;
+    if (replied) return uidIn(digits) !== BigInt(`0x${replied}`);
+    const log = new Log(new TextEncoder().encode(`vicinity-log 1\nT ${digits}\n`)), shape = log.shape(0), written = digits.toUpperCase();
+    if (linkOf(digits) !== Number(link ?? quietLink) || log.isQuiet(0) !== Boolean(quiet)) return true;
+    if (quiet) return uidIn(digits) !== BigInt(`0x${quiet}`) || stayQuietOf(BigInt(`0x${quiet}`), Number(quietLink)) !== written;
+    const read = inventoryOf(digits), mask = maskOf({ mask_len: Number(len), mask_value: value });
+    if (shape.slots !== Number(slots) || shape.len !== mask.len || BigInt(shape.low) !== BigInt.asUintN(16, mask.value)) return true;
+    if (read.slots !== Number(slots) || read.mask.len !== mask.len || read.mask.value !== mask.value) return true;
+    return requestOf(read.slots, read.mask, Number(link)) !== written || [...Array(read.slots).keys()].some((slot) => isOther(read, slot));
   });
+}
+
+/**
+ * Whether the mask of a slot is another one than the library's.
+ * @param {import("../../web/frames.mjs").Inventory} read
+ * @param {number} slot
+ */
+function isOther(read, slot) {
+  calls.vicinity_slot_mask(read.slots, read.mask.len, read.mask.value, slot, at);
+  const view = new DataView(calls.memory.buffer, Number(at)), { len, value } = slotMask(read, slot);
+  return view.getUint32(4, true) !== len || view.getBigUint64(8, true) !== value;
 }
 
 const lines = readFileSync(0, "utf8").trim().split("\n"), wrong = lines.filter(differs);

@@ -9,7 +9,6 @@
 mod found;
 mod judgings;
 mod logs;
-mod margins;
 mod planted;
 mod sets;
 mod tags;
@@ -60,7 +59,6 @@ fn say_again<F: Fn(Global) -> Result<bool, AllocError>>(
 fn say_logs(rt: &HostRuntime) -> io::Result<()> {
     say(rt, "push", logs::push(rt.alloc()))?;
     say_again(rt, "read_log", logs::read_row)?;
-    say_again(rt, "overlooked", margins::overlooked_row)?;
     say(rt, "add", tags::add(rt.alloc()))
 }
 

@@ -1,11 +1,11 @@
 -- The words of proofs, from one place: what files name from outside of the crate, and the definitions that several of them name.
-pub use Rattle.std.proofs.Common.{All, Bool, Err, IfErr, IfOk, IsErr, IsErrAnd, List, MatchOption, MatchResult, None, Ok, OnOk, Option, Result, Some, [], add-one, ap, append-nil, append_assoc, arith, bytes_eq, codes, decimal, drop, eq-eqb, eqb-true, false, flat_map, get_or, if◌then◌else◌, inl, inr, le-leb, length, lt-ltb, map, nat_lt, ne_eqb, option_map, refl, replicate, rules, set, slice_get, slice_index, string_bytes, subst, suc, sym, take, take-append-drop, true, w64, zero, ℕ, ⊎_elim, ◌%◌, ◌&&◌, ◌*◌, ◌++◌, ◌+◌, ◌-◌, ◌/◌, ◌<◌, ◌==◌, ◌^◌, ◌∙◌, ◌∷◌, ◌≡◌, ◌≤◌}
+pub use Rattle.std.proofs.Common.{All, Bool, Err, IfErr, IfOk, IsErr, IsErrAnd, List, MatchOption, MatchResult, None, Ok, OnOk, Option, Result, Some, [], ap, append-nil, append_assoc, arith, bytes_eq, codes, decimal, drop, eq-eqb, eqb-true, false, flat_map, get_or, if◌then◌else◌, inl, inr, le-leb, length, lt-ltb, map, nat_lt, ne_eqb, option_map, refl, replicate, rules, set, slice_get, slice_index, string_bytes, subst, suc, sym, take, take-append-drop, true, w64, zero, ℕ, ⊎_elim, ◌%◌, ◌&&◌, ◌*◌, ◌++◌, ◌+◌, ◌-◌, ◌/◌, ◌<◌, ◌==◌, ◌^◌, ◌∙◌, ◌∷◌, ◌≡◌, ◌≤◌}
 pub use Rattle.std.proofs.KnownBytes.{Appends-nil, Appends-trans}
 pub use Rattle.std.proofs.Math.Nat.{pow-le-pow_right}
 pub use Rattle.std.proofs.Math.Seq.{take-append-add, take-append_seam}
 pub use Rattle.std.proofs.lemmas.Bool.{and_parts, cases_lt, cases_order, false≢true}
 pub use Rattle.std.proofs.lemmas.Fmt.{decimal_is_IsNumeral, parse-decimal}
-pub use Rattle.std.proofs.lemmas.List.{append_cancel_left, at_drop_all, at_drop_more, drop-replicate, get_or-drop, get_or-set_other, get_or-set_same, get_or-take, length-append, length-drop, length-map, length-set, length-take-le, map-append, map-id, take-append-le}
+pub use Rattle.std.proofs.lemmas.List.{append_cancel_left, at_drop_all, at_drop_more, get_or-drop, get_or-set_other, get_or-set_same, get_or-take, length-append, length-drop, length-map, length-set, length-take-le, map-append, take-append-le}
 pub use Rattle.std.proofs.lemmas.List.FromFn.{fill_by_all}
 pub use Rattle.std.proofs.lemmas.List.Elements.{All-cons, All-head, All-nil, All-tail}
 pub use Rattle.std.proofs.lemmas.Nat.{from_be_bytes-to_be_bytes_8}
@@ -59,39 +59,20 @@ pub use Rattle.vic_report.specs.Findings.{uids_of}
 pub use Rattle.vic_report.specs.Reports.{IsReport, verdict_by, verdict_of}
 pub use Rattle.vic_report.specs.declared.reporting.LogReport.{LogReport}
 pub use Rattle.vic_report.specs.declared.shown.ShownUid.{ShownUid}
-pub use Rattle.vic_reconcile.proofs.Families.{IsPossibleLog, family_of}
-pub use Rattle.vic_reconcile.proofs.Reconciling.{none_is_whole}
-pub use Rattle.vic_reconcile.specs.Findings.{AreFindings, AreNone}
-pub use Rattle.vic_reconcile.specs.Joined.{IsJoined}
-pub use Rattle.vic_reconcile.specs.Surveys.{AreOpenIn, IsSurvey}
-pub use Rattle.vic_reconcile.specs.declared.findings.DoubtfulUid.{DoubtfulUid}
-pub use Rattle.vic_reconcile.specs.declared.findings.Findings.{Findings}
-pub use Rattle.vic_reconcile.specs.declared.findings.UnlistedUid.{UnlistedUid}
-pub use Rattle.vic_reconcile.specs.declared.reconciliation.Reconciliation.{Reconciliation}
-pub use Rattle.vic_reconcile.specs.declared.surveys.Survey.{Survey}
 pub use Rattle.vic_answer.specs.Answered.{answer_of, HasLog, IsAnswered, IsReading}
 pub use Rattle.vic_answer.specs.CheckText.{BeginsAsCheck, IsAnswer, IsAnswerText, IsCheckOf, HasCompleteList, answer_line, answer_status, verdict_line}
 pub use Rattle.vic_text.specs.Digits.{hex_bytes, value_text}
 pub use Rattle.vic_answer.specs.ExplainText.{IsExplanationOf, explained_text, population_line, population_of}
 pub use Rattle.vic_answer.specs.FrameText.{reply_words, request_words}
-pub use Rattle.vic_answer.specs.ReconcileRun.{AreRead, HasReadText, HoldsAt, IsReadEnough, IsLast, ReadsListAndLogs, ReadsTexts, Reconciles, StopsBy, WritesAnswer, logs_for, logs_up_to}
-pub use Rattle.vic_answer.specs.ReconcileText.{all_masks_text, doubtful_text, ending_text, masks_text, open_text, reconciled_status, reconciled_text, unlisted_text}
-pub use Rattle.vic_answer.specs.Reconciled.{AreComplete, EndsAt, GoOn, HasPossibleLog, IsReconciled, lines_of}
 pub use Rattle.vic_answer.specs.Findings.{report_findings}
-pub use Rattle.vic_answer.specs.FindingNumbers.{finding_numbers}
 pub use Rattle.vic_answer.specs.ReportText.{IsReportOf, finding_text, reported_text}
 pub use Rattle.vic_answer.specs.inner.FindingsLeft.{findings_left}
 pub use Rattle.vic_answer.specs.Runs.{Accepts, GivesNoEarlyFault, IsEnough, IsReadWithin, LeavesSource, Reads, RunsOver, RunsOverRevealed, RunsWhere, Writes}
-pub use Rattle.vic_answer.specs.inner.Progress.{AreJoined, IsProgress, logs_read_by}
 pub use Rattle.vic_answer.specs.SimulateText.{IsSimulationOf, simulated_status, simulated_text}
 pub use Rattle.vic_answer.specs.SpellText.{and_then, hex_decoded, hex_number_in, inventory_in, longest_mask, mask_in, number_ending, number_in, number_up_to, reply_in, says_inventory, says_reply, says_stay_quiet, sixteen_in, spelled_text, stay_quiet_in, value_in, word, words_of, words_reading}
 pub use Rattle.vic_answer.specs.declared.answered.Answered.{Answered}
 pub use Rattle.vic_answer.specs.declared.answered.Answered.TheVariants.{Found, RefusedAt}
-pub use Rattle.vic_answer.specs.declared.ending.Ending.{Ending}
 pub use Rattle.vic_answer.specs.declared.findings.Finding.{Finding}
-pub use Rattle.vic_answer.specs.declared.reconcile.Reconciled.{Reconciled}
-pub use Rattle.vic_answer.specs.declared.reconcile.Reconciled.TheVariants.{Ended, NotWhole}
-pub use Rattle.vic_answer.specs.declared.reconcile.Progress.{Progress}
 pub use Rattle.vic_answer.specs.declared.spell.Said.TheVariants.{Asked, Replied}
 pub use Rattle.vic_answer.specs.declared.spell.SpellFault.{SpellFault}
 pub use Rattle.vic_answer.specs.declared.spell.SpellFault.TheVariants.{Words}

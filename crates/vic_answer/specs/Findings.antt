@@ -3,6 +3,8 @@ use Rattle.std.specs.Prelude.{ℕ, Bool, Option, Some, None, List, [], ◌∷◌
 use Rattle.vic_report.specs.declared.findings.Unsettled.{Unsettled as LeftToAsk}
 use Rattle.vic_report.specs.declared.reporting.LogReport.{LogReport}
 use Rattle.vic_report.specs.declared.reporting.LogReport.TheVariants as report
+use Rattle.vic_answer.specs.declared.answered.Answered.{Answered}
+use Rattle.vic_answer.specs.declared.answered.Answered.TheVariants.{Found, RefusedAt}
 use Rattle.vic_answer.specs.declared.findings.Finding.{Finding}
 use Rattle.vic_answer.specs.declared.findings.Finding.TheVariants.{Absent, Unlisted, Unsettled, Doubtful, OpenMask, MoreOpenMasks, ConflictLine, SilencedBy}
 
@@ -28,3 +30,8 @@ report_findings (report.NotWhole f) =
     map Absent f.absent.items ++ map Unlisted f.unlisted.items
     ++ unsettled_findings f.unsettled ++ map Doubtful f.doubtful.items
 report_findings (report.Complete count) = []
+
+-- the findings of the answer to a text, none if it is refused
+abbrev pub answer_findings : Answered LogReport → List Finding
+answer_findings (Found r) = report_findings r
+answer_findings (RefusedAt n fault) = []

@@ -11,17 +11,5 @@ pub mod ExplainText
 pub mod Findings
 pub mod ReportText
 pub mod MarginText
-pub mod FaultNumbers
-pub mod Numbers
-pub mod Buffers
-pub mod ExplainedNumbers
-pub mod FindingNumbers
-pub mod ReconcileText
-pub mod Reconciled
 pub mod Tasks
-pub mod ReconcileRun
-pub mod SurveyNumbers
-pub mod Listing
-pub mod UidMargins
-pub mod InMemory
 pub mod inner

@@ -90,8 +90,8 @@ pub(crate) fn answer_reading<T: Judgement>(
 }
 
 /// The answer to a text in memory, by what is found in its log: a `Verdict` as `check` answers, an
-/// `Explanation` with a population that shows it, a `LogReport` with every finding, a `Margin`, or
-/// a `Survey`. It fails only if memory is refused.
+/// `Explanation` with a population that shows it, a `LogReport` with every finding, or a `Margin`.
+/// It fails only if memory is refused.
 pub fn answer_text<T: Judgement>(alloc: Global, text: &[u8]) -> Result<Answered<T>, AllocError>
     ensures found { IfOk result (spec.IsAnswered T.IsOf text.now) }
     ensures answer { IfOk result (λ a. IsAnswer text.now (spec.answer_of T.verdict_of a)) }

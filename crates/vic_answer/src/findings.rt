@@ -1,16 +1,18 @@
 //! The findings of a report, one after another.
 
-ghost use Rattle.std.specs.Prelude.{◌≡◌};
+ghost use Rattle.std.specs.Prelude.{◌≡◌, IfOk};
 ghost use Rattle.std.specs.Iterator.{YieldsFirst, item_count};
-ghost use Rattle.vic_answer.specs.Findings.{report_findings};
+ghost use Rattle.vic_answer.specs.Findings.{answer_findings, report_findings};
 ghost use Rattle.vic_answer.specs.inner.FindingsLeft.{findings_left};
 
+use crate::answered::Answered;
+use std::alloc::{AllocError, Global};
 use vic_frame::{Mask, Uid};
 use vic_report::{LogReport, ShownUid, Unsettled};
 
 /// A finding of a report, or a line that goes with one.
 #[derive(Clone, Copy, Debug, PartialEq, Eq)]
-pub(crate) enum Finding {
+pub enum Finding {
     /// A listed UID that can't be there, and the line that rules it out.
     Absent(ShownUid),
     /// A UID that must be there and isn't listed, and a line that shows it.
@@ -118,4 +120,29 @@ pub(crate) fn findings_in(report: &LogReport) -> FindingsLeft<'_>
         LogReport::Complete { .. } => {}
     }
     left
+}
+
+/// The findings of the answer to a text, in the order of the lines of `report`: none if the answer
+/// is complete or a refusal.
+pub fn findings_of(
+    alloc: Global,
+    reported: &Answered<LogReport>,
+) -> Result<Vec<Finding>, AllocError>
+    ensures { IfOk result (λ list. list.items ≡ answer_findings reported.now) }
+{
+    match reported {
+        Answered::Found(report) => every_finding(alloc, report),
+        Answered::RefusedAt { .. } => Ok(Vec::new(alloc)),
+    }
+}
+
+/// The findings of a report, in their order.
+fn every_finding(alloc: Global, report: &LogReport) -> Result<Vec<Finding>, AllocError>
+    ensures { IfOk result (λ list. list.items ≡ report_findings report.now) }
+{
+    let mut list = Vec::new(alloc);
+    for finding in findings_in(report) {
+        list.push(finding)?;
+    }
+    Ok(list)
 }

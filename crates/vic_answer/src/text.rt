@@ -10,7 +10,7 @@ use vic_frame::Mask;
 use vic_log::push_hex;
 
 /// Room for the line of an answer, at most 45 bytes, and at least one zero after it.
-pub(crate) const ANSWER_ROOM: usize = 64;
+pub const ANSWER_ROOM: usize = 64;
 
 /// Room for the five lines of `margin`.
 pub const TEXT_ROOM: usize = 4 * ANSWER_ROOM;

@@ -10,5 +10,14 @@ mod Halves
 mod Listing
 mod Unsettled
 mod Without
-mod AnyOrder
+mod Texts
+mod Families
+mod Surveys
+mod Items
+mod Against
 mod Complete
+mod Agreeing
+mod AnyOrder
+mod OneLog
+mod Lists
+mod SameLists

@@ -18,6 +18,14 @@ MayHaveBeen p text =
     × ((log : LogValue) → IsLogOf (lines_of_text text) log → IsPossible (entries log.lines)
     → CouldHaveGiven p (entries log.lines))
 
+-- some population that may have been in the field of the log has the UID
+abbrev pub IsPossibleIn : ℕ → List ℕ → Type 0
+IsPossibleIn u text = (p : List ℕ) × MayHaveBeen p text × (has p u ≡ true)
+
+-- every population that may have been there has the UID
+abbrev pub IsCertainIn : ℕ → List ℕ → Type 0
+IsCertainIn u text = (p : List ℕ) → MayHaveBeen p text → has p u ≡ true
+
 -- a population for each text, in their order
 abbrev pub FitsTexts : List (List ℕ) → List (List ℕ) → Type 0
 FitsTexts family texts = AllZip MayHaveBeen family texts

@@ -7,4 +7,5 @@ pub mod Findings
 pub mod Answers
 pub mod Families
 pub mod Complete
+pub mod Against
 pub mod inner

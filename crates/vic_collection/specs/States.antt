@@ -1,10 +1,10 @@
 -- The state of an item: the first of nine that applies (profile).
-use Rattle.std.specs.Prelude.{ℕ, Bool, true, false, ◌&&◌, if◌then◌else◌, is_some, Option, Some, None, List}
+use Rattle.std.specs.Prelude.{ℕ, Bool, true, false, ◌&&◌, not, if◌then◌else◌, is_some, Option, Some, None, List}
 use Rattle.std.specs.List.{list_any}
 use Rattle.vic_table.specs.Values.{ItemValue}
 use Rattle.vic_collection.specs.declared.state.State.{State}
 use Rattle.vic_collection.specs.declared.state.State.TheVariants.{NoTag, Returned, InPlace, Misplaced, There, NotProvable, Away, NotCounted, Missing}
-use Rattle.vic_collection.specs.Collections.{CollectionValue, is_certain_in, is_certain_somewhere, is_possible_somewhere}
+use Rattle.vic_collection.specs.Collections.{CollectionValue, is_certain_in, is_certain_somewhere, is_number, is_possible_somewhere}
 use Rattle.vic_collection.specs.Joins.{is_of_place, is_without_log}
 
 -- the UID is certain in a log of this place
@@ -36,6 +36,12 @@ state_by c item (Some u) = state_with c item u
 -- the state of an item
 abbrev pub state_of : CollectionValue → ItemValue → State
 state_of c item = state_by c item item.uid
+
+-- an item with this UID should be in a field, and its place, if it has one, has a log
+abbrev pub is_looked_for : CollectionValue → ℕ → Bool
+is_looked_for c u =
+    list_any (λ item. is_number u item.uid && (not item.away && not (is_uncounted c item.place)))
+    c.catalogue.items
 
 -- in place or there
 abbrev pub is_there : State → Bool

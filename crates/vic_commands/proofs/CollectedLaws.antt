@@ -10,12 +10,15 @@ use Rattle.vic_collection.specs.Collections.{CollectionValue}
 use Rattle.vic_collection.specs.declared.answer.CollectionAnswer.{CollectionAnswer}
 use Rattle.vic_collection.specs.declared.answer.CollectionAnswer.TheVariants as answer
 use Rattle.vic_result.specs.Answered.{answer_status, not_possible_status}
-use Rattle.vic_operands.proofs.Alone.{usage_alone}
 use Rattle.vic_operands.specs.Files.{File}
-use Rattle.vic_operands.specs.Gathered.{IsGathered}
-use Rattle.vic_operands.specs.declared.gathered.Gathered.TheVariants.{Usage}
+use Rattle.vic_operands.specs.declared.gathered.Gathered.{Gathered}
+use Rattle.vic_operands.specs.declared.gathered.Gathered.TheVariants as gathered
 use Rattle.vic_commands.specs.Collected.{AreFiles, IsCollected, IsWrittenBy}
+use Rattle.vic_commands.specs.Commands.{IsToldBy}
 use Rattle.vic_commands.specs.declared.collected.Form.{Form}
+use Rattle.vic_commands.specs.declared.commands.Told.{Told}
+use Rattle.vic_commands.specs.declared.commands.Told.TheVariants.{Answer, Usage}
+use Rattle.vic_commands.specs.inner.Told.{IsToldOf}
 
 -- names and texts are those of one list of files
 same_file : (f g : File) → f.name ≡ g.name → f.text ≡ g.text → f ≡ g
@@ -39,13 +42,19 @@ more_files names texts name text files h = record {
   have = map-append (λ (f : File). f.text) files (record { name = name; text = text } ∷ []) ∙ ap (λ ts. ts ++ text ∷ []) h.have;
 }
 
--- nothing is written of files that are no operands
-pub none_collected : (form : Form) (names texts : List (List ℕ)) (files : List File) → AreFiles names texts files → IsGathered files Usage
-    → (text : List ℕ) (status : Status) → IsCollected form names texts text status → ⊥
-none_collected form names texts files are usage text status h =
-    let same : h.files ≡ files = same_files h.files files (h.are.named ∙ sym are.named) (h.are.have ∙ sym are.have) in
-    let right : IsGathered files h.gathered = subst (λ fs. IsGathered fs h.gathered) same h.right in
-    subst (λ g. IsWrittenBy form g text status) (usage_alone files h.gathered usage right) h.written
+-- what is told of files is what is written of them, and nothing is where they are no operands
+module _ (Are : List File → Gathered → Type 0) (alone : (files : List File) (g : Gathered) → Are files gathered.Usage → Are files g → g ≡ gathered.Usage) where
+  none_collected : (form : Form) (names texts : List (List ℕ)) (files : List File) → AreFiles names texts files → Are files gathered.Usage
+      → (text : List ℕ) (status : Status) → IsCollected Are form names texts text status → ⊥
+  none_collected form names texts files are usage text status h =
+      let same : h.files ≡ files = same_files h.files files (h.are.named ∙ sym are.named) (h.are.have ∙ sym are.have) in
+      let right : Are files h.gathered = subst (λ fs. Are fs h.gathered) same h.right in
+      subst (λ g. IsWrittenBy form g text status) (alone files h.gathered usage right) h.written
+
+  pub collected-told : (form : Form) (names texts : List (List ℕ)) (files : List File) (g : Gathered) (told : Told) → AreFiles names texts files → Are files g → IsToldOf form g told
+      → IsToldBy (IsCollected Are form names texts) told
+  collected-told form names texts files g (Answer w) are right h = record { files = files; are = are; gathered = g; right = right; written = h }
+  collected-told form names texts files g Usage are right h = λ text status. none_collected form names texts files are (subst (Are files) h right) text status
 
 -- ---- the status of an answer
 

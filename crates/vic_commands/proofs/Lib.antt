@@ -1,3 +1,4 @@
 mod SurveyLaws
 mod Tellings
+mod TextsSoFar
 mod CollectedLaws

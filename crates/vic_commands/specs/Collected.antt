@@ -7,10 +7,12 @@ use Rattle.vic_collection.specs.declared.answer.CollectionAnswer.{CollectionAnsw
 use Rattle.vic_operands.specs.Faults.{operand_fault_name}
 use Rattle.vic_operands.specs.Files.{File}
 use Rattle.vic_operands.specs.Gathered.{IsGathered}
+use Rattle.vic_operands.specs.Lists.{IsGatheredToReconcile}
 use Rattle.vic_operands.specs.declared.fault.Refusal.{Refusal}
 use Rattle.vic_operands.specs.declared.gathered.Gathered.{Gathered}
 use Rattle.vic_operands.specs.declared.gathered.Gathered.TheVariants as gathered
 use Rattle.vic_result.specs.Answered.{answer_status}
+use Rattle.vic_result.specs.ResultLines.{AreLinesOf}
 use Rattle.vic_result.specs.ResultObject.{IsObjectOf}
 use Rattle.vic_result.specs.ResultTable.{IsTableOf}
 use Rattle.vic_answer.specs.Status.{status_code}
@@ -25,10 +27,11 @@ refusal_line r =
     codes "refused at line " ++ decimal r.line ++ codes " of " ++ string_bytes r.name
     ++ codes ": " ++ operand_fault_name r.fault ++ lf ∷ []
 
--- what a command writes of a collection: its table; or its object, which is one line
+-- what a command writes of a collection: its table; its object, which is one line; or lines
 abbrev pub IsFormOf : Form → CollectionValue → List ℕ → Type 0
 IsFormOf form.Table c text = IsTableOf c text
 IsFormOf form.Object c text = (object : List ℕ) × IsObjectOf c object × (text ≡ object ++ lf ∷ [])
+IsFormOf form.Lines c text = AreLinesOf c text
 
 -- the status of the answer of a collection
 abbrev pub IsStatusOf : CollectionValue → Status → Type 0
@@ -46,18 +49,22 @@ IsWrittenBy form gathered.Usage text status = ⊥
 IsWrittenBy form (gathered.Refused r) text status = (text ≡ refusal_line r) × (status ≡ Refused)
 IsWrittenBy form (gathered.Collection c) text status = IsFormOf form c text × IsStatusOf c status
 
--- what is written of texts with these names
-pub record IsCollected (form : Form) (names texts : List (List ℕ)) (text : List ℕ)
-    (status : Status) : Type 0 where
+-- what is written of texts with these names, where `Are` says what files are together
+pub record IsCollected (Are : List File → Gathered → Type 0) (form : Form)
+    (names texts : List (List ℕ)) (text : List ℕ) (status : Status) : Type 0 where
   pub files : List File
   pub are : AreFiles names texts files
   pub gathered : Gathered
-  pub right : IsGathered files gathered
+  pub right : Are files gathered
   pub written : IsWrittenBy form gathered text status
 
--- what `collection` writes, and `json-collection`
+-- what `collection` writes, `json-collection`, and `reconcile`
 abbrev pub IsTabling : List (List ℕ) → List (List ℕ) → List ℕ → Status → Type 0
-IsTabling names texts text status = IsCollected form.Table names texts text status
+IsTabling names texts text status = IsCollected IsGathered form.Table names texts text status
 
 abbrev pub IsListing : List (List ℕ) → List (List ℕ) → List ℕ → Status → Type 0
-IsListing names texts text status = IsCollected form.Object names texts text status
+IsListing names texts text status = IsCollected IsGathered form.Object names texts text status
+
+abbrev pub IsReconciling : List (List ℕ) → List (List ℕ) → List ℕ → Status → Type 0
+IsReconciling names texts text status =
+    IsCollected IsGatheredToReconcile form.Lines names texts text status

@@ -5,14 +5,13 @@ use Rattle.std.specs.Str.{IsUtf8}
 use Rattle.vic_answer.specs.CheckText.{IsCheckOf}
 use Rattle.vic_answer.specs.ExplainText.{IsExplanationOf}
 use Rattle.vic_answer.specs.FrameText.{frame_text, frame_status}
-use Rattle.vic_answer.specs.InMemory.{IsReconciliationOf}
 use Rattle.vic_answer.specs.MarginText.{IsMarginOf}
 use Rattle.vic_answer.specs.ReportText.{IsReportOf}
 use Rattle.vic_answer.specs.SimulateText.{IsSimulationOf}
 use Rattle.vic_answer.specs.SpellText.{spell_text, spell_status}
 use Rattle.vic_answer.specs.declared.status.Status.{Status}
 use Rattle.vic_object.specs.Object.{IsObjectOf}
-use Rattle.vic_commands.specs.Collected.{IsListing, IsTabling}
+use Rattle.vic_commands.specs.Collected.{IsListing, IsReconciling, IsTabling}
 use Rattle.vic_commands.specs.Surveyed.{IsSurveying}
 use Rattle.vic_commands.specs.declared.commands.Command.{Command}
 use Rattle.vic_commands.specs.declared.commands.Command.TheVariants.{Check, Explain, Report, Margin, Simulate, Reconcile, Frame, Spell, Survey, Collection, Json, JsonCollection}
@@ -42,13 +41,6 @@ pub record IsSpellingOf (words : List (List ℕ)) (answer : List ℕ) (status : 
   pub text : answer ≡ spell_text words
   pub status_is : status ≡ spell_status words
 
--- the list is the first text
-abbrev pub OfListAndLogs : List (List ℕ) → List (List ℕ) → List ℕ → Status → Type 0
-OfListAndLogs (name ∷ names) (list ∷ logs) answer status =
-    IsReconciliationOf name names list logs answer status
-OfListAndLogs [] texts answer status = ⊥
-OfListAndLogs (name ∷ names) [] answer status = ⊥
-
 -- P holds of texts that have a name each
 abbrev pub OfNamed : (List (List ℕ) → List (List ℕ) → List ℕ → Status → Type 0)
     → List (List ℕ) → List (List ℕ) → List ℕ → Status → Type 0
@@ -64,7 +56,7 @@ Writes Explain names texts = OfOnly IsExplanationOf texts
 Writes Report names texts = OfOnly IsReportOf texts
 Writes Margin names texts = OfOnly IsMarginOf texts
 Writes Simulate names texts = OfOnly IsSimulationOf texts
-Writes Reconcile names texts = OfListAndLogs names texts
+Writes Reconcile names texts = OfNamed IsReconciling names texts
 Writes Frame names texts = OfOnly IsFrameOf texts
 Writes Spell names texts = IsSpellingOf texts
 Writes Survey names texts = OfNamed IsSurveying names texts

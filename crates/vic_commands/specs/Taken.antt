@@ -3,10 +3,11 @@ use Rattle.std.specs.Prelude.{ℕ, List}
 use Rattle.std.specs.List.{All}
 use Rattle.vic_survey.specs.Names.{IsName}
 use Rattle.vic_operands.specs.Files.{File}
-use Rattle.vic_operands.specs.Taken.{HasTaken}
+use Rattle.vic_operands.specs.Taken.{HasTaken, HasTakenToReconcile}
 use Rattle.vic_operands.specs.declared.operands.Operands.{Operands}
 use Rattle.vic_commands.specs.Collected.{AreFiles}
 use Rattle.vic_commands.specs.Surveyed.{AreSurveyed}
+use Rattle.vic_commands.specs.declared.collected.ForLines.{ForLines}
 use Rattle.vic_commands.specs.declared.collected.ForObject.{ForObject}
 use Rattle.vic_commands.specs.declared.collected.ForTable.{ForTable}
 use Rattle.vic_commands.specs.declared.surveyed.TakenLogs.{TakenLogs}
@@ -28,3 +29,8 @@ HasTakenForTable names texts taken = HasTakenFiles names texts taken.operands
 
 abbrev pub HasTakenForObject : List (List ℕ) → List (List ℕ) → ForObject → Type 0
 HasTakenForObject names texts taken = HasTakenFiles names texts taken.operands
+
+-- and by `reconcile`
+abbrev pub HasTakenForLines : List (List ℕ) → List (List ℕ) → ForLines → Type 0
+HasTakenForLines names texts taken =
+    (files : List File) × AreFiles names texts files × HasTakenToReconcile files taken.operands

@@ -1,21 +1,21 @@
 //! The commands about a collection: a catalogue, a table of places, logs and surveys.
 
 ghost use Rattle.std.specs.Prelude.{◌≡◌, [], ◌∷◌, ◌++◌, ℕ, List, IfOk};
-ghost use Rattle.vic_operands.specs.Files.{File as FileValue};
 ghost use Rattle.vic_operands.specs.Gathered.{IsGathered};
 ghost use Rattle.vic_answer.specs.Status.{status_code};
 ghost use Rattle.vic_result.specs.Answered.{answer_status};
 ghost use Rattle.vic_commands.specs.Collected as spec;
 ghost use Rattle.vic_commands.specs.Commands.{IsToldBy};
-ghost use Rattle.vic_commands.specs.Taken.{HasTakenFiles, HasTakenForObject, HasTakenForTable};
+ghost use Rattle.vic_commands.specs.Taken.{HasTakenFiles, HasTakenForLines, HasTakenForObject, HasTakenForTable};
+ghost use Rattle.vic_commands.specs.inner.Told.{IsToldOf};
 
 use crate::commands::Told;
 use crate::gathering::Gather;
 use std::alloc::{AllocError, Global};
 use vic_answer::{Status, WrittenText};
 use vic_collection::{Collection, CollectionAnswer};
-use vic_operands::{Gathered, Operands, Refusal};
-use vic_result::{answer_status, object_text, table_text};
+use vic_operands::{Gathered, Operands, ReconcileOperands, Refusal};
+use vic_result::{answer_status, lines_text, object_text, table_text};
 use vic_text::push_decimal;
 
 /// In which form a collection is written.
@@ -23,6 +23,7 @@ use vic_text::push_decimal;
 pub enum Form {
     Table,
     Object,
+    Lines,
 }
 
 /// What `collection` knows of the files that it has taken.
@@ -35,6 +36,12 @@ pub struct ForTable {
 #[derive(Drop)]
 pub struct ForObject {
     pub(crate) operands: Operands,
+}
+
+/// What `reconcile` knows of the files that it has taken.
+#[derive(Drop)]
+pub struct ForLines {
+    pub(crate) operands: ReconcileOperands,
 }
 
 impl Gather for ForTable {
@@ -77,6 +84,28 @@ impl Gather for ForObject {
     }
 }
 
+impl Gather for ForLines {
+    ghost Writes = { spec.IsReconciling };
+
+    ghost HasTaken = { HasTakenForLines };
+
+    fn begin(_alloc: Global) -> ForLines {
+        ForLines {
+            operands: ReconcileOperands::begin(),
+        }
+    }
+
+    fn add(self, alloc: Global, name: &str, text: Vec<u8>) -> Result<ForLines, AllocError> {
+        let operands = self.operands.add(alloc, name, text)?;
+        Ok(ForLines { operands })
+    }
+
+    fn finish(self, alloc: Global) -> Result<Told, AllocError> {
+        let gathered = self.operands.finish(alloc)?;
+        told_of_gathered(alloc, gathered, Form::Lines)
+    }
+}
+
 /// Files, and one more.
 #[tactic(auto, using(crate::proofs::CollectedLaws::more_files))]
 fn with_file(
@@ -96,18 +125,15 @@ fn with_file(
 fn told_of_files(alloc: Global, operands: Operands, form: Form) -> Result<Told, AllocError>
     ensures { IfOk result (λ told. (names texts : List (List ℕ))
         → HasTakenFiles names texts operands
-        → IsToldBy (spec.IsCollected form names texts) told) }
+        → IsToldBy (spec.IsCollected IsGathered form names texts) told) }
 {
     let gathered = operands.finish(alloc)?;
     told_of_gathered(alloc, gathered, form)
 }
 
 /// The same, by what they are together.
-#[tactic(auto, using(crate::proofs::CollectedLaws::none_collected))]
 fn told_of_gathered(alloc: Global, gathered: Gathered, form: Form) -> Result<Told, AllocError>
-    ensures { IfOk result (λ told. (names texts : List (List ℕ)) (files : List FileValue)
-        → spec.AreFiles names texts files → IsGathered files gathered
-        → IsToldBy (spec.IsCollected form names texts) told) }
+    ensures { IfOk result (IsToldOf form gathered) }
 {
     match gathered {
         Gathered::Usage => Ok(Told::Usage),
@@ -147,6 +173,7 @@ fn collection_text(
 {
     match form {
         Form::Table => table_text(alloc, collection),
+        Form::Lines => lines_text(alloc, collection),
         Form::Object => {
             let mut text = object_text(alloc, collection)?;
             text.extend_from_slice(b"\n")?;

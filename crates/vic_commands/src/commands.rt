@@ -10,7 +10,8 @@ pub enum Command {
     Report,
     Margin,
     Simulate,
-    /// A list of what is expected, and then logs.
+    /// The texts are a list of what is expected, and then logs or texts of surveys; or the same as
+    /// for `Collection`.
     Reconcile,
     /// The text is a word.
     Frame,

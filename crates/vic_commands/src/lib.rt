@@ -9,7 +9,7 @@ mod gathering;
 mod surveyed;
 mod texts;
 
-pub use collected::{ForObject, ForTable, Form};
+pub use collected::{ForLines, ForObject, ForTable, Form};
 pub use commands::{Command, Told};
 pub use gathering::Gather;
 pub use surveyed::TakenLogs;

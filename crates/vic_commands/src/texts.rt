@@ -8,14 +8,13 @@ ghost use Rattle.vic_answer.specs.SimulateText.{IsSimulationOf};
 ghost use Rattle.vic_object.specs.Object.{IsObjectOf};
 ghost use Rattle.vic_commands.specs.Commands as spec;
 
-use crate::collected::{ForObject, ForTable};
+use crate::collected::{ForLines, ForObject, ForTable};
 use crate::commands::{Command, Told};
 use crate::gathering::Gather;
 use crate::surveyed::TakenLogs;
 use std::alloc::{AllocError, Global};
 use vic_answer::{
-    RunFault, Status, Written, WrittenText, reconciliation_of, run_frame, run_spell, simulate_text,
-    written_text,
+    RunFault, Status, Written, WrittenText, run_frame, run_spell, simulate_text, written_text,
 };
 use vic_log::ToWrite;
 use vic_margin::Margin;
@@ -40,7 +39,7 @@ pub fn told_of(
         Command::Report => judged::<LogReport>(alloc, texts),
         Command::Margin => judged::<Margin>(alloc, texts),
         Command::Simulate => simulated(alloc, texts),
-        Command::Reconcile => reconciled(alloc, names, texts),
+        Command::Reconcile => gathered::<ForLines>(alloc, names, texts),
         Command::Frame => framed(alloc, texts),
         Command::Spell => spelled(alloc, texts),
         Command::Survey => gathered::<TakenLogs>(alloc, names, texts),
@@ -118,21 +117,6 @@ fn spelled(alloc: Global, texts: &[&[u8]]) -> Result<Told, AllocError>
         text: sink.into_inner(),
         status,
     }))
-}
-
-/// What `reconcile` tells of texts.
-fn reconciled(alloc: Global, names: &[String], texts: &[&[u8]]) -> Result<Told, AllocError>
-    ensures { IfOk result (spec.IsToldBy (spec.OfListAndLogs (map string_bytes names.now)
-        (map (λ t. t.now) texts.now))) }
-{
-    let Some((list_name, log_names)) = names.split_first() else {
-        return Ok(Told::Usage);
-    };
-    let Some((list, logs)) = texts.split_first() else {
-        return Ok(Told::Usage);
-    };
-    let written = reconciliation_of(alloc, list_name.as_str(), log_names, list, logs)?;
-    Ok(Told::Answer(written))
 }
 
 /// What a command over many files tells of texts with these names.

@@ -12,5 +12,6 @@ pub mod More
 pub mod Opened
 pub mod Reopened
 mod SamePopulations
+mod SameVerdict
 mod OneMore
 mod Always

@@ -16,6 +16,7 @@ ghost use Rattle.vic_log.specs.Populations.{CouldHaveGiven, IsPopulation};
 ghost use Rattle.vic_log.specs.Weaker.{AreWeaker};
 ghost use Rattle.vic_verdict.specs.Possible.{IsPossible, IsPossibleUid};
 ghost use Rattle.vic_verdict.specs.Verdict.{IsLeast, IsVerdict};
+ghost use Rattle.vic_verdict.specs.declared.judging.Verdict.{Verdict};
 ghost use Rattle.vic_verdict.specs.declared.judging.Verdict.TheVariants.{Complete, Unsettled};
 ghost use Rattle.vic_margin.specs.Differing.{DifferOnlyAt, IsPossibleWithout};
 ghost use Rattle.vic_margin.specs.Margins.{IsMargin, IsWeakest};
@@ -121,4 +122,19 @@ pub fn nothing_opened()
         → CouldHaveGiven p (deaf_entries es) ↔ CouldHaveGiven p es }
     ensures both { (es : List Entry) (r : Readings) → AreReadings es r → r.deaf ≡ None
         → r.hidden ≡ None }
+{}
+
+/// So the verdict stays: where the hidden or the deaf reading of a possible log opens no UID, a log
+/// with the entries of that reading has exactly the verdict of the log.
+pub fn nothing_opened_keeps_the_verdict()
+    ensures hidden { (version other : Version) (lines read : List LogLine) (v : Verdict)
+        → IsLog version lines → IsPossible (entries lines)
+        → IsFirstOpened (hidden_entries (entries lines)) (entries lines) None
+        → IsLog other read → entries read ≡ hidden_entries (entries lines)
+        → IsVerdict read v ↔ IsVerdict lines v }
+    ensures deaf { (version other : Version) (lines read : List LogLine) (v : Verdict)
+        → IsLog version lines → IsPossible (entries lines)
+        → IsFirstOpened (deaf_entries (entries lines)) (entries lines) None
+        → IsLog other read → entries read ≡ deaf_entries (entries lines)
+        → IsVerdict read v ↔ IsVerdict lines v }
 {}

@@ -1,18 +1,21 @@
 -- What asks for open masks asks only open UIDs.
-use Rattle.std.proofs.Common.{◌≡◌, ◌∙◌, ℕ, ◌%◌, ◌^◌, ◌<◌, ◌==◌, Bool, true, false, List, [], ◌∷◌, ap, refl, sym, subst, arith, map, take, length-take, eq-eqb, eqb-true, get_or}
+use Rattle.std.proofs.Common.{◌≡◌, ◌∙◌, ℕ, ◌-◌, ◌/◌, ◌<◌, Bool, true, false, List, ap, refl, sym, subst, arith, map, take, length-take, get_or}
 use Rattle.std.specs.List.{Contains}
 use Rattle.std.proofs.lemmas.List.{get_or-map, get_or-take, length-map}
 use Rattle.std.proofs.lemmas.List.Elements.{All-contains}
 use Rattle.std.proofs.lemmas.Simd.{map-map}
 use Rattle.vic_frame.specs.Masks.{BitMask, lies_in}
-use Rattle.vic_frame.specs.Slots.{mask_in}
+use Rattle.vic_frame.specs.Slots.{mask_in, slot_count}
 use Rattle.vic_frame.specs.declared.request.Request.TheVariants.{Inventory}
 use Rattle.vic_log.specs.Order.{entries}
 use Rattle.vic_log.specs.declared.entry.LogLine.{LogLine}
 use Rattle.vic_tree.specs.OpenMasks.{IsOpenMask}
 use Rattle.vic_verdict.specs.Possible.{IsPossible}
-use Rattle.vic_object.specs.Asking.{AsksOnlyOpen}
-use Rattle.vic_object.specs.Told.{IsFieldTold, asks_for, link_of}
+use Rattle.vic_log.specs.declared.entry.Entry.{Entry}
+use Rattle.vic_frame.specs.declared.request.Request.{Request}
+use Rattle.vic_object.specs.Asking.{AsksNoneAgain, AsksOnlyOpen, asks_for, has_collided, has_collided_below}
+use Rattle.vic_object.specs.Told.{IsFieldTold, link_of}
+use Rattle.vic_object.proofs.Asked.{Fits, IsAsk, asked_is, no_slot, slot_within}
 use Rattle.vic_object.specs.declared.told.AskedMask.{AskedMask}
 use Rattle.vic_object.specs.declared.told.FieldTold.{FieldTold}
 
@@ -30,30 +33,38 @@ of_first n xs x c = (c.0, omega (arith, c.1, length-take n xs), sym (get_or-take
 mapped : {A B : Type 0} (f : A → B) (xs : List A) (x : A) → Contains xs x → Contains (map f xs) (f x)
 mapped f xs x c = (c.0, omega (arith, c.1, length-map xs f), get_or-map f xs c.0 x (f x) c.1 ∙ ap f c.2)
 
-only : {A : Type 0} (x y : A) → Contains (x ∷ []) y → y ≡ x
-only x y c =
-    let first : c.0 ≡ 0 = omega (arith, c.1) in
-    sym c.2 ∙ ap (λ j. get_or (x ∷ []) j y) first
+-- what is told to ask for a mask is what asks for it
+told_asks : (lines : List LogLine) (f : FieldTold) (a : AskedMask) → IsFieldTold lines f → Contains f.asked.items a → a.requests.items ≡ asks_for (entries lines) (link_of (entries lines)) a.mask
+told_asks lines f a told c =
+    let asks = asks_for (entries lines) (link_of (entries lines)) in
+    let all : map (λ (x : AskedMask). x.requests.items) f.asked.items ≡ map (λ (x : AskedMask). asks x.mask) f.asked.items = told.requests ∙ ap (map asks) (sym told.asked) ∙ map-map asks (λ (x : AskedMask). x.mask) f.asked.items in
+    same_of (λ (x : AskedMask). x.requests.items) (λ (x : AskedMask). asks x.mask) f.asked.items a all c
 
--- a slot of the request of a mask has only UIDs of the mask
-within : (link : ℕ) (m : BitMask) (k u : ℕ) → m.value < 2 ^ m.len → lies_in (mask_in (Inventory link (m.len == 0) m) k) u ≡ true → lies_in m u ≡ true
-within link m k u fits = by_len (m.len == 0) refl where
-  by_len : (b : Bool) → (m.len == 0) ≡ b → lies_in (mask_in (Inventory link b m) k) u ≡ true → lies_in m u ≡ true
-  by_len false e h = h
-  by_len true e h =
-      let none : m.len ≡ 0 = eqb-true m.len 0 e in
-      let zero_value : m.value < 1 = subst (λ l. m.value < 2 ^ l) none fits in
-      let same : u % 1 ≡ m.value = omega arith in
-      eq-eqb (u % 2 ^ m.len) m.value (subst (λ l. u % 2 ^ l ≡ m.value) (sym none) same)
+asked_of : (lines : List LogLine) (f : FieldTold) (a : AskedMask) (q : Request) → IsFieldTold lines f → Contains f.asked.items a → Contains a.requests.items q → IsAsk (entries lines) a.mask q
+asked_of lines f a q told c of = asked_is (entries lines) ((60 - a.mask.len) / 4) (link_of (entries lines)) a.mask q (subst (λ qs. Contains qs q) (told_asks lines f a told c) of)
+
+-- a slot of a request lies in its mask
+in_slot : (link : ℕ) (b : Bool) (m : BitMask) (k u : ℕ) → Fits m → lies_in (mask_in (Inventory link b m) k) u ≡ true → lies_in m u ≡ true
+in_slot link true m k u fits h = slot_within m k u fits h
+in_slot link false m k u fits h = h
 
 pub asked_open : (lines : List LogLine) (f : FieldTold) (a : AskedMask) → IsPossible (entries lines) → IsFieldTold lines f → Contains f.asked.items a → AsksOnlyOpen (entries lines) a.requests.items
 asked_open lines f a possible told c q k u of k_in i h =
-    let n = link_of (entries lines) in
-    let all : map (λ (x : AskedMask). x.requests.items) f.asked.items ≡ map (λ (x : AskedMask). asks_for n x.mask) f.asked.items = told.requests ∙ ap (map (asks_for n)) (sym told.asked) ∙ map-map (asks_for n) (λ (x : AskedMask). x.mask) f.asked.items in
-    let mine : a.requests.items ≡ asks_for n a.mask = same_of (λ (x : AskedMask). x.requests.items) (λ (x : AskedMask). asks_for n x.mask) f.asked.items a all c in
     let there : Contains f.«open».items a.mask = of_first 1000 f.«open».items a.mask (subst (λ ms. Contains ms a.mask) told.asked (mapped (λ (x : AskedMask). x.mask) f.asked.items a c)) in
     let masks = told.masks.0 possible in
     let is = All-contains (IsOpenMask masks.set) f.«open».items a.mask masks.all.wanted there in
-    let one : q ≡ Inventory n (a.mask.len == 0) a.mask = only _ q (subst (λ qs. Contains qs q) mine of) in
-    let inside : lies_in a.mask u ≡ true = within n a.mask k u is.is_mask.1 (subst (λ r. lies_in (mask_in r k) u ≡ true) one h) in
+    let one = asked_of lines f a q told c of in
+    let part = one.within is.is_mask.1 in
+    let inside : lies_in a.mask u ≡ true = part.1 u (in_slot one.link one.sixteen one.mask k u part.0 (subst (λ r. lies_in (mask_in r k) u ≡ true) one.is h)) in
     (masks.uids u i).0 (is.open_throughout u i inside)
+
+-- tags collided in no slot of a request, whether it has one or sixteen
+no_slot_of : (es : List Entry) (link : ℕ) (b : Bool) (m : BitMask) (k : ℕ) → (b ≡ true → has_collided_below es m 16 ≡ false) → (b ≡ false → has_collided es m ≡ false) → k < slot_count (Inventory link b m) → has_collided es (mask_in (Inventory link b m) k) ≡ false
+no_slot_of es link true m k parts one lt = no_slot es m 16 k (parts refl) lt
+no_slot_of es link false m k parts one lt = one refl
+
+pub asked_new : (lines : List LogLine) (f : FieldTold) (a : AskedMask) → IsFieldTold lines f → Contains f.asked.items a → AsksNoneAgain (entries lines) a.requests.items
+asked_new lines f a told c q k of lt =
+    let one = asked_of lines f a q told c of in
+    subst (λ r. has_collided (entries lines) (mask_in r k) ≡ false) (sym one.is)
+    (no_slot_of (entries lines) one.link one.sixteen one.mask k one.parts one.one (subst (λ r. k < slot_count r) one.is lt))

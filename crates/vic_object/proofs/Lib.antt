@@ -2,4 +2,5 @@ mod Joins
 mod Counted
 mod Measured
 mod FieldMade
+mod Asked
 mod AskingLaws

@@ -1,16 +1,20 @@
 -- What the object of a log tells: the report on the log, what its two cautious readings say of the
 -- same list, and what it says of its field, whatever it lists.
-use Rattle.std.specs.Prelude.{◌≡◌, ◌↔◌, ℕ, ◌==◌, ◌%◌, ◌-◌, ◌^◌, true, Option, Some, None, List, [], ◌∷◌, ⊤, map, sum, take}
+use Rattle.std.specs.Prelude.{◌≡◌, ◌↔◌, ℕ, ◌%◌, ◌-◌, ◌^◌, Bool, true, Option, Some, None, List, [], ◌∷◌, ⊤, map, sum, take}
 use Rattle.vic_frame.specs.declared.uid.TheConstants.{UID_BITS}
 use Rattle.vic_frame.specs.declared.request.Request.{Request}
 use Rattle.vic_frame.specs.declared.request.Request.TheVariants.{Inventory, StayQuiet}
 use Rattle.vic_frame.specs.Masks.{BitMask, least_uid_in}
+use Rattle.vic_frame.specs.Uids.{IsUid}
 use Rattle.vic_log.specs.Deaf.{deaf_entries, hidden_entries}
 use Rattle.vic_log.specs.Order.{entries, numbers}
 use Rattle.vic_log.specs.declared.entry.Entry.{Entry}
 use Rattle.vic_log.specs.declared.entry.Entry.TheVariants.{Sent}
 use Rattle.vic_log.specs.declared.entry.LogLine.{LogLine}
-use Rattle.vic_verdict.specs.Possible.{IsCertainUid, IsPossibleUid}
+use Rattle.vic_tree.specs.OpenMasks.{AreAll, IsOpenMask}
+use Rattle.vic_verdict.specs.Differences.{IsUndecided}
+use Rattle.vic_verdict.specs.Possible.{IsCertainUid, IsPossible, IsPossibleUid}
+use Rattle.vic_verdict.specs.Rising.{IsListOf}
 use Rattle.vic_verdict.specs.Verdict.{IsVerdict}
 use Rattle.vic_verdict.specs.declared.judging.Verdict.{Verdict}
 use Rattle.vic_verdict.specs.declared.judging.Verdict.TheVariants.{Absent, Complete, Doubtful, Impossible, Unlisted, Unsettled}
@@ -18,7 +22,7 @@ use Rattle.vic_report.specs.Reports.{IsReport, verdict_of}
 use Rattle.vic_margin.specs.Margins.{IsWeakest}
 use Rattle.vic_margin.specs.UidMargins.{margin_of}
 use Rattle.vic_margin.specs.declared.answer.Weakest.{Weakest}
-use Rattle.vic_reconcile.specs.Surveys.{AreCertainIn, AreOpenIn}
+use Rattle.vic_object.specs.Asking.{asks_for}
 use Rattle.vic_object.specs.Finding.{findings_of}
 use Rattle.vic_object.specs.declared.finding.TheConstants.{MOST_TOLD}
 use Rattle.vic_object.specs.declared.told.FieldTold.{FieldTold}
@@ -53,6 +57,26 @@ pub record IsReread (lines : List LogLine) (es : List Entry) (v : Verdict) (r : 
 
 -- ---- the field
 
+-- P if the log is possible, and Q if it isn't
+abbrev pub WherePossible : List LogLine → Type 0 → Type 0 → Type 0
+WherePossible lines P Q =
+    (IsPossible (entries lines) → P) × ((IsPossible (entries lines) → ⊥) → Q)
+
+-- the UIDs that are certain in a log, none if it is impossible
+abbrev pub AreCertainIn : List LogLine → List ℕ → Type 0
+AreCertainIn lines us =
+    WherePossible lines (IsListOf (IsCertainUid (entries lines)) us) (us ≡ [])
+
+-- all open masks of the UIDs that are possible in a log and not certain
+pub record AreAllOpen (lines : List LogLine) (ms : List BitMask) : Type 0 where
+  pub set : ℕ → Bool
+  pub uids : (u : ℕ) → IsUid u → (set u ≡ true) ↔ IsUndecided (entries lines) u
+  pub all : AreAll (IsOpenMask set) ms
+
+-- the same, none if it is impossible
+abbrev pub AreOpenIn : List LogLine → List BitMask → Type 0
+AreOpenIn lines ms = WherePossible lines (AreAllOpen lines ms) (ms ≡ [])
+
 -- how many UIDs a mask of at most 56 bits has
 abbrev pub size_of : BitMask → ℕ
 size_of m = 2 ^ (UID_BITS - m.len)
@@ -68,10 +92,6 @@ link_of [] = 2
 link_of (Sent q ∷ es) = link_in q
 link_of (e ∷ es) = link_of es
 
--- what asks for an open mask: one slot, and sixteen for that of all tags
-abbrev pub asks_for : ℕ → BitMask → List Request
-asks_for link m = Inventory link (m.len == 0) m ∷ []
-
 -- what a log says of its field, nothing if it is impossible: its certain UIDs, its open masks, how
 -- many UIDs these have, and what asks for the first of them
 pub record IsFieldTold (lines : List LogLine) (f : FieldTold) : Type 0 where
@@ -80,7 +100,8 @@ pub record IsFieldTold (lines : List LogLine) (f : FieldTold) : Type 0 where
   pub uids : f.uids ≡ sum (map size_of f.«open».items)
   pub asked : map (λ a. a.mask) f.asked.items ≡ take MOST_TOLD f.«open».items
   pub requests : map (λ a. a.requests.items) f.asked.items
-      ≡ map (asks_for (link_of (entries lines))) (take MOST_TOLD f.«open».items)
+      ≡ map (asks_for (entries lines) (link_of (entries lines)))
+      (take MOST_TOLD f.«open».items)
 
 -- ---- all of it
 

@@ -1,2 +1,3 @@
 -- Definitions that private contracts alone cite.
 pub mod Certain
+pub mod Collided

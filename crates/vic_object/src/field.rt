@@ -1,6 +1,6 @@
 //! What a log says of its field, and its margin.
 
-ghost use Rattle.std.specs.Prelude.{◌≡◌, ◌≤◌, ◌+◌, [], IfOk, IfSome, None, map, sum};
+ghost use Rattle.std.specs.Prelude.{◌≡◌, ◌≤◌, ◌+◌, [], IfOk, IfSome, List, None, map, sum};
 ghost use Rattle.vic_log.specs.Order.{entries};
 ghost use Rattle.vic_tree.specs.Ranges.{is_open_in};
 ghost use Rattle.vic_walk.specs.Steps.{AreLogParts};
@@ -8,14 +8,18 @@ ghost use Rattle.vic_verdict.specs.Facts.{AreFactsOf};
 ghost use Rattle.vic_verdict.specs.Possible.{IsPossible};
 ghost use Rattle.vic_verdict.specs.Verdict.{IsVerdict};
 ghost use Rattle.vic_object.specs.Told as spec;
+ghost use Rattle.vic_object.specs.Asking.{asks_for};
 ghost use Rattle.vic_object.specs.inner.Certain.{AreCertainKeys};
+ghost use Rattle.vic_object.specs.inner.Collided.{AreCollided};
+ghost use Rattle.vic_log.specs.declared.entry.Entry.{Entry as EntryValue};
 
+use crate::asking::{collided_masks, push_asks};
 use crate::finding::{MOST_TOLD, first_of};
 use crate::reading::weakest_if_complete;
-use crate::sent::SentRequest;
 use crate::told::{AskedMask, FieldTold};
 use std::alloc::{AllocError, Global};
-use vic_frame::{Mask, Request, UID_BITS};
+use std::collections::BTreeSet;
+use vic_frame::{MAX_MASK_LEN_OF_SIXTEEN, Mask, Request, UID_BITS};
 use vic_log::{Entry, Log, PackedLine};
 use vic_margin::Weakest;
 use vic_tree::{RangeSet, SortedKeys};
@@ -104,7 +108,9 @@ fn own_of_facts(
     let keys = SortedKeys::of(alloc, facts.certain.as_slice())?;
     let left = facts.open.besides(alloc, &keys)?;
     let open = left.all_open_masks_besides(alloc, &SortedKeys::none(alloc))?;
-    let asked = asked_masks(alloc, link_of(log.lines()), first_of(&open, MOST_TOLD))?;
+    let collided = collided_masks(alloc, log)?;
+    let link = link_of(log.lines());
+    let asked = asked_masks(alloc, &collided, link, first_of(&open, MOST_TOLD))?;
     Ok(Own {
         field: FieldTold {
             certain: facts.certain.into_vec(),
@@ -163,31 +169,39 @@ fn link_in(request: &Request) -> u8
 }
 
 /// Open masks, each with what asks for it.
-fn asked_masks(alloc: Global, link: u8, masks: &[Mask]) -> Result<Vec<AskedMask>, AllocError>
+fn asked_masks(
+    alloc: Global,
+    collided: &BTreeSet<Mask>,
+    link: u8,
+    masks: &[Mask],
+) -> Result<Vec<AskedMask>, AllocError>
     requires { link ≤ 3 }
     ensures masks { IfOk result (λ asked. map (λ a. a.mask) asked.items ≡ masks.now) }
-    ensures requests { IfOk result (λ asked.
-        map (λ a. a.requests.items) asked.items ≡ map (spec.asks_for link) masks.now) }
+    ensures requests { IfOk result (λ asked. (es : List EntryValue)
+        → AreCollided es collided.now
+        → map (λ a. a.requests.items) asked.items ≡ map (asks_for es link) masks.now) }
 {
     let mut asked = Vec::new(alloc);
     for mask in masks {
-        asked.push(asked_mask(alloc, link, *mask)?)?;
+        asked.push(asked_mask(alloc, collided, link, *mask)?)?;
     }
     Ok(asked)
 }
 
 /// An open mask with what asks for it.
-fn asked_mask(alloc: Global, link: u8, mask: Mask) -> Result<AskedMask, AllocError>
+fn asked_mask(
+    alloc: Global,
+    collided: &BTreeSet<Mask>,
+    link: u8,
+    mask: Mask,
+) -> Result<AskedMask, AllocError>
     requires { link ≤ 3 }
     ensures mask { IfOk result (λ a. a.mask ≡ mask) }
-    ensures requests { IfOk result (λ a. a.requests.items ≡ spec.asks_for link mask) }
+    ensures requests { IfOk result (λ a. (es : List EntryValue) → AreCollided es collided.now
+        → a.requests.items ≡ asks_for es link mask) }
 {
-    let request = SentRequest::new(Request::Inventory {
-        link,
-        sixteen: mask.len() == 0,
-        mask,
-    });
     let mut requests = Vec::new(alloc);
-    requests.push(request)?;
+    let times = MAX_MASK_LEN_OF_SIXTEEN.saturating_sub(mask.len()) / 4;
+    push_asks(&mut requests, collided, times, link, mask)?;
     Ok(AskedMask { mask, requests })
 }

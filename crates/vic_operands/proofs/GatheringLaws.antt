@@ -9,9 +9,10 @@ use Rattle.std.proofs.lemmas.Slice.Zip.{AllZip-long}
 use Rattle.vic_survey.specs.Names.{IsName}
 use Rattle.vic_survey.specs.Surveys.{SurveyValue}
 use Rattle.vic_table.specs.Values.{PlaceRowValue}
-use Rattle.vic_operands.specs.Files.{ArePlacesIn, File, IsCatalogueIn, IsFaultOf, IsRight, is_catalogue, is_places}
-use Rattle.vic_operands.specs.Gathered.{AreNamed, AreNoOperands, AreTogether, IsFirstWrongFile}
+use Rattle.vic_operands.specs.Files.{ArePlacesIn, File, IsCatalogueIn, IsFaultBy, IsRight, IsRightBy, is_catalogue, is_places}
+use Rattle.vic_operands.specs.Gathered.{AreNamed, AreNoOperands, AreTogether, IsFirstWrongBy}
 use Rattle.vic_operands.specs.declared.fault.Refusal.{Refusal}
+use Rattle.vic_operands.specs.declared.kind.Kind.{Kind}
 use Rattle.vic_operands.specs.declared.operand.NamedCatalogue.{NamedCatalogue}
 use Rattle.vic_operands.specs.inner.Kept.{AreKept, IsNamedCatalogueIn}
 
@@ -29,11 +30,12 @@ named_more files f h name = All-push (λ (x : File). IsName x.name) files f h na
 
 -- ---- a fault
 
-pub wrong_here : (files : List File) (f : File) (r : Refusal) → All IsRight files → string_bytes r.name ≡ f.name → IsFaultOf f r.line r.fault → IsFirstWrongFile (files ++ f ∷ []) r
-wrong_here files f r right name fault = record { before = files; file = f; after = []; split = refl; right = right; name = name; fault = fault }
+pub wrong_here : (kind : List ℕ → Kind) (files : List File) (f : File) (r : Refusal) → All (λ (x : File). IsRightBy (kind x.text) x.text) files → string_bytes r.name ≡ f.name
+    → IsFaultBy (kind f.text) f.text r.line r.fault → IsFirstWrongBy kind (files ++ f ∷ []) r
+wrong_here kind files f r right name fault = record { before = files; file = f; after = []; split = refl; right = right; name = name; fault = fault }
 
-pub wrong_before : (files : List File) (f : File) (r : Refusal) → IsFirstWrongFile files r → IsFirstWrongFile (files ++ f ∷ []) r
-wrong_before files f r h = record {
+pub wrong_before : (kind : List ℕ → Kind) (files : List File) (f : File) (r : Refusal) → IsFirstWrongBy kind files r → IsFirstWrongBy kind (files ++ f ∷ []) r
+wrong_before kind files f r h = record {
   before = h.before;
   file = h.file;
   after = h.after ++ f ∷ [];

@@ -1,5 +1,5 @@
 -- What files of a collection have, file by file.
-use Rattle.std.proofs.Common.{◌≡◌, ◌∙◌, ◌++◌, List, [], ◌∷◌, Bool, true, false, ap, append-nil, refl, subst, sym}
+use Rattle.std.proofs.Common.{◌≡◌, ◌∙◌, ◌++◌, ℕ, List, [], ◌∷◌, Bool, true, false, ap, append-nil, refl, subst, sym}
 use Rattle.std.specs.Prelude.{filter, string_bytes, None}
 use Rattle.std.specs.List.{All, AllZip}
 use Rattle.std.proofs.lemmas.Grind.{flat_map-append}
@@ -7,7 +7,7 @@ use Rattle.std.proofs.lemmas.List.Elements.{All-append, All-cons, All-nil, filte
 use Rattle.vic_survey.specs.Surveys.{SurveyValue}
 use Rattle.vic_table.specs.Table.{ArePlacesOf, IsCatalogueOf}
 use Rattle.vic_table.specs.Values.{PlaceRowValue}
-use Rattle.vic_operands.specs.Files.{ArePlacesIn, AreSurveysBy, AreSurveysIn, File, HaveSurveys, IsRight, IsRightBy, are_of_catalogue, are_of_places, columns_by, is_catalogue, is_places}
+use Rattle.vic_operands.specs.Files.{ArePlacesIn, AreSurveysBy, File, HaveSurveysBy, IsRight, IsRightBy, are_of_catalogue, are_of_places, columns_by, is_catalogue, is_places}
 use Rattle.vic_operands.specs.Kinds.{kind_of}
 use Rattle.vic_operands.specs.declared.kind.Kind.{Kind}
 use Rattle.vic_operands.specs.declared.kind.Kind.TheVariants.{Table}
@@ -22,10 +22,10 @@ AllZip-append R [] (y ∷ ys) us vs h k = absurd h
 AllZip-append R (x ∷ xs) [] us vs h k = absurd h
 AllZip-append R (x ∷ xs) (y ∷ ys) us vs h k = (h.0, AllZip-append R xs ys us vs h.1 k)
 
-surveys_append : (files more : List File) (surveys others : List SurveyValue) → HaveSurveys files surveys → HaveSurveys more others → HaveSurveys (files ++ more) (surveys ++ others)
-surveys_append files more surveys others h k = record {
+pub surveys_append : (kind : List ℕ → Kind) (files more : List File) (surveys others : List SurveyValue) → HaveSurveysBy kind files surveys → HaveSurveysBy kind more others → HaveSurveysBy kind (files ++ more) (surveys ++ others)
+surveys_append kind files more surveys others h k = record {
   parts = h.parts ++ k.parts;
-  each = AllZip-append AreSurveysIn files h.parts more k.parts h.each k.each;
+  each = AllZip-append (λ (f : File) part. AreSurveysBy (kind f.text) f part) files h.parts more k.parts h.each k.each;
   joined = rw (h.joined, k.joined) (sym (flat_map-append (λ part. part) h.parts k.parts));
 }
 
@@ -35,7 +35,7 @@ kept_append files more cs ds ps qs surveys others h k = record {
   right = All-append IsRight files more h.right k.right;
   catalogues_are = rw (filter-append is_catalogue files more) (AllZip-append IsNamedCatalogueIn (filter is_catalogue files) cs (filter is_catalogue more) ds h.catalogues_are k.catalogues_are);
   places_are = rw (filter-append is_places files more) (AllZip-append ArePlacesIn (filter is_places files) ps (filter is_places more) qs h.places_are k.places_are);
-  surveys_are = surveys_append files more surveys others h.surveys_are k.surveys_are;
+  surveys_are = surveys_append kind_of files more surveys others h.surveys_are k.surveys_are;
 }
 
 -- surveys, a catalogue or places more
@@ -71,8 +71,8 @@ filter_other p x h = rw h refl
 one-right : (f : File) (k : Kind) → kind_of f.text ≡ k → IsRightBy k f.text → All IsRight (f ∷ [])
 one-right f k is h = All-cons IsRight f [] (subst (λ k. IsRightBy k f.text) (sym is) h) (All-nil IsRight)
 
-one-surveys : (f : File) (k : Kind) (surveys : List SurveyValue) → kind_of f.text ≡ k → AreSurveysBy k f surveys → HaveSurveys (f ∷ []) surveys
-one-surveys f k surveys is h = record {
+pub one-surveys : (kind : List ℕ → Kind) (f : File) (k : Kind) (surveys : List SurveyValue) → kind f.text ≡ k → AreSurveysBy k f surveys → HaveSurveysBy kind (f ∷ []) surveys
+one-surveys kind f k surveys is h = record {
   parts = surveys ∷ [];
   each = (subst (λ k. AreSurveysBy k f surveys) (sym is) h, tt);
   joined = sym (append-nil surveys);
@@ -84,7 +84,7 @@ kept_surveys f k surveys is none right h = record {
   right = one-right f k is right;
   catalogues_are = rw (filter_other is_catalogue f (ap (λ k. are_of_catalogue (columns_by k f.text)) is ∙ ap are_of_catalogue none)) tt;
   places_are = rw (filter_other is_places f (ap (λ k. are_of_places (columns_by k f.text)) is ∙ ap are_of_places none)) tt;
-  surveys_are = one-surveys f k surveys is h;
+  surveys_are = one-surveys kind_of f k surveys is h;
 }
 
 pub kept_catalogue : (f : File) (n : NamedCatalogue) → kind_of f.text ≡ Table → string_bytes n.name ≡ f.name → IsCatalogueOf f.text n.catalogue → AreKept (f ∷ []) (n ∷ []) [] []
@@ -92,7 +92,7 @@ kept_catalogue f n is name h = record {
   right = one-right f Table is h.no_fault;
   catalogues_are = rw (filter_one is_catalogue f (ap (λ k. are_of_catalogue (columns_by k f.text)) is ∙ ap are_of_catalogue h.columns)) (record { name = name; catalogue = h }, tt);
   places_are = rw (filter_other is_places f (ap (λ k. are_of_places (columns_by k f.text)) is ∙ ap are_of_places h.columns)) tt;
-  surveys_are = one-surveys f Table [] is refl;
+  surveys_are = one-surveys kind_of f Table [] is refl;
 }
 
 pub kept_places : (f : File) (rows : List PlaceRowValue) → kind_of f.text ≡ Table → ArePlacesOf f.text rows → AreKept (f ∷ []) [] (rows ∷ []) []
@@ -100,5 +100,5 @@ kept_places f rows is h = record {
   right = one-right f Table is h.no_fault;
   catalogues_are = rw (filter_other is_catalogue f (ap (λ k. are_of_catalogue (columns_by k f.text)) is ∙ ap are_of_catalogue h.columns_are)) tt;
   places_are = rw (filter_one is_places f (ap (λ k. are_of_places (columns_by k f.text)) is ∙ ap are_of_places h.columns_are)) (h, tt);
-  surveys_are = one-surveys f Table [] is refl;
+  surveys_are = one-surveys kind_of f Table [] is refl;
 }

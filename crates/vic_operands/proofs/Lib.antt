@@ -1,3 +1,4 @@
 mod KeptLaws
 mod GatheringLaws
+mod ListLaws
 pub mod Alone

@@ -61,14 +61,15 @@ AreSurveysBy Log f surveys =
     (s : SurveyValue) × (surveys ≡ s ∷ []) × (s.name ≡ f.name) × IsFieldOf f.text s.field
 AreSurveysBy Table f surveys = surveys ≡ []
 
-abbrev pub AreSurveysIn : File → List SurveyValue → Type 0
-AreSurveysIn f surveys = AreSurveysBy (kind_of f.text) f surveys
-
--- the surveys of files, in the order of the files
-pub record HaveSurveys (files : List File) (surveys : List SurveyValue) : Type 0 where
+-- the surveys of files, in the order of the files, where this tells the kind of a text
+pub record HaveSurveysBy (kind : List ℕ → Kind) (files : List File) (surveys : List SurveyValue)
+    : Type 0 where
   pub parts : List (List SurveyValue)
-  pub each : AllZip AreSurveysIn files parts
+  pub each : AllZip (λ f part. AreSurveysBy (kind f.text) f part) files parts
   pub joined : surveys ≡ flat_map (λ part. part) parts
+
+abbrev pub HaveSurveys : List File → List SurveyValue → Type 0
+HaveSurveys files surveys = HaveSurveysBy kind_of files surveys
 
 -- ---- faults of a table, or of a text of surveys
 
@@ -85,9 +86,13 @@ abbrev pub IsFaultBy : Kind → List ℕ → ℕ → OperandFault → Type 0
 IsFaultBy Table text line (fault.Table f) = IsFirstFault (table_lines text) line f
 IsFaultBy Table text line fault.Survey = ⊥
 IsFaultBy Table text line fault.SameName = ⊥
+IsFaultBy Table text line (fault.List f) = ⊥
+IsFaultBy Table text line fault.NotListed = ⊥
 IsFaultBy Surveys text line (fault.Table f) = ⊥
 IsFaultBy Surveys text line fault.Survey = IsFirstWrong text line
 IsFaultBy Surveys text line fault.SameName = ⊥
+IsFaultBy Surveys text line (fault.List f) = ⊥
+IsFaultBy Surveys text line fault.NotListed = ⊥
 IsFaultBy Log text line f = ⊥
 
 -- the first fault of the file, and its line

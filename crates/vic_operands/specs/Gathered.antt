@@ -6,11 +6,13 @@ use Rattle.vic_survey.specs.Surveys.{SurveyValue}
 use Rattle.vic_table.specs.declared.fault.TableLineFault.TheVariants.{Columns}
 use Rattle.vic_collection.specs.Collections.{CollectionValue, asks_for_places}
 use Rattle.vic_collection.specs.Alike.{AreUnlike, IsFirstAlike}
-use Rattle.vic_operands.specs.Files.{ArePlacesIn, File, HaveSurveys, IsCatalogueIn, IsFaultOf, IsRight, is_catalogue, is_places}
+use Rattle.vic_operands.specs.Files.{ArePlacesIn, File, HaveSurveys, IsCatalogueIn, IsFaultBy, IsRight, IsRightBy, is_catalogue, is_places}
+use Rattle.vic_operands.specs.Kinds.{kind_of}
 use Rattle.vic_operands.specs.declared.fault.OperandFault.TheVariants.{Table, SameName}
 use Rattle.vic_operands.specs.declared.fault.Refusal.{Refusal}
 use Rattle.vic_operands.specs.declared.gathered.Gathered.{Gathered}
 use Rattle.vic_operands.specs.declared.gathered.Gathered.TheVariants.{Usage, Refused, Collection}
+use Rattle.vic_operands.specs.declared.kind.Kind.{Kind}
 
 -- each name could be that of a log
 abbrev pub AreNamed : List File → Type 0
@@ -18,15 +20,19 @@ AreNamed files = All (λ f. IsName f.name) files
 
 -- ---- refused by a file
 
--- the first file that has a fault of its table or of its text of surveys
-pub record IsFirstWrongFile (files : List File) (r : Refusal) : Type 0 where
+-- the first file that has a fault of its table or of its text of surveys, where this tells the kind
+-- of a text
+pub record IsFirstWrongBy (kind : List ℕ → Kind) (files : List File) (r : Refusal) : Type 0 where
   pub before : List File
   pub file : File
   pub after : List File
   pub split : files ≡ before ++ file ∷ after
-  pub right : All IsRight before
+  pub right : All (λ f. IsRightBy (kind f.text) f.text) before
   pub name : string_bytes r.name ≡ file.name
-  pub fault : IsFaultOf file r.line r.fault
+  pub fault : IsFaultBy (kind file.text) file.text r.line r.fault
+
+abbrev pub IsFirstWrongFile : List File → Refusal → Type 0
+IsFirstWrongFile files r = IsFirstWrongBy kind_of files r
 
 -- ---- none of them is refused
 

@@ -15,3 +15,13 @@ kind_of text =
     if begins text (codes "vicinity-survey ") then Surveys
     else if length text == 0 || begins (without_mark text) (codes "vicinity-") then Log
     else Table
+
+-- ---- for `reconcile`
+
+-- the first file is a list of what is expected, and no table
+abbrev pub is_list : List ℕ → Bool
+is_list text = length text == 0 || begins text (codes "vicinity-")
+
+-- what a file behind a list is: a text of surveys, or else a log
+abbrev pub kind_behind_list : List ℕ → Kind
+kind_behind_list text = if begins text (codes "vicinity-survey ") then Surveys else Log

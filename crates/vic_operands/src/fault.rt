@@ -1,8 +1,9 @@
-//! Why the files of a collection are refused.
+//! Why files are refused.
 
 ghost use Rattle.std.specs.Prelude.{◌≡◌, ◌≤◌, length};
 ghost use Rattle.vic_operands.specs.Faults.{operand_fault_name};
 
+use vic_log::LineFault;
 use vic_table::TableLineFault;
 
 /// What is wrong with a line of a file.
@@ -14,10 +15,14 @@ pub enum OperandFault {
     Survey,
     /// The log is known by what a log before it is known by.
     SameName,
+    /// The line of a list of what is expected has this fault, as that of a log.
+    List(LineFault),
+    /// The line of a list says something else than that a UID is expected.
+    NotListed,
 }
 
-/// Why the files of a collection are refused: the name of one of them, or of a log in it, and the
-/// first line with a fault, numbered from 1.
+/// Why files are refused: the name of one of them, or of a log in it, and the first line with a
+/// fault, numbered from 1.
 #[derive(Drop)]
 pub struct Refusal {
     pub name: String,
@@ -35,6 +40,8 @@ impl OperandFault {
             OperandFault::Table(fault) => fault.name(),
             OperandFault::Survey => "Survey",
             OperandFault::SameName => "SameName",
+            OperandFault::List(fault) => fault.name(),
+            OperandFault::NotListed => "NotListed",
         }
     }
 }

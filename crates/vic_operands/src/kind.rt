@@ -33,6 +33,24 @@ pub fn kind_of(text: &[u8]) -> Kind
     }
 }
 
+/// Whether the first operand of `reconcile` is a list of what is expected, and no table.
+pub(crate) fn is_list(text: &[u8]) -> bool
+    ensures { result ≡ spec.is_list text.now }
+{
+    text.is_empty() || text.starts_with(b"vicinity-")
+}
+
+/// What a file behind a list of what is expected is: a text of surveys, or else a log.
+pub(crate) fn kind_behind_list(text: &[u8]) -> Kind
+    ensures { result ≡ spec.kind_behind_list text.now }
+{
+    if text.starts_with(b"vicinity-survey ") {
+        Kind::Surveys
+    } else {
+        Kind::Log
+    }
+}
+
 /// A text without the mark of UTF-8 at its start.
 fn without_mark(text: &[u8]) -> &[u8]
     ensures { result.now ≡ without_mark text.now }

@@ -1,14 +1,16 @@
 //! One file of a collection.
 
-ghost use Rattle.std.specs.Prelude.{◌≡◌, ℕ, List, MatchResult};
+ghost use Rattle.std.specs.Prelude.{◌≡◌, IfOk, MatchResult};
+ghost use Rattle.vic_survey.specs.SurveyText.{text_of};
 ghost use Rattle.vic_survey.specs.Surveys.{AreSurveys};
-ghost use Rattle.vic_operands.specs.Files.{File as FileValue};
-ghost use Rattle.vic_operands.specs.Kinds.{kind_of};
+ghost use Rattle.vic_operands.specs.Files.{AreSurveysBy, File as FileValue};
+ghost use Rattle.vic_operands.specs.Kinds.{kind_behind_list, kind_of};
+ghost use Rattle.vic_operands.specs.Lists.{IsRightBehindList};
 ghost use Rattle.vic_operands.specs.declared.kind.Kind.{Kind as KindValue};
 ghost use Rattle.vic_operands.specs.inner.Kept as spec;
 
 use crate::fault::OperandFault;
-use crate::kind::{Kind, kind_of};
+use crate::kind::{Kind, kind_behind_list, kind_of};
 use std::alloc::{AllocError, AllocFailed, Global};
 use vic_survey::{Name, Survey, SurveysFault, read_surveys};
 use vic_table::{Catalogue, Places, Table, TableFault, read_table};
@@ -62,22 +64,40 @@ pub(crate) fn read_operand(alloc: Global, name: Name, text: Vec<u8>) -> Result<O
         MatchResult result (spec.IsOperandOf file) (spec.Refuses file) }
 {
     match kind_of(text.as_slice()) {
-        Kind::Surveys => surveys_in(alloc, text.as_slice()),
-        Kind::Log => survey_of(alloc, name, text.as_slice()),
+        Kind::Surveys => Ok(Operand::Surveys(surveys_in(alloc, text.as_slice())?)),
+        Kind::Log => Ok(Operand::Surveys(survey_of(alloc, name, text.as_slice())?)),
         Kind::Table => table_in(alloc, &name, text),
     }
 }
 
+/// Reads a file behind a list of what is expected.
+pub(crate) fn read_behind_list(
+    alloc: Global,
+    name: Name,
+    text: &[u8],
+) -> Result<Vec<Survey>, Unread>
+    ensures { let file : FileValue = record { name = name; text = text.now } in
+        MatchResult result
+        (λ surveys. IsRightBehindList file
+        × AreSurveysBy (kind_behind_list file.text) file surveys.items)
+        (spec.RefusesBy (kind_behind_list file.text) file.text) }
+{
+    match kind_behind_list(text) {
+        Kind::Surveys => surveys_in(alloc, text),
+        _ => Ok(survey_of(alloc, name, text)?),
+    }
+}
+
 /// The surveys of a text of surveys.
-fn surveys_in(alloc: Global, text: &[u8]) -> Result<Operand, Unread>
-    requires { kind_of text.now ≡ KindValue.Surveys }
-    ensures { (name : List ℕ) → let file : FileValue = record { name = name; text = text.now } in
-        MatchResult result (spec.IsOperandOf file) (spec.Refuses file) }
+fn surveys_in(alloc: Global, text: &[u8]) -> Result<Vec<Survey>, Unread>
+    ensures { MatchResult result
+        (λ surveys. AreSurveys surveys.items × (text_of surveys.items ≡ text.now))
+        (spec.RefusesBy KindValue.Surveys text.now) }
 {
     match read_surveys(alloc, text) {
         Ok(surveys) => {
             are_surveys(surveys.as_slice());
-            Ok(Operand::Surveys(surveys))
+            Ok(surveys)
         }
         Err(SurveysFault::Line { line }) => Err(Unread::Line {
             line: line as u64,
@@ -97,14 +117,13 @@ fn are_surveys(surveys: &[Survey])
 }
 
 /// The survey of a log.
-fn survey_of(alloc: Global, name: Name, text: &[u8]) -> Result<Operand, Unread>
-    requires { kind_of text.now ≡ KindValue.Log }
-    ensures { let file : FileValue = record { name = name; text = text.now } in
-        MatchResult result (spec.IsOperandOf file) (spec.Refuses file) }
+fn survey_of(alloc: Global, name: Name, text: &[u8]) -> Result<Vec<Survey>, AllocError>
+    ensures { IfOk result (λ surveys. AreSurveysBy KindValue.Log
+        (record { name = name; text = text.now }) surveys.items) }
 {
     let mut surveys = Vec::with_capacity(alloc, 1)?;
     surveys.push(Survey::of(alloc, name, text)?)?;
-    Ok(Operand::Surveys(surveys))
+    Ok(surveys)
 }
 
 /// The catalogue or the places of a table.

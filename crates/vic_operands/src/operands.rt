@@ -152,7 +152,10 @@ fn with_operand(kept: Kept, operand: Operand) -> Result<Kept, AllocError>
 }
 
 /// Surveys, and others behind them.
-fn with_surveys(surveys: Vec<Survey>, more: Vec<Survey>) -> Result<Vec<Survey>, AllocError>
+pub(crate) fn with_surveys(
+    surveys: Vec<Survey>,
+    more: Vec<Survey>,
+) -> Result<Vec<Survey>, AllocError>
     ensures { IfOk result (λ all. all.items ≡ surveys.items ++ more.items) }
 {
     let mut surveys = surveys;

@@ -1,5 +1,5 @@
 -- Files that are opened when they are first read.
-use Rattle.std.specs.Prelude.{◌≡◌, ℕ, Bool, false, ⊤, List, [], ◌∷◌, Option, Some, None}
+use Rattle.std.specs.Prelude.{◌≡◌, ℕ, Bool, false, List, [], Option, Some, None}
 use Rattle.vic_log.specs.Device.{from_read_inner}
 use Rattle.vic_log.specs.declared.source.FromRead.{FromRead}
 use Rattle.vic_program.specs.declared.files.LateFile.{LateFile}
@@ -30,21 +30,3 @@ pub record IsNew {F T : Type 0} (returned : FileSource F T → List ℕ)
   pub file : IsUnread (from_read_inner source) name
   pub unread : returned source ≡ []
   pub works : has_failed source ≡ false
-
--- the sources are of the files with these names, in their order
-abbrev pub AreNew : {F T : Type 0} → (FileSource F T → List ℕ) → (FileSource F T → Bool)
-    → List (List ℕ) → List (FileSource F T) → Type 0
-AreNew returned has_failed [] [] = ⊤
-AreNew returned has_failed (name ∷ names) (source ∷ sources) =
-    IsNew returned has_failed name source × AreNew returned has_failed names sources
-AreNew returned has_failed names sources = ⊥
-
-abbrev pub or_else : Option (List ℕ) → Option (List ℕ) → Option (List ℕ)
-or_else (Some name) other = Some name
-or_else None other = other
-
--- the name of the first that couldn't be opened
-abbrev pub first_unopened : {F T : Type 0} → List (FileSource F T) → Option (List ℕ)
-first_unopened [] = None
-first_unopened (source ∷ sources) =
-    or_else (unopened_name (from_read_inner source)) (first_unopened sources)

@@ -1,27 +1,23 @@
 -- What is read and written for what the words ask for.
-use Rattle.std.specs.Prelude.{◌≡◌, ◌⊎◌, ℕ, true, List, ◌∷◌, ◌++◌, length, codes, map, Option, Some, None, Result, Err, OnOk, IfErr, option_map, string_bytes}
-use Rattle.vic_answer.specs.Reconciled.{AreComplete, GoOn}
-use Rattle.vic_answer.specs.ReconcileRun.{ReadsListAndLogs, Reconciles, StopsBy, WritesAnswer}
+use Rattle.std.specs.Prelude.{◌≡◌, ℕ, List, map, Option, Some, None, Result, option_map, string_bytes}
 use Rattle.vic_answer.specs.Runs.{LeavesSink}
 use Rattle.vic_answer.specs.Tasks.{Does, LeavesSourceAfter, file_of}
 use Rattle.vic_answer.specs.declared.status.RunFault.{RunFault}
 use Rattle.vic_answer.specs.declared.status.Status.{Status}
 use Rattle.vic_answer.specs.declared.task.Task.{Task}
 use Rattle.vic_words.specs.declared.asked.Asked.{Asked}
-use Rattle.vic_words.specs.declared.asked.Asked.TheVariants.{Task as OneTask, Reconcile, Json, Files}
+use Rattle.vic_words.specs.declared.asked.Asked.TheVariants.{Task as OneTask, Json, Files}
 use Rattle.vic_words.specs.declared.asked.FilesCommand.{FilesCommand}
-use Rattle.vic_words.specs.declared.asked.FilesCommand.TheVariants.{Survey, Collection, JsonCollection}
-use Rattle.vic_commands.specs.Collected.{IsListing, IsTabling}
+use Rattle.vic_words.specs.declared.asked.FilesCommand.TheVariants.{Reconcile, Survey, Collection, JsonCollection}
+use Rattle.vic_commands.specs.Collected.{IsListing, IsReconciling, IsTabling}
 use Rattle.vic_commands.specs.Surveyed.{IsSurveying}
 use Rattle.vic_object.specs.Object.{IsObjectOf}
 use Rattle.vic_log.specs.Device.{from_read_inner}
-use Rattle.vic_answer.specs.Status.{fault_text}
-use Rattle.vic_answer.specs.declared.status.RunFault.TheVariants.{Memory}
 use Rattle.vic_program.specs.Ends.{End, ended}
 use Rattle.vic_program.specs.Each.{ForTexts, OverEach}
 use Rattle.vic_program.specs.Single.{OverText}
 use Rattle.vic_program.specs.Sides.{Reading, Writing}
-use Rattle.vic_program.specs.Files.{AreNew, FileSource, IsNew, first_unopened, unopened_name}
+use Rattle.vic_program.specs.Files.{FileSource, IsNew, unopened_name}
 
 -- a task was done from a source to a sink, with this result
 pub record DoesTask {S W : Type 0} (r : Reading S) (w : Writing W) (task : Task) (from from' : S)
@@ -48,30 +44,6 @@ pub record OverFile {F T W : Type 0} (r : Reading (FileSource F T)) (w : Writing
   pub does : DoesTask r w task file file' output output' ran
   pub ends : end ≡ ended (unopened_name (from_read_inner file')) ran
 
--- the logs in the files with these names, against the list in the file with that name
-pub record OverFiles {F T W : Type 0} (r : Reading (FileSource F T)) (w : Writing W)
-    (list_name : List ℕ) (names : List (List ℕ)) (output output' : W) (end : End) : Type 0 where
-  pub list : FileSource F T
-  pub list' : FileSource F T
-  pub logs : List (FileSource F T)
-  pub logs' : List (FileSource F T)
-  pub new : AreNew r.returned r.has_failed (list_name ∷ names) (list ∷ logs)
-  pub ran : Result Status RunFault
-  pub answer : WritesAnswer (Reconciles r.returned r.ended r.has_failed list list' logs logs')
-      list_name names (w.written output) (w.written output') ran
-  pub complete : OnOk ran ((rest : List ℕ)
-      → w.written output' ≡ w.written output ++ (codes "complete " ++ rest)
-      → ReadsListAndLogs r.returned (λ s _. r.ended s ≡ true) list list' logs logs'
-      (λ text texts. AreComplete text texts rest × (length texts ≡ length logs)))
-  pub stops : IfErr ran (StopsBy r.returned r.ended r.has_failed GoOn (list ∷ logs) (list' ∷ logs'))
-  pub leaves_sink : LeavesSink w.is_flushed w.has_failed output output' ran
-  pub ends : end ≡ ended (first_unopened (list' ∷ logs')) ran
-
--- memory was refused before anything was read
-pub record NoMemory {W : Type 0} (output output' : W) (end : End) : Type 0 where
-  pub untouched : output' ≡ output
-  pub ends : end ≡ Err (fault_text Memory)
-
 -- ---- what is asked for
 
 -- a task, over the file that it names or over standard input
@@ -84,6 +56,7 @@ RunsTask rf ri w task None input input' output output' end =
 
 -- what a command writes that takes one file after the other
 abbrev pub writes_of : FilesCommand → ForTexts
+writes_of Reconcile = IsReconciling
 writes_of Survey = IsSurveying
 writes_of Collection = IsTabling
 writes_of JsonCollection = IsListing
@@ -92,10 +65,6 @@ abbrev pub RunsAsked : {F T I W : Type 0} → Reading (FileSource F T) → Readi
     → Asked → I → I → W → W → End → Type 0
 RunsAsked rf ri w (OneTask task) input input' output output' end =
     RunsTask rf ri w task (file_of task) input input' output output' end
-RunsAsked rf ri w (Reconcile list logs) input input' output output' end =
-    (OverFiles rf w (string_bytes list) (map string_bytes logs.items) output output' end
-    ⊎ NoMemory output output' end)
-    × (input' ≡ input)
 RunsAsked rf ri w (Json file) input input' output output' end =
     OverText rf ri w IsObjectOf (option_map string_bytes file) input input' output output' end
 RunsAsked rf ri w (Files command names) input input' output output' end =

@@ -1,56 +1,20 @@
 //! What is done for what the words ask for.
 
-ghost use Rattle.std.specs.Prelude.{◌≡◌, ◌∷◌, ◌⊎◌, IfOk, map, string_bytes, option_copied};
+ghost use Rattle.std.specs.Prelude.{map, string_bytes};
 ghost use Rattle.vic_answer.specs.Tasks.{file_of};
 ghost use Rattle.vic_program.specs.Each.{OverEach};
 ghost use Rattle.vic_program.specs.Ends.{end_of};
-ghost use Rattle.vic_program.specs.Files.{AreNew, first_unopened};
-ghost use Rattle.vic_program.specs.Runs.{NoMemory, OverFile, OverFiles, RunsAsked, RunsTask, writes_of};
+ghost use Rattle.vic_program.specs.Runs.{OverFile, RunsAsked, RunsTask, writes_of};
 
 use crate::each::run_over_each;
 use crate::files::{Files, LateFile};
 use crate::no_answer::{NoAnswer, ended};
 use crate::single::run_json;
-use std::alloc::{AllocError, Global};
-use vic_answer::{RunFault, Status, Task, do_task, run_reconcile};
-use vic_commands::{ForObject, ForTable, TakenLogs};
+use std::alloc::Global;
+use vic_answer::{Status, Task, do_task};
+use vic_commands::{ForLines, ForObject, ForTable, TakenLogs};
 use vic_log::{FromRead, Sink, Source};
 use vic_words::{Asked, FilesCommand};
-
-/// A file, as a source.
-type FileSource<'a, F> = FromRead<LateFile<'a, F>>;
-
-/// The files with these names, not opened yet.
-fn files_of<'a, F: Files>(
-    alloc: Global,
-    files: &'a F,
-    names: &'a [String],
-) -> Result<Vec<FileSource<'a, F>>, AllocError>
-    ensures { IfOk result (λ sources. AreNew ⟦<FromRead<LateFile<'a, F>> as Source>⟧.returned
-        ⟦<FromRead<LateFile<'a, F>> as Source>⟧.has_failed
-        (map string_bytes names.now) sources.items) }
-{
-    let mut sources = Vec::new(alloc);
-    for name in names {
-        sources.push(FromRead::new(LateFile::new(files, name.as_str())))?;
-    }
-    Ok(sources)
-}
-
-/// The name of the first file that couldn't be opened.
-fn first_unopened<'a, F: Files>(
-    list: FileSource<'a, F>,
-    logs: Vec<FileSource<'a, F>>,
-) -> Option<&'a str>
-    ensures { option_copied result ≡ first_unopened (list.entry ∷ logs.entry.items) }
-{
-    let mut rest = logs;
-    let mut found = None;
-    while let Some(log) = rest.pop() {
-        found = log.into_inner().unopened().or(found);
-    }
-    list.into_inner().unopened().or(found)
-}
 
 /// Does a task over the file with a name.
 fn run_over_file<'a, F: Files, O: Sink>(
@@ -74,32 +38,6 @@ fn run_over_file<'a, F: Files, O: Sink>(
     let mut file = FromRead::new(LateFile::new(files, name));
     let ran = do_task(alloc, task, &mut file, output);
     ended(file.into_inner().unopened(), ran)
-}
-
-/// Reconciles the logs in some files with the list in another.
-fn run_over_files<'a, F: Files, O: Sink>(
-    alloc: Global,
-    files: &'a F,
-    list: &'a str,
-    logs: &'a [String],
-    output: &mut O,
-) -> Result<Status, NoAnswer<'a>>
-    ensures { OverFiles (record {
-      returned = ⟦<FromRead<LateFile<'a, F>> as Source>⟧.returned;
-      ended = ⟦<FromRead<LateFile<'a, F>> as Source>⟧.ended;
-      reads = ⟦<FromRead<LateFile<'a, F>> as Source>⟧.reads;
-      has_failed = ⟦<FromRead<LateFile<'a, F>> as Source>⟧.has_failed;
-    }) (record {
-      written = O.written;
-      is_flushed = O.is_flushed;
-      has_failed = O.has_failed;
-    }) list.entry.now (map string_bytes logs.entry.now) output.old output.new (end_of result)
-        ⊎ NoMemory output.old output.new (end_of result) }
-{
-    let mut expected = FromRead::new(LateFile::new(files, list));
-    let mut sources = files_of(alloc, files, logs)?;
-    let ran = run_reconcile(alloc, &mut expected, &mut sources, list, logs, output);
-    ended(first_unopened(expected, sources), ran)
 }
 
 /// Does a task over the file that it names, or over standard input.
@@ -154,6 +92,7 @@ fn run_files_command<'a, F: Files, O: Sink>(
         output.old output.new (end_of result) }
 {
     match command {
+        FilesCommand::Reconcile => run_over_each::<ForLines, F, O>(alloc, files, names, output),
         FilesCommand::Survey => run_over_each::<TakenLogs, F, O>(alloc, files, names, output),
         FilesCommand::Collection => run_over_each::<ForTable, F, O>(alloc, files, names, output),
         FilesCommand::JsonCollection => {
@@ -188,9 +127,6 @@ pub fn run_asked<'a, F: Files, I: Source, O: Sink>(
 {
     match asked {
         Asked::Task(task) => run_task(alloc, task, files, input, output),
-        Asked::Reconcile(list, logs) => {
-            run_over_files(alloc, files, list.as_str(), logs.as_slice(), output)
-        }
         Asked::Json(file) => {
             let name = file.as_ref().map(|name| name.as_str());
             run_json(alloc, name, files, input, output)

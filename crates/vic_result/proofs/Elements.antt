@@ -2,6 +2,9 @@
 use Rattle.vic_result.proofs.Words.{◌≡◌, ℕ, ◌+◌, ◌∙◌, List, [], ◌∷◌, ◌++◌, ◌<◌, ap, arith, refl, append_assoc, get_or_from_slice_get, IsSomeAnd, map, map-append, Option, length, slice_get, slice_get_within, Some, take, take_more}
 use Rattle.std.proofs.lemmas.Option.{slice_get-get_or}
 use Rattle.std.proofs.Common.{get_or}
+use Rattle.std.proofs.lemmas.Slice.Zip.{AllZip-left}
+use Rattle.std.specs.List.{AllZip}
+use Rattle.std.specs.Prelude.{MatchOption}
 
 pub item_at : {X : Type 0} (xs : List X) (i : ℕ) → i < length xs → (x : X) × (slice_get xs i ≡ Some x)
 item_at [] i lt = absurd (omega (arith, lt))
@@ -29,3 +32,11 @@ taken_more xs i x at = take_more xs i x (slice_get_within xs i x at) ∙ ap (λ 
 -- one element more of a list that is mapped
 pub map_next : {X Y : Type 0} (f : X → Y) (xs : List X) (i : ℕ) (x : X) → slice_get xs i ≡ Some x → map f (take (i + 1) xs) ≡ map f (take i xs) ++ f x ∷ []
 map_next f xs i x at = ap (map f) (taken_more xs i x at) ∙ map-append f (take i xs) (x ∷ [])
+
+-- a fact of two lists, element by element, at an index
+match_at : {X : Type 0} (o : Option X) (P : Type 0) (Q : X → Type 0) (x : X) → o ≡ Some x → MatchOption o P Q → Q x
+match_at o P Q x e h = rw e at h
+
+pub zip_at : {A B : Type 0} (R : A → B → Type 0) (xs : List A) (ys : List B) (i : ℕ) (x : A) (y : B) → AllZip R xs ys → slice_get xs i ≡ Some x → slice_get ys i ≡ Some y → R x y
+zip_at R xs ys i x y all at there =
+    some_at (slice_get ys i) (R x) y there (match_at (slice_get xs i) (Unit {0}) (λ v. IsSomeAnd (slice_get ys i) (R v)) x at (AllZip-left R xs ys all i))

@@ -4,5 +4,5 @@ mod Elements
 mod LogParts
 mod ItemCells
 mod Commas
-mod LeftOpenLaws
+mod FindingLines
 mod NamedLogs

@@ -4,6 +4,6 @@ pub mod ResultCells
 pub mod ResultTable
 pub mod Answered
 pub mod LeastMargin
-pub mod LeftOpen
 pub mod ResultObject
+pub mod ResultLines
 pub mod inner

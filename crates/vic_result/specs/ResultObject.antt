@@ -16,7 +16,7 @@ use Rattle.vic_table.specs.Cells.{cells_of}
 use Rattle.vic_table.specs.Values.{ItemValue}
 use Rattle.vic_collection.specs.Collections.{CollectionValue, certain_logs, possible_logs}
 use Rattle.vic_collection.specs.Answers.{IsAnswer}
-use Rattle.vic_collection.specs.Findings.{AreFindings}
+use Rattle.vic_collection.specs.Findings.{AreFindings, AreOpenMasksOf}
 use Rattle.vic_collection.specs.Joins.{is_left_over, place_of_log, places_without_log}
 use Rattle.vic_collection.specs.declared.answer.CollectionAnswer.{CollectionAnswer}
 use Rattle.vic_collection.specs.declared.answer.CollectionAnswer.TheVariants as kind
@@ -28,7 +28,6 @@ use Rattle.vic_result.specs.declared.margins.LogMargin.{LogMargin}
 use Rattle.vic_collection.specs.States.{state_of}
 use Rattle.vic_collection.specs.declared.state.State.{State}
 use Rattle.vic_result.specs.StateNames.{all_states, state_name}
-use Rattle.vic_result.specs.LeftOpen.{AreLeftOpen}
 use Rattle.vic_result.specs.ResultTable.{logs_by, separator_of}
 
 -- ---- items
@@ -156,7 +155,7 @@ log_json c o s =
 
 -- the same as a text: with the masks that the log leaves open
 abbrev pub IsLogText : CollectionValue → SurveyValue → List ℕ → Type 0
-IsLogText c s text = (o : OpenMasks) × AreLeftOpen c s o × (text ≡ log_json c o s)
+IsLogText c s text = (o : OpenMasks) × AreOpenMasksOf c s o × (text ≡ log_json c o s)
 
 -- ---- the members of the object
 

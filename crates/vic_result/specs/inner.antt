@@ -2,3 +2,4 @@
 pub mod ItemLogs
 pub mod Commas
 pub mod Logs
+pub mod Lines

@@ -1,14 +1,13 @@
 //! How many items are in each state.
 
-ghost use Rattle.std.specs.Prelude.{◌≡◌, ◌++◌, OnOk, IfOk, map};
+ghost use Rattle.std.specs.Prelude.{◌≡◌, ◌++◌, OnOk};
 ghost use Rattle.std.specs.List.{flat_map};
-ghost use Rattle.vic_collection.specs.States.{state_of};
 ghost use Rattle.vic_result.specs.ResultObject.{count_json, count_named, counts_json};
 ghost use Rattle.vic_result.specs.StateNames.{state_name};
 
 use crate::states::state_name;
-use std::alloc::{AllocError, Global};
-use vic_collection::{Collection, State};
+use std::alloc::AllocError;
+use vic_collection::State;
 use vic_text::push_decimal;
 
 /// The states, in their order.
@@ -23,19 +22,6 @@ const STATES: [State; 9] = [
     State::NotCounted,
     State::Missing,
 ];
-
-/// The state of each item.
-pub(crate) fn states_of(alloc: Global, collection: &Collection) -> Result<Vec<State>, AllocError>
-    ensures { IfOk result (λ states.
-        states.items ≡ map (state_of collection.now) collection.now.catalogue.items) }
-{
-    let count = collection.catalogue().len();
-    let mut states = Vec::with_capacity(alloc, count)?;
-    for index in 0..count {
-        states.push(collection.state(index))?;
-    }
-    Ok(states)
-}
 
 /// How many of some states have a name.
 fn count_of(states: &[State], name: &[u8]) -> usize

@@ -2,9 +2,7 @@
 
 ghost use Rattle.std.specs.Prelude.{◌≡◌, ◌++◌, List, ℕ, OnOk, map};
 ghost use Rattle.std.specs.List.{AllZip};
-ghost use Rattle.vic_frame.specs.Uids.{IsUid};
-ghost use Rattle.vic_tree.specs.OpenSet.{has_key};
-ghost use Rattle.vic_collection.specs.Collections.{is_certain_somewhere};
+ghost use Rattle.vic_collection.specs.Findings.{AreOpenMasksOf};
 ghost use Rattle.vic_collection.specs.States.{state_of};
 ghost use Rattle.vic_result.specs.ResultObject.{IsLogText, answer_json, catalogue_json, items_json, lacking_json, logs_list_json, margin_json};
 ghost use Rattle.vic_result.specs.inner.ItemLogs.{ArePossibleLogs};
@@ -18,7 +16,7 @@ use vic_collection::{Collection, PossibleLogs, State};
 use vic_frame::Mask;
 use vic_table::LineCells;
 use vic_text::{ToJson, push_decimal, push_json_string};
-use vic_tree::SpacedKeys;
+use vic_tree::OpenMasks;
 
 /// Appends the status and the line of an answer.
 pub(crate) fn push_answer(text: &mut Vec<u8>, status: u8, line: &[u8]) -> Result<(), AllocError>
@@ -101,21 +99,20 @@ pub(crate) fn push_lacking(
     push_strings(text, places)
 }
 
-/// Appends all logs.
+/// Appends all logs, each with what it leaves open.
 pub(crate) fn push_all_logs(
     alloc: Global,
     text: &mut Vec<u8>,
     collection: &Collection,
-    certain: &SpacedKeys,
+    masks: &[OpenMasks],
 ) -> Result<(), AllocError>
-    requires { (u : ℕ) → IsUid u
-        → has_key certain.now u ≡ is_certain_somewhere collection.now u }
+    requires { AllZip (AreOpenMasksOf collection.now) collection.now.surveys masks.now }
     ensures { OnOk result ((texts : List (List ℕ))
         × AllZip (IsLogText collection.now) collection.now.surveys texts
         × (text.new.items ≡ text.old.items ++ logs_list_json texts)) }
 {
     text.extend_from_slice(b",\"logs\":[")?;
-    push_logs(alloc, text, collection, certain)?;
+    push_logs(alloc, text, collection, masks)?;
     text.extend_from_slice(b"]}")?;
     Ok(())
 }

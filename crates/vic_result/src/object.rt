@@ -16,7 +16,6 @@ use crate::members::{
 use std::alloc::{AllocError, Global};
 use vic_collection::{Collection, CollectionAnswer, PossibleLogs, UnlistedUid};
 use vic_table::LineCells;
-use vic_tree::SpacedKeys;
 
 /// Appends the least margin of the logs, if a collection is complete and has logs.
 fn push_margin_member(
@@ -87,8 +86,7 @@ pub fn object_text(alloc: Global, collection: &Collection) -> Result<Vec<u8>, Al
     let answer = findings.answer();
     let possible = PossibleLogs::of(alloc, collection)?;
     let states = collection.states(alloc)?;
-    let certain = collection.certain_uids(alloc)?;
-    let keys = SpacedKeys::of(alloc, certain.as_slice())?;
+    let masks = collection.open_masks(alloc)?;
     let mut line = Vec::new(alloc);
     push_answer_line(&mut line, collection, &answer)?;
     let mut cells = LineCells::new(alloc);
@@ -104,6 +102,6 @@ pub fn object_text(alloc: Global, collection: &Collection) -> Result<Vec<u8>, Al
     push_all_items(&mut text, collection, &possible, &mut cells)?;
     push_all_extras(&mut text, collection, &possible, extras)?;
     push_lacking(&mut text, &findings.unsettled, &findings.without_log)?;
-    push_all_logs(alloc, &mut text, collection, &keys)?;
+    push_all_logs(alloc, &mut text, collection, &masks)?;
     Ok(text)
 }

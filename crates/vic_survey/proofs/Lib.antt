@@ -12,4 +12,6 @@ pub mod Runs
 pub mod Complete
 pub mod Wrong
 pub mod Made
+pub mod Merged
+pub mod Throughout
 pub mod Ranges

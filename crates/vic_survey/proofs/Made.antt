@@ -13,15 +13,13 @@ use Rattle.vic_survey.specs.Parts.{AreOpen, IsShort}
 use Rattle.std.proofs.Math.Seq.{take-suc}
 use Rattle.vic_frame.specs.Masks.{lies_in}
 use Rattle.vic_log.specs.declared.entry.Entry.{Entry}
-use Rattle.vic_tree.specs.Keys.{AreKeysOf}
 use Rattle.vic_tree.specs.OpenMasks.{AreAll, ComesBefore, IsOpenMask}
-use Rattle.vic_tree.specs.OpenSet.{SameUids, UpToThree, has_key, in_mask, without_keys}
+use Rattle.vic_tree.specs.OpenSet.{without_keys}
 use Rattle.vic_tree.specs.Ranges.{is_open_in}
 use Rattle.vic_verdict.specs.Facts.{AreFactsOf}
 use Rattle.vic_verdict.specs.Possible.{IsCertainUid}
 use Rattle.vic_verdict.specs.declared.facts.Met.{Met}
 use Rattle.vic_verdict.proofs.Decide.{IsCertainUid-iff, IsPossibleUid-iff}
-use Rattle.vic_survey.proofs.ValueLaws.{uid_is, is_uid_back}
 use Rattle.vic_log.specs.Deaf.{answers, deaf_entries, hidden_entries}
 use Rattle.vic_log.specs.Order.{entries}
 use Rattle.vic_log.specs.declared.entry.LogLine.{LogLine}
@@ -30,51 +28,24 @@ use Rattle.vic_margin.specs.Margins.{IsWeakestBesides}
 use Rattle.vic_survey.proofs.ValueWords.{ShownUid}
 use Rattle.vic_survey.specs.declared.survey.Seen.{Seen}
 use Rattle.vic_survey.specs.Making.{AreOpenOf, HasUncertain, IsSeenOf, weakest_of}
-use Rattle.vic_survey.specs.inner.Kept.{AreKeptOf, HasUidIn}
-
-not_both : (b : Bool) → b ≡ true → not b ≡ true → ⊥
-not_both true h k = absurd (cc k)
-not_both false h k = absurd (cc h)
-
--- ---- whether a set has a UID in a mask
-
-pub uid_in_iff : (set : ℕ → Bool) (m : BitMask) (us : List ℕ) (b : Bool) → UpToThree (in_mask set m []) us → b ≡ (length us == 0) → (not b ≡ true) ↔ HasUidIn set m
-uid_in_iff set m [] b t e = (λ h. absurd (not_both b (e ∙ eq-eqb 0 0 refl) h), λ w. absurd (cc (t.all (omega arith) w.0 (inside w.0 w.1 w.2 w.3)))) where
-  inside : (u : ℕ) → IsUid u → lies_in m u ≡ true → set u ≡ true → in_mask set m [] u ≡ true
-  inside u i l s = rw (is_uid_back u i, l, s) refl
-uid_in_iff set m (u ∷ us) b t e =
-    let here : has (u ∷ us) u ≡ true = rw (eq-eqb u u refl) refl in
-    let p = and_parts (is_uid u && set u) (lies_in m u && not (has [] u)) (t.members u here) in
-    let q = and_parts (is_uid u) (set u) p.0 in
-    let r = and_parts (lies_in m u) (not (has [] u)) p.1 in
-    (λ h. (u, uid_is u q.0, r.0, q.1), λ w. rw (e ∙ ne_eqb (length (u ∷ us)) 0 (λ k. omega (arith, k))) refl)
+use Rattle.vic_survey.specs.inner.Kept.{AreKeptOf}
+use Rattle.vic_survey.proofs.Throughout.{has_other}
 
 -- ---- the open masks
 
--- a UID that is left is possible and not certain
-left_is : (es : List Entry) (ranges : List (ℕ × ℕ)) (met : Met) (certain keys : List ℕ) (left : List (ℕ × ℕ)) (u : ℕ) → AreFactsOf es (is_open_in ranges) met certain → AreKeysOf keys certain
-    → SameUids (is_open_in left) (without_keys (is_open_in ranges) keys) → IsUid u → is_open_in left u ≡ true → IsCertainUid es u → ⊥
-left_is es ranges met certain keys left u f k s i h c =
-    let p = and_parts (is_open_in ranges u) (not (has_key keys u)) (sym (s u i) ∙ h) in
-    let there : has certain u ≡ true = (f.told.forced.members u).1 ((IsCertainUid-iff es u f.told.possible).0 c) in
-    let key : has_key keys u ≡ true = k.members u i ∙ there in
-    not_both (has_key keys u) key p.1
+pub certain_told : (es : List Entry) (set : ℕ → Bool) (met : Met) (certain : List ℕ) → AreFactsOf es set met certain → (u : ℕ) → has certain u ≡ true → IsCertainUid es u
+certain_told es set met certain f u h = (IsCertainUid-iff es u f.told.possible).1 ((f.told.forced.members u).0 h)
 
-not_there : (b : Bool) → (b ≡ true → ⊥) → b ≡ false
-not_there true h = absurd (h refl)
-not_there false h = refl
+-- a certain UID is possible
+certain_open : (es : List Entry) (ranges : List (ℕ × ℕ)) (met : Met) (certain : List ℕ) (u : ℕ) → AreFactsOf es (is_open_in ranges) met certain → IsUid u → has certain u ≡ true → without_keys (is_open_in ranges) [] u ≡ true
+certain_open es ranges met certain u f i h =
+    let p = f.told.possible in
+    let there = (IsPossibleUid-iff es u p).0 (p.0, p.1, p.2, certain_told es (is_open_in ranges) met certain f u h p.0 p.1 p.2) in
+    rw (f.told.uids_open u i ∙ there) refl
 
--- a UID that is open and not certain is left
-is_left : (es : List Entry) (ranges : List (ℕ × ℕ)) (met : Met) (certain keys : List ℕ) (left : List (ℕ × ℕ)) (u : ℕ) → AreFactsOf es (is_open_in ranges) met certain → AreKeysOf keys certain
-    → SameUids (is_open_in left) (without_keys (is_open_in ranges) keys) → IsUid u → is_open_in ranges u ≡ true → (IsCertainUid es u → ⊥) → is_open_in left u ≡ true
-is_left es ranges met certain keys left u f k s i open_there uncertain =
-    let absent : has certain u ≡ false = not_there (has certain u) (λ there. uncertain ((IsCertainUid-iff es u f.told.possible).1 ((f.told.forced.members u).0 there))) in
-    let key : has_key keys u ≡ false = k.members u i ∙ absent in
-    s u i ∙ rw (open_there, key) refl
-
-pub masks_of : (es : List Entry) (ranges : List (ℕ × ℕ)) (met : Met) (certain keys : List ℕ) (left : List (ℕ × ℕ)) (masks ms : List BitMask) → AreFactsOf es (is_open_in ranges) met certain → AreKeysOf keys certain
-    → SameUids (is_open_in left) (without_keys (is_open_in ranges) keys) → AreAll (IsOpenMask (without_keys (is_open_in ranges) [])) masks → AreKeptOf (HasUidIn (is_open_in left)) masks ms → AreOpenOf es ms
-masks_of es ranges met certain keys left masks ms f k s a kept = record {
+pub masks_of : (es : List Entry) (ranges : List (ℕ × ℕ)) (met : Met) (certain : List ℕ) (masks others ms : List BitMask) → AreFactsOf es (is_open_in ranges) met certain
+    → AreAll (IsOpenMask (without_keys (is_open_in ranges) [])) masks → AreAll (IsOpenMask (has certain)) others → AreKeptOf (λ m. ¬ (Contains others m)) masks ms → AreOpenOf es ms
+masks_of es ranges met certain masks others ms f a b kept = record {
   set = set;
   uids = λ u i. (
     λ h. (IsPossibleUid-iff es u f.told.possible).1 (sym (f.told.uids_open u i) ∙ (and_parts (is_open_in ranges u) true h).0),
@@ -83,10 +54,13 @@ masks_of es ranges met certain keys left masks ms f k s a kept = record {
   all = record {
     rising = kept.rising;
     wanted = λ i d lt. one (get_or ms i d) (Contains-get_or ms i d lt);
-    others = λ m w.
-        let u = w.1.0 in
-        let inside : set u ≡ true = w.0.open_throughout u w.1.1 w.1.2 in
-        (kept.members m).1 (a.others m w.0, (u, w.1.1, w.1.2, is_left es ranges met certain keys left u f k s w.1.1 (and_parts (is_open_in ranges u) true inside).0 w.1.3));
+    others = λ m w. (kept.members m).1 (
+      a.others m w.0,
+      λ c.
+          let all = All-contains (IsOpenMask (has certain)) others m b.wanted c in
+          let u = w.1.0 in
+          w.1.3 (certain_told es (is_open_in ranges) met certain f u (all.open_throughout u w.1.1 w.1.2)),
+    );
   };
 } where
   set : ℕ → Bool
@@ -95,8 +69,9 @@ masks_of es ranges met certain keys left masks ms f k s a kept = record {
   one : (m : BitMask) → Contains ms m → IsOpenMask set m × HasUncertain es m
   one m c =
       let t = (kept.members m).0 c in
-      let u = t.1.0 in
-      (All-contains (IsOpenMask set) masks m a.wanted t.0, (u, t.1.1, t.1.2, left_is es ranges met certain keys left u f k s t.1.1 t.1.3))
+      let is = All-contains (IsOpenMask set) masks m a.wanted t.0 in
+      let w = has_other set (has certain) m (λ u i h. certain_open es ranges met certain u f i h) is (λ h. t.1 (b.others m h)) in
+      (is, (w.0, w.1, w.2, λ h. absurd (cc ((f.told.forced.members w.0).1 ((IsCertainUid-iff es w.0 f.told.possible).0 h), w.3))))
 
 -- ---- which masks are kept
 
@@ -151,9 +126,6 @@ if_ok_more P Q (Ok x) f h = f x h
 if_ok_more P Q (Err e) f h = tt
 
 -- ---- the parts of a survey
-
-pub certain_told : (es : List Entry) (set : ℕ → Bool) (met : Met) (certain : List ℕ) → AreFactsOf es set met certain → (u : ℕ) → has certain u ≡ true → IsCertainUid es u
-certain_told es set met certain f u h = (IsCertainUid-iff es u f.told.possible).1 ((f.told.forced.members u).0 h)
 
 pub certain_listed : (es : List Entry) (set : ℕ → Bool) (met : Met) (certain : List ℕ) → AreFactsOf es set met certain → IsListOf (IsCertainUid es) certain
 certain_listed es set met certain f = record {

@@ -1,16 +1,15 @@
 //! The survey of a log.
 
-ghost use Rattle.std.specs.Prelude.{◌≡◌, ◌≢◌, ◌↔◌, ℕ, ◌≤◌, true, IfOk, IfSome, List, length, OnOk, MatchResult};
-ghost use Rattle.std.specs.List.{All, Contains};
+ghost use Rattle.std.specs.Prelude.{◌≡◌, ◌≢◌, ◌↔◌, ℕ, ◌<◌, true, IfOk, List, get_or, length};
+ghost use Rattle.std.specs.List.{AllPairs, Contains};
 ghost use Rattle.vic_frame.specs.declared.fault.FrameFault.TheVariants.{NotVicinity};
-ghost use Rattle.vic_frame.specs.Masks.{BitMask, lies_in};
-ghost use Rattle.vic_frame.specs.Uids.{IsUid};
+ghost use Rattle.vic_frame.specs.Masks.{BitMask};
+ghost use Rattle.vic_frame.specs.Uids.{has};
 ghost use Rattle.vic_log.specs.Names.{line_fault_name};
 ghost use Rattle.vic_log.specs.Order.{entries};
 ghost use Rattle.vic_log.specs.declared.entry.Entry.{Entry as EntryValue};
 ghost use Rattle.vic_log.specs.declared.fault.LineFault.TheVariants.{Frame};
-ghost use Rattle.vic_tree.specs.OpenMasks.{AreAll, IsOpenMask};
-ghost use Rattle.vic_tree.specs.OpenSet.{without_keys};
+ghost use Rattle.vic_tree.specs.OpenMasks.{AreAll, ComesBefore, IsOpenMask};
 ghost use Rattle.vic_tree.specs.Ranges.{is_open_in};
 ghost use Rattle.vic_walk.specs.Steps.{AreLogParts};
 ghost use Rattle.vic_verdict.specs.Facts.{AreFactsOf};
@@ -19,13 +18,13 @@ ghost use Rattle.vic_verdict.specs.declared.judging.Verdict.TheVariants.{Impossi
 ghost use Rattle.vic_survey.specs.Making.{AreOpenOf, IsFieldOf, IsSeenOf};
 ghost use Rattle.vic_survey.specs.Parts.{AreOpen};
 ghost use Rattle.vic_survey.specs.Surveys.{IsField, IsSeen};
-ghost use Rattle.vic_survey.specs.inner.Kept.{AreKeptOf, HasUidIn};
+ghost use Rattle.vic_survey.specs.inner.Kept.{AreKeptOf};
 
 use crate::name::Name;
-use crate::rising::{CertainUids, RisingMasks};
+use crate::rising::{CertainUids, RisingMasks, comes_before};
 use crate::survey::{Field, Seen, Survey};
 use std::alloc::{AllocError, Global};
-use vic_frame::{FrameFault, Mask};
+use vic_frame::{FrameFault, Mask, Uid};
 use vic_log::{LineFault, Log, LogFault, read_log};
 use vic_margin::{Readings, Weakest, readings, weakest_besides};
 use vic_report::lines_of_certain;
@@ -122,32 +121,76 @@ fn open_masks(alloc: Global, facts: &Facts<RangeSet>) -> Result<RisingMasks, All
     ensures { IfOk result (λ ms. (es : List EntryValue) → AreFactsOf es
         (is_open_in facts.now.«open») facts.now.met facts.now.certain → AreOpenOf es ms) }
 {
-    let keys = SortedKeys::of(alloc, facts.certain.as_slice())?;
-    let left = facts.open.besides(alloc, &keys)?;
     let masks = facts
         .open
         .all_open_masks_besides(alloc, &SortedKeys::none(alloc))?;
-    kept_masks(alloc, &left, &masks)
+    let certain = masks_among(alloc, facts.certain.as_slice())?;
+    masks_without(alloc, masks, &certain)
 }
 
-/// The masks in which a set has a UID, in their order.
-fn kept_masks(alloc: Global, set: &RangeSet, masks: &[Mask]) -> Result<RisingMasks, AllocError>
-    requires { AreOpen masks.now }
-    ensures { IfOk result (λ ms. AreKeptOf (HasUidIn (is_open_in set.now)) masks.now ms) }
+/// The masks all of whose UIDs are among some, and that aren't half of such a mask. An open mask
+/// all of whose UIDs are certain is such a mask of the certain ones.
+fn masks_among(alloc: Global, uids: &[Uid]) -> Result<Vec<Mask>, AllocError>
+    ensures { IfOk result (λ masks. AreAll (IsOpenMask (has uids.now)) masks.items) }
 {
+    let keys = SortedKeys::of(alloc, uids)?;
+    let others = RangeSet::everything(alloc)?.besides(alloc, &keys)?;
+    let set = RangeSet::without(alloc, Vec::from_slice(alloc, others.ranges())?)?;
+    set.all_open_masks_besides(alloc, &SortedKeys::none(alloc))
+}
+
+/// Masks without others, both in order.
+fn masks_without(
+    alloc: Global,
+    masks: Vec<Mask>,
+    others: &[Mask],
+) -> Result<RisingMasks, AllocError>
+    requires masks { AreOpen masks.items }
+    requires others { AllPairs ComesBefore others.now }
+    ensures { IfOk result (λ ms. AreKeptOf (λ m. ¬ (Contains others.now m)) masks.items ms) }
+{
+    if others.is_empty() {
+        return Ok(RisingMasks::of(masks));
+    }
     let mut kept = Vec::new(alloc);
-    for mask in masks {
-        if has_uid_in(set, mask) {
+    let mut ahead = others;
+    for mask in &masks {
+        ahead = from_mask(ahead, mask);
+        if !is_first(ahead, mask) {
             kept.push(*mask)?;
         }
     }
     Ok(RisingMasks::of(kept))
 }
 
-/// Whether a set has a UID in a mask.
-fn has_uid_in(set: &RangeSet, mask: &Mask) -> bool
-    ensures { (result ≡ true) ↔ HasUidIn (is_open_in set.now) mask.now }
+/// What is left of masks in order without those that come before a mask.
+fn from_mask<'a>(masks: &'a [Mask], mask: &Mask) -> &'a [Mask]
+    requires { AllPairs ComesBefore masks.now }
+    ensures rising { AllPairs ComesBefore result.now }
+    ensures first { (d : BitMask) → 0 < length result.now
+        → ¬ (ComesBefore (get_or result.now 0 d) mask.now) }
+    ensures same { (m : BitMask) → ¬ (ComesBefore m mask.now)
+        → Contains result.now m ↔ Contains masks.now m }
 {
-    let uids = set.up_to_three(mask, &[]);
-    !uids.as_slice().is_empty()
+    let mut ahead = masks;
+    while let Some((first, others)) = ahead.split_first() {
+        if !comes_before(first, mask) {
+            return ahead;
+        }
+        ahead = others;
+    }
+    ahead
+}
+
+/// Whether a mask is the first of some in order, none of which comes before it.
+fn is_first(masks: &[Mask], mask: &Mask) -> bool
+    requires rising { AllPairs ComesBefore masks.now }
+    requires first { (d : BitMask) → 0 < length masks.now
+        → ¬ (ComesBefore (get_or masks.now 0 d) mask.now) }
+    ensures { (result ≡ true) ↔ Contains masks.now mask.now }
+{
+    match masks.split_first() {
+        Some((first, _)) => first == mask,
+        None => false,
+    }
 }

@@ -156,7 +156,7 @@ impl RisingMasks {
 }
 
 /// Whether the first mask comes before the second, by length, then by value.
-fn comes_before(mask: &Mask, other: &Mask) -> bool
+pub(crate) fn comes_before(mask: &Mask, other: &Mask) -> bool
     ensures { result ≡ comes_before mask.now other.now }
 {
     if mask.len() == other.len() {

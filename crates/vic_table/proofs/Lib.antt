@@ -19,3 +19,4 @@ mod Reordering
 mod Moving
 mod Clashing
 mod Order
+mod Listing

@@ -9,4 +9,5 @@ pub mod Reads
 pub mod Conserved
 pub mod Reordered
 pub mod Names
+pub mod Listed
 pub mod inner

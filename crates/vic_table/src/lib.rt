@@ -15,6 +15,7 @@ mod item_list;
 mod items;
 pub mod laws;
 mod lines;
+mod listed;
 mod place_rows;
 mod places;
 mod read;

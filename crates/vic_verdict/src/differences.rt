@@ -38,7 +38,7 @@ pub fn compare<S: OpenSet>(
     let unlisted = missing_from(alloc, certain, listed)?;
     let listed_or_certain = keys_of_both(alloc, listed, &unlisted)?;
     let outside = uids_outside(alloc, &set, &listed_or_certain)?;
-    // for one log the set has all certain UIDs; the sets that `vic_reconcile` makes may lack some,
+    // for one log the set has all certain UIDs; the sets that `vic_collection` makes may lack some,
     // which aren't absent
     let absent = missing_from(alloc, &outside, certain)?;
     let unsettled = set.widest_besides(&listed_or_certain)?;

@@ -11,12 +11,12 @@ use Rattle.vic_words.specs.Words.{Ask, HasFile, is_end_of_options, operands_of, 
 use Rattle.vic_words.specs.inner.Commands.{commands}
 use Rattle.vic_words.specs.inner.Given.{FileAsks, RowsAsk, SubcommandAsks, TaskAsks, clap_words, wants_end, words_found}
 use Rattle.vic_words.specs.declared.asked.Asked.{Asked}
-use Rattle.vic_words.specs.declared.asked.Asked.TheVariants.{Task as OneTask, Reconcile, Json, Files}
-use Rattle.vic_words.specs.declared.asked.FilesCommand.TheVariants.{Survey, Collection, JsonCollection}
+use Rattle.vic_words.specs.declared.asked.Asked.TheVariants.{Task as OneTask, Json, Files}
+use Rattle.vic_words.specs.declared.asked.FilesCommand.TheVariants.{Reconcile, Survey, Collection, JsonCollection}
 use Rattle.vic_words.proofs.Leaf.{AllUtf8}
-use Rattle.vic_words.proofs.Levels.{fault_at, file_asked, file_given, files_asked, files_given, hex_asked, hex_given, rows_at, words_asked, words_given}
-use Rattle.vic_words.proofs.Shapes.{files_shape, one_shape, words_shape}
-use Rattle.vic_words.proofs.Top.{Entered, check_entered, explain_entered, files_entered, frame_entered, json_entered, margin_entered, no_words_given, only_the_program, reconcile_entered, report_entered, same_name, simulate_entered, some≢none, spell_entered}
+use Rattle.vic_words.proofs.Levels.{fault_at, file_asked, file_given, hex_asked, hex_given, rows_at, words_asked, words_given}
+use Rattle.vic_words.proofs.Shapes.{one_shape, words_shape}
+use Rattle.vic_words.proofs.Top.{Entered, check_entered, explain_entered, files_entered, frame_entered, json_entered, margin_entered, no_words_given, only_the_program, report_entered, same_name, simulate_entered, some≢none, spell_entered}
 
 pub all_utf8 : {Z : Type 0} (words : List (String Z)) → AllUtf8 (map string_bytes words)
 all_utf8 [] = tt
@@ -147,16 +147,13 @@ rows_to_words (program ∷ w ∷ words) name rows (OneTask (Spell spelled)) utf8
     let a = at_name (codes "spell") program w name words rows utf8 finds h.0 in
     let p = spell_to program words rows (map string_bytes spelled.items) a.utf8 a.finds h.1 in
     (a.named, p.0, omega (arith, p.1, length-map spelled.items string_bytes))
-rows_to_words (program ∷ w ∷ words) name rows (Reconcile list logs) utf8 finds h =
-    let a = at_name (codes "reconcile") program w name words rows utf8 finds h.0 in
-    let b = below (codes "reconcile") (files_shape (codes "reconcile")) program words rows reconcile_entered a.finds in (
-      a.named,
-      files_given (codes "reconcile") words (string_bytes list) a.utf8.1.1 b.none (ap (first_of (codes "file")) b.rows_are ∙ h.1)
-          ∙ ap (λ l. Some (string_bytes list ∷ l)) (ap words_found b.rows_are ∙ sym h.2),
-    )
 rows_to_words (program ∷ w ∷ words) name rows (Json file) utf8 finds h =
     let a = at_name (codes "json") program w name words rows utf8 finds h.0 in
     (a.named, file_to (codes "json") program words rows _ json_entered a.utf8.1.1 a.finds h.1)
+rows_to_words (program ∷ w ∷ words) name rows (Files Reconcile files) utf8 finds h =
+    let a = at_name (codes "reconcile") program w name words rows utf8 finds h.0 in
+    let p = files_to (codes "reconcile") program words rows (map string_bytes files.items) (files_entered Reconcile) a.utf8.1.1 a.finds h.1 in
+    (a.named, p.0, omega (arith, p.1, length-map files.items string_bytes))
 rows_to_words (program ∷ w ∷ words) name rows (Files Survey files) utf8 finds h =
     let a = at_name (codes "survey") program w name words rows utf8 finds h.0 in
     let p = files_to (codes "survey") program words rows (map string_bytes files.items) (files_entered Survey) a.utf8.1.1 a.finds h.1 in
@@ -222,11 +219,11 @@ words_to_rows (program ∷ w ∷ words) (OneTask (Spell ws)) utf8 fits h = by_na
       finds = subst (λ c. Finds c (codes "spell") (rows_at (words_shape (codes "spell")) p.rest)) (sym p.is) (finds_below (codes "spell") (words_shape (codes "spell")) program p.rest spell_entered a.0);
       asks = (refl, h.1 ∙ sym a.1);
     }) utf8 fits
-words_to_rows (program ∷ w ∷ words) (Reconcile list logs) utf8 fits h = by_name program words (Reconcile list logs) (codes "reconcile") w h.0 (λ utf8 fits.
-    let a = files_asked (codes "reconcile") words (string_bytes list) (map string_bytes logs.items) utf8.1.1 h.1 (omega arith) in
-    record { name = codes "reconcile"; rows = _; finds = finds_below (codes "reconcile") (files_shape (codes "reconcile")) program words reconcile_entered a.0; asks = (refl, a.1, sym a.2) }) utf8 fits
 words_to_rows (program ∷ w ∷ words) (Json file) utf8 fits h = by_name program words (Json file) (codes "json") w h.0 (λ utf8 fits.
     let f = file_from (codes "json") program words _ json_entered utf8.1.1 h.1 in record { name = codes "json"; rows = _; finds = f.0; asks = (refl, f.1) }) utf8 fits
+words_to_rows (program ∷ w ∷ words) (Files Reconcile files) utf8 fits h = by_name program words (Files Reconcile files) (codes "reconcile") w h.0 (λ utf8 fits.
+    let a = words_asked (codes "reconcile") words (map string_bytes files.items) utf8.1.1 h.1 (omega (arith, h.2, length-map files.items string_bytes)) (omega arith) in
+    record { name = codes "reconcile"; rows = _; finds = finds_below (codes "reconcile") (words_shape (codes "reconcile")) program words (files_entered Reconcile) a.0; asks = (refl, sym a.1) }) utf8 fits
 words_to_rows (program ∷ w ∷ words) (Files Survey files) utf8 fits h = by_name program words (Files Survey files) (codes "survey") w h.0 (λ utf8 fits.
     let a = words_asked (codes "survey") words (map string_bytes files.items) utf8.1.1 h.1 (omega (arith, h.2, length-map files.items string_bytes)) (omega arith) in
     record { name = codes "survey"; rows = _; finds = finds_below (codes "survey") (words_shape (codes "survey")) program words (files_entered Survey) a.0; asks = (refl, sym a.1) }) utf8 fits

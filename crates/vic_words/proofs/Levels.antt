@@ -9,7 +9,7 @@ use Rattle.vic_words.specs.Words.{HasFile, after_operand, is_end_of_options, is_
 use Rattle.vic_words.specs.inner.Given.{words_found}
 use Rattle.vic_words.proofs.Leaf.{AllUtf8, Level, Levels, level_is}
 use Rattle.vic_words.proofs.Shapes as shapes
-use Rattle.vic_words.proofs.Shapes.{files_shape, one_shape, words_shape}
+use Rattle.vic_words.proofs.Shapes.{one_shape, words_shape}
 
 abbrev pub fault_at : Shape → List Text → List Rattle.clap.specs.declared.error.kind.ErrorKind.ErrorKind
 fault_at s words = level_fault s [] nothing_held words false []
@@ -101,30 +101,3 @@ words_asked n words [] utf8 e some fits = absurd (omega arith)
 words_asked n words (v ∷ vs) utf8 e some fits =
     let h : Level (words_shape n) words (v ∷ vs) = subst (Levels (words_shape n) words) e (level_is (words_shape n) (shapes.words_is_leaf n) words utf8) in
     (h.fault ∙ shapes.some_words n v vs (omega (arith, operands_within words (v ∷ vs) e)), ap words_found h.rows ∙ ap (λ o. unwrap_or o []) (shapes.some_words_rows n v vs))
-
--- ---- a file, and more files or none
-
-pub files_given : (n : Text) (words : List Text) (file : Text) → AllUtf8 words → fault_at (files_shape n) words ≡ []
-    → first_of (codes "file") (rows_at (files_shape n) words) ≡ Some file → operands_of words ≡ Some (file ∷ words_found (rows_at (files_shape n) words))
-files_given n words file utf8 none found = go (operands_of words) refl (level_is (files_shape n) (shapes.files_is_leaf n) words utf8)
-  where
-    one : (a : Text) (vs ws : List Text) → Some a ≡ Some file → vs ≡ ws → Some (a ∷ vs) ≡ Some (file ∷ ws)
-    one a vs ws e f = cc
-
-    go : (q : Option (List Text)) → operands_of words ≡ q → Levels (files_shape n) words q → operands_of words ≡ Some (file ∷ words_found (rows_at (files_shape n) words))
-    go None e h = absurd (h none)
-    go (Some []) e h = absurd (shapes.no_files n (sym h.fault ∙ none))
-    go (Some (a ∷ [])) e h = e ∙ one a [] _ (sym (ap (first_of (codes "file")) h.rows) ∙ found) (sym (ap words_found h.rows))
-    go (Some (a ∷ v ∷ vs)) e h =
-        let rows = shapes.more_files_rows n a v vs in
-        e ∙ one a (v ∷ vs) _ (sym (ap (first_of (codes "file")) h.rows ∙ rows.0) ∙ found) (sym (ap words_found h.rows ∙ ap (λ o. unwrap_or o []) rows.1))
-
-pub files_asked : (n : Text) (words : List Text) (file : Text) (logs : List Text) → AllUtf8 words → operands_of words ≡ Some (file ∷ logs) → length words ≤ usize_max
-    → (fault_at (files_shape n) words ≡ []) × (first_of (codes "file") (rows_at (files_shape n) words) ≡ Some file) × (words_found (rows_at (files_shape n) words) ≡ logs)
-files_asked n words file [] utf8 e fits =
-    let h : Level (files_shape n) words (file ∷ []) = subst (Levels (files_shape n) words) e (level_is (files_shape n) (shapes.files_is_leaf n) words utf8) in
-    (h.fault ∙ shapes.only_a_file n file, ap (first_of (codes "file")) h.rows, ap words_found h.rows)
-files_asked n words file (v ∷ vs) utf8 e fits =
-    let h : Level (files_shape n) words (file ∷ v ∷ vs) = subst (Levels (files_shape n) words) e (level_is (files_shape n) (shapes.files_is_leaf n) words utf8) in
-    let rows = shapes.more_files_rows n file v vs in
-    (h.fault ∙ shapes.more_files n file v vs (omega (arith, operands_within words (file ∷ v ∷ vs) e)), ap (first_of (codes "file")) h.rows ∙ rows.0, ap words_found h.rows ∙ ap (λ o. unwrap_or o []) rows.1)

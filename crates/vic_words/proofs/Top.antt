@@ -12,11 +12,11 @@ use Rattle.std.proofs.lemmas.Slice.Eq.{bytes_eq-Decides}
 use Rattle.std.specs.Str.{IsUtf8}
 use Rattle.vic_words.specs.Words.{files_name, is_end_of_options, is_option}
 use Rattle.vic_words.specs.declared.asked.FilesCommand.{FilesCommand}
-use Rattle.vic_words.specs.declared.asked.FilesCommand.TheVariants.{Survey, Collection, JsonCollection}
+use Rattle.vic_words.specs.declared.asked.FilesCommand.TheVariants.{Reconcile, Survey, Collection, JsonCollection}
 use Rattle.vic_words.proofs.Leaf.{IsLeaf, both_empty, dash_long, dash_short, first_empty, state, not_refused, option_refused}
 use Rattle.clap.specs.declared.error.kind.ErrorKind.TheVariants.{InvalidSubcommand, UnknownArgument}
 use Rattle.vic_words.specs.inner.Commands.{commands}
-use Rattle.vic_words.proofs.Shapes.{one_shape, files_shape, words_shape}
+use Rattle.vic_words.proofs.Shapes.{one_shape, words_shape}
 
 pub simple_and_free : is_simple_and_free commands ≡ true
 simple_and_free = refl
@@ -151,10 +151,8 @@ json_entered = record { fault = enters_fault _ refl refl refl; rows = enters_row
 pub frame_entered : Entered (codes "frame") (one_shape (codes "frame") (codes "hex") true)
 frame_entered = record { fault = enters_fault _ refl refl refl; rows = enters_rows _ refl refl refl }
 
-pub reconcile_entered : Entered (codes "reconcile") (files_shape (codes "reconcile"))
-reconcile_entered = record { fault = enters_fault _ refl refl refl; rows = enters_rows _ refl refl refl }
-
 pub files_entered : (command : FilesCommand) → Entered (files_name command) (words_shape (files_name command))
+files_entered Reconcile = record { fault = enters_fault _ refl refl refl; rows = enters_rows _ refl refl refl }
 files_entered Survey = record { fault = enters_fault _ refl refl refl; rows = enters_rows _ refl refl refl }
 files_entered Collection = record { fault = enters_fault _ refl refl refl; rows = enters_rows _ refl refl refl }
 files_entered JsonCollection = record { fault = enters_fault _ refl refl refl; rows = enters_rows _ refl refl refl }
@@ -171,11 +169,11 @@ decide n w P it other = go (bytes_eq n w) refl
 
 -- a word is the name of a command, or names none
 pub named : (w : Text) (P : Text → Type 0) → P (codes "check") → P (codes "simulate") → P (codes "explain") → P (codes "report") → P (codes "margin")
-    → P (codes "json") → P (codes "frame") → P (codes "reconcile") → ((command : FilesCommand) → P (files_name command)) → P (codes "spell") → (subcommand_met (names_of program_built) idle w ≡ None → P w) → P w
-named w P check simulate explain report margin json frame reconcile files spell none =
+    → P (codes "json") → P (codes "frame") → ((command : FilesCommand) → P (files_name command)) → P (codes "spell") → (subcommand_met (names_of program_built) idle w ≡ None → P w) → P w
+named w P check simulate explain report margin json frame files spell none =
     decide (codes "check") w P check (λ a. decide (codes "simulate") w P simulate (λ b. decide (codes "explain") w P explain
     (λ c. decide (codes "report") w P report (λ d. decide (codes "margin") w P margin (λ e. decide (codes "json") w P json (λ j. decide (codes "frame") w P frame
-    (λ f. decide (codes "reconcile") w P reconcile (λ g. decide (codes "survey") w P (files Survey) (λ s. decide (codes "collection") w P (files Collection)
+    (λ f. decide (codes "reconcile") w P (files Reconcile) (λ g. decide (codes "survey") w P (files Survey) (λ s. decide (codes "collection") w P (files Collection)
     (λ k. decide (codes "json-collection") w P (files JsonCollection) (λ o. decide (codes "spell") w P spell (λ h. none (rw (a, b, c, d, e, j, f, g, s, k, o, h) refl)))))))))))))
 
 -- the name of the command that a parse enters is the word that names it
@@ -194,7 +192,7 @@ same program name words entered e found = name_of_some _ name (sym (ap (option_m
 pub same_name : (program w name : Text) (words : List Text) → IsUtf8 w → HasName program name words w
 same_name program w name words utf8 = named w (HasName program name words) (same program name words check_entered) (same program name words simulate_entered)
     (same program name words explain_entered) (same program name words report_entered) (same program name words margin_entered) (same program name words json_entered)
-    (same program name words frame_entered) (same program name words reconcile_entered) (λ command. same program name words (files_entered command)) (same program name words spell_entered)
+    (same program name words frame_entered) (λ command. same program name words (files_entered command)) (same program name words spell_entered)
     (λ none e found. absurd (some≢none name (sym found ∙ ap (option_map (λ p. p.0)) (unnamed program w words utf8 none e))))
 
 pub no_words_given : subcommand_of commands [] ≡ None

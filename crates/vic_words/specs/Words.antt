@@ -3,9 +3,9 @@ use Rattle.std.specs.Prelude.{◌≡◌, ◌<◌, ◌==◌, ℕ, Bool, false, Li
 use Rattle.std.specs.Str.{bytes_eq}
 use Rattle.vic_answer.specs.declared.task.Task.TheVariants.{Check, Simulate, Explain, Report, Margin, Frame, Spell}
 use Rattle.vic_words.specs.declared.asked.Asked.{Asked}
-use Rattle.vic_words.specs.declared.asked.Asked.TheVariants.{Task as OneTask, Reconcile, Json, Files}
+use Rattle.vic_words.specs.declared.asked.Asked.TheVariants.{Task as OneTask, Json, Files}
 use Rattle.vic_words.specs.declared.asked.FilesCommand.{FilesCommand}
-use Rattle.vic_words.specs.declared.asked.FilesCommand.TheVariants.{Survey, Collection, JsonCollection}
+use Rattle.vic_words.specs.declared.asked.FilesCommand.TheVariants.{Reconcile, Survey, Collection, JsonCollection}
 
 abbrev pub Text : Type 0
 Text = List ℕ
@@ -43,6 +43,7 @@ HasFile words (Some file) = operands_of words ≡ Some (file ∷ [])
 
 -- the name of a command that takes one file after the other
 abbrev pub files_name : FilesCommand → Text
+files_name Reconcile = codes "reconcile"
 files_name Survey = codes "survey"
 files_name Collection = codes "collection"
 files_name JsonCollection = codes "json-collection"
@@ -64,9 +65,6 @@ NameAsks name words (OneTask (Frame hex)) =
 NameAsks name words (OneTask (Spell spelled)) =
     (name ≡ codes "spell") × (map string_bytes spelled.items ≡ spelled_words words)
     × (0 < length spelled.items)
-NameAsks name words (Reconcile list logs) =
-    (name ≡ codes "reconcile")
-    × (operands_of words ≡ Some (string_bytes list ∷ map string_bytes logs.items))
 NameAsks name words (Json file) =
     (name ≡ codes "json") × HasFile words (option_map string_bytes file)
 NameAsks name words (Files command files) =

@@ -11,6 +11,8 @@ use vic_answer::Task;
 /// A command that takes one file after the other.
 #[derive(Clone, Copy, Debug, Drop, PartialEq, Eq)]
 pub enum FilesCommand {
+    /// Says of logs against what is expected, which the first file says, what differs.
+    Reconcile,
     /// Says of each log what it says of its field.
     Survey,
     /// Says of a catalogue and logs what became of each item, as a table.
@@ -24,9 +26,6 @@ pub enum FilesCommand {
 pub enum Asked {
     /// A task with one text.
     Task(Task),
-    /// To judge the logs in some files against the list of what is expected in another, which is
-    /// named first.
-    Reconcile(String, Vec<String>),
     /// To print the object of the log in a file, or of standard input.
     Json(Option<String>),
     /// A command that takes these files, of which there is at least one.

@@ -25,13 +25,13 @@ fn with_operand<'a>(
     Command::new(alloc, name).arg(operand)
 }
 
-/// The operands from there on.
-fn operands<'a>(alloc: Global, required: bool) -> Arg<'a>
-    ensures rule { rule_of result ≡ declared.several required }
+/// One operand or more.
+fn operands<'a>(alloc: Global) -> Arg<'a>
+    ensures rule { rule_of result ≡ declared.several }
     ensures local { result.global ≡ false }
 {
     Arg::new(alloc, "words")
-        .required(required)
+        .required(true)
         .num_args(1..)
         .action(ArgAction::Append)
 }
@@ -41,15 +41,7 @@ fn with_words<'a>(alloc: Global, name: &'a str) -> Result<Command<'a>, AllocErro
     ensures shape { IfOk result (λ c. app_of c ≡ declared.with_words name.now) }
     ensures local { IfOk result (λ c. (fields_of c).has_globals ≡ false) }
 {
-    Command::new(alloc, name).arg(operands(alloc, true))
-}
-
-/// A command with a file, and more files or none.
-fn with_files<'a>(alloc: Global, name: &'a str) -> Result<Command<'a>, AllocError>
-    ensures shape { IfOk result (λ c. app_of c ≡ declared.with_files name.now) }
-    ensures local { IfOk result (λ c. (fields_of c).has_globals ≡ false) }
-{
-    with_operand(alloc, name, "file", true)?.arg(operands(alloc, false))
+    Command::new(alloc, name).arg(operands(alloc))
 }
 
 /// The program with one more command, over a file or standard input.
@@ -79,16 +71,16 @@ fn file_commands<'a>(alloc: Global) -> Result<Command<'a>, AllocError>
     with_file(alloc, program, "json")
 }
 
-/// These, and the commands with an operand that they require.
+/// These, the command over a word, and the first of those over many files.
 fn operand_commands<'a>(alloc: Global) -> Result<Command<'a>, AllocError>
     ensures { IfOk result (λ c. app_of c ≡ declared.operand_commands) }
 {
     file_commands(alloc)?
         .subcommand(with_operand(alloc, "frame", "hex", true)?)?
-        .subcommand(with_files(alloc, "reconcile")?)
+        .subcommand(with_words(alloc, "reconcile")?)
 }
 
-/// These, and two of the commands over many files.
+/// These, and two more of the commands over many files.
 fn files_commands<'a>(alloc: Global) -> Result<Command<'a>, AllocError>
     ensures { IfOk result (λ c. app_of c ≡ declared.files_commands) }
 {

@@ -84,6 +84,7 @@ fn files_command(name: &str) -> Option<FilesCommand>
         (λ command. name.now ≡ files_name command) }
 {
     match name {
+        "reconcile" => Some(FilesCommand::Reconcile),
         "survey" => Some(FilesCommand::Survey),
         "collection" => Some(FilesCommand::Collection),
         "json-collection" => Some(FilesCommand::JsonCollection),
@@ -103,13 +104,7 @@ fn asked_for(alloc: Global, name: &str, given: &ArgMatches<'_>) -> Result<Asked,
     if name == "json" {
         return Ok(Asked::Json(operand(alloc, given, "file")?));
     }
-    if name != "reconcile" {
-        return Ok(Asked::Task(asked_of_text(alloc, name, given)?));
-    }
-    match operand(alloc, given, "file")? {
-        Some(list) => Ok(Asked::Reconcile(list, given_words(alloc, given)?)),
-        None => Err(WordsFault::Usage),
-    }
+    Ok(Asked::Task(asked_of_text(alloc, name, given)?))
 }
 
 /// What the words ask for, by what was found.

@@ -2,8 +2,5 @@ mod Words
 mod CrcBytes
 mod ListedLines
 pub mod Beside
-mod ArrayFaults
-mod Answered
-mod GoTogether
 mod NamesInLines
 mod TextsInBytes

@@ -5,7 +5,7 @@ use Rattle.vic_frame.specs.declared.request.Request.{Request}
 use Rattle.vic_frame.specs.declared.request.Request.TheVariants.{Inventory, StayQuiet}
 use Rattle.vic_frame.specs.Replies.{Reply}
 use Rattle.vic_frame.specs.Slots.{slot_count}
-use Rattle.vic_answer.specs.FaultNumbers.{frame_fault_number}
+use Rattle.vic_numbers.specs.FaultNumbers.{frame_fault_number}
 use Rattle.vicinity_c.specs.declared.fields.VicinityRequest.{VicinityRequest}
 use Rattle.vicinity_c.specs.declared.fields.VicinityReply.{VicinityReply}
 

@@ -5,8 +5,4 @@ pub mod Lines
 pub mod Names
 pub mod Simulated
 pub mod Run
-pub mod Arrays
-pub mod Reconciled
-pub mod Margins
-pub mod Together
 pub mod Beside

@@ -17,7 +17,6 @@ kind_name kind =
     else if kind == 5 then codes "doubtful"
     else if kind == 6 then codes "impossible"
     else if kind == 7 then codes "refused"
-    else if kind == 12 then codes "listed"
     else []
 
 -- the name of a line's fault
@@ -33,7 +32,6 @@ line_fault_name fault =
     else if fault == 8 then codes "SlotOutsideRound"
     else if fault == 9 then codes "EntryAfterList"
     else if fault == 10 then codes "DuplicateListed"
-    else if fault == 11 then codes "NotListed"
     else []
 
 -- the name of a frame's fault

@@ -3,7 +3,7 @@ use Rattle.std.specs.Prelude.{◌≡◌, ◌≢◌, ℕ, ◌==◌, if◌then◌e
 use Rattle.std.specs.List.{All, flat_map}
 use Rattle.std.specs.Str.{IsUtf8}
 use Rattle.vic_log.specs.Lines.{lf}
-use Rattle.vic_answer.specs.Buffers.{IsReturned}
+use Rattle.vic_numbers.specs.Buffers.{IsReturned}
 use Rattle.vic_answer.specs.Status.{status_code}
 use Rattle.vic_answer.specs.declared.status.Status.{Status}
 use Rattle.vic_commands.specs.Commands.{IsToldBy, Writes}

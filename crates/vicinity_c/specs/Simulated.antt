@@ -1,7 +1,7 @@
 -- The text of a log with its slots filled in, in a caller's buffer.
 use Rattle.std.specs.Prelude.{◌≡◌, ℕ, List}
 use Rattle.vic_answer.specs.declared.status.Status.{Status}
-use Rattle.vic_answer.specs.Buffers.{IsReturned}
+use Rattle.vic_numbers.specs.Buffers.{IsReturned}
 use Rattle.vic_answer.specs.SimulateText.{IsSimulationOf}
 use Rattle.vic_answer.specs.Status.{status_code}
 

@@ -4,8 +4,8 @@ ghost use Rattle.std.specs.Prelude.{◌≡◌};
 ghost use Rattle.vic_frame.specs.Reading.{request_reading, reply_reading};
 ghost use Rattle.vicinity_c.specs.Fields as spec;
 
-use vic_answer::frame_fault_number;
 use vic_frame::{FrameFault, Request, Response, read_request, read_response};
+use vic_numbers::frame_fault_number;
 
 /// The fields of a request, or why bytes aren't a request; then the others are 0.
 #[repr(C)]

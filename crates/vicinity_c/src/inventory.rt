@@ -97,7 +97,7 @@ fn slot_of(request: &Request, slot: u32) -> VicinityMask
 }
 
 /// A mask.
-pub(crate) fn mask_fields(mask: &Mask) -> VicinityMask
+fn mask_fields(mask: &Mask) -> VicinityMask
     ensures { result ≡ spec.mask_fields mask.now }
 {
     VicinityMask {

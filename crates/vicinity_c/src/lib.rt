@@ -4,38 +4,30 @@
 
 ghost use Rattle.std.specs.Prelude.{◌≡◌, ◌≢◌};
 ghost use Rattle.vic_answer.specs.CheckText.{HasCompleteList};
-ghost use Rattle.vic_answer.specs.ExplainedNumbers.{AreExplainedNumbersFor};
-ghost use Rattle.vic_answer.specs.Numbers.{AreNumbersFor, no_answer};
+ghost use Rattle.vic_numbers.specs.ExplainedNumbers.{AreExplainedNumbersFor};
+ghost use Rattle.vic_numbers.specs.Numbers.{AreNumbersFor, no_answer};
 ghost use Rattle.vicinity_c.specs.Beside.{ListsBeside, with_listed};
 
-mod arrays;
 mod fields;
 mod frames;
 mod given;
 mod inventory;
-mod laws;
 mod lines;
-mod listed;
 mod margins;
 mod names;
-mod reconciled;
 mod report;
 mod run;
 mod simulated;
-mod surveys;
 
 use crate::lines::with_listed;
 pub use fields::{VicinityReply, VicinityRequest};
 pub use frames::VicinityFrame;
 pub use inventory::VicinityMask;
-pub use laws::surveys_go_together;
 pub use lines::VicinityLine;
-pub use margins::VicinityWeakest;
 pub use names::{VicinityName, each_fault_has_its_name};
 use std::alloc::Global;
-use vic_answer::{
-    NO_ANSWER, VicinityAnswer, answer_of, answer_text, copy_uids, judge_text, numbers_of, uids_of,
-};
+use vic_answer::{answer_of, answer_text, judge_text, uids_of};
+use vic_numbers::{NO_ANSWER, VicinityAnswer, copy_uids, numbers_of};
 
 /// The number of this interface: it changes if a struct, a number or the meaning of a call changes,
 /// not if a call is added.
@@ -49,9 +41,9 @@ pub extern "C" fn vicinity_interface() -> u32
 /// The version of this library: 10,000 times its first number, 100 times its second, and its third.
 #[unsafe(no_mangle)]
 pub extern "C" fn vicinity_version() -> u32
-    ensures { result ≡ 10400 }
+    ensures { result ≡ 20000 }
 {
-    10_400
+    20_000
 }
 
 /// Judges the log that a text spells, and writes the answer in numbers. The result is its status:
@@ -129,40 +121,6 @@ pub extern "C" fn vicinity_check_listed(
         Ok(whole) => vicinity_check(alloc, whole.as_slice(), answer),
         Err(_) => {
             *answer = NO_ANSWER;
-            NO_ANSWER.status
-        }
-    }
-}
-
-/// Judges and explains the log of a text with a list of UIDs after it, as `vicinity_check_listed`
-/// and `vicinity_explain` do.
-#[unsafe(no_mangle)]
-pub extern "C" fn vicinity_explain_listed(
-    alloc: Global,
-    text: &[u8],
-    uids: &[u64],
-    answer: &mut VicinityAnswer,
-    population: &mut [u64],
-    needed: &mut usize,
-) -> u32
-    ensures answer { answer.new.kind ≢ 0
-        → AreNumbersFor (with_listed text.now uids.now) answer.new }
-    ensures whole { answer.new.kind ≡ 1
-        → HasCompleteList (with_listed text.now uids.now) answer.new.count }
-    ensures list { answer.new.kind ≡ 1 → ListsBeside text.now uids.now answer.new.count }
-    ensures explained { answer.new.kind ≢ 0
-        → AreExplainedNumbersFor (with_listed text.now uids.now) answer.new needed.new
-        population.old population.new }
-    ensures no_answer { answer.new.kind ≡ 0 → answer.new ≡ no_answer }
-    ensures no_population { answer.new.kind ≡ 0
-        → (needed.new ≡ 0) × (population.new ≡ population.old) }
-    ensures status { result ≡ answer.new.status }
-{
-    match with_listed(alloc, text, uids) {
-        Ok(whole) => vicinity_explain(alloc, whole.as_slice(), answer, population, needed),
-        Err(_) => {
-            *answer = NO_ANSWER;
-            *needed = 0;
             NO_ANSWER.status
         }
     }

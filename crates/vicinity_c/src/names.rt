@@ -3,7 +3,7 @@
 ghost use Rattle.std.specs.Prelude.{◌≡◌, ◌≤◌, length};
 ghost use Rattle.vic_log.specs.Names as log;
 ghost use Rattle.vic_log.specs.declared.fault.LineFault.{LineFault};
-ghost use Rattle.vic_answer.specs.FaultNumbers.{fault_number};
+ghost use Rattle.vic_numbers.specs.FaultNumbers.{fault_number};
 ghost use Rattle.vicinity_c.specs.Names as spec;
 
 /// The size of the buffer for a name and a zero.
@@ -41,7 +41,7 @@ pub extern "C" fn vicinity_fault_name(fault: u32, name: &mut VicinityName) -> u3
 }
 
 /// The name of a fault.
-pub(crate) fn fault_name(fault: u32) -> &'static str
+fn fault_name(fault: u32) -> &'static str
     ensures name { result.now ≡ spec.fault_name fault }
     ensures short { length result.now ≤ 16 }
 {
@@ -78,7 +78,6 @@ fn kind_name(kind: u32) -> &'static str
         5 => "doubtful",
         6 => "impossible",
         7 => "refused",
-        12 => "listed",
         _ => "",
     }
 }
@@ -99,7 +98,6 @@ fn line_fault_name(fault: u32) -> &'static str
         8 => "SlotOutsideRound",
         9 => "EntryAfterList",
         10 => "DuplicateListed",
-        11 => "NotListed",
         _ => "",
     }
 }

@@ -2,16 +2,12 @@
 
 ghost use Rattle.std.specs.Prelude.{◌≡◌, ◌≢◌};
 ghost use Rattle.vic_answer.specs.CheckText.{HasCompleteList};
-ghost use Rattle.vic_answer.specs.FindingNumbers.{AreReportedNumbersFor};
-ghost use Rattle.vic_answer.specs.Numbers.{AreNumbersFor, no_answer};
-ghost use Rattle.vicinity_c.specs.Beside.{ListsBeside, with_listed};
+ghost use Rattle.vic_numbers.specs.FindingNumbers.{AreReportedNumbersFor};
+ghost use Rattle.vic_numbers.specs.Numbers.{AreNumbersFor, no_answer};
 
-use crate::lines::with_listed;
 use std::alloc::Global;
-use vic_answer::{
-    NO_ANSWER, VicinityAnswer, VicinityFinding, answer_of, answer_text, copy_list, findings_of,
-    numbers_of,
-};
+use vic_answer::{answer_of, answer_text, findings_of};
+use vic_numbers::{NO_ANSWER, VicinityAnswer, VicinityFinding, copy_findings, numbers_of};
 
 /// Judges the log that a text spells, as `vicinity_check` does, and returns every finding: the
 /// lines that `vicinity report` writes, in the same order. `needed` is how many there are: none if
@@ -40,44 +36,14 @@ pub extern "C" fn vicinity_report(
     let Ok(list) = findings_of(alloc, &reported) else {
         return refuse(answer, needed);
     };
-    *needed = copy_list(list.as_slice(), findings);
+    *needed = copy_findings(list.as_slice(), findings);
     let numbers = numbers_of(&answer_of(&reported));
     *answer = numbers;
     numbers.status
 }
 
-/// Judges and reports on the log of a text with a list of UIDs after it, as `vicinity_check_listed`
-/// and `vicinity_report` do.
-#[unsafe(no_mangle)]
-pub extern "C" fn vicinity_report_listed(
-    alloc: Global,
-    text: &[u8],
-    uids: &[u64],
-    answer: &mut VicinityAnswer,
-    findings: &mut [VicinityFinding],
-    needed: &mut usize,
-) -> u32
-    ensures answer { answer.new.kind ≢ 0
-        → AreNumbersFor (with_listed text.now uids.now) answer.new }
-    ensures whole { answer.new.kind ≡ 1
-        → HasCompleteList (with_listed text.now uids.now) answer.new.count }
-    ensures list { answer.new.kind ≡ 1 → ListsBeside text.now uids.now answer.new.count }
-    ensures reported { answer.new.kind ≢ 0
-        → AreReportedNumbersFor (with_listed text.now uids.now) answer.new needed.new
-        findings.old findings.new }
-    ensures no_answer { answer.new.kind ≡ 0 → answer.new ≡ no_answer }
-    ensures no_findings { answer.new.kind ≡ 0
-        → (needed.new ≡ 0) × (findings.new ≡ findings.old) }
-    ensures status { result ≡ answer.new.status }
-{
-    match with_listed(alloc, text, uids) {
-        Ok(whole) => vicinity_report(alloc, whole.as_slice(), answer, findings, needed),
-        Err(_) => refuse(answer, needed),
-    }
-}
-
 /// Returns no answer and no findings: memory was refused.
-pub(crate) fn refuse(answer: &mut VicinityAnswer, needed: &mut usize) -> u32
+fn refuse(answer: &mut VicinityAnswer, needed: &mut usize) -> u32
     ensures answer { answer.new ≡ no_answer }
     ensures needed { needed.new ≡ 0 }
     ensures status { result ≡ no_answer.status }

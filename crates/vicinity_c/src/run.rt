@@ -5,8 +5,8 @@ ghost use Rattle.vicinity_c.specs.Run as spec;
 
 use crate::given::{names_in, texts_in};
 use std::alloc::{AllocError, Global};
-use vic_answer::{NO_ANSWER, copy_list};
 use vic_commands::{Command, Told, told_of};
+use vic_numbers::{NO_ANSWER, copy_list};
 
 /// The line that the program writes to standard error where words are no command with its operands.
 const USAGE_LINE: &str = "vicinity: usage\n";

@@ -4,7 +4,8 @@ ghost use Rattle.std.specs.Prelude.{◌≡◌, ◌≢◌};
 ghost use Rattle.vicinity_c.specs.Simulated.{IsSimulatedInto};
 
 use std::alloc::Global;
-use vic_answer::{NO_ANSWER, copy_list, simulate_text};
+use vic_answer::simulate_text;
+use vic_numbers::{NO_ANSWER, copy_list};
 
 /// Fills in the slots of the log that a text spells, as the tags that it lists would answer, and
 /// returns what `vicinity simulate` writes: the log's text, or the line of a refusal. `needed` is

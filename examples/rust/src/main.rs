@@ -1,5 +1,5 @@
 //! Checks a log, FILE or standard input; shows how sure a complete list is, or a counterexample. If
-//! logs follow, reconciles these with the list of FILE, and shows every finding:
+//! logs follow, reconciles these with the list of FILE, as vicinity reconcile:
 //! vicinity-check [FILE [LOG ..]]
 
 use std::error::Error;
@@ -7,7 +7,7 @@ use std::ffi::OsString;
 use std::fmt::Display;
 use std::io::{Read, Write};
 use std::process::ExitCode;
-use vicinity::{Answer, SurveyError, TextError};
+use vicinity::Command;
 
 fn read(file: Option<&OsString>) -> std::io::Result<Vec<u8>> {
     match file {
@@ -25,7 +25,8 @@ fn note(line: impl Display) {
     let _ = writeln!(std::io::stderr(), "{line}");
 }
 
-fn check(text: &[u8]) -> Result<Answer, Box<dyn Error>> {
+/// The line of the answer, and its status.
+fn check(text: &[u8]) -> Result<(Vec<u8>, u8), Box<dyn Error>> {
     let explained = vicinity::explain(text)?;
     for uid in explained.population {
         note(format_args!("U {uid}"));
@@ -41,41 +42,25 @@ fn check(text: &[u8]) -> Result<Answer, Box<dyn Error>> {
             }
         }
     }
-    Ok(explained.answer)
+    Ok((format!("{}\n", explained.answer).into_bytes(), explained.answer.status()))
 }
 
-fn reconcile(list: &[u8], logs: &[OsString]) -> Result<Answer, Box<dyn Error>> {
-    let expected = vicinity::listed(list)?;
-    let mut surveys = Vec::new();
-    for log in logs {
-        surveys.push(vicinity::survey(&std::fs::read(log)?)?);
-    }
-    let told = vicinity::reconcile(&expected, &surveys)?;
-    for finding in told.findings {
-        note(finding);
-    }
-    Ok(told.answer)
+/// What the program writes, and its status.
+fn reconcile(files: &[OsString]) -> Result<(Vec<u8>, u8), Box<dyn Error>> {
+    let names: Vec<_> = files.iter().map(|file| file.to_string_lossy()).collect();
+    let texts = files.iter().map(std::fs::read).collect::<Result<Vec<_>, _>>()?;
+    let given: Vec<(&str, &[u8])> =
+        names.iter().zip(&texts).map(|(name, text)| (&**name, &text[..])).collect();
+    let told = vicinity::run(Command::Reconcile, &given)?;
+    Ok((told.text, told.status))
 }
 
-fn run(files: &[OsString]) -> Result<Answer, Box<dyn Error>> {
-    let text = read(files.first())?;
-    if files.len() > 1 {
-        reconcile(&text, &files[1..])
-    } else {
-        check(&text)
-    }
-}
-
-/// The status of the program for a text that is refused or impossible.
-fn status_of(error: &(dyn Error + 'static)) -> Option<u8> {
-    if let Some(TextError::Refused { .. }) = error.downcast_ref() {
-        return Some(3);
-    }
-    match error.downcast_ref()? {
-        SurveyError::Refused { .. } => Some(3),
-        SurveyError::Impossible { .. } => Some(2),
-        SurveyError::OutOfMemory => None,
-    }
+/// Shows an answer. One that can't be written is none; only a closed stream is no error for std.
+fn run(files: &[OsString]) -> Result<ExitCode, Box<dyn Error>> {
+    let (text, status) =
+        if files.len() > 1 { reconcile(files)? } else { check(&read(files.first())?)? };
+    std::io::stdout().write_all(&text)?;
+    Ok(ExitCode::from(status))
 }
 
 fn main() -> ExitCode {
@@ -83,20 +68,8 @@ fn main() -> ExitCode {
     if !vicinity::fits() {
         return ExitCode::from(4);
     }
-    let ended = run(&files).and_then(|answer| shown(&answer, answer.status()));
-    ended
-        .or_else(|error| match status_of(&*error) {
-            Some(status) => shown(&error, status),
-            None => Err(error),
-        })
-        .unwrap_or_else(|error| {
-            note(error);
-            ExitCode::from(4)
-        })
-}
-
-/// Shows an answer. One that can't be written is none; only a closed stream is no error for std.
-fn shown(answer: &dyn Display, status: u8) -> Result<ExitCode, Box<dyn Error>> {
-    writeln!(std::io::stdout(), "{answer}")?;
-    Ok(ExitCode::from(status))
+    run(&files).unwrap_or_else(|error| {
+        note(error);
+        ExitCode::from(4)
+    })
 }

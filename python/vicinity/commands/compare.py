@@ -1,125 +1,125 @@
-"""`compare`: what has changed between two answers of `reconcile --json`."""
+"""`compare`: what has changed between two answers of `collection --json`."""
 from __future__ import annotations
 
 import argparse
 import json
 import os
-from typing import Any, Callable, Mapping, NamedTuple
+from collections import defaultdict
+from typing import Any, Callable, Iterator, Mapping, NamedTuple
 
-from .._fields import SCHEMA, list_of
-from .._process import REFUSED, complain, read, shown, write
-from ..collections.collection import State
-from ..collections.tables import Wrong
-from ..frames import parse_uid, uid_text
+from .._collections import as_object
+from .._objects import SCHEMA, Object
+from .._process import REFUSED, complain, read, shown, tell_terminal, write
+from .summary import summary
 
-FOUND = State.THERE, State.MISPLACED
-#: The changes of items in the order in which they are written.
-CHANGES = ("newly missing", "no longer provable", "moved", "back again", "provable again",
-           "newly unexpected", "no longer unexpected", "newly expected", "no longer expected")
+#: The state of an item of the other answer alone.
+GONE, UNEXPECTED = "not in the catalogue", "unexpected"
+#: Columns whose cells aren't told beside a UID.
+COLUMNS = "uid", "away"
 
-#: An item of an answer, as JSON has it, and one that isn't there.
-Said = Mapping[str, Any]
-NONE: Said = {"state": None, "certain_in": [], "columns": {}}
+
+class Item(NamedTuple):
+    """An item of an answer, or a tag that the catalogue hasn't: its state, the logs in which it is
+    certain, its place, and other cells that aren't blank, by their columns."""
+
+    state: str = GONE
+    logs: tuple[str, ...] = ()
+    place: str = ""
+    cells: Mapping[str, str] = {}
+
+
+class Answer(NamedTuple):
+    """An answer: what is said of all, of each log and each place, and its items. Those of a UID or,
+    without one, with equal cells, are in their order."""
+
+    said: Mapping[str, str]
+    items: Mapping[str, list[Item]]
 
 
 class Change(NamedTuple):
-    """What has changed of an item: as it was, and as it is."""
-
-    what: str
     uid: str
-    old: Said
-    new: Said
+    old: Item
+    new: Item
 
 
 def compare(asked: argparse.Namespace) -> int:
     """Writes what has changed, and returns 1 if anything has."""
-    try:
-        (old, old_logs, old_aside), (new, new_logs, new_aside) = map(_answer, asked.names)
-    except Wrong as wrong:
-        complain(str(wrong))
+    objects = [as_object(read(name)) for name in asked.names]
+    if None in objects:
+        complain(f"{shown(asked.names[objects.index(None)])} "
+                 "isn't an answer as `collection --json` writes it")
         return REFUSED
-    # folders are often named after the day: without them if that tells the logs apart
-    is_short = all(len({os.path.basename(log) for log in logs}) == len(set(logs))
-                   for logs in (old_logs, new_logs))
-
-    def name(log: str) -> str:
-        return os.path.basename(log) if is_short else log
-
-    items = ((uid, old.get(uid, NONE), new.get(uid, NONE)) for uid in old.keys() | new.keys())
-    changes = [Change(what, uid, was, now) for uid, was, now in items
-               if (what := _change(was, now, name))]
-    changes.sort(key=lambda it: (CHANGES.index(it.what), it.uid))
-    aside, counted = set(map(name, old_aside)), set(map(name, new_logs))
-    to_ask = {name(log) for log, is_open in old_logs.items() if is_open}
-    logs = [("newly set aside", log) for log in new_aside if name(log) not in aside]
-    logs += [("no longer counted", log) for log in old_logs if name(log) not in counted]
-    logs += [("not counted to the end", log) for log, is_open in new_logs.items()
-             if is_open and log not in new_aside and name(log) not in to_ask]
-    status = int(bool(changes or logs))
+    old, new = (_answer(it, _names(objects)) for it in objects if it)
+    said = [(what, old.said.get(what, ""), new.said.get(what, ""))
+            for what in {**old.said, **new.said}]
+    said = [(what, was, now) for what, was, now in said if was != now]
+    changes = list(_changes(old, new))
+    status = int(bool(said or changes))
     if asked.form == "json":
-        said = {"schema": SCHEMA, "status": status, "changes": list(map(_object, changes)),
-                "logs": [{"change": what, "file": log} for what, log in logs]}
-        write([json.dumps(said) + "\n"])
+        write([json.dumps({"schema": SCHEMA, "status": status, "said": [
+            {"of": what, "was": was or None, "is": now or None} for what, was, now in said],
+            "changes": list(map(_object, changes))}), "\n"])
     else:
-        write([*(f"{what} {shown(log)}\n" for what, log in logs), *map(_line, changes)])
+        write([*(f"{shown(what)}: {shown(now or 'none')}, was {shown(was or 'none')}\n"
+                 for what, was, now in said), *map(_line, changes)])
+        tell_terminal(f"{line}\n" for line in summary(
+            (it.new.place or it.old.place, it.new.state) for it in changes))
     return status
 
 
-def _answer(name: str) -> tuple[Mapping[str, Said], Mapping[str, bool], list[str]]:
-    """The answer of `reconcile` in a file: its items by their UIDs, its logs, with whether anything
-    is left to ask in their fields, and those of them that are set aside. Raises Wrong."""
-    try:
-        said = json.loads(read(name))
-        items = {uid_text(parse_uid(it["uid"])): it
-                 for it in list_of(said["items"]) if it["uid"] is not None}
-        for item in items.values():
-            State(item["state"]), item["columns"].values(), _names(item["certain_in"])
-        if said["schema"] != SCHEMA:
-            raise ValueError
-        logs, aside = (_names([it["file"] for it in list_of(said[key])])
-                       for key in ("logs", "set_aside"))
-        return items, dict(zip(logs, (bool(it.get("open")) for it in said["logs"]))), aside
-    except (ValueError, KeyError, TypeError, AttributeError, RecursionError):
-        raise Wrong(f"{shown(name)} isn't an answer as `reconcile --json` writes it") from None
+def _names(objects: list[Any]) -> Callable[[str], str]:
+    """How a log is named: without its folder, which is often named after the day, if that tells
+    the logs of each answer apart."""
+    is_short = all(len({os.path.basename(log["name"]) for log in it["logs"]}) == len(it["logs"])
+                   for it in objects)
+    return lambda name: os.path.basename(name) if is_short else name
 
 
-def _names(said: Any) -> list[str]:
-    """Names of logs. Raises ValueError if they aren't."""
-    if not all(isinstance(name, str) for name in list_of(said)):
-        raise ValueError
-    return list_of(said)
+def _answer(told: Object, name: Callable[[str], str]) -> Answer:
+    logs = [name(log["name"]) for log in told["logs"]]
+    said = {"status": str(told["status"]), "answer": told["answer"],
+            **{f"place {place}": "no log" for place in told["without_log"]},
+            **{f"log {it}": _field(log) for it, log in zip(logs, told["logs"])}}
+    items: dict[str, list[Item]] = defaultdict(list)
+    for it in [*told["items"], *told["unexpected"]]:
+        cells = {column.strip(): cell.strip() for column, cell
+                 in zip(told["columns"], it.get("cells", ())) if cell.strip()}
+        key = it["uid"] or "none " + json.dumps(cells)
+        items[key].append(Item(
+            it.get("state", UNEXPECTED), tuple(logs[log] for log in it["certain_in"]),
+            it.get("place") or "", {column: cell for column, cell in cells.items()
+                                    if column.lower() not in COLUMNS}))
+    return Answer(said, items)
 
 
-def _change(old: Said, new: Said, name: Callable[[str], str]) -> str:
-    """What has changed of an item, or nothing."""
-    was, now = old["state"], new["state"]
-    if was is None and now == State.MISSING:
-        return "newly missing"
-    if was is None or now is None:
-        of_state = "unexpected" if State.UNEXPECTED in (was, now) else "expected"
-        return f"{'newly' if was is None else 'no longer'} {of_state}"
-    if now == was or now in FOUND and was in FOUND:
-        before, after = ({name(log) for log in it["certain_in"]} for it in (old, new))
-        return "moved" if before and after and before.isdisjoint(after) else ""
-    if now in FOUND:
-        back = {State.MISSING: "back again", State.NOT_PROVABLE: "provable again"}
-        return back.get(was, "newly expected")
-    gone = {State.MISSING: "newly missing", State.NOT_PROVABLE: "no longer provable"}
-    return gone.get(now, "newly unexpected")
+def _field(log: Object) -> str:
+    """What is said of a log."""
+    return "{field}{}{}".format(", not to its end" * bool(log.get("open")),
+                                ", left over" * log["left_over"], **log)
+
+
+def _changes(old: Answer, new: Answer) -> Iterator[Change]:
+    """Items in another state, or in logs of other names, by their new state and their UIDs."""
+    found = []
+    for key in {**old.items, **new.items}:
+        these, those = old.items.get(key, []), new.items.get(key, [])
+        for at in range(max(len(these), len(those))):
+            was, now = (items[at] if at < len(items) else Item() for items in (these, those))
+            has_moved = was.logs and now.logs and not {*was.logs} & {*now.logs}
+            if was.state != now.state or has_moved:
+                found.append(Change(key.split(" ")[0], was, now))
+    return iter(sorted(found, key=lambda it: (it.new.state, it.old.state, it.uid)))
 
 
 def _line(change: Change) -> str:
-    was_in, is_in = (" and ".join(map(shown, item["certain_in"]))
-                     for item in (change.old, change.new))
-    to = f" {'to' if was_in else 'in'} {is_in}" * bool(is_in)
-    where = "" if was_in == is_in else f" from {was_in}" * bool(was_in) + to
-    columns = (change.old if change.new is NONE else change.new)["columns"]
-    cells = ", ".join(filter(None, map(str, columns.values())))
-    return f"{change.what} {change.uid}{where}{': ' * bool(cells)}{shown(cells)}\n"
+    (was, was_in), (now, is_in) = (
+        (it.state, f" in {' and '.join(map(shown, it.logs))}" if it.logs else "")
+        for it in (change.old, change.new))
+    cells = ", ".join((change.new.cells or change.old.cells).values())
+    return f"{now} {change.uid}{is_in}, was {was}{was_in}{': ' * bool(cells)}{shown(cells)}\n"
 
 
 def _object(change: Change) -> dict[str, object]:
     old, new = change.old, change.new
-    return {"change": change.what, "uid": change.uid, "was": old["state"], "is": new["state"],
-            "was_in": old["certain_in"], "is_in": new["certain_in"],
-            "columns": (old if new is NONE else new)["columns"]}
+    return {"uid": None if change.uid == "none" else change.uid, "was": old.state, "is": new.state,
+            "was_in": old.logs, "is_in": new.logs, "columns": new.cells or old.cells}

@@ -8,9 +8,9 @@ from collections import defaultdict
 from io import BytesIO
 from typing import Iterator, Mapping, NamedTuple, Sequence
 
-from .._calls import HEADER, check, listed, simulate
+from .._calls import check, simulate
 from .._process import REFUSED, read_log, write
-from ..frames import read_response, write_line, write_response
+from ..frames import HEADER_LINE, parse_uid, read_response, write_line, write_response
 
 OUTCOMES = frozenset(b"SCRDHN")
 #: A slot, by the number of its request, and its own in the round.
@@ -49,9 +49,9 @@ def misread(asked: argparse.Namespace) -> int:
     if answer.status == REFUSED or made.status:
         write([f"{answer}\n" if answer.status == REFUSED else made.text])
         return REFUSED
-    uids = listed(b"".join(line for line in lines if line[:1] in b"vU"))
-    reader = Reader(asked.capture, asked.miss, asked.noise, text.startswith(HEADER),
-                    random.Random(asked.seed))
+    uids = [parse_uid(line[2:].decode()) for line in lines if line[:1] == b"U"]
+    reader = Reader(asked.capture, asked.miss, asked.noise,
+                    text.startswith(HEADER_LINE.rstrip()), random.Random(asked.seed))
     write(_written(lines, _answering(requests, uids), reader))
     return 0
 

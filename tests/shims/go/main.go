@@ -6,7 +6,7 @@ import (
 	"os"
 	"strconv"
 
-	"vicinity"
+	"vicinity/v2"
 )
 
 func main() {

@@ -104,172 +104,50 @@ extern "C" {
     pub fn vicinity_version() -> u32;
     pub fn vicinity_check(text: *const u8, text_len: usize, answer: *mut vicinity_answer) -> u32;
     pub fn vicinity_explain(
-        text: *const u8,
-        text_len: usize,
-        answer: *mut vicinity_answer,
-        population: *mut u64,
-        room: usize,
-        needed: *mut usize,
+        text: *const u8, text_len: usize, answer: *mut vicinity_answer, population: *mut u64,
+        room: usize, needed: *mut usize,
     ) -> u32;
     pub fn vicinity_report(
-        text: *const u8,
-        text_len: usize,
-        answer: *mut vicinity_answer,
-        findings: *mut vicinity_finding,
-        room: usize,
-        needed: *mut usize,
+        text: *const u8, text_len: usize, answer: *mut vicinity_answer,
+        findings: *mut vicinity_finding, room: usize, needed: *mut usize,
     ) -> u32;
     pub fn vicinity_check_listed(
-        text: *const u8,
-        text_len: usize,
-        uids: *const u64,
-        count: usize,
+        text: *const u8, text_len: usize, uids: *const u64, count: usize,
         answer: *mut vicinity_answer,
-    ) -> u32;
-    pub fn vicinity_explain_listed(
-        text: *const u8,
-        text_len: usize,
-        uids: *const u64,
-        count: usize,
-        answer: *mut vicinity_answer,
-        population: *mut u64,
-        room: usize,
-        needed: *mut usize,
-    ) -> u32;
-    pub fn vicinity_report_listed(
-        text: *const u8,
-        text_len: usize,
-        uids: *const u64,
-        count: usize,
-        answer: *mut vicinity_answer,
-        findings: *mut vicinity_finding,
-        room: usize,
-        needed: *mut usize,
     ) -> u32;
     pub fn vicinity_margin(
-        text: *const u8,
-        text_len: usize,
-        answer: *mut vicinity_answer,
+        text: *const u8, text_len: usize, answer: *mut vicinity_answer,
         weakest: *mut vicinity_weakest,
     ) -> u32;
     pub fn vicinity_margin_listed(
-        text: *const u8,
-        text_len: usize,
-        uids: *const u64,
-        count: usize,
-        answer: *mut vicinity_answer,
-        weakest: *mut vicinity_weakest,
-    ) -> u32;
-    pub fn vicinity_overlooked(
-        text: *const u8,
-        text_len: usize,
-        uids: *const u64,
-        count: usize,
-        answer: *mut vicinity_answer,
-        places: *mut u32,
-        room: usize,
-    ) -> u32;
-    pub fn vicinity_certain(
-        text: *const u8,
-        text_len: usize,
-        answer: *mut vicinity_answer,
-        certain: *mut u64,
-        room: usize,
-        needed: *mut usize,
-    ) -> u32;
-    pub fn vicinity_open_masks(
-        text: *const u8,
-        text_len: usize,
-        answer: *mut vicinity_answer,
-        masks: *mut vicinity_mask,
-        room: usize,
-        needed: *mut usize,
-    ) -> u32;
-    pub fn vicinity_survey(
-        text: *const u8,
-        text_len: usize,
-        answer: *mut vicinity_answer,
-        certain: *mut u64,
-        certain_room: usize,
-        certain_needed: *mut usize,
-        masks: *mut vicinity_mask,
-        mask_room: usize,
-        masks_needed: *mut usize,
-    ) -> u32;
-    pub fn vicinity_listed(
-        text: *const u8,
-        text_len: usize,
-        answer: *mut vicinity_answer,
-        uids: *mut u64,
-        room: usize,
-        needed: *mut usize,
-    ) -> u32;
-    pub fn vicinity_reconcile(
-        expected: *const u64,
-        count: usize,
-        certain: *const u64,
-        certain_count: usize,
-        masks: *const vicinity_mask,
-        mask_count: usize,
-        answer: *mut vicinity_answer,
-        findings: *mut vicinity_finding,
-        room: usize,
-        needed: *mut usize,
+        text: *const u8, text_len: usize, uids: *const u64, count: usize,
+        answer: *mut vicinity_answer, weakest: *mut vicinity_weakest,
     ) -> u32;
     pub fn vicinity_simulate(
-        text: *const u8,
-        text_len: usize,
-        filled: *mut u8,
-        room: usize,
-        needed: *mut usize,
+        text: *const u8, text_len: usize, filled: *mut u8, room: usize, needed: *mut usize,
     ) -> u32;
     pub fn vicinity_run(
-        command: u32,
-        names: *const u8,
-        names_len: usize,
-        texts: *const u8,
-        texts_len: usize,
-        lengths: *const usize,
-        count: usize,
-        written: *mut u8,
-        room: usize,
-        needed: *mut usize,
+        command: u32, names: *const u8, names_len: usize, texts: *const u8, texts_len: usize,
+        lengths: *const usize, count: usize, written: *mut u8, room: usize, needed: *mut usize,
     ) -> u32;
     pub fn vicinity_kind_name(kind: u32, name: *mut vicinity_name) -> u32;
     pub fn vicinity_fault_name(fault: u32, name: *mut vicinity_name) -> u32;
     pub fn vicinity_write_inventory(
-        link: u32,
-        slots: u32,
-        mask_len: u32,
-        mask_value: u64,
-        frame: *mut vicinity_frame,
+        link: u32, slots: u32, mask_len: u32, mask_value: u64, frame: *mut vicinity_frame,
     ) -> u32;
     pub fn vicinity_write_stay_quiet(link: u32, uid: u64, frame: *mut vicinity_frame) -> u32;
     pub fn vicinity_write_response(
-        flags: u32,
-        dsfid: u32,
-        uid: u64,
-        frame: *mut vicinity_frame,
+        flags: u32, dsfid: u32, uid: u64, frame: *mut vicinity_frame,
     ) -> u32;
     pub fn vicinity_add_crc(bytes: *const u8, len: usize, frame: *mut vicinity_frame) -> u32;
     pub fn vicinity_read_request(
-        bytes: *const u8,
-        len: usize,
-        request: *mut vicinity_request,
+        bytes: *const u8, len: usize, request: *mut vicinity_request,
     ) -> u32;
     pub fn vicinity_read_response(bytes: *const u8, len: usize, reply: *mut vicinity_reply) -> u32;
     pub fn vicinity_slot_mask(
-        slots: u32,
-        mask_len: u32,
-        mask_value: u64,
-        slot: u32,
-        mask: *mut vicinity_mask,
+        slots: u32, mask_len: u32, mask_value: u64, slot: u32, mask: *mut vicinity_mask,
     ) -> u32;
     pub fn vicinity_write_line(
-        letter: u8,
-        bytes: *const u8,
-        len: usize,
-        uid: u64,
-        line: *mut vicinity_line,
+        letter: u8, bytes: *const u8, len: usize, uid: u64, line: *mut vicinity_line,
     ) -> u32;
 }

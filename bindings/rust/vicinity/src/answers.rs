@@ -1,4 +1,4 @@
-//! Answers, findings, and what a log says of its field.
+//! Answers and findings.
 
 use crate::error::OutOfMemory;
 use crate::fault::Fault;
@@ -82,14 +82,14 @@ pub struct Explained {
     pub population: Vec<Uid>,
 }
 
-/// A finding. Lines count from 1; a finding about many logs has none.
+/// A finding. Lines count from 1.
 #[derive(Clone, Copy, Debug, PartialEq, Eq)]
 #[non_exhaustive]
 pub enum Finding {
     /// The listed UID can't be there: the line rules it out.
-    Absent { uid: Uid, line: Option<u32> },
+    Absent { uid: Uid, line: u32 },
     /// The UID must be there and isn't listed: the line shows it.
-    Unlisted { uid: Uid, line: Option<u32> },
+    Unlisted { uid: Uid, line: u32 },
     /// All UIDs of the mask may be there, and none is listed.
     Unsettled(Mask),
     /// The listed UID may be missing.
@@ -107,7 +107,7 @@ pub enum Finding {
 impl Finding {
     pub(crate) fn of(told: &sys::vicinity_finding) -> Finding {
         let uid = Uid::written(told.uid);
-        let line = (told.line > 0).then(|| told.line);
+        let line = told.line;
         let mask = mask(told.mask_len, told.mask_value);
         match told.kind {
             2 => Finding::Absent { uid, line },
@@ -116,8 +116,8 @@ impl Finding {
             5 => Finding::Doubtful(uid),
             8 => Finding::OpenMask(mask),
             9 => Finding::MoreOpenMasks,
-            10 => Finding::ConflictLine(told.line),
-            11 => Finding::SilencedBy(told.line),
+            10 => Finding::ConflictLine(line),
+            11 => Finding::SilencedBy(line),
             kind => unreachable!("a finding of kind {kind}, which interface 2 doesn't have"),
         }
     }
@@ -170,8 +170,7 @@ pub struct Margin {
 
 impl Margin {
     pub(crate) fn of(
-        told: &sys::vicinity_answer,
-        least: &sys::vicinity_weakest,
+        told: &sys::vicinity_answer, least: &sys::vicinity_weakest,
     ) -> Result<Margin, OutOfMemory> {
         let answer = Answer::of(told)?;
         let weakest = (answer.status < 2).then(|| Weakest {
@@ -181,27 +180,6 @@ impl Margin {
             deaf: (least.has_deaf != 0).then(|| mask(least.deaf_len, least.deaf_value)),
         });
         Ok(Margin { answer, weakest })
-    }
-}
-
-/// What a possible log says of its field, whatever it lists.
-#[derive(Clone, Debug, PartialEq, Eq)]
-pub struct Survey {
-    /// The answer to the log, which says what its list is worth.
-    pub answer: Answer,
-    pub(crate) certain: Vec<Uid>,
-    pub(crate) masks: Vec<sys::vicinity_mask>,
-}
-
-impl Survey {
-    /// The UIDs that must be there, in rising order.
-    pub fn certain(&self) -> &[Uid] {
-        &self.certain
-    }
-
-    /// All masks whose UIDs may be there or not, by length and then by value.
-    pub fn open_masks(&self) -> impl Iterator<Item = Mask> + '_ {
-        self.masks.iter().map(|it| mask(it.len, it.value))
     }
 }
 

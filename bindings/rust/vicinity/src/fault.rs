@@ -65,8 +65,6 @@ numbered! {
         SlotOutsideRound = 8,
         EntryAfterList = 9,
         DuplicateListed = 10,
-        /// Of a text that should only list UIDs: the line has another entry.
-        NotListed = 11,
         FrameShort = 101,
         FrameCrc = 102,
         FrameExtension = 103,

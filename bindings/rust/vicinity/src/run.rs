@@ -1,6 +1,6 @@
 //! What the program does, over texts in memory.
 
-use crate::error::RunError;
+use crate::error::{RunError, SimulateError};
 use vicinity_sys as sys;
 
 /// How many bytes a buffer has at first.
@@ -50,12 +50,16 @@ pub struct Written {
 /// its file.
 ///
 /// ```
-/// use vicinity::Command;
-/// let list = ("list", &b"vicinity-log 1\nU E0040100000000A1\n"[..]);
-/// let shelf = ("shelf", &b"vicinity-log 3\nT 260100F60A\nN\n"[..]);
-/// let told = vicinity::run(Command::Reconcile, &[list, shelf])?;
-/// assert!(told.text.ends_with(b"doubtful E0040100000000A1 in shelf\n"));
+/// use vicinity::{run, Command, RunError};
+/// let empty = ("empty", &b"vicinity-log 3\nT 260100F60A\nS\n"[..]);
+/// let catalogue = ("books.csv", &b"uid,title\nE0040100000000A1,Emma\n"[..]);
+/// let sent = run(Command::Survey, &[empty])?.text;
+/// let told = run(Command::Collection, &[catalogue, ("sent", &sent)])?;
+/// assert!(told.text.ends_with(b"\nE0040100000000A1,Emma,missing,,\n"));
 /// assert_eq!(told.status, 1);
+/// // a part of a survey is none
+/// assert_eq!(run(Command::Collection, &[catalogue, ("sent", &sent[1..])])?.status, 3);
+/// assert_eq!(run(Command::Check, &[]), Err(RunError::Usage));
 /// # Ok::<(), vicinity::RunError>(())
 /// ```
 pub fn run(command: Command, texts: &[(&str, &[u8])]) -> Result<Written, RunError> {
@@ -96,5 +100,16 @@ pub fn run(command: Command, texts: &[(&str, &[u8])]) -> Result<Written, RunErro
             }
             _ => room.resize(needed, 0),
         }
+    }
+}
+
+/// The log that conforming tags would produce: the text has the requests, and lists the tags.
+pub fn simulate(text: &[u8]) -> Result<Vec<u8>, SimulateError> {
+    match run(Command::Simulate, &[("", text)]) {
+        Ok(Written { text, status: 0 }) => Ok(text),
+        Ok(Written { text, .. }) => {
+            Err(SimulateError::Refused(String::from_utf8_lossy(&text).trim_end().to_owned()))
+        }
+        Err(_) => Err(SimulateError::OutOfMemory),
     }
 }

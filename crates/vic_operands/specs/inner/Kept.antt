@@ -1,10 +1,12 @@
 -- What files of a collection have that have no fault.
-use Rattle.std.specs.Prelude.{◌≡◌, ⊤, List, [], ◌∷◌, filter, string_bytes}
+use Rattle.std.specs.Prelude.{◌≡◌, ℕ, ⊤, List, [], ◌∷◌, filter, string_bytes}
 use Rattle.std.specs.List.{All, AllZip}
 use Rattle.vic_survey.specs.Surveys.{SurveyValue}
 use Rattle.vic_table.specs.Table.{IsCatalogueOf}
 use Rattle.vic_table.specs.Values.{PlaceRowValue}
-use Rattle.vic_operands.specs.Files.{ArePlacesIn, File, HaveSurveys, IsFaultOf, IsRight, is_catalogue, is_places}
+use Rattle.vic_operands.specs.Files.{ArePlacesIn, File, HaveSurveys, IsFaultBy, IsRight, is_catalogue, is_places}
+use Rattle.vic_operands.specs.Kinds.{kind_of}
+use Rattle.vic_operands.specs.declared.kind.Kind.{Kind}
 use Rattle.vic_operands.specs.declared.operand.NamedCatalogue.{NamedCatalogue}
 use Rattle.vic_operands.specs.declared.operand.Operand.{Operand}
 use Rattle.vic_operands.specs.declared.operand.Operand.TheVariants as operand
@@ -36,6 +38,9 @@ IsOperandOf f (operand.Catalogue catalogue) = AreKept (f ∷ []) (catalogue ∷ 
 IsOperandOf f (operand.Places rows) = AreKept (f ∷ []) [] (rows ∷ []) []
 
 -- why one isn't read
+abbrev pub RefusesBy : Kind → List ℕ → Unread → Type 0
+RefusesBy kind text (Line line fault) = IsFaultBy kind text line fault
+RefusesBy kind text Memory = ⊤
+
 abbrev pub Refuses : File → Unread → Type 0
-Refuses f (Line line fault) = IsFaultOf f line fault
-Refuses f Memory = ⊤
+Refuses f why = RefusesBy (kind_of f.text) f.text why

@@ -1,5 +1,5 @@
 -- Items as they are kept: with places in the text, and with all names of places in one piece.
-use Rattle.std.specs.Prelude.{ℕ, ◌≤◌, Bool, Option, Some, None, List, [], ◌∷◌, map, slice_range}
+use Rattle.std.specs.Prelude.{ℕ, ◌≤◌, Bool, false, Option, Some, None, List, [], ◌∷◌, map, slice_range}
 use Rattle.std.specs.Option.{ForSome, option_map}
 use Rattle.vic_table.specs.Values.{ItemValue, PlaceRowValue}
 use Rattle.vic_table.specs.declared.item_list.KeptItem.{KeptItem}
@@ -44,6 +44,17 @@ item_values text items = map (value_at text) items
 abbrev pub item_or_none : List ℕ → Option Item → List ItemValue
 item_or_none text None = []
 item_or_none text (Some item) = item_value text item ∷ []
+
+-- the item of a UID in a list
+abbrev pub listed_at : ℕ → ItemAt
+listed_at u = record {
+  line = 0;
+  start = 0;
+  end = 0;
+  uid = Some u;
+  place = None;
+  away = false;
+}
 
 -- the item's row is within a text of so many bytes
 pub record IsWithinText (len : ℕ) (item : ItemAt) : Type 0 where

@@ -8,22 +8,19 @@ use Rattle.clap.specs.declared.builder.action.ArgAction.TheVariants.{Set, Append
 abbrev pub single : Text → Bool → Rule
 single id required = record (new_rule id) { action = Some Set; required = required }
 
--- the operands from there on
-abbrev pub several : Bool → Rule
-several required = record (new_rule (codes "words")) {
+-- one operand or more
+abbrev pub several : Rule
+several = record (new_rule (codes "words")) {
   action = Some Append;
   range = Some (record { start_inclusive = 1; end_inclusive = usize_max });
-  required = required;
+  required = true;
 }
 
 abbrev pub with_operand : Text → Text → Bool → App
 with_operand name id required = with_rule (new_app name) (single id required)
 
 abbrev pub with_words : Text → App
-with_words name = with_rule (new_app name) (several true)
-
-abbrev pub with_files : Text → App
-with_files name = with_rule (with_rule (new_app name) (single (codes "file") true)) (several false)
+with_words name = with_rule (new_app name) several
 
 abbrev pub program : App
 program = record (new_app (codes "vicinity")) {
@@ -44,7 +41,7 @@ file_commands = with_file (with_file (with_file (with_file (with_file (with_file
 
 abbrev pub operand_commands : App
 operand_commands = with_subcommand (with_subcommand file_commands
-    (with_operand (codes "frame") (codes "hex") true).top) (with_files (codes "reconcile")).top
+    (with_operand (codes "frame") (codes "hex") true).top) (with_words (codes "reconcile")).top
 
 abbrev pub files_commands : App
 files_commands = with_subcommand

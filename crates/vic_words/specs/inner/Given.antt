@@ -7,7 +7,7 @@ use Rattle.vic_answer.specs.declared.task.Task.{Task}
 use Rattle.vic_answer.specs.declared.task.Task.TheVariants.{Check, Simulate, Explain, Report, Margin, Frame, Spell}
 use Rattle.vic_words.specs.Words.{Text, files_name, is_end_of_options}
 use Rattle.vic_words.specs.declared.asked.Asked.{Asked}
-use Rattle.vic_words.specs.declared.asked.Asked.TheVariants.{Task as OneTask, Reconcile, Json, Files}
+use Rattle.vic_words.specs.declared.asked.Asked.TheVariants.{Task as OneTask, Json, Files}
 
 -- the words begin with `--`
 abbrev pub begins_with_end : List Text → Bool
@@ -52,9 +52,6 @@ TaskAsks name rows task = FileAsks name (first_of (codes "file") rows) task
 
 abbrev pub RowsAsk : Text → List Row → Asked → Type 0
 RowsAsk name rows (OneTask task) = TaskAsks name rows task
-RowsAsk name rows (Reconcile list logs) =
-    (name ≡ codes "reconcile") × (first_of (codes "file") rows ≡ Some (string_bytes list))
-    × (map string_bytes logs.items ≡ words_found rows)
 RowsAsk name rows (Json file) =
     (name ≡ codes "json") × (first_of (codes "file") rows ≡ option_map string_bytes file)
 RowsAsk name rows (Files command files) =

@@ -1,7 +1,10 @@
 use Rattle.std.proofs.lemmas.Result.{IfOk-weaker}
+use Rattle.vic_operands.proofs.Alone.{usage_alone}
+use Rattle.vic_operands.specs.Gathered.{IsGathered}
+use Rattle.vic_commands.proofs.CollectedLaws.{collected-told}
 use Rattle.vic_commands.proofs.collected.told_of_files.Goals as goal
 
 pub returns : goal.returns
 returns c =
     IfOk-weaker c.told_of_gathered.result _ _ (λ told h names texts taken.
-    h names texts taken.0 taken.1 (c.in_ok-gathered.ensures taken.0 taken.2)) c.told_of_gathered.ensures
+    collected-told IsGathered usage_alone c.args.form names texts taken.0 c.in_ok-gathered.gathered told taken.1 (c.in_ok-gathered.ensures taken.0 taken.2) h) c.told_of_gathered.ensures

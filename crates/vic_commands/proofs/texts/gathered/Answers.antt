@@ -1,7 +1,7 @@
 use Rattle.std.proofs.Common.{◌≡◌, ◌∙◌, ◌++◌, ◌+◌, ◌<◌, ℕ, List, [], ◌∷◌, ap, arith, length, map, string_bytes, sym, take}
 use Rattle.std.proofs.lemmas.List.{get_or-map, length-map, take_all, take_more}
 use Rattle.std.proofs.lemmas.Result.{IfOk-weaker}
-use Rattle.vic_answer.proofs.TextsSoFar.{take_now-more}
+use Rattle.vic_commands.proofs.TextsSoFar.{take_now-more}
 use Rattle.vic_commands.proofs.Tellings.{told-named}
 use Rattle.vic_commands.proofs.texts.gathered.Goals as goal
 use denote.Ref.{Bor}

@@ -1,4 +1,5 @@
 use Rattle.vic_operands.proofs.GatheringLaws.{named_more, unnamed_before, wrong_before}
+use Rattle.vic_operands.specs.Kinds.{kind_of}
 use Rattle.vic_operands.proofs.operands.state_with.Goals as goal
 
 pub returns-in-Unnamed : goal.returns-in-Unnamed
@@ -7,4 +8,4 @@ returns-in-Unnamed c files h name = unnamed_before files _ (rw c.in-Unnamed.is a
 pub returns-in-Refused : goal.returns-in-Refused
 returns-in-Refused c files h name =
     let was = rw c.in-Refused.is at h in
-    (named_more files _ was.0 name, wrong_before files _ c.in-Refused.refusal was.1)
+    (named_more files _ was.0 name, wrong_before kind_of files _ c.in-Refused.refusal was.1)

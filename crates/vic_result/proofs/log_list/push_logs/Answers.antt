@@ -1,9 +1,32 @@
-use Rattle.vic_result.proofs.Words.{◌<◌, length, List, slice_get, subst}
+use Rattle.vic_result.proofs.Words.{◌≡◌, ◌<◌, length, List, refl, slice_get, slice_get_read, subst, sym}
+use Rattle.std.proofs.lemmas.Slice.Zip.{AllZip-long}
 use Rattle.vic_survey.specs.Surveys.{SurveyValue}
+use Rattle.vic_collection.specs.Findings.{AreOpenMasksOf}
 use Rattle.vic_result.specs.inner.Logs.{AddsLog}
 use Rattle.vic_result.proofs.Commas.{log_next}
-use Rattle.vic_result.proofs.Elements.{item_at, some_at}
+use Rattle.vic_result.proofs.Elements.{item_at, some_and, some_at, zip_at}
 use Rattle.vic_result.proofs.log_list.push_logs.Goals as goal
+
+pub bounds-masks-index : goal.bounds-masks-index
+bounds-masks-index c =
+    let C = c.args.collection.now in
+    let i = c.loop-index.index in
+    let masks = c.args.masks.now in
+    let lt : i < length C.surveys = subst (λ (ss : List SurveyValue). i < length ss) c.surveys-index-end.ensures c.loop-index-test.true in
+    let long : length masks ≡ length C.surveys = AllZip-long (AreOpenMasksOf C) C.surveys masks c.requires in
+    subst (λ n. i < n) (sym long) lt
+
+pub push_one-requires-clause-masks : goal.push_one-requires-clause-masks
+push_one-requires-clause-masks c =
+    let C = c.args.collection.now in
+    let i = c.loop-index.index in
+    let masks = c.args.masks.now in
+    let o = c.index-masks-index.result in
+    let found = item_at C.surveys i (subst (λ (ss : List SurveyValue). i < length ss) c.surveys-index-end.ensures c.loop-index-test.true) in
+    let long : length masks ≡ length C.surveys = AllZip-long (AreOpenMasksOf C) C.surveys masks c.requires in
+    let within : i < length masks = subst (λ n. i < n) (sym long) (subst (λ (ss : List SurveyValue). i < length ss) c.surveys-index-end.ensures c.loop-index-test.true) in
+    let there = slice_get_read masks (length masks) i o refl within c.index-masks-index.is in
+    some_and (slice_get C.surveys i) (λ s. AreOpenMasksOf C s o) found.0 found.1 (zip_at (AreOpenMasksOf C) C.surveys masks i found.0 o c.requires found.1 there)
 
 pub loop-index-preserved : goal.loop-index-preserved
 loop-index-preserved c =

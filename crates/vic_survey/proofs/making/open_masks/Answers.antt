@@ -1,14 +1,19 @@
-use Rattle.vic_survey.proofs.ValueWords.{[]}
+use Rattle.vic_survey.proofs.ValueWords.{[], List, BitMask}
+use Rattle.std.specs.List.{Contains}
 use Rattle.vic_tree.specs.OpenSet.{without_keys}
 use Rattle.vic_tree.specs.Ranges.{is_open_in}
-use Rattle.vic_survey.specs.inner.Kept.{AreKeptOf, HasUidIn}
+use Rattle.vic_survey.specs.inner.Kept.{AreKeptOf}
 use Rattle.vic_survey.proofs.Made.{all_open, if_ok_more, masks_of}
 use Rattle.vic_survey.proofs.making.open_masks.Goals as goal
 
 pub returns : goal.returns
-returns c = if_ok_more (AreKeptOf (HasUidIn (is_open_in c.in_ok-left.left)) c.deref.result.now) _ c.kept_masks.result (λ ms kept es told.
-    masks_of es c.args.facts.now.«open» c.args.facts.now.met c.args.facts.now.certain c.in_ok-keys.keys c.in_ok-left.left c.deref.result.now ms told
-    (rw c.as_slice.ensures.value at c.in_ok-keys.ensures) c.in_ok-left.ensures (rw c.deref.ensures.value (rw c.none.ensures at c.in_ok-masks.ensures)) kept) c.kept_masks.ensures
+returns c =
+    if_ok_more (AreKeptOf (λ m. ¬ (Contains c.in_ok-certain.certain.items m)) c.in_ok-masks.masks.items) _ c.masks_without.result (λ ms kept es told.
+    masks_of es c.args.facts.now.«open» c.args.facts.now.met c.args.facts.now.certain c.in_ok-masks.masks.items c.in_ok-certain.certain.items ms told
+    (rw c.none.ensures at c.in_ok-masks.ensures) (rw c.as_slice.ensures.value at c.in_ok-certain.ensures) kept) (rw c.deref.ensures.value at c.masks_without.ensures)
 
-pub kept_masks-requires : goal.kept_masks-requires
-kept_masks-requires c = all_open (without_keys (is_open_in c.args.facts.now.«open») []) c.deref.result.now (rw c.deref.ensures.value (rw c.none.ensures at c.in_ok-masks.ensures))
+pub masks_without-requires-clause-masks : goal.masks_without-requires-clause-masks
+masks_without-requires-clause-masks c = all_open (without_keys (is_open_in c.args.facts.now.«open») []) c.in_ok-masks.masks.items (rw c.none.ensures at c.in_ok-masks.ensures)
+
+pub masks_without-requires-clause-others : goal.masks_without-requires-clause-others
+masks_without-requires-clause-others c = rw c.deref.ensures.value c.in_ok-certain.ensures.rising

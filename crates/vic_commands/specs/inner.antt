@@ -1,0 +1,2 @@
+-- Definitions that private contracts alone cite.
+pub mod Told

@@ -1,0 +1,49 @@
+-- What is known of the operands of `reconcile` that were taken.
+use Rattle.std.specs.Prelude.{◌≡◌, ℕ, ⊤, true, false, None, List, [], ◌∷◌}
+use Rattle.vic_log.specs.declared.entry.LogLine.{LogLine}
+use Rattle.vic_operands.specs.Files.{File}
+use Rattle.vic_operands.specs.Gathered.{AreNamed}
+use Rattle.vic_operands.specs.Kinds.{is_list}
+use Rattle.vic_operands.specs.Lists.{IsFirstNotListed, IsGatheredBehindList, IsListFault}
+use Rattle.vic_operands.specs.inner.States.{HasTakenBy}
+use Rattle.vic_operands.specs.declared.fault.OperandFault.TheVariants as fault
+use Rattle.vic_operands.specs.declared.gathered.Gathered.{Gathered}
+use Rattle.vic_operands.specs.declared.gathered.Gathered.TheVariants as gathered
+use Rattle.vic_operands.specs.declared.operand.Unread.{Unread}
+use Rattle.vic_operands.specs.declared.operand.Unread.TheVariants.{Line, Memory}
+use Rattle.vic_operands.specs.declared.reconcile_operands.Expecting.{Expecting}
+use Rattle.vic_operands.specs.declared.reconcile_operands.Expecting.TheVariants.{Nothing, Unnamed, Refused, Listed, Collected}
+
+-- why a list isn't read
+abbrev pub RefusesList : List ℕ → Unread → Type 0
+RefusesList text (Line line f) = IsListFault text line f
+RefusesList text Memory = ⊤
+
+-- why lines aren't those of a list
+abbrev pub RefusesLines : List LogLine → Unread → Type 0
+RefusesLines lines (Line n f) = IsFirstNotListed lines n × (f ≡ fault.NotListed)
+RefusesLines lines Memory = ⊤
+
+-- the first file is a list, and it and those behind it are this together
+pub record IsBehindList (files : List File) (gathered : Gathered) : Type 0 where
+  pub list : File
+  pub logs : List File
+  pub split : files ≡ list ∷ logs
+  pub begins : is_list list.text ≡ true
+  pub are : IsGatheredBehindList list logs gathered
+
+-- the first file isn't a list
+pub record BeginsWithNoList (files : List File) : Type 0 where
+  pub first : File
+  pub others : List File
+  pub split : files ≡ first ∷ others
+  pub begins : is_list first.text ≡ false
+
+abbrev pub HasExpected : List File → Expecting → Type 0
+HasExpected files Nothing = files ≡ []
+HasExpected files Unnamed = AreNamed files → ⊥
+HasExpected files (Refused r) = IsBehindList files (gathered.Refused r)
+HasExpected files (Listed l) =
+    IsBehindList files (gathered.Collection
+    (record { catalogue = l.catalogue; rows = None; surveys = l.surveys.items }))
+HasExpected files (Collected operands) = BeginsWithNoList files × HasTakenBy files operands.state

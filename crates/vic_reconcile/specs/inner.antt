@@ -1,2 +1,0 @@
--- Definitions that private contracts alone cite.
-pub mod Joined

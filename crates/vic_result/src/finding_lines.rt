@@ -1,0 +1,275 @@
+//! The lines of each kind of finding.
+
+ghost use Rattle.std.specs.Prelude.{◌≡◌, ◌++◌, OnOk, codes, decimal};
+ghost use Rattle.std.specs.List.{All, flat_map};
+ghost use Rattle.vic_text.specs.Digits.{uid_text};
+ghost use Rattle.vic_collection.specs.Findings.{IsFoundIn};
+ghost use Rattle.vic_collection.specs.declared.state.State.TheVariants.{NotProvable};
+ghost use Rattle.vic_result.specs.NamesAt.{names_at};
+ghost use Rattle.vic_result.specs.ResultLines.{absent_lines, doubtful_lines, ended, first_certain, first_name, first_possible, misplaced_lines, not_counted_lines, place_at, returned_lines, unlisted_lines};
+ghost use Rattle.vic_result.specs.inner.ItemLogs.{ArePossibleLogs};
+
+use crate::answered::{push_words, push_words_uid};
+use crate::names::name_at;
+use crate::table::logs_of_uid;
+use std::alloc::{AllocError, Global};
+use vic_collection::{Collection, FoundItem, PossibleLogs, UnlistedUid};
+use vic_frame::Uid;
+use vic_survey::Survey;
+use vic_text::push_decimal;
+
+/// The name of the first of some logs.
+fn first_name<'a>(surveys: &'a [Survey], logs: &[usize]) -> &'a [u8]
+    ensures { result.now ≡ first_name (names_at surveys.now logs.now) }
+{
+    match logs.first() {
+        Some(log) => name_at(surveys, *log),
+        None => &[],
+    }
+}
+
+/// The first log in which a UID is certain.
+fn first_certain(collection: &Collection, uid: Uid) -> &[u8]
+    ensures { result.now ≡ first_certain collection.now uid }
+{
+    first_name(collection.surveys(), collection.certain_in(uid))
+}
+
+/// The first log in which an item may be that isn't provable.
+fn first_possible<'a>(
+    collection: &'a Collection,
+    possible: &PossibleLogs,
+    found: &FoundItem,
+) -> &'a [u8]
+    requires possible { ArePossibleLogs collection.now possible.now }
+    requires doubtful { IsFoundIn collection.now NotProvable found.now }
+    ensures { result.now ≡ first_possible collection.now found.now.uid }
+{
+    let logs = logs_of_uid(collection, possible, found.uid);
+    first_name(collection.surveys(), logs.possible)
+}
+
+/// The place of an item.
+fn place_at(collection: &Collection, index: usize) -> &[u8]
+    ensures { result.now ≡ place_at collection.now index }
+{
+    let catalogue = collection.catalogue();
+    if index < catalogue.len() {
+        catalogue.place(index).unwrap_or(&[])
+    } else {
+        &[]
+    }
+}
+
+/// Appends a line: words, a UID, more words, and a name.
+fn push_line(
+    text: &mut Vec<u8>,
+    words: &[u8],
+    uid: Uid,
+    joint: &[u8],
+    name: &[u8],
+) -> Result<(), AllocError>
+    ensures { OnOk result (text.new.items ≡ text.old.items
+        ++ ended (words.now ++ uid_text uid ++ joint.now ++ name.now)) }
+{
+    push_words_uid(text, words, uid)?;
+    push_words(text, joint, name)?;
+    text.extend_from_slice(b"\n")
+}
+
+/// Appends a line of an item that is missing.
+fn push_absent_line(text: &mut Vec<u8>, found: &FoundItem) -> Result<(), AllocError>
+    ensures { OnOk result (text.new.items ≡ text.old.items ++ absent_lines found.now) }
+{
+    push_words_uid(text, b"absent ", found.uid)?;
+    text.extend_from_slice(b"\n")
+}
+
+/// Appends the items that are missing.
+pub(crate) fn push_absent(text: &mut Vec<u8>, absent: &[FoundItem]) -> Result<(), AllocError>
+    ensures { OnOk result (text.new.items
+        ≡ text.old.items ++ flat_map absent_lines absent.now) }
+{
+    for found in absent {
+        push_absent_line(text, found)?;
+    }
+    Ok(())
+}
+
+/// Appends the number of a line, and the name of its log, in a line.
+fn push_by_line(text: &mut Vec<u8>, line: u32, name: &[u8]) -> Result<(), AllocError>
+    ensures { OnOk result (text.new.items ≡ text.old.items
+        ++ ended (codes "by line " ++ decimal line ++ codes " of " ++ name.now)) }
+{
+    text.extend_from_slice(b"by line ")?;
+    push_decimal(text, u64::from(line))?;
+    push_words(text, b" of ", name)?;
+    text.extend_from_slice(b"\n")
+}
+
+/// Appends the lines of a UID of no item.
+fn push_unlisted_lines(
+    text: &mut Vec<u8>,
+    collection: &Collection,
+    found: &UnlistedUid,
+) -> Result<(), AllocError>
+    ensures { OnOk result
+        (text.new.items ≡ text.old.items ++ unlisted_lines collection.now found.now) }
+{
+    push_words_uid(text, b"unlisted ", found.uid)?;
+    text.extend_from_slice(b"\n")?;
+    push_by_line(text, found.line, name_at(collection.surveys(), found.log))
+}
+
+/// Appends the UIDs that are certain and of no item.
+pub(crate) fn push_unlisted(
+    text: &mut Vec<u8>,
+    collection: &Collection,
+    unlisted: &[UnlistedUid],
+) -> Result<(), AllocError>
+    ensures { OnOk result (text.new.items ≡ text.old.items
+        ++ flat_map (unlisted_lines collection.now) unlisted.now) }
+{
+    for found in unlisted {
+        push_unlisted_lines(text, collection, found)?;
+    }
+    Ok(())
+}
+
+/// Appends a line of an item that isn't provable.
+fn push_doubtful_line(
+    text: &mut Vec<u8>,
+    collection: &Collection,
+    possible: &PossibleLogs,
+    found: &FoundItem,
+) -> Result<(), AllocError>
+    requires possible { ArePossibleLogs collection.now possible.now }
+    requires doubtful { IsFoundIn collection.now NotProvable found.now }
+    ensures { OnOk result
+        (text.new.items ≡ text.old.items ++ doubtful_lines collection.now found.now) }
+{
+    let name = first_possible(collection, possible, found);
+    push_line(text, b"doubtful ", found.uid, b" in ", name)
+}
+
+/// Appends the items that aren't provable.
+fn push_doubtful(
+    text: &mut Vec<u8>,
+    collection: &Collection,
+    possible: &PossibleLogs,
+    doubtful: &[FoundItem],
+) -> Result<(), AllocError>
+    requires possible { ArePossibleLogs collection.now possible.now }
+    requires doubtful { All (IsFoundIn collection.now NotProvable) doubtful.now }
+    ensures { OnOk result (text.new.items ≡ text.old.items
+        ++ flat_map (doubtful_lines collection.now) doubtful.now) }
+{
+    for found in doubtful {
+        push_doubtful_line(text, collection, possible, found)?;
+    }
+    Ok(())
+}
+
+/// Appends the items that aren't provable, if there are any.
+pub(crate) fn push_all_doubtful(
+    alloc: Global,
+    text: &mut Vec<u8>,
+    collection: &Collection,
+    doubtful: &[FoundItem],
+) -> Result<(), AllocError>
+    requires { All (IsFoundIn collection.now NotProvable) doubtful.now }
+    ensures { OnOk result (text.new.items ≡ text.old.items
+        ++ flat_map (doubtful_lines collection.now) doubtful.now) }
+{
+    if doubtful.is_empty() {
+        return Ok(());
+    }
+    let possible = PossibleLogs::of(alloc, collection)?;
+    push_doubtful(text, collection, &possible, doubtful)
+}
+
+/// Appends a line of an item that is misplaced.
+fn push_misplaced_line(
+    text: &mut Vec<u8>,
+    collection: &Collection,
+    found: &FoundItem,
+) -> Result<(), AllocError>
+    ensures { OnOk result
+        (text.new.items ≡ text.old.items ++ misplaced_lines collection.now found.now) }
+{
+    push_words_uid(text, b"misplaced ", found.uid)?;
+    push_words(text, b" in ", first_certain(collection, found.uid))?;
+    push_words(text, b", belongs to ", place_at(collection, found.item))?;
+    text.extend_from_slice(b"\n")
+}
+
+/// Appends the items that are misplaced.
+pub(crate) fn push_misplaced(
+    text: &mut Vec<u8>,
+    collection: &Collection,
+    misplaced: &[FoundItem],
+) -> Result<(), AllocError>
+    ensures { OnOk result (text.new.items ≡ text.old.items
+        ++ flat_map (misplaced_lines collection.now) misplaced.now) }
+{
+    for found in misplaced {
+        push_misplaced_line(text, collection, found)?;
+    }
+    Ok(())
+}
+
+/// Appends a line of an item that should be away.
+fn push_returned_line(
+    text: &mut Vec<u8>,
+    collection: &Collection,
+    found: &FoundItem,
+) -> Result<(), AllocError>
+    ensures { OnOk result
+        (text.new.items ≡ text.old.items ++ returned_lines collection.now found.now) }
+{
+    let name = first_certain(collection, found.uid);
+    push_line(text, b"returned ", found.uid, b" in ", name)
+}
+
+/// Appends the items that should be away and aren't.
+pub(crate) fn push_returned(
+    text: &mut Vec<u8>,
+    collection: &Collection,
+    returned: &[FoundItem],
+) -> Result<(), AllocError>
+    ensures { OnOk result (text.new.items ≡ text.old.items
+        ++ flat_map (returned_lines collection.now) returned.now) }
+{
+    for found in returned {
+        push_returned_line(text, collection, found)?;
+    }
+    Ok(())
+}
+
+/// Appends a line of an item whose place has no log.
+fn push_not_counted_line(
+    text: &mut Vec<u8>,
+    collection: &Collection,
+    found: &FoundItem,
+) -> Result<(), AllocError>
+    ensures { OnOk result
+        (text.new.items ≡ text.old.items ++ not_counted_lines collection.now found.now) }
+{
+    let place = place_at(collection, found.item);
+    push_line(text, b"not counted ", found.uid, b", belongs to ", place)
+}
+
+/// Appends the items whose place has no log.
+pub(crate) fn push_not_counted(
+    text: &mut Vec<u8>,
+    collection: &Collection,
+    not_counted: &[FoundItem],
+) -> Result<(), AllocError>
+    ensures { OnOk result (text.new.items ≡ text.old.items
+        ++ flat_map (not_counted_lines collection.now) not_counted.now) }
+{
+    for found in not_counted {
+        push_not_counted_line(text, collection, found)?;
+    }
+    Ok(())
+}

@@ -1,1 +1,0 @@
-"""Many logs against one list or catalogue of what should be there."""

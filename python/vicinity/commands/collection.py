@@ -1,0 +1,169 @@
+"""`collection`: many logs against one catalogue. The library writes what it is; here a log is
+surveyed as soon as it is read, so that none is kept."""
+from __future__ import annotations
+
+import argparse
+import codecs
+import json
+import os
+from concurrent.futures import ThreadPoolExecutor
+from hashlib import sha256
+from typing import Any, Iterator, Sequence
+
+from .._native import library
+from .._objects import NOT_COMPLETE, Object, small
+from .._process import (NoAnswer, complain, counted, names_of, read, read_log, shown, tell_terminal,
+                        write)
+from .._run import Written, run
+from .._sentences import advice
+from ..pages.document import document, version
+from ..pages.log import page_object
+from ..sessions.findings import Told
+from ..sessions.words import READ_AGAIN, count, listing
+from .summary import summary
+
+#: How a log begins, unless it is a text of surveys, which begins so; an empty file is a log.
+LOG, SURVEYS = (b"vicinity-", codecs.BOM_UTF8 + b"vicinity-"), b"vicinity-survey "
+#: Which command of the program writes a form.
+OBJECT = "json-collection"
+WRITES = {"lines": "reconcile", "csv": "collection", "json": OBJECT, "page": OBJECT}
+WANTED = ("these aren't the files of a collection: one catalogue, at most one table of places, and "
+          "logs or surveys, with names in UTF-8 and without control characters")
+#: What a terminal is told of a complete collection.
+HEARD = ("This is said of tags that had power, heard the reader, "
+         "and were heard when they answered: one that never answers is in no log.")
+#: States in which nothing is to be done.
+DONE = "in place", "there", "away", "no tag"
+#: How much text of logs stands in a page, and how many logs a sentence names.
+MOST_TEXT, MOST_NAMES = 4_000_000, 20
+
+#: Names of files, each with its text; two may have one name.
+Files = Sequence[tuple[str, bytes]]
+
+
+def collection(asked: argparse.Namespace) -> int:
+    """Writes what logs say of a catalogue, and returns the status."""
+    library()
+    files = _read(names_of(asked), asked.jobs)
+    said, told = _written(WRITES[asked.form], files), dict[str, Any]()
+    is_complete, is_shown = said.status == 0, asked.form == "lines" and os.isatty(2)
+    if OBJECT == WRITES[asked.form] or is_complete and asked.margin or is_shown:
+        written = said.text if OBJECT == WRITES[asked.form] else _written(OBJECT, files).text
+        told = json.loads(written) if written.startswith(b"{") else told
+    less = _less(told, asked.margin) if is_complete and asked.margin else ""
+    if less:
+        told.update(status=NOT_COMPLETE, wanted=asked.margin)
+    if asked.form == "page" and told:
+        write(_page(files, told))
+    elif asked.form == "json" and less:
+        write([json.dumps(told, ensure_ascii=False, separators=(",", ":")), "\n"])
+    else:
+        write([f"{less}\n" if less and asked.form == "lines" else said.text])
+    if less and asked.form == "csv":
+        complain(less)
+    tell_terminal(f"{note}\n" for note in _notes(said, told, is_shown))
+    return NOT_COMPLETE if less else said.status
+
+
+def _read(names: Sequence[str], jobs: int) -> Files:
+    """The texts of files, of logs their surveys. The library's calls run side by side."""
+    with ThreadPoolExecutor(jobs) as pool:
+        each = pool.map(_text, names) if jobs > 1 else map(_text, names)
+        return list(zip(names, counted(each, len(names))))
+
+
+def _text(name: str) -> bytes:
+    """The text of a file, of a log its survey."""
+    try:
+        text = read(name)
+        is_log = not text or text.startswith(LOG) and not text.startswith(SURVEYS)
+        return _survey(name, text) if is_log else text
+    except MemoryError:
+        raise NoAnswer(f"out of memory: {shown(name)}") from None
+
+
+def _survey(name: str, text: bytes) -> bytes:
+    return _written("survey", [(name, text)]).text
+
+
+def _written(command: str, files: Files) -> Written:
+    """What the program writes of files. Of one that begins otherwise it reads a list, so a table
+    is the first for `reconcile`."""
+    if command == "reconcile":
+        files = sorted(files, key=lambda file: file[1].startswith(SURVEYS))
+        if files[0][1].startswith(SURVEYS):
+            raise NoAnswer(WANTED)
+    try:
+        return run(command, *(text for _, text in files), names=[name for name, _ in files])
+    except ValueError:
+        raise NoAnswer(WANTED) from None
+
+
+def _less(told: Object, wanted: int) -> str:
+    """The line of a complete collection whose margin is less than was wanted."""
+    least = told.get("margin")
+    if least is not None and least["margin"] >= wanted:
+        return ""
+    where = f" in {shown(told['logs'][least['log']]['name'])}" if least else ""
+    return small(least, wanted, where)
+
+
+def _page(files: Files, told: Object) -> Iterator[str]:
+    """One HTML file that draws the object, with the texts of logs, those first that have to be
+    counted again."""
+    tables = [(name, text) for name, text in files if not text.startswith(SURVEYS)]
+    surveys, room = dict(files), MOST_TEXT
+    for log in sorted(told["logs"], key=lambda it: it["field"] == "possible" and not it["open"]):
+        name, text = log["name"], b""
+        if os.path.isfile(name) and name in surveys:
+            text = read_log(name)
+            if _survey(name, text) != surveys[name]:
+                raise NoAnswer(f"{shown(name)} has changed since it was read first")
+            log["sha256"] = sha256(text).hexdigest()
+        room -= len(text)
+        if text and room >= 0:
+            log["object"] = page_object(shown(os.path.basename(name)), Told(text))
+    name = shown(os.path.basename(next(name for name, text in tables if _is_catalogue(text))))
+    told.update(version=version(), file=name, files=[
+        {"file": name, "sha256": sha256(text).hexdigest()} for name, text in tables])
+    lines = _written("reconcile", files).text.decode()
+    answer = _less(told, told["wanted"]) if "wanted" in told else told["answer"]
+    return document(f"{name}: {answer}", [json.dumps(told)], lines.splitlines())
+
+
+def _is_catalogue(table: bytes) -> bool:
+    """Whether a table is a catalogue: one of places isn't a collection by itself."""
+    try:
+        return bool(run("collection", table, names=["catalogue"]).text)
+    except ValueError:
+        return False
+
+
+def _notes(said: Written, told: Object, is_shown: bool) -> Iterator[str]:
+    """What a person has to know beside what is written: what the fault of a table means; of
+    lines, what a complete answer is said of and how sure it is, or a summary."""
+    if said.text.startswith(b"refused at") and not told:
+        yield " ".join(advice(said.text.decode().rpartition(": ")[2].rstrip("\n"), "tables"))
+    if not is_shown or not told:
+        return
+    if said.status == 0:
+        yield HEARD
+        yield from _sure(told)
+    names = [log["name"] for log in told["logs"]]
+    yield from summary([
+        *((it["place"] or "", it["state"]) for it in told["items"] if it["state"] not in DONE),
+        *((names[it["certain_in"][0]], "unexpected") for it in told["unexpected"])])
+
+
+def _sure(told: Object) -> Iterator[str]:
+    """How sure a complete answer is."""
+    logs = told["logs"]
+    if "margin" in told:
+        name = shown(logs[told["margin"]["log"]]["name"])
+        yield ("Any other tag would have had to be missed in "
+               f"{count(told['margin']['margin'], 'slot')} or more, in the field of {name}.")
+    for reading, name in zip(("hidden", "deaf"), READ_AGAIN.values()):
+        fields = [shown(log["name"]) for log in logs if log[reading]]
+        more = [count(len(fields) - MOST_NAMES, "other log")] * (len(fields) > MOST_NAMES)
+        where = listing(fields[:MOST_NAMES] + more)
+        yield f"{name}: {f'others may be here, in {where}' if fields else 'still complete'}"

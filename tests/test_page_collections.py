@@ -1,0 +1,507 @@
+"""Collections on the page, in a browser: what is dropped is handed whole to the library, and what
+is drawn says no more than the object that it writes."""
+import json
+import random
+import re
+import subprocess
+from base64 import b64encode
+from hashlib import sha256
+
+import pytest
+
+import biglog
+from helpers.lines import log_of, text_of
+from helpers.program import TOP
+from helpers.random_collections import case_of
+from helpers.records import drawn_in
+from helpers.screen import Screen
+
+SEED, NUMBER, PARTS = 15693, 100, 2
+DROP = """
+const data = new DataTransfer();
+for (const [name, text] of arguments[0]) {
+  data.items.add(new File([Uint8Array.from(atob(text), (it) => it.charCodeAt(0))], name));
+}
+const how = { dataTransfer: data, bubbles: true, cancelable: true };
+document.dispatchEvent(new DragEvent("drop", how));
+"""
+IS_DONE = """
+return document.getElementById("told").getAttribute("aria-busy") !== "true" &&
+  document.getElementById("status").textContent === "" &&
+  !!document.querySelector("#told h1, #each h1");
+"""
+BANNER = "return document.querySelector('.banner')?.classList[1] ?? ''"
+UID_A, UID_B, UID_C = (0xE0040100000000A1, 0xE0040100000000B2, 0xE0040100000000C3)
+TITLES = {UID_A: "Emma", UID_B: "Walden", UID_C: "Kim"}
+
+
+@pytest.fixture(scope="module")
+def file(wasm_module, tmp_path_factory):
+    made = tmp_path_factory.mktemp("page") / "vicinity.html"
+    subprocess.run([TOP / "web/build", made, wasm_module], check=True)
+    return made
+
+
+@pytest.fixture
+def page(browser, file):
+    one = Screen(browser)
+    one.open(file)
+    yield one
+    one.end()
+
+
+def drop(page, files):
+    """Drops files, byte for byte, and waits until they are judged."""
+    page.run(DROP, [[name, b64encode(text).decode()] for name, text in files.items()])
+    page.wait(lambda: page.run(IS_DONE), page.said)
+
+
+def look(page):
+    return page.run(BANNER)
+
+
+def field(*uids, is_heard=True, asks=1):
+    """A log of a field with these tags, in which all is asked so often, and at last one of them
+    once more."""
+    lines = ["vicinity-log 3"]
+    for uid in uids:
+        lines += [biglog.ask((56, uid & (1 << 56) - 1)), f"H{biglog.reply(uid)[1:]}",
+                  biglog.silence(uid)]
+    lines += [biglog.ask((0, 0)), "S"] * asks
+    if uids and is_heard:
+        lines += ["F", biglog.ask((56, uids[0] & (1 << 56) - 1)), f"H{biglog.reply(uids[0])[1:]}"]
+    return text_of(lines)
+
+
+def books(*rows, head="uid,title,place"):
+    lines = [f"{uid:016X},{TITLES[uid]}{more}" for uid, more in rows]
+    return "\n".join([head, *lines, ""]).encode()
+
+
+BOTH = books((UID_A, ",A"), (UID_B, ",B"))
+COMPLETE = {"books.csv": BOTH, "A.log": field(UID_A), "B.log": field(UID_B)}
+
+
+# Random collections.
+
+def is_sure(told):
+    """Whether nothing at all may be green: written from COLLECTIONS, and not from the page."""
+    logs, counts = told["logs"], told["counts"]
+    asks = any(name.strip(" \t").lower() == "place" for name in told["columns"])
+    return (told["status"] == 0 and counts["in place"] + counts["there"] > 0
+            and not counts["no tag"] and not told["without_log"]
+            and (asks or len(logs) < 2)
+            and not any(log["left_over"] or log["hidden"] or log["shared"] or not log["answers"]
+                        for log in logs))
+
+
+def cases(part):
+    """Collections of files that each can be opened, with names as a browser has them."""
+    rng = random.Random(f"{SEED} {part}")
+    for _ in range(NUMBER // PARTS):
+        case = case_of(rng)
+        yield {re.sub(r"[/\\]", "-", name): case.files[name] for name in case.words
+               if name in case.files}
+
+
+@pytest.mark.slow
+@pytest.mark.parametrize("part", range(PARTS))
+def test_no_page_says_more_than_the_object(page, file, program, tmp_path, part):
+    """Random ones, as people have them and as they shouldn't be: green is what nothing speaks
+    against, a headline that all is here is that of an object that says so, each log and place that
+    isn't counted is named, and what is refused is refused at that line."""
+    seen = set()
+    for at, files in enumerate(cases(part)):
+        folder = tmp_path / str(at)
+        folder.mkdir()
+        for name, text in files.items():
+            (folder / name).write_bytes(text)
+        said = program.run("json-collection", "--", *files, cwd=folder)
+        page.open(file, "")
+        drop(page, files)
+        if not page.texts("#told .banner, #told .error"):
+            seen.add("each alone")
+            assert said.status != 0 or len(files) == 1
+        elif said.out.startswith(b"{"):
+            seen |= compare(page, json.loads(said.out))
+        else:
+            seen.add("refused")
+            assert page.texts(".error") and not look(page)
+            line = re.match(r"refused at line (\d+) of (.*): (\w+)", said.out.decode())
+            if line and line[3] != "SameName":
+                assert f"{line[2]}, line {line[1]}: " in page.texts(".error")[0]
+    assert seen >= {"green", "complete", "not complete", "refused", "without a log", "left over"}
+
+
+def compare(page, told):
+    """What was seen."""
+    (headline,), words = page.texts("#told h1"), "\n".join(page.texts(".doubts"))
+    assert (look(page) == "yes") <= is_sure(told), told
+    is_complete = told["status"] == 0
+    if not told["logs"]:
+        assert headline.endswith("Now open the logs.") and look(page) == "read"
+        return {"waiting"}
+    is_all = re.match("(All|The one|Nothing is expected)", headline)
+    assert bool(is_all) >= is_complete and (
+        not is_all or is_complete or told["answer"].startswith(("no log of", "left over")))
+    for place in told["without_log"]:
+        assert place in words
+    for log in told["logs"]:
+        assert not log["left_over"] or log["name"].split("-")[-1].strip() in words
+    lights = dict(zip(page.texts(".lights dt"), page.texts(".lights dd")))
+    assert is_complete == ("If replies were hidden" in lights)
+    if is_complete:
+        for light, reading in (("If replies were hidden", "hidden"), ("If the reader went deaf",
+                                                                      "deaf")):
+            holds = not any(log[reading] for log in told["logs"])
+            assert lights[light] == ("still complete" if holds else "others may be here")
+    number = sum(told["counts"][state] for state in ("in place", "there"))
+    place = "In place" if "In place" in lights else "Here"
+    assert lights[place].startswith(f"{number} of {len(told['items'])} item")
+    done = sum(log["field"] == "possible" and not log["open"] and not log["hidden"]
+               for log in told["logs"])
+    assert lights["Search finished"].startswith(f"{done} of {len(told['logs'])} log")
+    return {"complete" if is_complete else "not complete", "green" if look(page) == "yes" else "",
+            "without a log" if told["without_log"] else "",
+            "left over" if any(log["left_over"] for log in told["logs"]) else ""}
+
+
+# What is said of logs and shelves.
+
+def test_a_collection_that_is_complete(page):
+    drop(page, {**COMPLETE, "B.log": field(UID_B, asks=2)})
+    assert (look(page), page.texts("#told h1")) == (
+        "yes", ["All 2 expected items are here, and no others."])
+    assert page.texts(".lights dd") == ["2 of 2 logs", "2 of 2 items", "1 time or more",
+                                        "still complete", "still complete"]
+    assert page.texts(".holds p")[1].startswith(
+        "To go unnoticed, a tag would have had to be missed in 1 slot in the field of A")
+    assert not page.texts(".doubts")
+    page.is_readable()
+
+
+def test_green_is_never_without_the_light_of_a_deaf_reader(page):
+    """As of a list: it says so, and what shows whether the reader heard."""
+    drop(page, {**COMPLETE, "B.log": field(UID_B, is_heard=False)})
+    assert (look(page), page.texts(".lights dd")[-1]) == ("yes", "others may be here")
+    assert "deaf after the last answer of a tag, the answer may be wrong in the field of B" in (
+        page.texts(".holds p")[-1])
+
+
+# What keeps a collection that is complete from being green, and how it is said.
+NOT_SURE = {
+    "others may be hidden": ("B.log", log_of("I1 RB"), "others may be, if stronger replies hid"),
+    "places aren't asked for": ("books.csv", books((UID_A, ""), (UID_B, ""), head="uid,title"),
+                                "But where each belongs wasn't asked."),
+    "two prove the same": ("A.log", field(UID_A, UID_B), "But A and B prove the same tags."),
+    "an item has no tag": ("books.csv", BOTH + b"none,Kim,A\n", "But 1 item has no tag.")}
+
+
+@pytest.mark.parametrize("why", NOT_SURE)
+def test_what_is_not_sure_is_not_green(page, why):
+    name, text, words = NOT_SURE[why]
+    drop(page, {**COMPLETE, name: text})
+    assert look(page) == "read" and words in page.texts("#told h1")[0]
+
+
+def test_a_field_in_which_nothing_answered(page):
+    drop(page, {"books.csv": books((UID_A, ",A"), (UID_B, ",A")) + b"none,Kim,B\n",
+                "A.log": field(UID_A, UID_B), "B.log": field()})
+    page.until(".doubts b", "Nothing answered in 1 log: B.")
+    assert look(page) == "read"
+
+
+def test_a_column_of_nearly_that_name_asks_for_no_places(page):
+    """As the library reads it: behind the name is a space that isn't one."""
+    drop(page, {**COMPLETE, "books.csv": BOTH.replace(b"place", "place\u00a0".encode())})
+    assert look(page) == "read" and "But where each belongs wasn't asked." in page.texts("h1")[0]
+
+
+@pytest.mark.parametrize(("names", "asked"), [
+    (("C", "C (1)"), True), (("C (1)", "C (2)"), True), (("C", "C - Copy"), True),
+    (("C", "Copy of C"), True), (("C", "C copy 2"), True), (("C", "C1"), False),
+    (("(1)", "(2)"), False)])
+def test_what_looks_like_a_copy(page, names, asked):
+    """Without places nothing else says which of two is the older one."""
+    logs = {f"{name}.log": field(uid) for name, uid in zip(names, (UID_A, UID_B))}
+    drop(page, {"books.csv": books((UID_A, ""), (UID_B, ""), head="uid,title"), **logs})
+    assert bool(page.texts(".doubts button")) == asked and look(page) == "read"
+
+
+def test_places_that_are_called_like_copies_are_none(page):
+    """Each log is of the place after which it is named."""
+    drop(page, {"books.csv": books((UID_A, ",C (1)"), (UID_B, ",C (2)")),
+                "C (1).log": field(UID_A), "C (2).log": field(UID_B)})
+    assert look(page) == "yes"
+
+
+def test_one_log_needs_no_places(page):
+    """With one field there is nothing to confuse."""
+    drop(page, {"books.csv": books((UID_A, ""), head="uid,title"), "A.log": field(UID_A)})
+    assert (look(page), page.texts("#told h1")) == (
+        "yes", ["The one expected item is here, and no other."])
+
+
+def test_a_shelf_without_a_log(page):
+    drop(page, {"books.csv": BOTH, "A.log": field(UID_A)})
+    assert page.texts("#told h1") == ["1 item not counted; no log of B."]
+    assert page.texts(".doubts b") == ["No log of B: 1 item that belongs there isn't counted."]
+    assert page.texts(".lights dd") == ["1 of 1 log, no log of 1 place", "1 of 2 items"]
+    page.is_readable()
+
+
+def test_a_log_of_no_place(page):
+    drop(page, {**COMPLETE, "cart.log": field()})
+    assert page.texts("#told h1") == ["All 2 expected items are here; cart.log is of no place."]
+    assert page.texts(".doubts b") == ["1 log of no place: cart.log.",
+                                       "Nothing answered in 1 log: cart.log."]
+
+
+@pytest.mark.parametrize(("uids", "words"), [
+    ([UID_A, UID_C], "All 2 tags that A-old.log proves are proved by A too."),
+    ([UID_A, UID_B], "1 of the 2 tags that A-old.log proves is proved by A too.")])
+def test_an_older_log_of_a_shelf(page, uids, words):
+    """It says how many tags both prove, and what that may mean."""
+    drop(page, {"books.csv": books((UID_A, ",A"), (UID_C, ",A")), "A.log": field(UID_A, UID_C),
+                "A-old.log": field(*uids)})
+    assert words in page.texts(".doubts b")
+    assert "an older" in page.texts(".doubts")[0] and look(page) == "no"
+
+
+def test_items_by_their_states(page):
+    """What there is to do at each shelf; what is away and stayed so is only counted."""
+    rows = [(UID_A, ",A,"), (UID_B, ",A,"), (UID_C, ",B,away")]
+    table = books(*rows, head="uid,title,place,away") + (
+        b"E0040100000000D4,Dracula,B,away\nE0040100000000E5,Persuasion,A,\nnone,Ulysses,B,\n")
+    drop(page, {"books.csv": table, "A.log": field(UID_A),
+                "B.log": field(UID_B, UID_C, 0xE0 << 56)})
+    assert page.texts("#told h1") == [
+        "1 item missing, 1 in the wrong place, 1 not in the catalogue, 1 back that should be away "
+        "and 1 without a tag."]
+    assert page.texts(".items :is(thead tr + tr, tbody tr)")[:6] == [
+        "Shelf A", "missing: look for it\nPersuasion\nE0040100000000E5",
+        "Shelf B", "take to A\nWalden\nE0040100000000B2", "not in the catalogue\nE000000000000000",
+        "is back: record it\nKim\nE0040100000000C3"]
+    assert page.texts("#told > p")[-1] == ("The 1 other item of the catalogue is here, and in "
+                                           "place. 1 item is away, as the catalogue says.")
+
+
+def test_the_example(page):
+    files = {it.name: it.read_bytes() for it in sorted((TOP / "examples/collection").iterdir())}
+    drop(page, files)
+    assert page.texts("#told h1") == [
+        "1 item missing, 1 in the wrong place and 1 not known yet; count C again."]
+    assert page.texts(".logs summary")[0] == (
+        "C (shelf-c.log): 3 tags proved; left to ask: UIDs ending in E or F")
+    assert page.texts(".lights dd") == ["2 of 3 logs", "9 of 12 items"]
+
+
+# How a collection comes.
+
+def test_a_log_is_judged_by_itself_when_it_is_opened(page):
+    """And not before: what stands in the list is what the object of the collection says."""
+    page.run("""
+      const post = Worker.prototype.postMessage;
+      window.asked = [];
+      Worker.prototype.postMessage = function (it) {
+        window.asked.push(it.name ?? "");
+        post.call(this, it);
+      };
+    """)
+    drop(page, COMPLETE)
+    assert page.run("return window.asked") == [""]
+    page.run("for (const it of document.querySelectorAll('details')) it.open = true")
+    page.until(".logs h3", "1 tag is here, and no other.")
+    page.wait(lambda: sorted(page.run("return window.asked")) == ["", "A.log", "B.log"])
+    drawn = page.run("return document.querySelector('.logs').textContent")
+    assert "Emma · A E0040100000000A1" in drawn
+
+
+def test_a_catalogue_waits_for_logs(page):
+    """It is read at once, so that what is wrong with it is said."""
+    drop(page, {"books.csv": BOTH})
+    assert page.texts("#told h1") == ["The catalogue has 2 items on 2 places. Now open the logs."]
+    drop(page, {"A.log": field(UID_A), "B.log": field(UID_B)})
+    assert page.texts("#told h1") == ["All 2 expected items are here, and no others."]
+
+
+def test_places_and_logs_wait_for_a_catalogue(page):
+    drop(page, {"places.csv": b"place,log\nA,1.log\nB,2.log\n", "1.log": field(UID_A)})
+    assert page.texts("#told h1") == ["Now open the catalogue: a table (CSV) with a column uid."]
+    drop(page, {"2.log": field(UID_B)})
+    drop(page, {"books.csv": BOTH})
+    assert page.texts("#told h1") == ["All 2 expected items are here, and no others."]
+
+
+def test_a_log_joins_a_collection_or_replaces_that_of_its_place(page):
+    drop(page, {"books.csv": BOTH, "A.log": field(UID_A)})
+    drop(page, {"B.log": field()})
+    assert page.texts(".note") == ["B.log joined the logs that were here."]
+    assert page.texts("#told h1") == ["1 item missing."]
+    drop(page, {"B.txt": field(UID_B)})
+    assert page.texts(".note") == ["B.log was replaced by what you opened under the same name."]
+    assert look(page) == "yes"
+    page.press("#back")
+    page.until("h1", "1 item missing.")
+    page.press("#back")
+    page.until("h1", "1 item not counted; no log of B.")
+    assert not page.driver.find_element("id", "back").is_displayed()
+
+
+def test_a_collection_with_its_catalogue_is_one_of_its_own(page):
+    """As that of the next week: no log of the one before is in it."""
+    drop(page, COMPLETE)
+    drop(page, {"books.csv": BOTH, "A.log": field(UID_A)})
+    assert page.texts("#told h1") == ["1 item not counted; no log of B."]
+
+
+@pytest.mark.parametrize(("press", "headline"), [
+    (0, "1 item missing."), (1, "All 2 expected items are here, and no others."),
+    (2, "1 item not in the catalogue; A (1).log is of no place.")])
+def test_it_is_asked_which_of_two_counts(page, press, headline):
+    """Until that is said, both are here, and nothing is green."""
+    drop(page, {"books.csv": BOTH, "A.log": field(UID_A), "B.log": field(UID_B)})
+    more = field() if press < 2 else field(UID_C)
+    drop(page, {"A (1).log": more})
+    assert look(page) == "no"
+    assert page.texts(".doubts button") == ["Only A (1).log", "Only A.log", "Both: other fields"]
+    assert "say whether A.log or A (1).log counts" in page.texts("h1")[0]
+    page.press(".doubts button", press)
+    page.wait(lambda: page.run(IS_DONE) and not page.texts(".doubts button"))
+    # the one that is left is called so, but is of no place
+    if press == 0:
+        headline = "1 item not counted; no log of A; A (1).log is of no place."
+    assert page.texts("h1") == [headline]
+
+
+def test_one_goes_back_after_a_paste(page):
+    """What is pasted has no name, so it is of no place: it is judged by itself."""
+    drop(page, COMPLETE)
+    page.run("""
+      const data = new DataTransfer();
+      data.setData("text/plain", arguments[0]);
+      const how = { clipboardData: data, bubbles: true, cancelable: true };
+      document.querySelector("h1").dispatchEvent(new ClipboardEvent("paste", how));
+    """, log_of("I1 S").decode())
+    page.until("h1", "No tag answered, and nothing is listed.")
+    page.press("#back")
+    page.until(".banner.yes h1", "All 2 expected items are here")
+    page.press("#close")
+    page.wait(lambda: page.run("return document.body.classList.contains('empty')"))
+    drop(page, {"A.log": log_of("I1 S")})
+    assert page.texts("h1") == ["No tag answered, and nothing is listed."]
+
+
+# What is refused.
+
+@pytest.mark.parametrize(("name", "text", "words", "cure"), [
+    ("books.csv", BOTH.replace(b",B\n", b"\n"), "books.csv, line 3: the row has more or fewer",
+     "Line 3 is: E0040100000000B2,Walden"),
+    ("books.csv", BOTH.replace(b"E00401", b"E004", 1), "books.csv, line 2: the cell uid has no UID",
+     "Store the column as text"),
+    ("books.csv", b"Tag ID;title\n", "books.csv, line 1: these aren't the columns of a catalogue",
+     "Line 1 is: Tag ID;title"),
+    ("books.xlsx", b"PK\x03\x04", "books.xlsx is a spreadsheet", "save it as CSV, and open that;"),
+    ("books.xls", b"\xD0\xCF\x11\xE0\xA1\xB1\x1A\xE1", "books.xls is a spreadsheet", "as CSV"),
+    ("books.csv", b"%PDF-1.7\n", "books.csv, line 1: this is a PDF", "Open the log itself")])
+def test_what_is_no_catalogue(page, name, text, words, cure):
+    """It is said what is wrong, and what to do; the logs stay for the next catalogue."""
+    drop(page, {name: text, "A.log": COMPLETE["A.log"], "B.log": COMPLETE["B.log"]})
+    assert words in page.texts(".error")[0] and cure in page.said()
+    assert "The 2 logs are still here" in page.said()
+    drop(page, {"better.csv": BOTH})
+    assert page.texts("#told h1") == ["All 2 expected items are here, and no others."]
+
+
+def test_two_catalogues_are_one_too_many(page):
+    drop(page, {**COMPLETE, "more.csv": BOTH})
+    assert "the tables are books.csv, more.csv" in page.texts(".error")[0]
+    assert "Open one catalogue (a table with a column uid)" in page.said()
+
+
+@pytest.mark.parametrize("coding", ["utf-16-le", "utf-16-be", "utf-8"])
+def test_a_table_with_the_mark_of_its_coding(page, coding):
+    """UTF-16 becomes UTF-8 before the library is asked; its sum is that of the file."""
+    table = ("\ufeff" + BOTH.decode().replace("Emma", "\u00c9mile")).encode(coding)
+    drop(page, {**COMPLETE, "books.csv": table})
+    assert look(page) == "yes"
+    assert sha256(table).hexdigest() in page.run("return document.body.textContent")
+
+
+def test_a_text_of_surveys_stands_in_place_of_its_logs(page, program, tmp_path):
+    """Which can't be opened. By itself it is called what it is."""
+    (tmp_path / "A.log").write_bytes(field(UID_A))
+    survey = program.run("survey", "A.log", cwd=tmp_path).out
+    drop(page, {"books.csv": BOTH, "all": survey, "B.log": field(UID_B)})
+    assert look(page) == "yes"
+    page.press("details:has(.logs) > summary")
+    assert page.texts(".logs li") == ["A: 1 tag proved", "B: 1 tag proved"]
+    assert len(page.texts(".logs summary")) == 1
+    page.press("#close")
+    drop(page, {"all": survey})
+    page.until("h1", "This file isn't a log, but a text of surveys")
+
+
+# What is saved and printed.
+
+def saved(page, folder):
+    """The file that the page saves."""
+    folder.mkdir(exist_ok=True)
+    page.driver.execute_cdp_cmd("Browser.setDownloadBehavior",
+                                {"behavior": "allow", "downloadPath": str(folder)})
+    page.driver.find_element("id", "save").click()
+    page.wait(lambda: [it for it in folder.glob("*.html") if it.stat().st_size])
+    return next(folder.iterdir())
+
+
+def test_what_is_saved_is_the_object_and_its_logs(page, program, tmp_path):
+    """It is drawn as it was, and its logs can be opened."""
+    files = {it.name: it.read_bytes() for it in sorted((TOP / "examples/collection").iterdir())}
+    drop(page, files)
+    heading = page.texts("h1")
+    made = saved(page, tmp_path / "saved")
+    told, plain = drawn_in(made.read_text())
+    wanted = json.loads(program.run("json-collection", *files, cwd=TOP / "examples/collection").out)
+    assert {key: told[key] for key in wanted if key != "logs"} == {
+        key: value for key, value in wanted.items() if key != "logs"}
+    for log, one in zip(told["logs"], wanted["logs"], strict=True):
+        assert {key: log[key] for key in one} == one
+        assert log["object"]["text"].encode() == files[log["name"]]
+        assert log["sha256"] == sha256(files[log["name"]]).hexdigest()
+    assert heading[0] in plain and [it["file"] for it in told["files"]] == [
+        "catalogue.csv", "places.csv"]
+    page.open(made)
+    assert page.texts("h1") == heading
+    page.press(".logs summary")
+    page.until(".logs h3", "Not finished")
+
+
+def test_the_sheets_say_of_what_they_are(page):
+    """From the second one on: the first has it as its headline."""
+    drop(page, COMPLETE)
+    rules = page.run("return [...document.styleSheets[0].cssRules].map((it) => it.cssText)")
+    title = page.driver.title
+    assert title == "All 2 expected items are here, and no others. books.csv"
+    assert f'@top-left {{ content: "{title}"' in rules[-1]
+    page.press("#close")
+    drop(page, {'a "b".log': log_of("I1 S")})
+    rules = page.run("return [...document.styleSheets[0].cssRules].map((it) => it.cssText)")
+    assert any("@page :first { @top-left { content: none; } }" in rule for rule in rules)
+    assert sum("@top-left" in rule for rule in rules) == 2
+    assert 'a \\"b\\".log' in rules[-1]
+
+
+STOPS = """
+return [...document.querySelectorAll("button, input, textarea, summary, [tabindex]")]
+  .filter((it) => it.tabIndex >= 0 && it.checkVisibility({ contentVisibilityAuto: true })).length;
+"""
+
+
+def test_a_keyboard_has_few_stops_among_many_logs(page):
+    uids = [0xE004010000000000 + number for number in range(60)]
+    rows = [f"{uid:016X},Title,{number}" for number, uid in enumerate(uids)]
+    drop(page, {"books.csv": "\n".join(["uid,title,place", *rows, ""]).encode(), **{
+        f"{number}.log": log_of("I16 S12") for number in range(60)}})
+    page.until("h1", "count all logs again.")
+    assert len(page.texts(".logs summary")) == 60
+    assert page.run(STOPS) <= 30

@@ -1,0 +1,13 @@
+/** What a page carries with it, compressed. */
+
+/**
+ * What is written in base64.
+ * @param {string} text
+ */
+export const bytesOf = (text) => Uint8Array.from(atob(text), (letter) => letter.charCodeAt(0));
+
+/** @param {Uint8Array} bytes that were compressed */
+export async function unpacked(bytes) {
+  const { DecompressionStream: Unpacking } = /** @type {any} */ (globalThis);
+  return new Uint8Array(await new Response(new Blob([bytes]).stream().pipeThrough(new Unpacking("deflate"))).arrayBuffer());
+}
