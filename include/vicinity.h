@@ -117,7 +117,7 @@ enum vicinity_command {
     VICINITY_COMMAND_REPORT = 3, /* a log */
     VICINITY_COMMAND_MARGIN = 4, /* a log */
     VICINITY_COMMAND_SIMULATE = 5, /* a log without slots */
-    VICINITY_COMMAND_RECONCILE = 6, /* a list of what is expected, then logs */
+    VICINITY_COMMAND_RECONCILE = 6, /* a list, then logs or surveys; or as COLLECTION */
     VICINITY_COMMAND_FRAME = 7, /* a word */
     VICINITY_COMMAND_SPELL = 8, /* words, at least one */
     VICINITY_COMMAND_SURVEY = 9, /* logs, at least one */
@@ -346,16 +346,18 @@ enum vicinity_status vicinity_simulate(const uint8_t *text, size_t text_len, uin
  *                  texts, list_len + day_len + night_len, lengths, 3, written, room, &needed);
  *
  * The `count` texts stand one behind the other in `texts`, and `lengths` has the length of each.
- * `names` has a line for each, its name in UTF-8 and LF; only `reconcile` and `survey` write names.
+ * `names` has a line for each, its name in UTF-8 and LF. `reconcile`, `survey`, `collection` and
+ * `json-collection` write names, and the place of a log in a collection is found by its name.
  * `*needed` is how many bytes are written. If `room` is at least that, they are at the start of
  * `written`, with no NUL after them; otherwise nothing is written there: call again with a larger
  * buffer.
  *
  * If the texts are not what the command takes, as two logs for `check`, a word that is not UTF-8,
- * or for `survey` a name with a control character, the result is VICINITY_STATUS_NO_ANSWER, and the
- * line `vicinity: usage` is written, which the program writes to standard error. If memory was
- * refused, no command has the number, `names` has not `count` lines, or the lengths do not add up
- * to `texts_len`, the result is the same, and `*needed` is 0.
+ * or, where names are written, a name that no log can have (empty, above 4,096 bytes, or with a
+ * control character), the result is VICINITY_STATUS_NO_ANSWER, and the line `vicinity: usage` is
+ * written, which the program writes to standard error. If memory was refused, no command has the
+ * number, `names` has not `count` lines, or the lengths do not add up to `texts_len`, the result is
+ * the same, and `*needed` is 0.
  */
 enum vicinity_status vicinity_run(enum vicinity_command command, const uint8_t *names,
                                   size_t names_len, const uint8_t *texts, size_t texts_len,
