@@ -105,7 +105,7 @@ static bool add_all(struct call *call, enum operands are, char **words, int coun
     for (int i = 0; i < count && is_added; i++)
         is_added = are == WORDS   ? add(call, "", words[i], strlen(words[i]))
                    : are == NAMES ? add(call, words[i], "", 0)
-                                   : add_file(call, words[i], words[i]);
+                                  : add_file(call, words[i], words[i]);
     return is_added;
 }
 
