@@ -8,7 +8,7 @@ import pytest
 from helpers.runs import COMMANDS, runs_of
 
 # How many runs there are, in how many parts.
-NUMBER, PARTS, SEED = 4800, 2, 15700
+NUMBER, PARTS, SEED = 3000, 2, 15700
 WAYS = ("library_by_one_call", "library_rattle_by_one_call", "wasm_by_one_call", "commands", "arm",
         "windows")
 # The statuses of a command that answers a log, or many.
