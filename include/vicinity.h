@@ -19,9 +19,9 @@
  * - An x86-64 processor has x86-64-v2 (SSE4.2, POPCNT).
  * - The stack has 64 KiB left.
  * Calls share nothing: any number of threads may call at the same time. Only the calls that judge a
- * text, fill in slots or run a command take memory. They can't be stopped. They take about a quarter
- * of a second and 40 MB for a session of 1,000,000 lines, and up to 2.5 seconds and 165 MB for the
- * worst logs that are known: bound the length of untrusted input.
+ * text, fill in slots or run a command take memory. They can't be stopped. To check a session of
+ * 1,000,000 lines takes about a quarter of a second and 40 MB, and up to 2.5 seconds and 165 MB for
+ * the worst logs that are known: bound the length of untrusted input.
  */
 #ifndef VICINITY_H
 #define VICINITY_H
@@ -123,7 +123,7 @@ enum vicinity_command {
     VICINITY_COMMAND_SURVEY = 9, /* logs, at least one */
     VICINITY_COMMAND_COLLECTION = 10, /* a catalogue, a table of places or none, logs or surveys */
     VICINITY_COMMAND_JSON = 11, /* a log */
-    VICINITY_COMMAND_JSON_COLLECTION = 12 /* the same as for a collection */
+    VICINITY_COMMAND_JSON_COLLECTION = 12 /* as for a collection */
 };
 
 /*

@@ -1,9 +1,9 @@
 """Asks the commands in C, also those for ARM, what the proved program is asked: they have to write
 the same and to end alike.
 
-They are asked with words of every kind, with streams that are closed, full or no text, about
-changed logs, several logs, frames, texts as long as a log can be and texts that come in pieces.
-Each allocation of theirs is refused in turn."""
+They are asked with words of every kind, with streams that are closed, full or no text, about texts
+as long as a log can be and texts that come in pieces. Each allocation of theirs is refused in turn.
+Random texts are in test_each_way.py."""
 import os
 import random
 import resource
@@ -15,34 +15,19 @@ import pytest
 
 from helpers.air import TOP_BYTE, UID_BITS
 from helpers.air import Listed as Claimed
-from helpers.families import case_of
-from helpers.fuzz import LISTED, changed, session
 from helpers.lines import log_of
 from helpers.memory import WANT, refused, shim
 from helpers.names import NUMBERS
 from helpers.program import TOP, linked
 from helpers.random_logs import text_of
+from helpers.runs import SPELLED
 
 PAIRS = ("commands", "arm")
-# How many changed logs each is asked about; the emulator is slow. Half as many lists of logs, a
-# quarter as many frames.
-CHANGED = {"commands": 1000, "arm": 200}
-PARTS = 4
 COMMANDS = "check", "explain", "report", "margin", "simulate"  # those over a text
-OUTCOMES = b"S", b"C", b"R", b"D"
 HEADER = b"vicinity-log 1\r\n"
 LONG_LINE = b"#" * 128 + b"\r\n"
 LOGS = sorted(map(str, TOP.glob("examples/*.log")))
 SEEDS = [Path(log).read_bytes() for log in LOGS]
-SPELLED = [line.split() for line in (
-    "request inventory link 2 slots 1 mask 8 A1", "request inventory link 2 slots 16 mask 4 01",
-    "request inventory link 2 slots 1 mask 0 -",
-    "request inventory link 2 slots 16 mask 60 0000000000000000",
-    "request stay-quiet link 2 uid E0040100000000A1",
-    "response flags 00 dsfid 00 uid E0040100000000A1")]
-PUT_IN = ["", " 2", "2 ", *"""request response inventory link slots mask uid 0 1 2 3 4 16 -1 +2 02
-    - 00 A1 a1 1F 61 64 65 x 256 4294967298 18446744073709551615 18446744073709551616
-    E0040100000000A1 D0040100000000A1 e0040100000000A1""".split()]
 NO_UTF8 = (b"\xff", b"a\x80", b"\xc0\xaf", b"\xc3", b"\xe0\x9f\xbf", b"\xed\xa0\x80",
            b"\xf0\x8f\xbf\xbf",
            b"\xf4\x90\x80\x80", b"\xf8\x88\x80\x80\x80")
@@ -51,14 +36,14 @@ UTF8 = b"\xc3\xa9", b"\xef\xbf\xbf", b"\xf0\x9f\x98\x80", b"\xf4\x8f\xbf\xbf"
 
 @pytest.fixture(scope="session", params=PAIRS)
 def pair(request, program):
-    """Both programs, and how many changed logs they are asked about."""
-    return program, request.getfixturevalue(request.param), CHANGED[request.param]
+    """Both programs."""
+    return program, request.getfixturevalue(request.param)
 
 
 @pytest.fixture
 def ask(pair):
     """Asks both the same."""
-    proved, other, _ = pair
+    proved, other = pair
 
     def both(words, given=b"", **how):
         said, wanted = (one.run(*words, given=given, name="vicinity", **how)
@@ -68,7 +53,7 @@ def ask(pair):
 
 
 OPERANDS = ([], [""], ["-"], ["-x"], ["--x"], ["--"], ["--", "-"], ["--", "-x"], ["--", "--"],
-            ["x", "--"], ["x", "y"],
+            ["x", "--"], ["x", "y"], ["x", "y\tz"], ["x", "y\nz"], ["x\ny"], ["x", b"\xff"],
             ["--", "x", "--"], ["x", "-y"], ["--help"], ["-h"], ["x", "--help"], ["--", "--help"],
             ["26"], ["0" * 128], ["0" * 129], *([name] for name in (*NO_UTF8, *UTF8)))
 
@@ -90,7 +75,7 @@ def test_files_that_are_no_text(ask, tmp_path):
     nothing.touch()
     expected, = written(tmp_path, "expected", [log_of("UA UB")])
     for file in str(tmp_path), str(nothing), f"{nothing}/x", f"{nothing}{'x' * 300}", "/dev/null":
-        for command in *COMMANDS, "reconcile":
+        for command in NUMBERS:
             ask([command, file])
         ask(["reconcile", expected, LOGS[-1], file])
 
@@ -117,7 +102,7 @@ def test_streams(ask, tmp_path, words):
 def test_a_text_in_pieces(pair):
     """Of a few bytes."""
     text, answers = SEEDS[-1], []
-    for one in pair[:2]:
+    for one in pair:
         with subprocess.Popen([*one.words, "explain"], stdin=subprocess.PIPE,
                               stdout=subprocess.PIPE) as asked:
             for at in range(0, len(text), 50):
@@ -141,42 +126,11 @@ def test_long_texts(ask, command, text):
     ask([command], text())
 
 
-@pytest.mark.slow
-@pytest.mark.parametrize("part", range(PARTS))
-def test_changed_logs(ask, pair, part):
-    """Each is explained, and asked by another command too: by `simulate` without its slots."""
-    chance = random.Random(f"11 {part}")
-    for index in range(pair[2] // PARTS):
-        text = changed(chance, SEEDS)
-        command = COMMANDS[index % len(COMMANDS)]
-        ask(["explain"], text)
-        if command == "simulate":
-            text = b"\n".join(line for line in text.split(b"\n") if line[:1] not in OUTCOMES)
-        ask([command], text)
-
-
 @pytest.mark.parametrize("pair", ["commands"], indirect=True)
 def test_beginnings_of_a_log(ask):
     for end in range(len(SEEDS[0]) + 1):
         for command in "explain", "report":
             ask([command], SEEDS[0][:end])
-
-
-@pytest.mark.slow
-def test_many_changed_logs(ask, pair, tmp_path):
-    """Random lists and logs: possible ones, and changed ones; also under names that are long, and
-    with a list that is none."""
-    chance = random.Random(13)
-    for index in range(pair[2] // 2):
-        _, expected, logs = case_of(chance)
-        texts = [text_of(1, map(Claimed, expected)), *(text_of(*log) for log in logs)]
-        if index % 3:
-            texts[1:] = [b"\n".join(session(chance)) if index % 3 == 1 else changed(chance, SEEDS)
-                         for _ in range(chance.randint(1, 4))]
-            texts[0] = b"\n".join([b"vicinity-log 1", *chance.sample(LISTED, chance.randint(0, 2))])
-        if not chance.randrange(8):
-            texts[0] = changed(chance, SEEDS)
-        ask(["reconcile", *written(tmp_path, f"{'x' * chance.choice((0, 200))}{index}-", texts)])
 
 
 @pytest.mark.parametrize("pair", ["commands"], indirect=True)
@@ -187,21 +141,6 @@ def test_many_tags_that_may_be_in_the_last_of_many_logs(ask, tmp_path):
     expected, silent, unasked = written(tmp_path, "log", texts)
     ask(["reconcile", expected, *[silent] * 1000, unasked],
         preexec_fn=lambda: resource.setrlimit(resource.RLIMIT_CPU, (4, 4)))
-
-
-def test_changed_frames(ask, pair):
-    """Words of frames, with digits and words changed."""
-    chance = random.Random(12)
-    for _ in range(pair[2] // 4):
-        words = list(chance.choice(SPELLED))
-        frame = list(pair[0].run("spell", *words).out.decode().strip())
-        for _ in range(chance.randrange(3)):
-            words[chance.randrange(len(words))] = chance.choice(PUT_IN)
-            frame[chance.randrange(len(frame))] = chance.choice("0123456789ABCDEFabcdef ")
-        if not chance.randrange(8):
-            del words[chance.randrange(len(words))], frame[-chance.randrange(1, 4):]
-        ask(["spell", *words])
-        ask(["frame", "".join(frame)])
 
 
 def written(folder, name, texts):

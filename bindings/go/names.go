@@ -65,7 +65,7 @@ const (
 	CommandReport         Command = C.VICINITY_COMMAND_REPORT          // a log
 	CommandMargin         Command = C.VICINITY_COMMAND_MARGIN          // a log
 	CommandSimulate       Command = C.VICINITY_COMMAND_SIMULATE        // a log without slots
-	CommandReconcile      Command = C.VICINITY_COMMAND_RECONCILE       // a list of what is expected, then logs
+	CommandReconcile      Command = C.VICINITY_COMMAND_RECONCILE       // a list, then logs or surveys; or as for CommandCollection
 	CommandFrame          Command = C.VICINITY_COMMAND_FRAME           // a word
 	CommandSpell          Command = C.VICINITY_COMMAND_SPELL           // words, at least one
 	CommandSurvey         Command = C.VICINITY_COMMAND_SURVEY          // logs, at least one

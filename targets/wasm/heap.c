@@ -1,7 +1,9 @@
-/* The heap of the library as WebAssembly: free blocks in lists by their size, over a memory that grows.
+/* The heap of the library as WebAssembly: free blocks in lists by their size, over a memory that
+ * grows.
  *
- * The sizes are 32, 48, 64, 96, 128 and so on. Before each block stand 16 bytes with the number of its list. A block that is
- * given back is kept for the next one of its size, and isn't joined to others. */
+ * The sizes are 32, 48, 64, 96, 128 and so on. Before each block stand 16 bytes with the number of
+ * its list. A block that is given back is kept for the next one of its size, and isn't joined to
+ * others. */
 typedef __SIZE_TYPE__ size_t;
 typedef __UINT64_TYPE__ uint64_t;
 typedef __UINTPTR_TYPE__ uintptr_t;
@@ -9,7 +11,7 @@ typedef __UINTPTR_TYPE__ uintptr_t;
 enum {
     HEAD = 16,       /* bytes before a block, and what each block is aligned to */
     LEAST_LOG = 5,   /* the least block has two to the power of this many bytes */
-    MOST_LOG = 40,   /* a larger one than two to the power of this isn't asked for: no memory has as much */
+    MOST_LOG = 40,   /* none is asked for with more than two to this power: no memory has as much */
     LISTS = 2 * (MOST_LOG - LEAST_LOG) + 1,
     PAGE = 65536
 };
@@ -32,7 +34,7 @@ static size_t size_of(uint64_t list)
     return (list % 2 ? (size_t)3 << (LEAST_LOG - 1) : (size_t)1 << LEAST_LOG) << list / 2;
 }
 
-/* The first list whose blocks have that many bytes, which are at most two to the power of MOST_LOG. */
+/* The first list whose blocks have that many bytes: at most two to the power of MOST_LOG. */
 static uint64_t list_for(size_t bytes)
 {
     if (bytes <= size_of(0))

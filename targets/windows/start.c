@@ -1,5 +1,6 @@
-/* What the commands in C lack on Windows: their words and the names of files in UTF-8, the files that a word with * stands
- * for, which the shell of Windows leaves to the program, and bytes as they are.
+/* What the commands in C lack on Windows: their words and the names of files in UTF-8, the files
+ * that a word with * stands for, which the shell of Windows leaves to the program, and bytes as
+ * they are.
  *
  * The commands are compiled with main and open named as here (targets/windows/link). */
 #include <fcntl.h>
@@ -9,9 +10,13 @@
 #include <stdlib.h>
 #include <windows.h>
 
-enum { NO_ANSWER = 4, PATH_ROOM = 1 << 16 }; /* a word has at most half as many letters, and a name 259 */
+enum {
+    NO_ANSWER = 4,
+    PATH_ROOM = 1 << 16
+}; /* a word has at most half as many letters, and a name 259 */
 
-/* Windows takes *.log for a.log_old too, by a short name that it has: what words stand for is looked up here. */
+/* Windows takes *.log for a.log_old too, by a short name that it has: what words stand for is
+ * looked up here. */
 int _dowildcard = 0;
 
 /* The words, one after the other. */
@@ -44,7 +49,8 @@ static char *narrowed(const wchar_t *wide)
     return word;
 }
 
-/* Opens a file as bytes. A folder, which Windows doesn't open, is opened as a device that can't be read, as on Linux. */
+/* Opens a file as bytes. A folder, which Windows doesn't open, is opened as a device that can't be
+ * read, as on Linux. */
 int open_utf8(const char *name, int flags, ...)
 {
     wchar_t *wide = widened(name);
@@ -71,8 +77,8 @@ static bool add(const wchar_t *wide)
     return true;
 }
 
-/* Whether a word stands for a name. As ever on Windows, ? may stand for nothing before a dot and at the end, and a dot for
- * nothing at the end. */
+/* Whether a word stands for a name. As ever on Windows, ? may stand for nothing before a dot and at
+ * the end, and a dot for nothing at the end. */
 static bool stands_for(const wchar_t *word, const wchar_t *name)
 {
     bool is_end = *name == L'\0', is_any = *word == L'*', is_one = *word == L'?';
@@ -95,8 +101,8 @@ static wchar_t *last_name(wchar_t *path)
     return name;
 }
 
-/* Adds the files that a word with * or ? stands for. If there are none, or the folder can't be read to its end, the word is
- * added, which names no file. False if memory is refused. */
+/* Adds the files that a word with * or ? stands for. If there are none, or the folder can't be read
+ * to its end, the word is added, which names no file. False if memory is refused. */
 static bool add_files(const wchar_t *word)
 {
     static wchar_t path[PATH_ROOM];
@@ -106,7 +112,8 @@ static bool add_files(const wchar_t *word)
     int before = count;
     bool has_memory = true;
     HANDLE search = FindFirstFileW(word, &found);
-    for (bool is_found = search != INVALID_HANDLE_VALUE; has_memory && is_found; is_found = FindNextFileW(search, &found)) {
+    for (bool is_found = search != INVALID_HANDLE_VALUE; has_memory && is_found;
+         is_found = FindNextFileW(search, &found)) {
         wcscpy(name, found.cFileName);
         if (name[wcsspn(name, L".")] && stands_for(word + folder, name)) /* not . and .. */
             has_memory = add(path);

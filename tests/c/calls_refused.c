@@ -1,6 +1,6 @@
-/* Refuses each allocation of the calls that take memory in turn, on some logs: then there is no answer, nothing else is
-   written and no memory is kept; and the same call returns the right answer afterwards. Link with --wrap of malloc,
-   realloc and free. */
+/* Refuses each allocation of the calls that take memory in turn, on some logs: then there is no
+   answer, nothing else is written and no memory is kept; and the same call returns the right answer
+   afterwards. Link with --wrap of malloc, realloc and free. */
 #include "vicinity.h"
 
 #include "read_log.h"
@@ -65,26 +65,30 @@ struct given {
 /* Makes the call for a command: over a log, a list with the log twice, or words. */
 static uint32_t run(enum which which, const uint8_t *log, size_t len, struct given *given)
 {
-    static const char names[] = "list\nlog\nlog\n", words[] = "responseflags00dsfid00uidE0040100000000A1";
+    static const char names[] = "list\nlog\nlog\n",
+                      words[] = "responseflags00dsfid00uidE0040100000000A1";
     static const char list[] = "vicinity-log 1\nU E0040100000000A1\n";
     static uint8_t texts[3 * ROOM];
     size_t listed = sizeof list - 1;
     if (which == RUN_SPELL)
-        return vicinity_run(VICINITY_COMMAND_SPELL, (const uint8_t *)"\n\n\n\n\n\n\n", 7, (const uint8_t *)words,
-                            sizeof words - 1, (const size_t[]){8, 5, 2, 5, 2, 3, 16}, 7, given->filled, ROOM,
+        return vicinity_run(VICINITY_COMMAND_SPELL, (const uint8_t *)"\n\n\n\n\n\n\n", 7,
+                            (const uint8_t *)words, sizeof words - 1,
+                            (const size_t[]){8, 5, 2, 5, 2, 3, 16}, 7, given->filled, ROOM,
                             &given->needed);
     if (which == RUN_REPORT)
-        return vicinity_run(VICINITY_COMMAND_REPORT, (const uint8_t *)names + 5, 4, log, len, &len, 1, given->filled,
-                            ROOM, &given->needed);
+        return vicinity_run(VICINITY_COMMAND_REPORT, (const uint8_t *)names + 5, 4, log, len, &len,
+                            1, given->filled, ROOM, &given->needed);
     memcpy(texts, list, listed);
     memcpy(texts + listed, log, len);
     memcpy(texts + listed + len, log, len);
-    return vicinity_run(VICINITY_COMMAND_RECONCILE, (const uint8_t *)names, sizeof names - 1, texts, listed + 2 * len,
-                        (const size_t[]){listed, len, len}, 3, given->filled, ROOM, &given->needed);
+    return vicinity_run(VICINITY_COMMAND_RECONCILE, (const uint8_t *)names, sizeof names - 1, texts,
+                        listed + 2 * len, (const size_t[]){listed, len, len}, 3, given->filled,
+                        ROOM, &given->needed);
 }
 
 /* Makes a call whose allocation with this number is refused; none is if it is 0. */
-static void call(enum which which, const uint8_t *text, size_t len, size_t number, struct given *given)
+static void call(enum which which, const uint8_t *text, size_t len, size_t number,
+                 struct given *given)
 {
     static const uint64_t uids[] = {UINT64_C(0xE0040100000000B2), UINT64_C(0xE0040100000000A1)};
     memset(given, UNWRITTEN, sizeof *given);
@@ -93,10 +97,12 @@ static void call(enum which which, const uint8_t *text, size_t len, size_t numbe
     refused = number;
     switch (which) {
     case EXPLAIN:
-        given->status = vicinity_explain(text, len, &given->answer, given->room, PLACES, &given->needed);
+        given->status =
+            vicinity_explain(text, len, &given->answer, given->room, PLACES, &given->needed);
         break;
     case REPORT:
-        given->status = vicinity_report(text, len, &given->answer, given->findings, PLACES, &given->needed);
+        given->status =
+            vicinity_report(text, len, &given->answer, given->findings, PLACES, &given->needed);
         break;
     case MARGIN:
         given->status = vicinity_margin(text, len, &given->answer, &given->weakest);
@@ -149,7 +155,8 @@ static size_t without(const char *letters, uint8_t *text, size_t len)
     return kept;
 }
 
-/* Refuses each allocation of a call in turn; returns how many there were, or 0 if something is wrong. */
+/* Refuses each allocation of a call in turn; returns how many there were, or 0 if something is
+ * wrong. */
 static size_t refuse_each(enum which which, const uint8_t *text, size_t len)
 {
     static struct given right, given, memory;
@@ -183,7 +190,8 @@ int main(int argc, char **argv)
                                   : which >= RUN_REPORT   ? ""
                                   : which >= CHECK_LISTED ? "U"
                                                           : "";
-            size_t refusals = refuse_each((enum which)which, changed, without(letters, changed, len));
+            size_t refusals =
+                refuse_each((enum which)which, changed, without(letters, changed, len));
             if (refusals == 0)
                 return 1;
             calls += refusals;

@@ -1,5 +1,6 @@
-/* Loaded before the C library by LD_PRELOAD, makes a program read and write one byte per call. The read with the number
-   READ and the write with the number WRITE, counted from 1, fail; with STUCK set that write accepts nothing instead. */
+/* Loaded before the C library by LD_PRELOAD, makes a program read and write one byte per call. The
+   read with the number READ and the write with the number WRITE, counted from 1, fail; with STUCK
+   set that write accepts nothing instead. */
 #define _GNU_SOURCE
 #include <errno.h>
 #include <stdlib.h>

@@ -1,6 +1,7 @@
-/* Makes the calls on each prefix of some logs, and those that read bytes on each part of a frame. The bytes that are passed
-   end where memory ends, and so do the buffers, of as many elements as are needed and of one fewer: a byte read or written
-   after them would fault. What they get is tested elsewhere. */
+/* Makes the calls on each prefix of some logs, and those that read bytes on each part of a frame.
+   The bytes that are passed end where memory ends, and so do the buffers, of as many elements as
+   are needed and of one fewer: a byte read or written after them would fault. What they get is
+   tested elsewhere. */
 #define _GNU_SOURCE
 #include "vicinity.h"
 
@@ -28,7 +29,8 @@ static uint64_t *expected;
 static int have_ends(void)
 {
     for (int i = 0; i < ENDS; i++) {
-        uint8_t *pages = mmap(0, ROOM + PAGE, PROT_READ | PROT_WRITE, MAP_PRIVATE | MAP_ANONYMOUS, -1, 0);
+        uint8_t *pages =
+            mmap(0, ROOM + PAGE, PROT_READ | PROT_WRITE, MAP_PRIVATE | MAP_ANONYMOUS, -1, 0);
         if (pages == MAP_FAILED || mprotect(pages + ROOM, PAGE, PROT_NONE))
             return 0;
         ends[i] = pages + ROOM;
@@ -39,7 +41,8 @@ static int have_ends(void)
     return 1;
 }
 
-/* Whether a call has the same answer with a buffer of as many elements as it needs, and of one fewer. */
+/* Whether a call has the same answer with a buffer of as many elements as it needs, and of one
+ * fewer. */
 static int lists(list_call *call, size_t size, const uint8_t *text, size_t len)
 {
     answer told, again;
@@ -53,25 +56,30 @@ static int lists(list_call *call, size_t size, const uint8_t *text, size_t len)
     return 1;
 }
 
-static uint32_t simulate(const uint8_t *text, size_t len, answer *told, void *room, size_t places, size_t *needed)
+static uint32_t simulate(const uint8_t *text, size_t len, answer *told, void *room, size_t places,
+                         size_t *needed)
 {
     memset(told, 0, sizeof *told);
     return told->status = vicinity_simulate(text, len, room, places, needed);
 }
 
-/* What the program writes of a list and of a text, with the lengths and the names where memory ends, too. */
-static uint32_t reconcile(const uint8_t *text, size_t len, answer *told, void *room, size_t places, size_t *needed)
+/* What the program writes of a list and of a text, with the lengths and the names where memory
+ * ends, too. */
+static uint32_t reconcile(const uint8_t *text, size_t len, answer *told, void *room, size_t places,
+                          size_t *needed)
 {
     static const char list[] = "vicinity-log 1\nU E0040100000000A1\n", names[] = "list\nlog\n";
-    size_t listed = sizeof list - 1, *lengths = (size_t *)ends[LENGTHS] - 2, named = sizeof names - 1;
+    size_t listed = sizeof list - 1, *lengths = (size_t *)ends[LENGTHS] - 2,
+           named = sizeof names - 1;
     uint8_t *texts = ends[TEXTS] - listed - len;
     memcpy(texts, list, listed);
     memcpy(texts + listed, text, len);
     lengths[0] = listed;
     lengths[1] = len;
     memset(told, 0, sizeof *told);
-    return told->status = vicinity_run(VICINITY_COMMAND_RECONCILE, memcpy(ends[NAMES] - named, names, named), named, texts,
-                                       listed + len, lengths, 2, room, places, needed);
+    return told->status =
+               vicinity_run(VICINITY_COMMAND_RECONCILE, memcpy(ends[NAMES] - named, names, named),
+                            named, texts, listed + len, lengths, 2, room, places, needed);
 }
 
 /* What a log is measured by, into a struct that ends where memory ends. */
@@ -95,7 +103,8 @@ static int judges(const uint8_t *text, size_t len)
            lists(simulate, 1, text, len) && lists(reconcile, 1, text, len) && measures(text, len);
 }
 
-/* Whether a frame that is both a request and a reply is read, and no part of it; CRCs and lines are written of all parts. */
+/* Whether a frame that is both a request and a reply is read, and no part of it; CRCs and lines are
+ * written of all parts. */
 static int reads_frames(void)
 {
     static const uint8_t frame[] = {0x22, 0x02, 0xA1, 0, 0, 0, 0, 1, 4, 0xE0, 0x66, 0x2A};
@@ -107,7 +116,8 @@ static int reads_frames(void)
         uint8_t *bytes = memcpy(ends[TEXT] - part, frame, part);
         int is_whole = part == sizeof frame;
         if ((vicinity_read_request(bytes, part, &request) == 0) != is_whole ||
-            (vicinity_read_response(bytes, part, &reply) == 0) != is_whole || vicinity_add_crc(bytes, part, &whole) ||
+            (vicinity_read_response(bytes, part, &reply) == 0) != is_whole ||
+            vicinity_add_crc(bytes, part, &whole) ||
             vicinity_write_line('T', bytes, part, 0, &line) || line.len != 2 * part + 3)
             return 0;
     }

@@ -1,8 +1,8 @@
 /* Runs the commands in C many times in one process:  many FOLDER
  *
- * A line of standard input is a run: the folder in which it runs, the name of the program and the words after it, each as a
- * dash and its bytes in hex. The run's standard input is the file `in` of FOLDER, and what it writes goes to `out` and
- * `err`; its status is a line of standard output. */
+ * A line of standard input is a run: the folder in which it runs, the name of the program and the
+ * words after it, each as a dash and its bytes in hex. The run's standard input is the file `in` of
+ * FOLDER, and what it writes goes to `out` and `err`; its status is a line of standard output. */
 #include <fcntl.h>
 #include <stdio.h>
 #include <stdlib.h>
@@ -52,10 +52,12 @@ int main(int count, char **given)
         if (!strchr(line, '\n')) /* it is longer: its end would be a run by itself */
             return 1;
         count = 0;
-        for (char *word = strtok(line, " \n"); word && count < WORDS - 1; word = strtok(NULL, " \n"))
+        for (char *word = strtok(line, " \n"); word && count < WORDS - 1;
+             word = strtok(NULL, " \n"))
             words[count++] = word_of(word);
         if (chdir(words[0]) || !replace(0, given[1], "in", O_RDONLY) ||
-            !replace(1, given[1], "out", O_WRONLY | O_TRUNC) || !replace(2, given[1], "err", O_WRONLY | O_TRUNC))
+            !replace(1, given[1], "out", O_WRONLY | O_TRUNC) ||
+            !replace(2, given[1], "err", O_WRONLY | O_TRUNC))
             return 1;
         int status = vicinity_main(count - 1, words + 1);
         fprintf(told, "%d\n", __lsan_do_recoverable_leak_check() ? LEAK : status);

@@ -1,5 +1,6 @@
-/* Loaded before the C library by LD_PRELOAD, refuses one allocation: the one with the number REFUSED, counted from 1. With
-   COUNTED set it writes to standard error, at the end, how many there were, and how many of them had TELLING bytes. */
+/* Loaded before the C library by LD_PRELOAD, refuses one allocation: the one with the number
+   REFUSED, counted from 1. With COUNTED set it writes to standard error, at the end, how many there
+   were, and how many of them had TELLING bytes. */
 #include <stdio.h>
 #include <stdlib.h>
 

@@ -1,4 +1,5 @@
-// The program by the binding for C++: the number of a command, and then files, of which none means standard input, or words.
+// The program by the binding for C++: the number of a command, and then files, of which none means
+// standard input, or words.
 #include "vicinity.hpp"
 
 #include <cstdlib>

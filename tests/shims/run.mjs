@@ -1,7 +1,7 @@
 // The program by the binding for JavaScript:  run.mjs MODULE
 //
-// A line of standard input is a run as JSON, `{command, texts: [{name, text}]}`, each text in base64; its answer is a line
-// `{status, written}`, or `{status: 4, why}`.
+// A line of standard input is a run as JSON, `{command, texts: [{name, text}]}`, each text in base64;
+// its answer is a line `{status, written}`, or `{status: 4, why}`.
 import { readFile } from "node:fs/promises";
 import { createInterface } from "node:readline";
 import { Library } from "../../web/library.mjs";

@@ -1,4 +1,5 @@
-/* The heap of targets/wasm/heap.c, which counts what the library allocates, and refuses the allocation with one number. */
+/* The heap of targets/wasm/heap.c, which counts what the library allocates, and refuses the
+ * allocation with one number. */
 #define rattle_alloc plain_alloc
 #define rattle_realloc plain_realloc
 #define rattle_dealloc plain_dealloc

@@ -23,7 +23,7 @@ pub enum Command {
     Margin = 4,
     /// Of a log without slots.
     Simulate = 5,
-    /// Of a list of what is expected, and then logs.
+    /// Of a list of what is expected, and then logs or surveys; or of the same as `Collection`.
     Reconcile = 6,
     /// Of a word.
     Frame = 7,

@@ -1,0 +1,101 @@
+"""Random runs of each command of the program: over texts as people have them, and damaged ones."""
+import random
+from typing import NamedTuple
+
+from helpers import families, random_collections
+from helpers.air import Listed
+from helpers.fuzz import changed
+from helpers.names import OPERANDS
+from helpers.program import TOP
+from helpers.random_logs import random_log, text_of
+
+COMMANDS = [*OPERANDS]
+SEEDS = [log.read_bytes() for log in sorted(TOP.glob("examples/*.log"))]
+OUTCOMES = tuple(letter.encode() for letter in "SCDNRH")
+SPELLED = [line.split() for line in (
+    "request inventory link 2 slots 1 mask 8 A1", "request inventory link 2 slots 16 mask 4 01",
+    "request inventory link 2 slots 1 mask 0 -",
+    "request inventory link 2 slots 16 mask 60 0000000000000000",
+    "request stay-quiet link 2 uid E0040100000000A1",
+    "response flags 00 dsfid 00 uid E0040100000000A1")]
+PUT_IN = ["", " 2", "2 ", *"""request response inventory link slots mask uid 0 1 2 3 4 16 -1 +2 02
+    - 00 A1 a1 1F 61 64 65 x 256 4294967298 18446744073709551615 18446744073709551616
+    E0040100000000A1 D0040100000000A1 e0040100000000A1""".split()]
+# What isn't in a name of a file on every system.
+NOWHERE = set('\\"')
+
+
+class Run(NamedTuple):
+    """The words after a command, its files by their names, and its standard input."""
+    words: list
+    files: dict = {}
+    given: bytes = b""
+
+
+def run_of(chance, command):
+    """A run of a command."""
+    if OPERANDS[command] == "[FILE]":
+        text = log_of(chance)
+        if command == "simulate" and chance.randrange(4):
+            text = b"\n".join(line for line in text.split(b"\n") if line[:1] not in OUTCOMES)
+        return Run(["log"], {"log": text}) if chance.randrange(2) else Run([], given=text)
+    if command in ("frame", "spell"):
+        return Run(words_of(chance, command))
+    return over_files(chance, command)
+
+
+def log_of(chance):
+    """The text of a log: a true one, a random one, or a damaged one."""
+    if not chance.randrange(4):
+        return changed(chance, SEEDS)
+    version = chance.randint(1, 3)
+    text = text_of(version, random_log(chance, version)[1])
+    return random_collections.changed(chance, [text]) if not chance.randrange(3) else text
+
+
+def words_of(chance, command):
+    """A frame, or the words of one, of which some are changed."""
+    if command == "spell":
+        words, put_in = list(chance.choice(SPELLED)), PUT_IN
+    else:
+        lines = text_of(1, random_log(chance, 1)[1]).decode().split()
+        words = list(chance.choice([word for word in lines if len(word) > 8]))
+        put_in = list("0123456789ABCDEFabcdef ")
+    for _ in range(chance.randrange(3)):
+        words[chance.randrange(len(words))] = chance.choice(put_in)
+    if not chance.randrange(8):
+        del words[-chance.randrange(1, 4):]
+    return words if command == "spell" else ["".join(words)]
+
+
+def over_files(chance, command):
+    """A list and logs; or a collection, of which `survey` has the logs."""
+    if command == "reconcile" and chance.randrange(2):
+        _, expected, logs = families.case_of(chance)
+        texts = [text_of(1, map(Listed, expected)), *(text_of(*log) for log in logs)]
+        long = "x" * chance.choice((0, 0, 200))
+        files = {f"{long}{name}": text for name, text in zip(("list", *families.NAMES), texts)}
+        words = [*files]
+    else:
+        files, words = collection(chance)
+        logs = [word for word in words if random_collections.kind_of(files[word]) == "log"]
+        words = logs if command == "survey" and logs and chance.randrange(8) else words
+    if not chance.randrange(3):
+        name = chance.choice([name for name in files if files[name]])
+        files[name] = random_collections.changed(chance, [files[name]])
+    return Run(words, files)
+
+
+def collection(chance):
+    """A collection, each of whose words is a file on every system."""
+    while True:
+        files, words = random_collections.case_of(chance)
+        if not any(NOWHERE & {*name} or name.endswith(" ") for name in files):
+            return {**dict.fromkeys(words, b""), **files}, words
+
+
+def runs_of(number, seed):
+    """As many runs, each behind its command."""
+    for index in range(number):
+        command = COMMANDS[index % len(COMMANDS)]
+        yield command, run_of(random.Random(f"{seed} {index}"), command)
