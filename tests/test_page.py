@@ -1555,17 +1555,6 @@ def test_what_is_shown_of_a_log_stays_while_another_is_judged(page):
     assert page.run("return document.activeElement.parentElement.open")
 
 
-# For how many milliseconds the page does nothing else at most.
-FROZEN = """
-window.longest = 0;
-let last = performance.now();
-setInterval(() => {
-  window.longest = Math.max(window.longest, performance.now() - last);
-  last = performance.now();
-}, 10);
-"""
-
-
 @pytest.mark.parametrize(("files", "words"), [
     ({"disk": bytes(40_000_000)}, "Line 1: a line has at most 128 bytes."),
     ({"books.csv": bytes(5_000_000), "A.log": log_of("I1 S")}, "books.csv, line 1: "),
@@ -1575,31 +1564,42 @@ setInterval(() => {
      "the catalogue has no row")], ids=["disk", "zeros", "heads", "cell", "lines"])
 def test_a_large_file_that_is_no_log_does_not_freeze_the_page(page, tmp_path, files, words):
     """As the image of a disk, of which one line is all; a larger one ended the page."""
-    page.run(FROZEN)
-    page.choose(tmp_path, files)
-    page.until("h1", words)
-    assert page.run("return window.longest") < 3000 and len(page.said()) < 5000
+    with page.never_frozen():
+        page.choose(tmp_path, files)
+        page.when("h1", words)
+    assert len(page.said()) < 5000
 
 
 def test_many_logs_do_not_freeze_the_page(page):
     """Nor is the focus lost while they are judged."""
-    page.run(FROZEN)
-    page.drop_files({f"{number}.log": log_of("I1 RA QA I1 S UA") for number in range(400)})
-    page.run("document.querySelector('#logs button').focus()")
-    page.until("h1", "Complete: 400 of 400.")
+    with page.never_frozen():
+        page.drop_files({f"{number}.log": log_of("I1 RA QA I1 S UA") for number in range(400)})
+        page.run("document.querySelector('#logs button').focus()")
+        page.when("h1", "Complete: 400 of 400.")
     assert page.run("return document.activeElement.textContent").startswith("0.log ✓ The one")
-    assert page.run("return window.longest") < 3000
+
+
+# How many lists of logs the page's thread takes in: items may share one.
+LISTS = """
+const { get } = Object.getOwnPropertyDescriptor(MessageEvent.prototype, "data");
+Object.defineProperty(MessageEvent.prototype, "data", { get() {
+  const data = get.call(this), { items } = data.collection;
+  window.lists = new Set(items.flatMap((it) => [it.certain_in, it.possible_in])).size;
+  return data;
+} });
+"""
 
 
 def test_many_logs_that_say_nothing_do_not_freeze_the_page(page):
-    """Each item may be in each of their fields."""
-    page.run(FROZEN)
+    """Each item may be in each of their fields: that is one list, and not 24,000 of 400 numbers."""
+    page.run(LISTS)
     rows = "".join(f"{0xE004010000000000 + number:016X},{number % 400}\n"
                    for number in range(24_000))
-    page.drop_files({"books.csv": f"uid,place\n{rows}".encode(),
-                     **{f"{number}.log": b"vicinity-log 4\n" for number in range(400)}})
-    page.until("h1", "24,000 items not known yet; count all logs again.")
-    assert page.run("return window.longest") < 3000
+    with page.never_frozen():
+        page.drop_files({"books.csv": f"uid,place\n{rows}".encode(),
+                         **{f"{number}.log": b"vicinity-log 4\n" for number in range(400)}})
+        page.when("h1", "24,000 items not known yet; count all logs again.")
+    assert page.run("return window.lists") == len(["none", "all"])
 
 
 def test_a_drop_without_files_changes_nothing(page):

@@ -1,6 +1,6 @@
 /** Items by their shelves, and what logs are called: by the places of which they are, where these are known. */
 import { el } from "./elements.mjs";
-import { listing, printable } from "./words.mjs";
+import { listing, madeOnce, printable } from "./words.mjs";
 
 /** @typedef {import("./collection.mjs").Item} Item */
 /** @typedef {import("./collection.mjs").CollectionObject} CollectionObject */
@@ -28,10 +28,10 @@ export class Shelves {
     this.logs = logs;
     /** Whether the catalogue asks for places: then each log is of one, or left over. */
     this.isAsked = logs.some((log) => log.place !== null || log.left_over);
-    this.counted = /** @type {Map<string, Set<number>>} */ (new Map());
-    logs.forEach(({ place }, at) => {
-      if (place !== null) this.counted.set(place, (this.counted.get(place) ?? new Set()).add(at));
-    });
+    this.counted = /** @type {Map<string | null, number[]>} */ (new Map());
+    for (const [at, { place }] of logs.entries()) madeOnce(this.counted, place, () => /** @type {number[]} */ ([])).push(at);
+    /** What is said of lists of logs, which many items share. */
+    this.called = /** @type {WeakMap<number[], string>} */ (new WeakMap());
     /** The columns that name an item, with where they stand. */
     this.columns = columns.map((head, at) => ({ head: head.trim(), at })).filter(({ head }) => !KNOWN.has(head.toLowerCase()));
   }
@@ -57,8 +57,14 @@ export class Shelves {
    */
   isElsewhere({ place, possible_in: logs }) {
     const own = place === null ? undefined : this.counted.get(place);
-    return own !== undefined && !logs.some((at) => own.has(at));
+    return own !== undefined && !own.some((at) => logs.includes(at));
   }
+
+  /**
+   * Where an item may be.
+   * @param {Item} item
+   */
+  mayBe({ possible_in: logs }) { return madeOnce(this.called, logs, () => this.names(logs, "or")); }
 
   /**
    * On which shelf there is something to do with an item.

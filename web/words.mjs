@@ -51,6 +51,19 @@ export function listing(items, last = "and") {
 }
 
 /**
+ * What was made of a key before, or is made of it now.
+ * @template Key, Made
+ * @param {{get: (key: Key) => Made | undefined, set: (key: Key, made: Made) => unknown}} before
+ * @param {Key} key
+ * @param {() => Made} make
+ */
+export function madeOnce(before, key, make) {
+  const made = before.get(key) ?? make();
+  before.set(key, made);
+  return made;
+}
+
+/**
  * @param {bigint | number} value
  * @param {number} [digits]
  */
