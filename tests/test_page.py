@@ -437,6 +437,42 @@ def test_on_a_phone_every_slot_is_seen(page, log):
     assert max(last) <= PHONE
 
 
+# How a part is drawn: its text, border, background, and the colour of its border.
+DRAWN = """
+return [...document.querySelectorAll(arguments[0])].map((it) => {
+  const { borderTopStyle, borderTopWidth, backgroundColor, borderTopColor } = getComputedStyle(it);
+  const border = `${parseFloat(borderTopWidth) ? borderTopStyle : "none"}`;
+  return [it.firstChild?.textContent, border, backgroundColor, borderTopColor];
+});
+"""
+
+
+@pytest.mark.parametrize("scheme", ["light", "dark"])
+def test_in_the_colours_of_the_system_nothing_is_lost(page, scheme):
+    """Where these are forced, as for who needs a high contrast, there are no backgrounds: borders
+    and signs say what these do."""
+    held = EACH, "S", OVER_A, READ_B, "C", "D", "N", *["S"] * 10
+    page.drop(one=third(*held), two=log_of("I1 S"))
+    page.press("#logs button")
+    page.until("h1", "Not finished")
+    page.press("td.silent")
+    page.media(scheme=scheme, forced="active")
+
+    def drawn(part):
+        return page.run(DRAWN, part)
+    assert {border for _, border, *_ in drawn(".banner, .light")} == {"solid"}
+    ((_, _, ground, _),) = drawn("body")
+    assert {colour for *_, colour in drawn(".why .to-line")} == {ground}
+    readings = "silent", "heard", "captured", "collision", "garbled", "unknown"
+    cells = [drawn(f".rounds tbody .{reading}")[-1][:2] for reading in readings]
+    assert cells == [["·", "none"], ["B2", "none"], ["A1", "dotted"], ["×", "none"],
+                     ["?", "none"], ["~", "dashed"]]
+    ((*_, here, _),), others = drawn("td.here"), drawn("td.silent:not(.here)")
+    assert len(others) == 10 and here not in [it[2] for it in others]
+    ((*_, pressed, _), (*_, other, _)) = drawn("#logs button")
+    assert pressed != other
+
+
 def test_print_is_a_record(page):
     """With all that is folded, what is taken for granted, a sum of the log, and a line to sign."""
     page.drop(log=log_of("I16 S RA RB S13 UA UB"))

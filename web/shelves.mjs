@@ -1,6 +1,6 @@
 /** Items by their shelves, and what logs are called: by the places of which they are, where these are known. */
 import { el } from "./elements.mjs";
-import { listing, madeOnce, printable } from "./words.mjs";
+import { grouped, listing, madeOnce, printable } from "./words.mjs";
 
 /** @typedef {import("./collection.mjs").Item} Item */
 /** @typedef {import("./collection.mjs").CollectionObject} CollectionObject */
@@ -28,8 +28,7 @@ export class Shelves {
     this.logs = logs;
     /** Whether the catalogue asks for places: then each log is of one, or left over. */
     this.isAsked = logs.some((log) => log.place !== null || log.left_over);
-    this.counted = /** @type {Map<string | null, number[]>} */ (new Map());
-    for (const [at, { place }] of logs.entries()) madeOnce(this.counted, place, () => /** @type {number[]} */ ([])).push(at);
+    this.counted = grouped(logs.keys(), (at) => logs[at].place);
     /** What is said of lists of logs, which many items share. */
     this.called = /** @type {WeakMap<number[], string>} */ (new WeakMap());
     /** The columns that name an item, with where they stand. */
@@ -109,10 +108,8 @@ export function firstOf(names, last, most = MOST_NAMES) {
  * @param {Cell} [toDo]
  */
 export function shelved(list, shelves, shelf, where = {}, toDo) {
-  const groups = /** @type {Map<string, Item[]>} */ (new Map(list.map((item) => [shelf(item), []])));
-  const isOne = groups.size === 1 && groups.has(""), titled = (/** @type {string} */ name, /** @type {string} */ scope) =>
+  const groups = grouped(list, shelf), isOne = groups.size === 1 && groups.has(""), titled = (/** @type {string} */ name, /** @type {string} */ scope) =>
     el("tr", {}, el("th", { scope, colspan: String(heads.length) }, name.length > MOST_BARE ? name : name ? `Shelf ${name}` : "Place not known"));
-  for (const item of list) groups.get(shelf(item))?.push(item);
   const columns = shelves.columns.filter(({ at }) => list.some(({ cells, place }) => cells?.[at] && (isOne || cells[at].trim() !== place)));
   const asked = Object.keys(where), isTagged = list.some((item) => item.uid), last = columns.length && isTagged ? ["UID"] : [];
   const heads = [...toDo ? ["to do"] : [], ...columns.length ? columns.map(({ head }) => head) : ["UID"], ...asked, ...last];

@@ -64,6 +64,18 @@ export function madeOnce(before, key, make) {
 }
 
 /**
+ * Items by their keys, in the order of the first of each.
+ * @template Item, Key
+ * @param {Iterable<Item>} items
+ * @param {(item: Item) => Key} keyOf
+ */
+export function grouped(items, keyOf) {
+  const groups = /** @type {Map<Key, Item[]>} */ (new Map());
+  for (const item of items) madeOnce(groups, keyOf(item), () => /** @type {Item[]} */ ([])).push(item);
+  return groups;
+}
+
+/**
  * @param {bigint | number} value
  * @param {number} [digits]
  */

@@ -1,6 +1,7 @@
 """A page as a person uses it, in a browser: what is said on it, and whether all can read it."""
 import base64
 import contextlib
+import itertools
 import json
 import re
 import time
@@ -156,8 +157,11 @@ class Screen:
         yield
         assert self.worked() - known < FROZEN * (known - start)
 
-    def media(self, kind="", scheme="light"):
-        features = [{"name": "prefers-color-scheme", "value": scheme}]
+    def media(self, kind="", scheme="light", forced="none"):
+        """Paper or the screen; light or dark; with the page's colours, or only with the system's
+        if these are forced."""
+        features = [{"name": "prefers-color-scheme", "value": scheme},
+                    {"name": "forced-colors", "value": forced}]
         self.driver.execute_cdp_cmd("Emulation.setEmulatedMedia",
                                     {"media": kind, "features": features})
 
@@ -168,11 +172,12 @@ class Screen:
     def is_readable(self):
         """Contrasts of at least 4.5, one heading of the first order, names and 24 pixels for what
         is pressed; no wider than a phone."""
-        for scheme in "light", "dark":
-            self.media(scheme=scheme)
+        for scheme, forced in itertools.product(("light", "dark"), ("none", "active")):
+            self.media(scheme=scheme, forced=forced)
             contrasts = self.run(CONTRASTS)
             assert len(contrasts) > 5
             assert [it for it in contrasts if it[1] < CONTRAST] == []
+        self.media()
         targets = self.run(TARGETS)
         assert [it for it in targets if not it[0].strip() or it[1] < TARGET] == []
         assert len(self.texts("h1")) == 1
