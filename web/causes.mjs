@@ -32,11 +32,9 @@ export function silencedUnheard(log, open) {
   const narrow = open.filter((mask) => mask.len >= LEAST_SILENCED), lengths = [...new Set(narrow.map((mask) => mask.len))];
   /** @type {Map<string, Map<bigint, Silenced>>} */
   const within = new Map(narrow.map((mask) => [key(mask.len, mask.value), new Map()]));
-  for (let at = 0; at < log.rowCount && narrow.length; at++) {
-    const row = log.isQuiet(at) ? log.row(at) : null;
-    if (row?.kind !== "quiet") continue;
-    const tags = lengths.map((len) => within.get(key(len, row.uid))).find((it) => it);
-    if (tags && !tags.has(row.uid)) tags.set(row.uid, { line: row.line, uid: row.uid });
+  for (const { line, uid } of narrow.length ? log.quiets() : []) {
+    const tags = lengths.map((len) => within.get(key(len, uid))).find((it) => it);
+    if (tags && !tags.has(uid)) tags.set(uid, { line, uid });
   }
   const masks = narrow.filter(({ len, value }) => within.get(key(len, value))?.size === 2 ** (UID_BITS - len));
   const tags = masks.flatMap(({ len, value }) => [...within.get(key(len, value))?.values() ?? []]);

@@ -1,5 +1,5 @@
 /** Draws a collection: what isn't sure of its logs, what to count again, what to do at each shelf, what isn't known yet, and each log. */
-import { el, folded, lowered, oneStop } from "./elements.mjs";
+import { bullets, el, folded, lowered, oneStop, rest } from "./elements.mjs";
 import { maskOf } from "./frames.mjs";
 import { doubted, doubtsOf } from "./logs.mjs";
 import { Pane } from "./pane.mjs";
@@ -7,7 +7,7 @@ import { noOthers } from "./say.mjs";
 import { inOrder, MOST_NAMES, nameOf, shelved, Shelves } from "./shelves.mjs";
 import { deafIn, granted, HOLDS, mayBeWrong, missed, notSure, stillHolds } from "./sure.mjs";
 import { banner, signed, view } from "./view.mjs";
-import { count, EDITED, endings, KIND, listing, madeOnce, printable } from "./words.mjs";
+import { count, EDITED, endings, grouped, KIND, listing, madeOnce, printable } from "./words.mjs";
 
 /** @typedef {import("./told.mjs").LogObject} LogObject */
 /** @typedef {import("./told.mjs").Told} Told */
@@ -76,8 +76,9 @@ const countAgain = (logs) => `Run ${logs === 1 ? "its inventory" : "the inventor
  * @returns {(...states: State[]) => Item[]}
  */
 function byState({ items, unexpected }) {
-  const all = [...items, ...unexpected.map((found) => ({ ...found, state: /** @type {State} */ ("unexpected"), place: null }))];
-  return (...states) => states.flatMap((state) => all.filter((item) => item.state === state));
+  const found = unexpected.map((it) => ({ ...it, state: /** @type {State} */ ("unexpected"), place: null }));
+  const groups = grouped(/** @type {Item[]} */ ([...items, ...found]), ({ state }) => state);
+  return (...states) => states.flatMap((state) => groups.get(state) ?? []);
 }
 
 /**
@@ -98,17 +99,15 @@ export function collectionView(object, opener = () => null, canLeave = () => fal
   const edited = object.logs.filter(({ name }) => name.endsWith(EDITED)).length, changes = edited ? ` (${edited.toLocaleString("en")} edited)` : "";
   const said = { ...lookOf(object, doubts), headline, lights: lights(object, shelves) }, rests = conditionsOfAll(object, shelves);
   if (!object.logs.length) return [banner({ look: "read", sign: "…", headline, lights: [] }, printable(object.file)), el("p", {}, WAITS)];
-  const table = (/** @type {Item[]} */ list, /** @type {import("./shelves.mjs").Cell} */ shelf, where = {}, /** @type {import("./shelves.mjs").Cell} */ toDo) =>
-    shelved(list, shelves, shelf, where, toDo);
   const drawn = (/** @type {string} */ title, /** @type {string} */ words, /** @type {number[]} */ list, /** @type {boolean} */ isFirst) =>
     logs(title, words, list, isFirst, object, shelves, opener);
   return [banner(said, `${printable(object.file)} · ${count(object.logs.length, "log")}${changes}`), ...doubted(doubts, canLeave), ...isKnown ? rests : [],
     ...drawn("Count again", countAgain(open.length) + (open.some((at) => object.logs[at].field.startsWith(KIND.IMPOSSIBLE)) ? AGAIN_BROKEN : ""), open, true),
-    ...part("At the shelves", todo, true, howTo(object), table(todo, (item) => shelves.at(item), {}, (item) => shelves.toDo(item))),
-    ...part("Not heard on their shelves", elsewhere, true, ELSEWHERE, table(elsewhere, home, mayBe)),
-    ...part("Without a tag", of("no tag"), true, NO_TAG, table(of("no tag"), home, {}, () => "look for")),
-    ...part("Not counted", of("not counted"), false, NOT_COUNTED, table(of("not counted"), home)),
-    ...part("Not known yet", others, false, UNKNOWN_YET + which, table(some, home, some.every(home) ? {} : mayBe)),
+    ...part("At the shelves", todo, true, howTo(object), shelved(todo, shelves, (item) => shelves.at(item), {}, (item) => shelves.toDo(item))),
+    ...part("Not heard on their shelves", elsewhere, true, ELSEWHERE, shelved(elsewhere, shelves, home, mayBe)),
+    ...part("Without a tag", of("no tag"), true, NO_TAG, shelved(of("no tag"), shelves, home, {}, () => "look for")),
+    ...part("Not counted", of("not counted"), false, NOT_COUNTED, shelved(of("not counted"), shelves, home)),
+    ...part("Not known yet", others, false, UNKNOWN_YET + which, shelved(some, shelves, home, some.every(home) ? {} : mayBe)),
     ...inPlace(object), ...isKnown ? [] : rests, ...drawn("Nothing left to ask", "", [...object.logs.keys()].filter((at) => !isOpen(object.logs[at])), false),
     ...grantedOfAll(object), recordOfAll(object)];
 }
@@ -289,11 +288,11 @@ function conditionsOfAll(object, shelves) {
  */
 function logs(title, words, list, open, object, shelves, opener) {
   if (!list.length) return [];
-  const more = list.length > MOST_LOGS ? [el("p", {}, `and ${(list.length - MOST_LOGS).toLocaleString("en")} more`)] : [];
   const names = () => namesIn(object, shelves), byName = [...list].sort((one, other) => inOrder(shelves.name(one), shelves.name(other)));
   const isFirst = (/** @type {number} */ at) => isAside(object.logs[at]), sorted = [...byName.filter(isFirst), ...byName.filter((at) => !isFirst(at))];
   const items = sorted.slice(0, MOST_LOGS).map((at) => el("li", {}, oneLog(object.logs[at], shelves.name(at), names, opener(at))));
-  return [folded(`${title} (${count(list.length, "log")})`, open, ...words ? [el("p", {}, words)] : [], oneStop(el("ul", { class: "logs" }, items), ".log > summary"), ...more)];
+  return [folded(`${title} (${count(list.length, "log")})`, open, ...words ? [el("p", {}, words)] : [], oneStop(el("ul", { class: "logs" }, items), ".log > summary"),
+    ...rest(list.length - MOST_LOGS))];
 }
 
 /**
@@ -347,7 +346,7 @@ function grantedOfAll(object) {
   const end = object.ended ? "" : ", of which the last has no line end, so the file may have been cut off";
   const catalogue = `The catalogue is complete. It has ${count(object.items.length, "row")}${end}: what isn't in it is never missed.`;
   const all = [...granted(!isHiding(object)), CARRIED, catalogue, PROVED];
-  return [folded(`What this takes for granted (${all.length})`, !object.status, el("ul", {}, all.map((it) => el("li", {}, it))))];
+  return [folded(`What this takes for granted (${all.length})`, !object.status, bullets(all))];
 }
 
 /** @param {CollectionObject} object */

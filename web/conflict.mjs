@@ -94,16 +94,9 @@ function leavesNone(log, { line, mask }, lines) {
  * @param {bigint | null} except
  */
 function stayedSilent(log, round, till, except) {
-  const heard = new Set(), silenced = /** @type {Set<bigint>} */ (new Set()), asked = log.row(round);
-  for (let at = 0; at <= till; at++) {
-    const row = log.isRound(at) ? null : log.row(at);
-    if (!row) for (const line of log.outcomes(at)) heard.add(log.isReply(line) ? uidIn(log.frame(line)) : null);
-    else if (row.kind === "cycle") silenced.clear();
-    else if (row.kind === "quiet" && heard.has(row.uid)) silenced.add(row.uid);
-  }
-  silenced.delete(except ?? 0n);
+  const { heard, ready } = log.heardBefore(till + 1), silenced = [...heard].filter((uid) => !ready.has(uid) && uid !== except), asked = log.row(round);
   const slots = asked.kind === "round" ? asked.slots.filter(({ reading }) => reading === "silent" || reading === "heard") : [];
-  return slots.some(({ mask, uid: read }) => [...silenced].some((uid) => uid !== read && hasUid(mask, uid)));
+  return slots.some(({ mask, uid: read }) => silenced.some((uid) => uid !== read && hasUid(mask, uid)));
 }
 
 /**

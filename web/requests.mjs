@@ -1,5 +1,5 @@
 /** What is left to ask, as lines that send it. */
-import { hasUid, linkIn, linkOf, maskOf, requestOf, sixteen, stayQuietOf, UID_LEN, uidIn } from "./frames.mjs";
+import { hasUid, linkIn, linkOf, maskOf, requestOf, sixteen, stayQuietOf, UID_LEN } from "./frames.mjs";
 import { MOST_NOTES } from "./notes.mjs";
 import { UID_BITS } from "./words.mjs";
 
@@ -89,17 +89,7 @@ function askedAgain(log, causes) {
  * @param {number} link
  */
 function allButHeard(log, link) {
-  const heard = /** @type {Set<bigint>} */ (new Set()), ready = /** @type {Set<bigint>} */ (new Set());
-  for (let at = 0; at < log.rowCount; at++) {
-    if (log.isQuiet(at)) ready.delete(uidIn(log.frame(log.lineOf(at))));
-    else if (!log.isRound(at)) for (const uid of heard) ready.add(uid);
-    for (const line of log.outcomes(at)) {
-      if (!log.isReply(line)) continue;
-      const uid = uidIn(log.frame(line));
-      heard.add(uid);
-      ready.add(uid);
-    }
-  }
+  const { heard, ready } = log.heardBefore(log.rowCount);
   const quiets = ready.size > MOST_REQUESTS ? [] : [...ready];
   return { heard: heard.size, ready: ready.size, all: [...quiets.map((uid) => `T ${stayQuietOf(uid, link)}`), `T ${requestOf(1, NO_MASK, link)}`] };
 }

@@ -1,5 +1,5 @@
 /** Items by their shelves, and what logs are called: by the places of which they are, where these are known. */
-import { el } from "./elements.mjs";
+import { el, rest } from "./elements.mjs";
 import { grouped, listing, madeOnce, printable } from "./words.mjs";
 
 /** @typedef {import("./collection.mjs").Item} Item */
@@ -127,11 +127,10 @@ export function shelved(list, shelves, shelf, where = {}, toDo) {
     room -= rows.length;
     return el("tbody", {}, ...rows.length && groups.size > 1 ? [titled(name, "rowgroup")] : [], ...rows);
   });
-  const more = list.length > MOST_ROWS ? [el("p", {}, `and ${(list.length - MOST_ROWS).toLocaleString("en")} more`)] : [];
   // what is at the head stands on each sheet of paper again
   const head = el("thead", {}, el("tr", {}, heads.map((it) => el("th", { scope: "col" }, printable(it)))),
     ...groups.size === 1 && !isOne ? [titled([...groups.keys()][0], "colgroup")] : []);
-  return list.length ? [el("table", { class: heads.length > MOST_COLUMNS ? "items many" : "items" }, head, ...bodies), ...more] : [];
+  return list.length ? [el("table", { class: heads.length > MOST_COLUMNS ? "items many" : "items" }, head, ...bodies), ...rest(list.length - MOST_ROWS)] : [];
 }
 
 /**
