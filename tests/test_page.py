@@ -37,6 +37,7 @@ LOGS = (
      "was silenced before it was heard."),
     ("I1 S UA", "No tag answered, but 1 is listed."),
     ("I16 S RA RB S13 UA", "1 tag here isn't listed; the one listed tag is here."),
+    ("I1 RA UB", "1 didn't answer and 1 tag here isn't listed; 0 of 1 listed tag is here."),
     ("I1 C UA", "Not finished: 1 isn't proved; 0 of 1 listed tag is proved to be here."),
     ("I16 S12", "Not finished: no tag is proved to be here, but some may be. The log has no list"),
     ("I16 S RA S10", "Not finished: 1 tag is here; others may be too. The log has no list"),
@@ -63,7 +64,7 @@ LIGHTS = (("I1 RA QA I1 S UA", "yes", "matches"),
           ("I16 S RA S10 UA", "no", "not known yet"),
           ("I1 S UA", "yes", "differs"), ("I1 C UA", "no", "not known yet"),
           ("I1 RA I1 S UA", "not known", "not known"), ("I1 RA I1 S", "not known", "none given"),
-          ("I1 S", "yes", "none given"))
+          ("I1 S", "yes", "none given"), ("UA UA",))
 # What is said besides, at the shelf and to whoever maintains the reader; and what isn't.
 SAID = (
     ("I1 S", "check the antenna", "Nothing to do"),
@@ -104,6 +105,7 @@ SAID = (
     ("I1 RA I1 RB", "ask in sixteen slots, in a new log, so that fewer tags answer at once.\n\n"
      "T 060100CD09", "each open mask"),
     ("I1 RA I1 RB", "in a log of version 3. Read so, the log doesn't contradict itself.", "Notes"),
+    ("I1 RA QA I1 RB QB I1 S UA UB", "Read so, the log doesn't contradict itself.", "Notes"),
     ("I1 C I1 S", "Later replies of these tags were lost, so slots were logged", "damaged reply"),
     ("I1 C QA I1 S", "A later reply of one of these tags was lost", "Later replies"),
     ("I1 UA", "1 request is left, for the open mask.", "or in one"),
@@ -130,6 +132,7 @@ SAID = (
 FOREIGN = (("\uFEFFvicinity-log 1\n", "byte order mark"), ("v\0i\0c\0\n\0", "UTF-16"),
            ("title|place\nEmma|A\n", "This file isn't a log, but a table."),
            ("Dear reader\n", "Choose another file, or count again."),
+           ("vicinity-log 1; reader 4, shelf 2\n", "Write the header as line 1"),
            ("title|place\nEmma|A\n", "in vicinity.html: choose or drop the table"),
            ("Tag UID,title\nE004,Emma\n", "In its first row, name the column of tag numbers"),
            ("%PDF-1.7\n", "This file isn't a log, but a PDF."),
@@ -205,8 +208,10 @@ SURE = (("I1 RA QA I1 S UA", "2 times or more", COMPLETE, OTHERS, "yes"),
         ("I1 RA QA I1 S", None, None, OTHERS, "read"), ("I1 RA", None, OTHERS, OTHERS, "read"),
         ("V3 I1 RA QA I1 S F M56 RA UB", None, None, None, "no"),
         ("I1 C UA", None, None, None, "no"), ("I1 C", None, None, None, "no"))
-# What each answer says of strong replies that hid weaker ones, and the lines of requests below.
+# What each answer says of strong replies that hid weaker ones, and the lines of requests below. The
+# tag under whose reply others may be is silenced, and its round asked again, for all masks.
 HIDDEN = (
+    ("V3 I1 HA UA", None, "QA I1"),
     ("I16 S RA RB S13 UA UB", "may be wrong.", "QA QB I1"),
     ("I1 RA QA I1 S UA", "still holds, but 1 missed slot would be enough.", "F M56"),
     ("I1 RA QA I1 S I1 S UA", "still holds, but 2 missed slots would be enough.", "F M56"),
@@ -328,9 +333,11 @@ def test_a_log_is_dropped(shown, program, names, headline):
     assert page.texts(".record code")[0] == program.run("check", given=log).out.decode().strip()
 
 
-@pytest.mark.parametrize(("names", "read", "listed"), LIGHTS, ids=[row[0] for row in LIGHTS])
-def test_the_first_two_lights(shown, names, read, listed):
-    assert shown(log_of(names)).texts(".lights dd")[:2] == [read, listed]
+@pytest.mark.parametrize("row", LIGHTS, ids=[row[0] for row in LIGHTS])
+def test_the_first_two_lights(shown, row):
+    """None of a text that is refused."""
+    names, *lights = row
+    assert shown(log_of(names)).texts(".lights dd")[:2] == lights
 
 
 @pytest.mark.parametrize(("names", "asked", "hidden", "deaf", "look"), SURE)
@@ -347,13 +354,6 @@ def test_the_lights_of_how_sure_it_is(shown, names, asked, hidden, deaf, look):
     said = "If the reader had gone deaf after the last answer of a tag, the answer may be wrong"
     assert (said in page.said()) == (is_deaf and is_heard)
     assert ("A reader that is deaf writes the same log:" in page.said()) == (is_deaf > is_heard)
-
-
-def test_a_list_that_differs_where_replies_may_have_been_hidden(page):
-    """It may be that nothing is missing."""
-    page.drop(log=log_of("I1 RA UB"))
-    page.until("h1", "1 didn't answer and 1 tag here isn't listed; 0 of 1 listed tag is here.")
-    assert page.texts(".lights dd")[2:] == [WRONG, WRONG]
 
 
 # What is seen on the screen, and how many stops a keyboard has.
@@ -626,13 +626,6 @@ def test_slots_of_version_3_are_drawn(page):
         page.run("return document.querySelector('.rounds th > .unseen').textContent"))
 
 
-def test_what_is_left_to_ask_under_a_reply(page):
-    """It is silenced, and its round is asked again, in place of each mask around it."""
-    page.drop(log=third(ALL, OVER_A, LIST_A))
-    page.until(".copy", "T ")
-    assert page.texts(".copy") == [f"{QUIET_A}\n{ALL}"]
-
-
 @pytest.mark.parametrize(("names", "words", "ask"), HIDDEN, ids=[row[0] for row in HIDDEN])
 def test_whether_it_also_holds_if_replies_were_hidden(shown, names, words, ask):
     page = shown(log_of(names))
@@ -667,11 +660,6 @@ def test_replies_that_may_have_hidden_others_come_last(page):
     assert page.texts(".copy") == [biglog.ask((4, 2), 16), f"{QUIET_A}\n{ALL}"]
 
 
-def test_a_contradiction_that_hidden_replies_explain(page):
-    page.drop(log=log_of("I1 RA QA I1 RB QB I1 S UA UB"))
-    page.until("#told", "Read so, the log doesn't contradict itself.")
-
-
 def test_a_table_is_compared_with_the_logs_that_are_here(page):
     page.drop(log=log_of("I1 RA"))
     page.until("h1", "1 tag is here")
@@ -681,12 +669,6 @@ def test_a_table_is_compared_with_the_logs_that_are_here(page):
     drawn = "return document.querySelector('.logs').textContent"
     page.wait(lambda: "Walden E0040100000000A1" in page.run(drawn))
     assert "Walden" in page.run("return document.querySelector('td.heard').title")
-
-
-def test_a_header_with_a_comma_is_no_table(page):
-    page.drop(log=b"vicinity-log 1; reader 4, shelf 2\n")
-    page.until("h1", "isn't a log")
-    assert "table" not in page.said()
 
 
 @pytest.mark.parametrize(("names", "words", "never"), SAID)
@@ -819,18 +801,6 @@ def test_without_a_list_all_tags_are_seen(page):
     page.until("h1", "30 tags are here")
     assert len([it for it in page.texts(".uids code") if it]) == 30
     page.wait(lambda: not page.driver.find_elements("css selector", ".wide[tabindex]"))
-
-
-def test_a_text_that_is_refused_has_no_lights(page):
-    page.drop(log=log_of("UA UA"))
-    page.until(".banner", "log")
-    assert page.texts(".lights") == []
-
-
-def test_an_empty_field_is_not_green(page):
-    page.drop(log=log_of("I1 S"))
-    page.until("h1", "No tag answered")
-    assert page.driver.find_elements("css selector", ".banner.yes") == []
 
 
 def test_a_file_that_cannot_be_read(page):
