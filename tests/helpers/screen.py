@@ -67,7 +67,7 @@ seen.observe(document, { childList: true, characterData: true, subtree: true });
 # Work of a known amount: 2.4 million numbers are copied. A page that works so many times as long is
 # frozen.
 KNOWN = "structuredClone(Array.from({ length: 24_000 }, () => [...Array(100).keys()]))"
-FROZEN = 5
+FROZEN = 10
 
 
 class Screen:
