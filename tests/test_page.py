@@ -11,7 +11,7 @@ import pytest
 from selenium.webdriver.common.keys import Keys
 
 import biglog
-from helpers.lines import log_lines, log_of, text_of
+from helpers.lines import log_lines, log_of, rows, text_of
 from helpers.program import TOP
 from helpers.records import drawn_in
 from helpers.screen import DROP, PHONE, Screen
@@ -20,205 +20,17 @@ MOST_BYTES = 600_000
 UNFINISHED = (TOP / "examples/unfinished-count.log").read_bytes()
 LONG = text_of(["vicinity-log 1", *biglog.search(biglog.new_tags(random.Random(1), 400))])
 BITS = text_of(["vicinity-log 1", *[biglog.ask((5, 2), 16), *["S"] * 16] * 20])
-BROKEN = "This count can't be used. The log contradicts itself: "
-# Logs by the short names of their lines, with how the headline begins.
-LOGS = (
-    ("I16 S RA RB S13 UA UB", "All 2 listed tags are here; others may be, if stronger replies"),
-    ("I16 S RA RB S13 QA QB I1 S UA UB", "All 2 listed tags are here, and no others."),
-    ("I1 RA UA", "The one listed tag is here; others may be, if stronger replies hid them."),
-    ("I1 RA QA I1 S UA", "The one listed tag is here, and no other."),
-    ("I1 S", "No tag answered, and nothing is listed."),
-    ("I1 RA", "1 tag is here; others may be, if stronger replies hid them. The log has no list to "
-     "compare with."),
-    ("I1 RA QA I1 S", "1 tag is here, and no other. The log has no list to compare with."),
-    ("I16 S RA RB S12 C UA UB", "Not finished: all 2 listed tags are here; others are too."),
-    ("I16 S RA S10 UA", "Not finished: the one listed tag is here; others may be too."),
-    ("QB I1 RA UA", "Not finished: the one listed tag is here; 1 tag may be here or not, since it "
-     "was silenced before it was heard."),
-    ("I1 S UA", "No tag answered, but 1 is listed."),
-    ("I16 S RA RB S13 UA", "1 tag here isn't listed; the one listed tag is here."),
-    ("I1 C UA", "Not finished: 1 isn't proved; 0 of 1 listed tag is proved to be here."),
-    ("I16 S12", "Not finished: no tag is proved to be here, but some may be. The log has no list"),
-    ("I16 S RA S10", "Not finished: 1 tag is here; others may be too. The log has no list"),
-    ("I1 QA I1 S UA", "Not finished: 1 listed tag isn't proved, since it was silenced"),
-    ("I1 QA I1 S", "Not finished: 1 tag may be here or not, since it was silenced before it was "
-     "heard."),
-    ("I1 RA I1 S", BROKEN + "tag ..00A1 answered in line 3, but not in line 5,"),
-    ("I1 RA I1 RB", BROKEN + "tags ..00A1 (line 3) and ..00B2 (line 5) were "
-     "each read alone, but both should have answered in one of these two slots."),
-    ("I1 RA QA I1 RA", BROKEN + "tag ..00A1 was silenced in line 4, but"),
-    ("I1 C QA I1 S", BROKEN + "in line 3 two or more tags answered, but line 6 "
-     "leaves at most one."),
-    ("QZ M55 C", BROKEN + "two or more tags answered in line 4, but the mask "
-     "that was asked there has at most one UID that wasn't silenced."),
-    ("V2 M64 D", BROKEN + "something answered in line 3, but no tag of the "),
-    ("MB RA", BROKEN + "line 3 is a reply of ..00A1, a tag that wasn't asked"),
-    ("UA UA", "This log can't be used. Line 3: an earlier U line has the same UID."))
-# How the two lights are for some of them.
-LIGHTS = (("I1 RA QA I1 S UA", "yes", "matches"),
-          ("I1 RA UA", "not known yet", "matches what was heard"),
-          ("I1 RA", "not known yet", "none given"),
-          ("I1 RA QA I1 S", "yes", "none given"),
-          ("I16 S RA RB S12 C UA UB", "no", "incomplete"),
-          ("I16 S RA S10 UA", "no", "not known yet"),
-          ("I1 S UA", "yes", "differs"), ("I1 C UA", "no", "not known yet"),
-          ("I1 RA I1 S UA", "not known", "not known"), ("I1 RA I1 S", "not known", "none given"),
-          ("I1 S", "yes", "none given"))
-# What is said besides, at the shelf and to whoever maintains the reader; and what isn't.
-SAID = (
-    ("I1 S", "check the antenna", "Nothing to do"),
-    ("I1 S", "lay an item with a tag at the antenna", "Nothing to do"),
-    ("I1 RA QA I1 S UA", "Nothing to do, if the reader worked to the end.", "Nothing to do."),
-    ("V3 I1 RA QA I1 S F MA RA UA", "Nothing to do.", "if the reader worked"),
-    ("I1 RA UA", "shows whether a strong reply hid a weaker one.", "Nothing to do"),
-    ("I1 RA UA", "To know whether a strong reply hid a weaker one, silence each tag that was "
-     "heard, and ask all in one slot, until none answers:", "may be wrong. To know"),
-    ("I1 S UA", "If the reader wrote the list of what it found:\nTags were taken", "shown by"),
-    ("I1 S UA", "ruled out by", "must be here"),
-    ("I1 S UA", "would have been missed in 1 slot; ruled out by line 3", "To go unnoticed"),
-    ("I1 S MA S I1 S UA", "would have been missed in 3 slots; ruled out by line 3", "in 1 slot"),
-    ("I1 S", "To go unnoticed, a tag would have had to be missed in 1 slot, whatever its UID.",
-     "been missed in"),
-    ("I1 RA QA I1 S UA", "in 2 slots; that is enough for UIDs ending in an even digit",
-     "been missed in"),
-    ("I1 RA QA QB I1 S UA", "in 1 slot; that is enough for E0040100000000B2, for example.",
-     "been missed in"),
-    ("I1 RA", "1 tag that is here", "To go unnoticed"),
-    ("I1 RA", "1 tag that is here", "must be here"),
-    ("I1 RA UB", "its software has to write a U line", "Nothing to do"),
-    ("I1 RA I1 S", "if always, its reply was lost, or a Stay Quiet isn't in the log", "it came"),
-    ("I1 S I1 RA", "if always, it came later", "a Stay Quiet isn't in the log; if never"),
-    ("I1 RA I1 S", "A Stay Quiet or another request was sent", "One of these may have happened"),
-    ("V2 I1 D I1 S", "a slot that may have been noise gets the line N", "write D"),
-    ("I1 QA I1 S UA", "Line 3 silenced ..00A1 before it was heard: a reply", "no slot was logged"),
-    ("QA QB I1 S UA UB", "Lines 2 and 3 silenced 2 tags before they were heard: replies",
-     "not proved"),
-    ("I16 S14", "ended before slots E and F.", "E to F"),
-    ("I16 S12", "Of all possible UIDs 75 % are settled.", "Search finished. "),
-    ("", "Of all possible UIDs 0 % are settled", "one for each"),
-    ("I1 QA I1 S UA", "Begin a new log, of version 3", "What is left to ask"),
-    ("V2 I1 QA I1 S UA", "write F, and send 1 request for tags that were silenced", "a new log"),
-    ("I1 RA", "run the inventory again, to a last round that no tag answers.", "Nothing to do"),
-    ("I1 RA QA I1 S", "open a catalogue (CSV) together with the log", "to a last round"),
-    ("I16 C C S14", "2 requests are left, one for each open mask.", "What is left to ask"),
-    ("I1 RA I1 RB", "ask in sixteen slots, in a new log, so that fewer tags answer at once.\n\n"
-     "T 060100CD09", "each open mask"),
-    ("I1 RA I1 RB", "in a log of version 3. Read so, the log doesn't contradict itself.", "Notes"),
-    ("I1 C I1 S", "Later replies of these tags were lost, so slots were logged", "damaged reply"),
-    ("I1 C QA I1 S", "A later reply of one of these tags was lost", "Later replies"),
-    ("I1 UA", "1 request is left, for the open mask.", "or in one"),
-    ("I1 C", "1 request is left, for the open mask.", "or in one"),
-    ("I16 C16", "16 requests are left, one for each open mask or slot.", "or in one"),
-    ("I1 S QA UA", "its reply may have been lost in line 3", "stronger replies"),
-    ("I1 S MB S UA", "one that stronger replies hid would go unnoticed", "no earlier round"),
-    ("I1 RA QA I1 S MB S UA", "Nothing to do, if the reader", "Notes"),
-    ("I16 S12 I1 S UA", "This round was cut short after 12 of 16 slots.", "None of this round's"),
-    ("I16 S12", "1 request is left, for the round that was cut short.", "after 12 of"),
-    ("I1 RA QA I1 RA", "The field was switched off and on in between", "The field stayed on"),
-    ("I16 S RA RB S13 QB QA I16 S RA S14", "The field stayed on: others that were silenced stayed "
-     "silent.", "The field was switched off"),
-    ("I1 S UA", "Look on this shelf for the item below. If it is here, its tag is broken", "Then "),
-    ("I1 RA QA I1 S UB UZ", "for the 2 items below. If one is here", "for the item below"),
-    ("I1 RA QA I1 S UB", "The tags here that aren't listed belong elsewhere, or the list", "Then"),
-    ("MB S", "one that no earlier round asked would go unnoticed", "stronger replies"),
-    ("MB S I1 S", "check the antenna", "Notes"), ("I1 UA", "no slot was logged", "ended before"),
-    ("I16 " * 30, "In 30 rounds 480 slots weren't reached: most of these UIDs were asked in "
-     "lines 28, 29, 30 and 31.", "round of line 2,"),
-    ("UA UA", "Count again, in a new log.", "UIDs listed"),
-    ('""', "Choose another file, or count again.", "Write the header"))
-# Texts that are no logs, with what is said of them.
-FOREIGN = (("\uFEFFvicinity-log 1\n", "byte order mark"), ("v\0i\0c\0\n\0", "UTF-16"),
-           ("title|place\nEmma|A\n", "This file isn't a log, but a table."),
-           ("Dear reader\n", "Choose another file, or count again."),
-           ("title|place\nEmma|A\n", "in vicinity.html: choose or drop the table"),
-           ("Tag UID,title\nE004,Emma\n", "In its first row, name the column of tag numbers"),
-           ("%PDF-1.7\n", "This file isn't a log, but a PDF."),
-           ("<!DOCTYPE html>\n", "This file isn't a log, but a web page."),
-           ("[+] Recorded activity (trace len = 220 bytes)\n", "a trace of a Proxmark."),
-           ("[usb] pm3 --> hf 15 list\n", "the slots in which no tag answered"),
-           ("      Start |        End | Src | Data (! denotes parity error)\n",
-            "Count with a reader whose software writes a log."),
-           ("E0040100000000A1\nE0040100000000B2\n", "but a list of tag numbers."),
-           ("e0:04:01:00:00:00:00:a1\n", "which tags were read, not what was asked"),
-           ("A1000000000104E0\n", "let its first line be uid"),
-           ("vicinity-log 1\rT 260100F60A\rS\r", "CR alone"),
-           ("vicinity-log 1 \n", "vicinity-log 1‹space›"))
-# Logs that can't be used, with what is said of them.
-UNUSABLE = (("vicinity-log 1\nT 260100F60B\n", "give F60A; the line has F60B"),
-            ("vicinity-log 1\nU E0040100000000A1\r", "A1‹CR›"),
-            ("vicinity-log 1\nT\t260100F60A\n", "T‹TAB›260100F60A"),
-            ("vicinity-log 1\nT 260100F60A\nR 0000A1000000000104E06746\nS\n", "gets the line D"),
-            ("vicinity-log 1\nT 260100F", "may end in the middle of this line"))
-# Lines of logs of version 3.
-ALL, EACH, OF_B = "T 260100F60A", "T 060100CD09", "T 260108B2923A"
+ALL, EACH = "T 260100F60A", "T 060100CD09"
 READ_A, READ_B = "R 0000A1000000000104E06745", "R 0000B2000000000104E0CF94"
 OVER_A, QUIET_A = "H" + READ_A[1:], "T 2202A1000000000104E0662A"
 LIST_A, LIST_B = "U E0040100000000A1", "U E0040100000000B2"
-# These logs, how the headline begins, and what is said besides.
-THIRD = {
-    "a reply that may hide others": (
-        (ALL, OVER_A, LIST_A), "Not finished: the one listed tag is here; others may be too.",
-        "In slot 0 of the round of line 2, which asked all UIDs, ..00A1 was read, perhaps over "
-        "others"),
-    "none was hidden": (
-        (ALL, OVER_A, QUIET_A, ALL, "S", LIST_A), "The one listed tag is here, and no other.",
-        "The answer allows for strong replies that hid weaker ones."),
-    "two were hidden": (
-        (ALL, OVER_A, QUIET_A, ALL, "C", LIST_A),
-        "Not finished: the one listed tag is here; others are too.",
-        "In slot 0 of the round of line 5, which asked all UIDs, two or more tags answered"),
-    "a slot that isn't known": (
-        (EACH, "N", *"S" * 15),
-        "Not finished: no tag is proved to be here, but some may be. The log has no list",
-        "In slot 0 of the round of line 2, which asked all UIDs, nothing is known of who answered"),
-    "it is asked again": (
-        (EACH, "N", READ_A, *"S" * 14, "T 26010400AB05", "S", LIST_A),
-        "The one listed tag is here; others may be, if stronger replies hid them.",
-        "If a strong reply hid a weaker one, the answer may be wrong."),
-    "the last round has such a slot": (
-        (EACH, *"S" * 15, "N"), "Not finished", "Of a slot of the last round, which asked all"),
-    "it was silenced": (
-        (ALL, OVER_A, QUIET_A, ALL, OVER_A), BROKEN + "tag ..00A1 was silenced "
-        "in line 4, but answered in line 6.", "woke up"),
-    "a silent slot": (
-        (ALL, "S", ALL, OVER_A), BROKEN + "tag ..00A1 answered in line 5, but "
-        "not in line 3, where it was also asked.", "Its reply in line 3 was lost"),
-    "one that was read alone": (
-        (ALL, OVER_A, ALL, READ_B), BROKEN + "tag ..00A1 answered in line 3, "
-        "but not in line 5, where ..00B2 was read alone, and it was asked there too.",
-        "write H for R"),
-    "another mask": (
-        (OF_B, OVER_A), BROKEN + "line 3 is a reply of ..00A1, a tag that",
-        "under the wrong request"),
-    "one slot too many": ((ALL, "N", "N"), "This log can't be used. Line 4", "no slot"),
-    "a reply cut short": (
-        (ALL, "H 0000A1"), "This log can't be used. Line 3: the reply doesn't", "gets the line D")}
-# The lights of complete lists: how often each other tag was asked, and what may be wrong.
-OTHERS, COMPLETE, WRONG = "others may be here", "still complete", "the answer may be wrong"
-SURE = (("I1 RA QA I1 S UA", "2 times or more", COMPLETE, OTHERS, "yes"),
-        ("V3 I1 RA QA I1 S F M56 RA UA", "2 times or more", COMPLETE, COMPLETE, "yes"),
-        ("V3 I1 RA QA I1 S F M56 S UA", None, None, None, "broken"),
-        ("I1 RA UA", "1 time or more", OTHERS, OTHERS, "read"),
-        ("I1 S", "1 time or more", "still empty", OTHERS, "read"),
-        ("I1 S UA", None, None, WRONG, "no"), ("I1 RA UB", None, WRONG, WRONG, "no"),
-        ("I1 RA QA I1 S UB", None, None, WRONG, "no"),
-        ("I1 RA QA I1 S", None, None, OTHERS, "read"), ("I1 RA", None, OTHERS, OTHERS, "read"),
-        ("V3 I1 RA QA I1 S F M56 RA UB", None, None, None, "no"),
-        ("I1 C UA", None, None, None, "no"), ("I1 C", None, None, None, "no"))
-# What each answer says of strong replies that hid weaker ones, and the lines of requests below.
-HIDDEN = (
-    ("I16 S RA RB S13 UA UB", "may be wrong.", "QA QB I1"),
-    ("I1 RA QA I1 S UA", "still holds, but 1 missed slot would be enough.", "F M56"),
-    ("I1 RA QA I1 S I1 S UA", "still holds, but 2 missed slots would be enough.", "F M56"),
-    ("I1 RA UB", "may be wrong.", "QA I1"),
-    ("I1 RA", None, "QA I1"), ("I16 S RA RB S13 QA", None, "QB I1"),
-    ("V3 I16 S RA RB S13 QA QB F", None, "QA QB I1"), ("I1 RA QA I1 S", "still holds.", "F M56"),
-    ("I16 S RA RB S13 UA", "still holds, but more UIDs may be open.",
-     "QA QB I1"),
-    ("I1 RA QA I1 S UB", "still holds.", "F M56"), ("I1 S", None, ""), ("I1 C UA", None, "I16"),
-    ("UA UA", None, ""))
-# Logs whose pages are read by everybody: each look of the answer.
-READ = ("I16 S RA RB S13 UA UB", "I16 S C S14 UA", "I1 RA I1 S", "UA UA", "I1 RA")
+# What is looked at, a text, and the words that are there, by the rows of tests/data/rows/page.
+SAID = {f"{place.partition(':')[2]}: {line}": [
+    cell.strip().replace("\\n", "\n") for cell in line.split("|")] for place, line in rows("page")}
+# Logs whose pages are read by everybody: each look of the answer, and what version 3 has.
+READ = ("I16 S RA RB S13 UA UB", "I16 S C S14 UA", "I1 RA I1 S", "UA UA", "I1 RA", *[
+    given for kind, given, *_ in SAID.values()
+    if kind == "headline" and re.match("V3|.vicinity-log 3", given)])
 TYPE = """
 const field = document.getElementById("text");
 field.value = arguments[0];
@@ -320,40 +132,77 @@ def test_one_small_file_that_fetches_nothing(file):
     assert "(?<" not in text
 
 
-@pytest.mark.parametrize(("names", "headline"), LOGS, ids=[names for names, _ in LOGS])
-def test_a_log_is_dropped(shown, program, names, headline):
-    log = log_of(names)
-    page = shown(log)
-    page.until("h1", headline)
-    assert page.texts(".record code")[0] == program.run("check", given=log).out.decode().strip()
+@pytest.mark.parametrize("row", SAID)
+def test_what_is_said_of_a_text(shown, program, row):
+    """By what its row looks at; and always that the answer is the program's."""
+    kind, given, *words = SAID[row]
+    kind, _, look = kind.partition(" ")
+    page, answer = shown(log_of(given)), program.run("check", given=log_of(given)).out
+    LOOKS[kind](page, *words, *([given, look] if look else []))
+    told = [answer.decode().strip()]
+    assert page.texts(".record code")[:1] == told
+    # its first tag isn't more than the others
+    assert page.texts(".banner code") == told * (not told[0].startswith("unlisted") or "U" in given)
 
 
-@pytest.mark.parametrize(("names", "read", "listed"), LIGHTS, ids=[row[0] for row in LIGHTS])
-def test_the_first_two_lights(shown, names, read, listed):
-    assert shown(log_of(names)).texts(".lights dd")[:2] == [read, listed]
+def headline(page, words):
+    """How it begins."""
+    page.until("h1", words)
 
 
-@pytest.mark.parametrize(("names", "asked", "hidden", "deaf", "look"), SURE)
-def test_the_lights_of_how_sure_it_is(shown, names, asked, hidden, deaf, look):
-    """A list is green only beside what it is worth if replies were hidden, or the reader was deaf:
-    if it went deaf behind its last answer, its silent slots say nothing."""
-    page = shown(log_of(names))
+def lights(page, values):
+    """The first two: whether the search is finished, and the list."""
+    assert page.texts(".lights dd")[:2] == [it for it in values.split(" / ") if it]
+
+
+def sure(page, values, given, look):
+    """The look of the answer, and the other lights: how often each other tag was asked, and what
+    may be wrong if replies were hidden, or the reader was deaf. If it went deaf behind its last
+    answer, its silent slots say nothing; so a list is green only beside what it is worth then."""
     page.until(f".banner.{look} h1", "")
-    wanted = {"Each other tag was asked": asked, "If replies were hidden": hidden,
-              "If the reader went deaf": deaf}
-    told = dict(zip(page.texts(".lights dt")[2:], page.texts(".lights dd")[2:]))
-    assert told == {name: value for name, value in wanted.items() if value}
-    is_heard, is_deaf = "RA" in names, deaf in (OTHERS, WRONG)
+    names = "Each other tag was asked", "If replies were hidden", "If the reader went deaf"
+    wanted = {name: it for name, it in zip(names, values.split(" / "), strict=True) if it != "-"}
+    assert dict(zip(page.texts(".lights dt")[2:], page.texts(".lights dd")[2:])) == wanted
+    is_heard, is_deaf = "RA" in given, not wanted.get(names[2], "still").startswith("still")
     said = "If the reader had gone deaf after the last answer of a tag, the answer may be wrong"
     assert (said in page.said()) == (is_deaf and is_heard)
     assert ("A reader that is deaf writes the same log:" in page.said()) == (is_deaf > is_heard)
 
 
-def test_a_list_that_differs_where_replies_may_have_been_hidden(page):
-    """It may be that nothing is missing."""
-    page.drop(log=log_of("I1 RA UB"))
-    page.until("h1", "1 didn't answer and 1 tag here isn't listed; 0 of 1 listed tag is here.")
-    assert page.texts(".lights dd")[2:] == [WRONG, WRONG]
+def says(page, words, never=None):
+    """At the shelf, and to whoever maintains the reader."""
+    page.until("#told", words)
+    assert never is None or never not in page.said()
+
+
+def hidden(page, words, ask):
+    """Of strong replies that hid weaker ones; and the lines of requests."""
+    said = [it.partition("hid a weaker one, the answer ")[2] for it in page.texts(".holds p")]
+    assert [it for it in said if it] == [it for it in [words] if it != "-"]
+    assert page.texts(".copy") == ["\n".join(log_lines(ask)[1:])] * bool(ask)
+
+
+def foreign(page, words):
+    """Of a text that is no log, told from one."""
+    page.until("h1", "isn't a log")
+    page.until("#told", words)
+    is_table = "isn't a log, but a" in page.said()
+    assert ("whoever maintains the reader" in page.said()) != is_table
+    assert "SHA-256 of the file" in page.texts(".record")[0]
+    assert page.texts("h2")[0] == "What to do"
+    if is_table:
+        assert page.texts("label[for=text]") == ["The file"]
+
+
+def unusable(page, words):
+    """Of a log."""
+    page.until("h1", "This log can't be used. Line ")
+    page.until("#told", words)
+    page.media("print")
+    assert "Counted on" not in page.said()
+
+
+LOOKS = {it.__name__: it for it in (headline, lights, sure, says, hidden, foreign, unusable)}
 
 
 # What is seen on the screen, and how many stops a keyboard has.
@@ -437,6 +286,42 @@ def test_on_a_phone_every_slot_is_seen(page, log):
     assert max(last) <= PHONE
 
 
+# How a part is drawn: its text, border, background, and the colour of its border.
+DRAWN = """
+return [...document.querySelectorAll(arguments[0])].map((it) => {
+  const { borderTopStyle, borderTopWidth, backgroundColor, borderTopColor } = getComputedStyle(it);
+  const border = `${parseFloat(borderTopWidth) ? borderTopStyle : "none"}`;
+  return [it.firstChild?.textContent, border, backgroundColor, borderTopColor];
+});
+"""
+
+
+@pytest.mark.parametrize("scheme", ["light", "dark"])
+def test_in_the_colours_of_the_system_nothing_is_lost(page, scheme):
+    """Where these are forced, as for who needs a high contrast, there are no backgrounds: borders
+    and signs say what these do."""
+    held = EACH, "S", OVER_A, READ_B, "C", "D", "N", *["S"] * 10
+    page.drop(one=third(*held), two=log_of("I1 S"))
+    page.press("#logs button")
+    page.until("h1", "Not finished")
+    page.press("td.silent")
+    page.media(scheme=scheme, forced="active")
+
+    def drawn(part):
+        return page.run(DRAWN, part)
+    assert {border for _, border, *_ in drawn(".banner, .light")} == {"solid"}
+    ((_, _, ground, _),) = drawn("body")
+    assert {colour for *_, colour in drawn(".why .to-line")} == {ground}
+    readings = "silent", "heard", "captured", "collision", "garbled", "unknown"
+    cells = [drawn(f".rounds tbody .{reading}")[-1][:2] for reading in readings]
+    assert cells == [["·", "none"], ["B2", "none"], ["A1", "dotted"], ["×", "none"],
+                     ["?", "none"], ["~", "dashed"]]
+    ((*_, here, _),), others = drawn("td.here"), drawn("td.silent:not(.here)")
+    assert len(others) == 10 and here not in [it[2] for it in others]
+    ((*_, pressed, _), (*_, other, _)) = drawn("#logs button")
+    assert pressed != other
+
+
 def test_print_is_a_record(page):
     """With all that is folded, what is taken for granted, a sum of the log, and a line to sign."""
     page.drop(log=log_of("I16 S RA RB S13 UA UB"))
@@ -507,28 +392,6 @@ def test_on_paper_long_lists_come_last(page):
     assert tops == sorted(tops)
 
 
-@pytest.mark.parametrize(("text", "words"), FOREIGN)
-def test_a_foreign_text_is_told_from_a_log(page, text, words):
-    page.drop(log=text.encode())
-    page.until("h1", "isn't a log")
-    page.until("#told", words)
-    is_table = "isn't a log, but a" in page.said()
-    assert ("whoever maintains the reader" in page.said()) != is_table
-    assert "SHA-256 of the file" in page.texts(".record")[0]
-    assert page.texts("h2")[0] == "What to do"
-    if is_table:
-        assert page.texts("label[for=text]") == ["The file"]
-
-
-@pytest.mark.parametrize(("text", "words"), UNUSABLE)
-def test_a_log_that_cannot_be_used(shown, text, words):
-    page = shown(text.encode())
-    page.until("h1", "This log can't be used. Line ")
-    page.until("#told", words)
-    page.media("print")
-    assert "Counted on" not in page.said()
-
-
 @pytest.mark.parametrize("start", [b"PK\x03\x04\x14\0\x06\0,\n", b"PK\x03\x04",
                                    b"\xD0\xCF\x11\xE0\xA1\xB1\x1A\xE1\0", b"\xD0\xCF\x11\xE0"])
 def test_a_spreadsheet_is_told_from_a_log(page, program, tmp_path, start):
@@ -562,17 +425,6 @@ def third(*lines):
     return text_of(["vicinity-log 3", *lines])
 
 
-@pytest.mark.parametrize("name", THIRD)
-def test_a_log_of_version_3(shown, program, name):
-    lines, headline, words = THIRD[name]
-    page = shown(third(*lines))
-    page.until("h1", headline)
-    page.until("#told", words)
-    answer = program.run("check", given=third(*lines)).out.decode().strip()
-    assert page.texts(".banner code") == [answer]
-    page.is_readable()
-
-
 def test_slots_of_version_3_are_drawn(page):
     """Each look once, with its words; the strip is not needed. On paper too."""
     page.drop(log=third(EACH, "N", OVER_A, READ_B, *"S" * 13))
@@ -588,21 +440,6 @@ def test_slots_of_version_3_are_drawn(page):
         assert words in "\n".join(page.texts(".legend"))
     assert "1 heard, 1 heard, perhaps over others, 13 silent, 1 of which nothing is known" in (
         page.run("return document.querySelector('.rounds th > .unseen').textContent"))
-
-
-def test_what_is_left_to_ask_under_a_reply(page):
-    """It is silenced, and its round is asked again, in place of each mask around it."""
-    page.drop(log=third(ALL, OVER_A, LIST_A))
-    page.until(".copy", "T ")
-    assert page.texts(".copy") == [f"{QUIET_A}\n{ALL}"]
-
-
-@pytest.mark.parametrize(("names", "words", "ask"), HIDDEN, ids=[row[0] for row in HIDDEN])
-def test_whether_it_also_holds_if_replies_were_hidden(shown, names, words, ask):
-    page = shown(log_of(names))
-    said = [it.partition("hid a weaker one, the answer ")[2] for it in page.texts(".holds p")]
-    assert [it for it in said if it] == ([words] if words else [])
-    assert page.texts(".copy") == ["\n".join(log_lines(ask)[1:])] * bool(ask)
 
 
 def test_a_slot_is_asked_again_as_a_whole(page):
@@ -631,11 +468,6 @@ def test_replies_that_may_have_hidden_others_come_last(page):
     assert page.texts(".copy") == [biglog.ask((4, 2), 16), f"{QUIET_A}\n{ALL}"]
 
 
-def test_a_contradiction_that_hidden_replies_explain(page):
-    page.drop(log=log_of("I1 RA QA I1 RB QB I1 S UA UB"))
-    page.until("#told", "Read so, the log doesn't contradict itself.")
-
-
 def test_a_table_is_compared_with_the_logs_that_are_here(page):
     page.drop(log=log_of("I1 RA"))
     page.until("h1", "1 tag is here")
@@ -645,19 +477,6 @@ def test_a_table_is_compared_with_the_logs_that_are_here(page):
     drawn = "return document.querySelector('.logs').textContent"
     page.wait(lambda: "Walden E0040100000000A1" in page.run(drawn))
     assert "Walden" in page.run("return document.querySelector('td.heard').title")
-
-
-def test_a_header_with_a_comma_is_no_table(page):
-    page.drop(log=b"vicinity-log 1; reader 4, shelf 2\n")
-    page.until("h1", "isn't a log")
-    assert "table" not in page.said()
-
-
-@pytest.mark.parametrize(("names", "words", "never"), SAID)
-def test_what_is_said_besides(shown, names, words, never):
-    page = shown(log_of(names))
-    page.until("#told", words)
-    assert never not in page.said()
 
 
 def a_tag_late():
@@ -783,18 +602,6 @@ def test_without_a_list_all_tags_are_seen(page):
     page.until("h1", "30 tags are here")
     assert len([it for it in page.texts(".uids code") if it]) == 30
     page.wait(lambda: not page.driver.find_elements("css selector", ".wide[tabindex]"))
-
-
-def test_a_text_that_is_refused_has_no_lights(page):
-    page.drop(log=log_of("UA UA"))
-    page.until(".banner", "log")
-    assert page.texts(".lights") == []
-
-
-def test_an_empty_field_is_not_green(page):
-    page.drop(log=log_of("I1 S"))
-    page.until("h1", "No tag answered")
-    assert page.driver.find_elements("css selector", ".banner.yes") == []
 
 
 def test_a_file_that_cannot_be_read(page):
@@ -1555,17 +1362,6 @@ def test_what_is_shown_of_a_log_stays_while_another_is_judged(page):
     assert page.run("return document.activeElement.parentElement.open")
 
 
-# For how many milliseconds the page does nothing else at most.
-FROZEN = """
-window.longest = 0;
-let last = performance.now();
-setInterval(() => {
-  window.longest = Math.max(window.longest, performance.now() - last);
-  last = performance.now();
-}, 10);
-"""
-
-
 @pytest.mark.parametrize(("files", "words"), [
     ({"disk": bytes(40_000_000)}, "Line 1: a line has at most 128 bytes."),
     ({"books.csv": bytes(5_000_000), "A.log": log_of("I1 S")}, "books.csv, line 1: "),
@@ -1575,31 +1371,42 @@ setInterval(() => {
      "the catalogue has no row")], ids=["disk", "zeros", "heads", "cell", "lines"])
 def test_a_large_file_that_is_no_log_does_not_freeze_the_page(page, tmp_path, files, words):
     """As the image of a disk, of which one line is all; a larger one ended the page."""
-    page.run(FROZEN)
-    page.choose(tmp_path, files)
-    page.until("h1", words)
-    assert page.run("return window.longest") < 3000 and len(page.said()) < 5000
+    with page.never_frozen():
+        page.choose(tmp_path, files)
+        page.when("h1", words)
+    assert len(page.said()) < 5000
 
 
 def test_many_logs_do_not_freeze_the_page(page):
     """Nor is the focus lost while they are judged."""
-    page.run(FROZEN)
-    page.drop_files({f"{number}.log": log_of("I1 RA QA I1 S UA") for number in range(400)})
-    page.run("document.querySelector('#logs button').focus()")
-    page.until("h1", "Complete: 400 of 400.")
+    with page.never_frozen():
+        page.drop_files({f"{number}.log": log_of("I1 RA QA I1 S UA") for number in range(400)})
+        page.run("document.querySelector('#logs button').focus()")
+        page.when("h1", "Complete: 400 of 400.")
     assert page.run("return document.activeElement.textContent").startswith("0.log ✓ The one")
-    assert page.run("return window.longest") < 3000
+
+
+# How many lists of logs the page's thread takes in: items may share one.
+LISTS = """
+const { get } = Object.getOwnPropertyDescriptor(MessageEvent.prototype, "data");
+Object.defineProperty(MessageEvent.prototype, "data", { get() {
+  const data = get.call(this), { items } = data.collection;
+  window.lists = new Set(items.flatMap((it) => [it.certain_in, it.possible_in])).size;
+  return data;
+} });
+"""
 
 
 def test_many_logs_that_say_nothing_do_not_freeze_the_page(page):
-    """Each item may be in each of their fields."""
-    page.run(FROZEN)
+    """Each item may be in each of their fields: that is one list, and not 24,000 of 400 numbers."""
+    page.run(LISTS)
     rows = "".join(f"{0xE004010000000000 + number:016X},{number % 400}\n"
                    for number in range(24_000))
-    page.drop_files({"books.csv": f"uid,place\n{rows}".encode(),
-                     **{f"{number}.log": b"vicinity-log 4\n" for number in range(400)}})
-    page.until("h1", "24,000 items not known yet; count all logs again.")
-    assert page.run("return window.longest") < 3000
+    with page.never_frozen():
+        page.drop_files({"books.csv": f"uid,place\n{rows}".encode(),
+                         **{f"{number}.log": b"vicinity-log 4\n" for number in range(400)}})
+        page.when("h1", "24,000 items not known yet; count all logs again.")
+    assert page.run("return window.lists") == len(["none", "all"])
 
 
 def test_a_drop_without_files_changes_nothing(page):

@@ -1,6 +1,6 @@
 /** Why UIDs are open: the slots in which they would answer that weren't read, and the tags that were silenced before. */
 import { SLOTS } from "./frames.mjs";
-import { UID_BITS } from "./words.mjs";
+import { grouped, UID_BITS } from "./words.mjs";
 
 /** @typedef {import("./frames.mjs").Mask} Mask */
 /** @typedef {import("./log.mjs").Log} Log */
@@ -32,11 +32,9 @@ export function silencedUnheard(log, open) {
   const narrow = open.filter((mask) => mask.len >= LEAST_SILENCED), lengths = [...new Set(narrow.map((mask) => mask.len))];
   /** @type {Map<string, Map<bigint, Silenced>>} */
   const within = new Map(narrow.map((mask) => [key(mask.len, mask.value), new Map()]));
-  for (let at = 0; at < log.rowCount && narrow.length; at++) {
-    const row = log.isQuiet(at) ? log.row(at) : null;
-    if (row?.kind !== "quiet") continue;
-    const tags = lengths.map((len) => within.get(key(len, row.uid))).find((it) => it);
-    if (tags && !tags.has(row.uid)) tags.set(row.uid, { line: row.line, uid: row.uid });
+  for (const { line, uid } of narrow.length ? log.quiets() : []) {
+    const tags = lengths.map((len) => within.get(key(len, uid))).find((it) => it);
+    if (tags && !tags.has(uid)) tags.set(uid, { line, uid });
   }
   const masks = narrow.filter(({ len, value }) => within.get(key(len, value))?.size === 2 ** (UID_BITS - len));
   const tags = masks.flatMap(({ len, value }) => [...within.get(key(len, value))?.values() ?? []]);
@@ -121,10 +119,8 @@ function mayAsk(log, row, low) {
  * @param {Unread[]} causing
  */
 function notAskedAgain(causing) {
-  /** @type {Map<number, Set<number>>} */
-  const rounds = new Map();
-  for (const { round, number } of causing) rounds.set(round, (rounds.get(round) ?? new Set()).add(number));
-  const again = new Set(causing.filter(({ round }) => rounds.get(round)?.size === SLOTS).map(({ asked: { len, value } }) => key(len, value)));
+  const whole = [...grouped(causing, ({ round }) => round).values()].filter((its) => new Set(its.map(({ number }) => number)).size === SLOTS);
+  const again = new Set(whole.map(([{ asked: { len, value } }]) => key(len, value)));
   return causing.filter(({ mask: { len, value } }) => !again.has(key(len, value)));
 }
 
@@ -141,19 +137,12 @@ export const widthOf = ({ masks }) => masks.reduce((sum, { len }) => sum + 2 ** 
  * @returns {Cause[]}
  */
 function byRound(causing) {
-  /** @type {Map<string, Cause>} */
-  const causes = new Map();
-  for (const { reading, round, asked, number, mask, uid } of causing) {
-    const cause = causes.get(`${round} ${reading}`) ?? { reading, round, slots: [], asked, masks: [], uids: [] };
-    if (!cause.slots.includes(number)) {
-      cause.slots.push(number);
-      cause.masks.push(mask);
-      cause.uids.push(...uid === null ? [] : [uid]);
-    }
-    causes.set(`${round} ${reading}`, cause);
-  }
-  for (const cause of causes.values()) cause.slots.sort((one, other) => one - other);
+  const causes = [...grouped(causing, ({ round, reading }) => `${round} ${reading}`).values()].map((its) => {
+    const slots = [...new Map(its.map((slot) => [slot.number, slot])).values()], [{ reading, round, asked }] = its;
+    return { reading, round, asked, slots: slots.map(({ number }) => number).sort((one, other) => one - other), masks: slots.map(({ mask }) => mask),
+      uids: slots.flatMap(({ uid }) => uid ?? []) };
+  });
   const isRead = (/** @type {Cause} */ { reading }) => Number(reading === "captured");
-  return [...causes.values()].sort((one, other) => isRead(one) - isRead(other) || other.round - one.round ||
+  return causes.sort((one, other) => isRead(one) - isRead(other) || other.round - one.round ||
     ORDER.indexOf(one.reading) - ORDER.indexOf(other.reading));
 }

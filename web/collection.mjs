@@ -1,5 +1,5 @@
 /** Draws a collection: what isn't sure of its logs, what to count again, what to do at each shelf, what isn't known yet, and each log. */
-import { el, folded, lowered, oneStop } from "./elements.mjs";
+import { bullets, el, folded, lowered, oneStop, rest } from "./elements.mjs";
 import { maskOf } from "./frames.mjs";
 import { doubted, doubtsOf } from "./logs.mjs";
 import { Pane } from "./pane.mjs";
@@ -7,7 +7,7 @@ import { noOthers } from "./say.mjs";
 import { inOrder, MOST_NAMES, nameOf, shelved, Shelves } from "./shelves.mjs";
 import { deafIn, granted, HOLDS, mayBeWrong, missed, notSure, stillHolds } from "./sure.mjs";
 import { banner, signed, view } from "./view.mjs";
-import { count, EDITED, endings, KIND, listing, printable } from "./words.mjs";
+import { count, EDITED, endings, grouped, KIND, listing, madeOnce, printable } from "./words.mjs";
 
 /** @typedef {import("./told.mjs").LogObject} LogObject */
 /** @typedef {import("./told.mjs").Told} Told */
@@ -38,6 +38,9 @@ import { count, EDITED, endings, KIND, listing, printable } from "./words.mjs";
  * @property {{file: string, sha256: string}[]} files what was given beside the logs
  * @property {string[]} [both] logs that are called like copies and are none, as was said
  */
+/** @typedef {{shelves: Shelves, doubts: import("./logs.mjs").Doubt[], open: number[], of: (...states: State[]) => Item[], elsewhere: Item[], others: Item[],
+ *   headline: string}} Summary what is worked out of an object once: the logs to count again, the items by their states, and of those that aren't known which
+ *   the logs of their own places rule out */
 /** @typedef {(at: number) => null | (() => Promise<Told | undefined>)} Opener what is told of a log, by its number, if it can be had */
 
 /** How many logs are drawn, how many items are seen unfolded, how many masks are named, and by how many doubts a headline is explained. */
@@ -73,8 +76,9 @@ const countAgain = (logs) => `Run ${logs === 1 ? "its inventory" : "the inventor
  * @returns {(...states: State[]) => Item[]}
  */
 function byState({ items, unexpected }) {
-  const all = [...items, ...unexpected.map((found) => ({ ...found, state: /** @type {State} */ ("unexpected"), place: null }))];
-  return (...states) => states.flatMap((state) => all.filter((item) => item.state === state));
+  const found = unexpected.map((it) => ({ ...it, state: /** @type {State} */ ("unexpected"), place: null }));
+  const groups = grouped(/** @type {Item[]} */ ([...items, ...found]), ({ state }) => state);
+  return (...states) => states.flatMap((state) => groups.get(state) ?? []);
 }
 
 /**
@@ -84,31 +88,27 @@ function byState({ items, unexpected }) {
  * @returns {Node[]}
  */
 export function collectionView(object, opener = () => null, canLeave = () => false) {
-  const of = byState(object), shelves = new Shelves(object), doubts = doubtsOf(object, shelves), { counts } = object;
+  const { shelves, doubts, of, elsewhere, others, open, headline } = summaryOf(object), { counts } = object;
   const home = (/** @type {Item} */ { place }) => printable(place ?? ""), known = new Set(["", ...of("in place").map(home)]);
-  const mayBe = { "may be in": (/** @type {Item} */ item) => shelves.names(item.possible_in, "or") }, unknown = of("not provable");
-  const elsewhere = unknown.filter((item) => shelves.isElsewhere(item)), others = unknown.filter((item) => !shelves.isElsewhere(item));
+  const mayBe = { "may be in": (/** @type {Item} */ item) => shelves.mayBe(item) };
   const some = others.filter((item) => known.has(home(item))), none = others.filter((item) => !known.has(home(item)));
   // of a shelf of which nothing is known to be in place no items are named
   const all = listing([...new Set(none.map(home))].sort(inOrder)), these = some.length ? ", and these:" : ".";
   const which = none.length ? ` They are ${count(none.length, "item")} of ${all}, not named here${these}` : "";
-  const numbers = [...object.logs.keys()], open = numbers.filter((at) => isOpen(object.logs[at]));
-  const todo = of("missing", "misplaced", "unexpected", "returned"), isKnown = !todo.length && !unknown.length && !counts["not counted"];
+  const todo = of("missing", "misplaced", "unexpected", "returned"), isKnown = !todo.length && !counts["not provable"] && !counts["not counted"];
   const edited = object.logs.filter(({ name }) => name.endsWith(EDITED)).length, changes = edited ? ` (${edited.toLocaleString("en")} edited)` : "";
-  const said = { ...lookOf(object, doubts), headline: headlineOf(object), lights: lights(object) }, rests = conditionsOfAll(object, shelves);
-  if (!object.logs.length) return [banner({ look: "read", sign: "…", headline: headlineOf(object), lights: [] }, printable(object.file)), el("p", {}, WAITS)];
-  const table = (/** @type {Item[]} */ list, /** @type {import("./shelves.mjs").Cell} */ shelf, where = {}, /** @type {import("./shelves.mjs").Cell} */ toDo) =>
-    shelved(list, shelves, shelf, where, toDo);
+  const said = { ...lookOf(object, doubts), headline, lights: lights(object, shelves) }, rests = conditionsOfAll(object, shelves);
+  if (!object.logs.length) return [banner({ look: "read", sign: "…", headline, lights: [] }, printable(object.file)), el("p", {}, WAITS)];
   const drawn = (/** @type {string} */ title, /** @type {string} */ words, /** @type {number[]} */ list, /** @type {boolean} */ isFirst) =>
     logs(title, words, list, isFirst, object, shelves, opener);
   return [banner(said, `${printable(object.file)} · ${count(object.logs.length, "log")}${changes}`), ...doubted(doubts, canLeave), ...isKnown ? rests : [],
     ...drawn("Count again", countAgain(open.length) + (open.some((at) => object.logs[at].field.startsWith(KIND.IMPOSSIBLE)) ? AGAIN_BROKEN : ""), open, true),
-    ...part("At the shelves", todo, true, howTo(object), table(todo, (item) => shelves.at(item), {}, (item) => shelves.toDo(item))),
-    ...part("Not heard on their shelves", elsewhere, true, ELSEWHERE, table(elsewhere, home, mayBe)),
-    ...part("Without a tag", of("no tag"), true, NO_TAG, table(of("no tag"), home, {}, () => "look for")),
-    ...part("Not counted", of("not counted"), false, NOT_COUNTED, table(of("not counted"), home)),
-    ...part("Not known yet", others, false, UNKNOWN_YET + which, table(some, home, some.every(home) ? {} : mayBe)),
-    ...inPlace(object), ...isKnown ? [] : rests, ...drawn("Nothing left to ask", "", numbers.filter((at) => !isOpen(object.logs[at])), false),
+    ...part("At the shelves", todo, true, howTo(object), shelved(todo, shelves, (item) => shelves.at(item), {}, (item) => shelves.toDo(item))),
+    ...part("Not heard on their shelves", elsewhere, true, ELSEWHERE, shelved(elsewhere, shelves, home, mayBe)),
+    ...part("Without a tag", of("no tag"), true, NO_TAG, shelved(of("no tag"), shelves, home, {}, () => "look for")),
+    ...part("Not counted", of("not counted"), false, NOT_COUNTED, shelved(of("not counted"), shelves, home)),
+    ...part("Not known yet", others, false, UNKNOWN_YET + which, shelved(some, shelves, home, some.every(home) ? {} : mayBe)),
+    ...inPlace(object), ...isKnown ? [] : rests, ...drawn("Nothing left to ask", "", [...object.logs.keys()].filter((at) => !isOpen(object.logs[at])), false),
     ...grantedOfAll(object), recordOfAll(object)];
 }
 
@@ -175,11 +175,27 @@ function lookOf(object, doubts) {
 }
 
 /** @param {CollectionObject} object */
-export function headlineOf(object) {
-  const shelves = new Shelves(object);
+export const headlineOf = (object) => summaryOf(object).headline;
+
+/** @type {WeakMap<CollectionObject, Summary>} */
+const SUMMARIES = new WeakMap();
+
+/** @param {CollectionObject} object */
+const summaryOf = (object) => madeOnce(SUMMARIES, object, () => {
+  const shelves = new Shelves(object), of = byState(object), unknown = of("not provable"), elsewhere = unknown.filter((item) => shelves.isElsewhere(item));
+  const found = new Set(elsewhere), others = unknown.filter((item) => !found.has(item));
+  const open = [...object.logs.keys()].filter((at) => isOpen(object.logs[at])), doubts = doubtsOf(object, shelves);
+  return { shelves, doubts, open, of, elsewhere, others, headline: titled(object, { shelves, doubts, open, elsewhere, others }) };
+});
+
+/**
+ * @param {CollectionObject} object
+ * @param {Omit<Summary, "of" | "headline">} summary
+ */
+function titled(object, summary) {
   if (!object.logs.length) return waiting(object);
-  if (!isComplete(object)) return object.wanted ? notSure(object.margin?.margin, object.wanted) : lacking(object, shelves);
-  const doubts = doubtsOf(object, shelves).map(({ short }) => short), more = doubts.length - MOST_DOUBTS, number = found(object), without = object.counts["no tag"];
+  if (!isComplete(object)) return object.wanted ? notSure(object.margin?.margin, object.wanted) : lacking(object, summary);
+  const doubts = summary.doubts.map(({ short }) => short), more = doubts.length - MOST_DOUBTS, number = found(object), without = object.counts["no tag"];
   const untagged = without ? [`${count(without, "item")} ${without === 1 ? "has" : "have"} no tag`] : [];
   const but = [...untagged, ...doubts.slice(0, MOST_DOUBTS), ...more > 0 ? [`${more} more`] : []];
   const here = number ? `${number === 1 ? "The one expected item is" : `All ${count(number, "expected item")} are`} here${noOthers(number, isHiding(object))}`
@@ -196,33 +212,33 @@ function waiting({ items, without_log: places }) {
 /**
  * What isn't as it should be, the most important first, and what to count.
  * @param {CollectionObject} object
- * @param {Shelves} shelves
+ * @param {Omit<Summary, "of" | "headline">} summary
  */
-function lacking(object, shelves) {
-  const { counts, items, logs: fields } = object, unknown = items.filter((item) => item.state === "not provable");
-  const elsewhere = unknown.filter((item) => shelves.isElsewhere(item)).length, again = [...fields.keys()].filter((at) => isOpen(fields[at])).sort((one, other) => inOrder(shelves.name(one), shelves.name(other)));
+function lacking(object, { shelves, doubts, elsewhere: { length: elsewhere }, others, open }) {
+  const { counts, logs: fields } = object, again = [...open].sort((one, other) => inOrder(shelves.name(one), shelves.name(other)));
   const parts = /** @type {[number, string][]} */ ([[counts.missing, "missing"], [elsewhere, `not heard on ${elsewhere === 1 ? "its shelf" : "their shelves"}`],
     [counts.misplaced, "in the wrong place"], [counts.unexpected, "not in the catalogue"], [counts.returned, "back that should be away"],
-    [counts["not counted"], "not counted"], [unknown.length - elsewhere, "not known yet"], [counts["no tag"], "without a tag"]]);
+    [counts["not counted"], "not counted"], [others.length, "not known yet"], [counts["no tag"], "without a tag"]]);
   const said = parts.filter(([number]) => number).map(([number, words], at) => at ? `${number.toLocaleString("en")} ${words}`
     : `${count(number, "item")} ${words}`);
   const isNamed = again.length <= MOST_NAMES && again.every((at) => shelves.isPlaced(at));
   const number = isNamed ? shelves.names(again) : again.length < fields.length || again.length === 1 ? count(again.length, "log") : "all logs";
   const here = said.length || again.length ? listing(said) : `all ${count(found(object), "expected item")} are here`;
-  const text = [here, ...again.length ? [`count ${number} again`] : [], ...doubtsOf(object, shelves).flatMap(({ short, isFirst }) => isFirst ? [short] : [])]
+  const text = [here, ...again.length ? [`count ${number} again`] : [], ...doubts.flatMap(({ short, isFirst }) => isFirst ? [short] : [])]
     .filter((it) => it).join("; ");
   return `${text[0].toUpperCase()}${text.slice(1)}.`;
 }
 
 /**
  * @param {CollectionObject} object
+ * @param {Shelves} shelves
  * @returns {import("./say.mjs").Light[]}
  */
-function lights(object) {
+function lights(object, { isAsked: isPlaced }) {
   const { counts, items, logs, without_log: places } = object, done = logs.filter((log) => !isOpen(log) && !log.hidden).length, here = found(object);
   if (!logs.length) return [];
   const more = (/** @type {number} */ number, /** @type {string} */ words) => number ? `, ${number.toLocaleString("en")} ${words}` : "";
-  const isPlaced = new Shelves(object).isAsked, differs = counts.missing || counts.misplaced || counts.unexpected || counts.returned;
+  const differs = counts.missing || counts.misplaced || counts.unexpected || counts.returned;
   const value = `${here.toLocaleString("en")} of ${count(items.length, "item")}${more(counts.away, "away")}${more(counts["no tag"], "without a tag")}` +
     more(isPlaced ? counts.there : 0, "without a place");
   const lost = places.length ? `, no log of ${count(places.length, "place")}` : "";
@@ -272,17 +288,17 @@ function conditionsOfAll(object, shelves) {
  */
 function logs(title, words, list, open, object, shelves, opener) {
   if (!list.length) return [];
-  const more = list.length > MOST_LOGS ? [el("p", {}, `and ${(list.length - MOST_LOGS).toLocaleString("en")} more`)] : [];
-  const names = namesIn(object, shelves), byName = [...list].sort((one, other) => inOrder(shelves.name(one), shelves.name(other)));
+  const names = () => namesIn(object, shelves), byName = [...list].sort((one, other) => inOrder(shelves.name(one), shelves.name(other)));
   const isFirst = (/** @type {number} */ at) => isAside(object.logs[at]), sorted = [...byName.filter(isFirst), ...byName.filter((at) => !isFirst(at))];
   const items = sorted.slice(0, MOST_LOGS).map((at) => el("li", {}, oneLog(object.logs[at], shelves.name(at), names, opener(at))));
-  return [folded(`${title} (${count(list.length, "log")})`, open, ...words ? [el("p", {}, words)] : [], oneStop(el("ul", { class: "logs" }, items), ".log > summary"), ...more)];
+  return [folded(`${title} (${count(list.length, "log")})`, open, ...words ? [el("p", {}, words)] : [], oneStop(el("ul", { class: "logs" }, items), ".log > summary"),
+    ...rest(list.length - MOST_LOGS))];
 }
 
 /**
  * @param {OneLog} log
  * @param {string} name
- * @param {Names} names
+ * @param {() => Names} names
  * @param {ReturnType<Opener>} opens
  */
 function oneLog(log, name, names, opens) {
@@ -294,7 +310,7 @@ function oneLog(log, name, names, opens) {
   it.addEventListener("toggle", async () => {
     if (!it.open || it.childElementCount > 1) return;
     const place = it.appendChild(el("p", {}, "..")), told = await opens();
-    place.replaceWith(told ? drawnLog(told, names) : el("p", {}, "There is no answer to this log."));
+    place.replaceWith(told ? drawnLog(told, names()) : el("p", {}, "There is no answer to this log."));
   });
   return it;
 }
@@ -330,7 +346,7 @@ function grantedOfAll(object) {
   const end = object.ended ? "" : ", of which the last has no line end, so the file may have been cut off";
   const catalogue = `The catalogue is complete. It has ${count(object.items.length, "row")}${end}: what isn't in it is never missed.`;
   const all = [...granted(!isHiding(object)), CARRIED, catalogue, PROVED];
-  return [folded(`What this takes for granted (${all.length})`, !object.status, el("ul", {}, all.map((it) => el("li", {}, it))))];
+  return [folded(`What this takes for granted (${all.length})`, !object.status, bullets(all))];
 }
 
 /** @param {CollectionObject} object */

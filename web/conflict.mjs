@@ -1,5 +1,6 @@
 /** What there is of a conflict's lines: the slots that its form is told by. */
 import { hasUid, linkOf, uidIn } from "./frames.mjs";
+import { grouped } from "./words.mjs";
 
 /** @typedef {import("./log.mjs").Log} Log */
 /** @typedef {import("./log.mjs").Slot} Slot */
@@ -93,16 +94,9 @@ function leavesNone(log, { line, mask }, lines) {
  * @param {bigint | null} except
  */
 function stayedSilent(log, round, till, except) {
-  const heard = new Set(), silenced = /** @type {Set<bigint>} */ (new Set()), asked = log.row(round);
-  for (let at = 0; at <= till; at++) {
-    const row = log.isRound(at) ? null : log.row(at);
-    if (!row) for (const line of log.outcomes(at)) heard.add(log.isReply(line) ? uidIn(log.frame(line)) : null);
-    else if (row.kind === "cycle") silenced.clear();
-    else if (row.kind === "quiet" && heard.has(row.uid)) silenced.add(row.uid);
-  }
-  silenced.delete(except ?? 0n);
+  const { heard, ready } = log.heardBefore(till + 1), silenced = [...heard].filter((uid) => !ready.has(uid) && uid !== except), asked = log.row(round);
   const slots = asked.kind === "round" ? asked.slots.filter(({ reading }) => reading === "silent" || reading === "heard") : [];
-  return slots.some(({ mask, uid: read }) => [...silenced].some((uid) => uid !== read && hasUid(mask, uid)));
+  return slots.some(({ mask, uid: read }) => silenced.some((uid) => uid !== read && hasUid(mask, uid)));
 }
 
 /**
@@ -111,18 +105,13 @@ function stayedSilent(log, round, till, except) {
  * @param {number[]} lines
  */
 function partsOf(log, lines) {
-  /** @type {Map<number, number[]>} */
-  const byRow = new Map();
-  for (const line of lines) {
-    const row = log.rowAt(line), there = byRow.get(row);
-    if (there) there.push(line); else byRow.set(row, [line]);
-  }
+  const byRow = grouped(lines, (line) => log.rowAt(line));
   const of = (/** @type {number[]} */ its) => ({ lines: its, uids: its.filter((line) => log.isReply(line)).map((line) => uidIn(log.frame(line))) });
   const parts = [...byRow].slice(0, MOST_PARTS).flatMap(([at, its]) => {
     const row = log.row(at);
     if (row.kind !== "round") return [];
-    const readings = new Set(its.map((line) => log.reading(line) ?? "unknown")), { asked, line: round } = row;
-    return [...readings].map((reading) => ({ asked, round, reading, ...of(its.filter((line) => log.reading(line) === reading)) }));
+    const { asked, line: round } = row, readings = grouped(its, (line) => log.reading(line) ?? "unknown");
+    return [...readings].map(([reading, held]) => ({ asked, round, reading, ...of(held) }));
   });
   return { rounds: byRow.size, parts };
 }

@@ -26,6 +26,15 @@ export function el(tag, attributes = {}, ...content) {
   return made;
 }
 
+/** @param {string[]} items */
+export const bullets = (items) => el("ul", {}, items.map((it) => el("li", {}, it)));
+
+/**
+ * How many more there are than are shown.
+ * @param {number} number
+ */
+export const rest = (number) => number > 0 ? [el("p", {}, `and ${number.toLocaleString("en")} more`)] : [];
+
 /**
  * A button that leads to a line.
  * @param {number} line

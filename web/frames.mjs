@@ -94,12 +94,6 @@ export function maskOf({ mask_len, mask_value }) {
 }
 
 /**
- * What tells a mask from others.
- * @param {Mask} mask
- */
-export const maskKey = ({ len, value }) => `${len}:${value}`;
-
-/**
  * Whether a UID is in a mask.
  * @param {Mask} mask
  * @param {bigint} uid

@@ -2,7 +2,7 @@
 import { isPlaces, isSpreadsheet, kindOf, PACKED, SAVE_AS_CSV, TABLE, utf8Of } from "./files.mjs";
 import { LF } from "./log.mjs";
 import { wrongTable } from "./refused.mjs";
-import { hex, printable } from "./words.mjs";
+import { hex, madeOnce, printable } from "./words.mjs";
 
 /** @typedef {import("./library.mjs").Library} Library */
 /** @typedef {import("./told.mjs").LogObject} LogObject */
@@ -52,9 +52,20 @@ export async function judgeAll(library, files) {
   if (refused) throw wrongIn(texts, Number(refused[1]), refused[2], refused[3]);
   const object = JSON.parse(said), tables = files.filter((file) => kindOf(file) === "table");
   const sums = new Map(await Promise.all(files.map(async ({ name, text }) => /** @type {const} */ ([name, await sumOf(text)]))));
+  shareLists([...object.items, ...object.unexpected]);
   return { ...object, version: versionOf(library.version), file: tables.find((file) => !isPlaces(file))?.name ?? "",
     files: tables.map(({ name }) => ({ file: name, sha256: sums.get(name) ?? "" })),
     logs: object.logs.map((/** @type {{name: string}} */ log) => ({ ...log, sha256: sums.get(log.name) ?? "" })) };
+}
+
+/**
+ * Items with the same logs share one list of them: it is handed to the page once then.
+ * @param {Pick<import("./collection.mjs").Item, "certain_in" | "possible_in">[]} items
+ */
+function shareLists(items) {
+  const lists = /** @type {Map<string, number[]>} */ (new Map());
+  const shared = (/** @type {number[]} */ list) => madeOnce(lists, list.join(), () => list);
+  for (const item of items) Object.assign(item, { certain_in: shared(item.certain_in), possible_in: shared(item.possible_in) });
 }
 
 /**

@@ -135,6 +135,28 @@ export class Log {
   /** @param {number} index */
   isRound(index) { return this.#code(this.#rows[index]) === ASKING && !this.#silences(this.#rows[index]); }
 
+  /** The Stay Quiets. */
+  *quiets() {
+    for (const line of this.#rows) if (this.#code(line) === ASKING && this.#silences(line)) yield { line, uid: uidIn(this.frame(line)) };
+  }
+
+  /**
+   * The tags that were heard before a row, and which of them aren't silenced there.
+   * @param {number} end
+   */
+  heardBefore(end) {
+    const heard = /** @type {Set<bigint>} */ (new Set()), ready = /** @type {Set<bigint>} */ (new Set());
+    for (let at = 0; at < end; at++) {
+      if (this.isQuiet(at)) ready.delete(uidIn(this.frame(this.lineOf(at))));
+      else if (!this.isRound(at)) for (const uid of heard) ready.add(uid);
+      for (const uid of this.outcomes(at).filter((line) => this.isReply(line)).map((line) => uidIn(this.frame(line)))) {
+        heard.add(uid);
+        ready.add(uid);
+      }
+    }
+    return { heard, ready };
+  }
+
   /**
    * How many slots a round has, how many bits its mask, and the low sixteen of these.
    * @param {number} index

@@ -1,5 +1,5 @@
 /** What is to be known of the logs of a collection before its items are: what wasn't counted, and what isn't sure. */
-import { el } from "./elements.mjs";
+import { el, rest } from "./elements.mjs";
 import { copiesAmong } from "./files.mjs";
 import { firstOf, nameOf } from "./shelves.mjs";
 import { count, printable } from "./words.mjs";
@@ -124,5 +124,5 @@ export function doubted(doubts, canLeave) {
     button("Both: other fields", { "data-both": ask[0] }))] : [];
   return [el("section", { class: "doubts" }, el("h2", {}, "Logs and shelves"),
     el("ul", { class: "steps" }, doubts.slice(0, MOST_LISTED).map(({ words, cure, ask }) => el("li", {}, el("b", {}, words), ` ${cure}`, ...buttons(ask)))),
-    ...doubts.length > MOST_LISTED ? [el("p", {}, `and ${(doubts.length - MOST_LISTED).toLocaleString("en")} more`)] : [])];
+    ...rest(doubts.length - MOST_LISTED))];
 }

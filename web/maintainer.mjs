@@ -42,7 +42,7 @@ function left(told) {
   const { open, by, silenced, hidden } = told.requests, parts = [];
   const end = told.counts.listed ? "before the U lines." : "at the end.";
   const isAll = told.open.length === told.object.open.count, each = `${open.length > 1 ? "one for each" : "for the"} ${by}`;
-  const how = !by ? "What is left to ask, in sixteen slots, or in one." : isAll ? `${requests(open.length)} left${hidden.length ? "" : `, ${each}`}.`
+  const how = isAll ? `${requests(open.length)} left${hidden.length ? "" : `, ${each}`}.`
     : `What is left to ask first, ${each}: send ${open.length > 1 ? "these" : "it"}, and judge the log again.`;
   const last = told.notes.last && !hidden.length ? ` At last, ${TO_KNOW}.` : "", { count: masks, uids } = told.object.open;
   if (masks > told.quiet) parts.push(el("p", {}, `Of all possible UIDs ${settled(Number(uids) / 2 ** UID_BITS)} are settled.`));

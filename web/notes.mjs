@@ -17,18 +17,17 @@ export function notesOf(log, object) {
   let last = -1, hasAskedAll = false, hasAsked = false;
   const absent = new Map(object.findings.filter((it) => it.kind === KIND.ABSENT)
     .map(({ uid = "", line = 0 }) => [BigInt(`0x${uid}`), { uid, line }]));
-  const lost = [], cut = [];
+  const quiets = absent.size ? [...log.quiets()] : [], cut = [], lost = quiets.flatMap(({ line, uid }) => {
+    const found = absent.get(uid);
+    return found && found.line < line ? [{ line, uid: found.uid, at: found.line }] : [];
+  });
   for (let at = 0; at < log.rowCount; at++) {
-    if (log.isQuiet(at)) {
-      const row = absent.size ? log.row(at) : null, found = row?.kind === "quiet" ? absent.get(row.uid) : undefined;
-      if (found && found.line < log.lineOf(at)) lost.push({ line: log.lineOf(at), uid: found.uid, at: found.line });
-    } else if (log.isRound(at)) {
-      const { slots, len } = log.shape(at), logged = log.outcomes(at), isKnown = logged.every((line) => log.reading(line) !== "unknown");
-      if (logged.length < slots) cut.push({ line: log.lineOf(at), slots: logged.length, of: slots });
-      hasAsked = logged.length === slots && len === 0;
-      if (hasAsked && isKnown) hasAskedAll = true;
-      last = hasAsked && isKnown ? -1 : at;
-    }
+    if (!log.isRound(at)) continue;
+    const { slots, len } = log.shape(at), logged = log.outcomes(at), isKnown = logged.every((line) => log.reading(line) !== "unknown");
+    if (logged.length < slots) cut.push({ line: log.lineOf(at), slots: logged.length, of: slots });
+    hasAsked = logged.length === slots && len === 0;
+    if (hasAsked && isKnown) hasAskedAll = true;
+    last = hasAsked && isKnown ? -1 : at;
   }
   const missed = hasAskedAll ? "that stronger replies hid" : "that no earlier round asked";
   const lacks = hasAsked ? "Of a slot of the last round, which asked all tags, nothing is known: one there"

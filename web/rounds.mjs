@@ -22,7 +22,7 @@ const SCROLLED = { tabindex: "0", role: "group", "aria-label": "The rounds, scro
 /** What the signs mean. */
 const LEGEND = [["silent", "·", "nobody"], ["heard", "A1", "one tag"], ["captured", "A1", "one tag, perhaps over others"],
   ["heard quiet", "A1", "underlined: silenced afterwards"], ["collision", "×", "two or more"], ["garbled", "?", "unreadable"],
-  ["unknown", "~", "nothing known"], ["unreached", "\u00A0", "not reached"], ["silent named", "·", "red frame: the answer rests on it"]];
+  ["unknown", "~", "nothing known"], ["unreached", "\u00A0", "not reached"], ["silent named", "·", "frame: the answer rests on it"]];
 
 /**
  * @param {Told} told

@@ -1,6 +1,6 @@
 /** Items by their shelves, and what logs are called: by the places of which they are, where these are known. */
-import { el } from "./elements.mjs";
-import { listing, printable } from "./words.mjs";
+import { el, rest } from "./elements.mjs";
+import { grouped, listing, madeOnce, printable } from "./words.mjs";
 
 /** @typedef {import("./collection.mjs").Item} Item */
 /** @typedef {import("./collection.mjs").CollectionObject} CollectionObject */
@@ -28,10 +28,9 @@ export class Shelves {
     this.logs = logs;
     /** Whether the catalogue asks for places: then each log is of one, or left over. */
     this.isAsked = logs.some((log) => log.place !== null || log.left_over);
-    this.counted = /** @type {Map<string, Set<number>>} */ (new Map());
-    logs.forEach(({ place }, at) => {
-      if (place !== null) this.counted.set(place, (this.counted.get(place) ?? new Set()).add(at));
-    });
+    this.counted = grouped(logs.keys(), (at) => logs[at].place);
+    /** What is said of lists of logs, which many items share. */
+    this.called = /** @type {WeakMap<number[], string>} */ (new WeakMap());
     /** The columns that name an item, with where they stand. */
     this.columns = columns.map((head, at) => ({ head: head.trim(), at })).filter(({ head }) => !KNOWN.has(head.toLowerCase()));
   }
@@ -57,8 +56,14 @@ export class Shelves {
    */
   isElsewhere({ place, possible_in: logs }) {
     const own = place === null ? undefined : this.counted.get(place);
-    return own !== undefined && !logs.some((at) => own.has(at));
+    return own !== undefined && !own.some((at) => logs.includes(at));
   }
+
+  /**
+   * Where an item may be.
+   * @param {Item} item
+   */
+  mayBe({ possible_in: logs }) { return madeOnce(this.called, logs, () => this.names(logs, "or")); }
 
   /**
    * On which shelf there is something to do with an item.
@@ -103,10 +108,8 @@ export function firstOf(names, last, most = MOST_NAMES) {
  * @param {Cell} [toDo]
  */
 export function shelved(list, shelves, shelf, where = {}, toDo) {
-  const groups = /** @type {Map<string, Item[]>} */ (new Map(list.map((item) => [shelf(item), []])));
-  const isOne = groups.size === 1 && groups.has(""), titled = (/** @type {string} */ name, /** @type {string} */ scope) =>
+  const groups = grouped(list, shelf), isOne = groups.size === 1 && groups.has(""), titled = (/** @type {string} */ name, /** @type {string} */ scope) =>
     el("tr", {}, el("th", { scope, colspan: String(heads.length) }, name.length > MOST_BARE ? name : name ? `Shelf ${name}` : "Place not known"));
-  for (const item of list) groups.get(shelf(item))?.push(item);
   const columns = shelves.columns.filter(({ at }) => list.some(({ cells, place }) => cells?.[at] && (isOne || cells[at].trim() !== place)));
   const asked = Object.keys(where), isTagged = list.some((item) => item.uid), last = columns.length && isTagged ? ["UID"] : [];
   const heads = [...toDo ? ["to do"] : [], ...columns.length ? columns.map(({ head }) => head) : ["UID"], ...asked, ...last];
@@ -124,11 +127,10 @@ export function shelved(list, shelves, shelf, where = {}, toDo) {
     room -= rows.length;
     return el("tbody", {}, ...rows.length && groups.size > 1 ? [titled(name, "rowgroup")] : [], ...rows);
   });
-  const more = list.length > MOST_ROWS ? [el("p", {}, `and ${(list.length - MOST_ROWS).toLocaleString("en")} more`)] : [];
   // what is at the head stands on each sheet of paper again
   const head = el("thead", {}, el("tr", {}, heads.map((it) => el("th", { scope: "col" }, printable(it)))),
     ...groups.size === 1 && !isOne ? [titled([...groups.keys()][0], "colgroup")] : []);
-  return list.length ? [el("table", { class: heads.length > MOST_COLUMNS ? "items many" : "items" }, head, ...bodies), ...more] : [];
+  return list.length ? [el("table", { class: heads.length > MOST_COLUMNS ? "items many" : "items" }, head, ...bodies), ...rest(list.length - MOST_ROWS)] : [];
 }
 
 /**

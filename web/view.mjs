@@ -1,6 +1,6 @@
 /** Draws what is told of a log. */
 import { isLarge } from "./conflict.mjs";
-import { el, folded, linked, oneStop, toLine } from "./elements.mjs";
+import { bullets, el, folded, linked, oneStop, rest, toLine } from "./elements.mjs";
 import { isSpreadsheet } from "./files.mjs";
 import { maintainer } from "./maintainer.mjs";
 import { noted } from "./notes.mjs";
@@ -63,7 +63,7 @@ function conditions(told, isAlone) {
 /** @param {import("./say.mjs").Step} step */
 function stepOf(step) {
   if (typeof step === "string") return el("li", {}, step);
-  return el("li", {}, step.when, el("ul", {}, step.steps.map((it) => el("li", {}, it))));
+  return el("li", {}, step.when, bullets(step.steps));
 }
 
 /** @param {import("./say.mjs").Said} said */
@@ -103,11 +103,6 @@ function findings({ object: { findings, found, open }, counts }, names) {
 function tagWith(uid, names) {
   const name = names.get(uid);
   return [...name ? [el("b", {}, printable(name)), " "] : [], el("code", {}, uid)];
-}
-
-/** @param {number} number */
-function rest(number) {
-  return number ? [el("p", {}, `and ${number.toLocaleString("en")} more`)] : [];
 }
 
 /**
@@ -163,7 +158,7 @@ function takenForGranted(told) {
   if (kind === KIND.REFUSED) return [];
   const all = told.conflict ? granted(!told.counts.alone) : granted(isApart(told), captured?.holds);
   const title = told.conflict ? "At least one of these didn't hold" : "What this takes for granted";
-  return [folded(`${title} (${all.length})`, !status, el("ul", {}, all.map((it) => el("li", {}, it))))];
+  return [folded(`${title} (${all.length})`, !status, bullets(all))];
 }
 
 /**

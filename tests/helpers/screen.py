@@ -1,5 +1,7 @@
 """A page as a person uses it, in a browser: what is said on it, and whether all can read it."""
 import base64
+import contextlib
+import itertools
 import json
 import re
 import time
@@ -54,6 +56,18 @@ it?.click();
 return Boolean(it);
 """
 WIDE = "return document.documentElement.scrollWidth"
+# Waits for an element with some words, and looks only when something has changed.
+WHEN = """
+const [selector, words, done] = arguments, is = (it) => it.textContent.includes(words);
+const isThere = () => [...document.querySelectorAll(selector)].some(is);
+if (isThere()) done(true);
+const seen = new MutationObserver(() => { if (isThere()) done(true); });
+seen.observe(document, { childList: true, characterData: true, subtree: true });
+"""
+# Work of a known amount: 2.4 million numbers are copied. A page that works so many times as long is
+# frozen.
+KNOWN = "structuredClone(Array.from({ length: 24_000 }, () => [...Array(100).keys()]))"
+FROZEN = 10
 
 
 class Screen:
@@ -114,6 +128,10 @@ class Screen:
             return any(words in text for text in self.texts(selector))
         self.wait(is_there, lambda: f"{selector}: {words!r} isn't in {self.texts(selector)}")
 
+    def when(self, selector, words):
+        """The same without asking the page again and again."""
+        self.driver.execute_async_script(WHEN, selector, words)
+
     @staticmethod
     def wait(is_so, why=lambda: ""):
         """Waits for a condition."""
@@ -122,8 +140,28 @@ class Screen:
             assert time.monotonic() < end, why()
             time.sleep(.05)
 
-    def media(self, kind="", scheme="light"):
-        features = [{"name": "prefers-color-scheme", "value": scheme}]
+    def worked(self):
+        """For how many seconds of a processor the page's own thread has worked."""
+        self.driver.execute_cdp_cmd("Performance.enable", {})
+        told = self.driver.execute_cdp_cmd("Performance.getMetrics", {})["metrics"]
+        return next(it["value"] for it in told if it["name"] == "ThreadTime")
+
+    @contextlib.contextmanager
+    def never_frozen(self):
+        """What the page does meanwhile, all of it, is little beside work of a known amount. Both
+        are counted by the processor's time, so it doesn't matter what else the machine does. Wait
+        by `when`: else it matters how often the page is asked."""
+        start = self.worked()
+        self.run(KNOWN)
+        known = self.worked()
+        yield
+        assert self.worked() - known < FROZEN * (known - start)
+
+    def media(self, kind="", scheme="light", forced="none"):
+        """Paper or the screen; light or dark; with the page's colours, or only with the system's
+        if these are forced."""
+        features = [{"name": "prefers-color-scheme", "value": scheme},
+                    {"name": "forced-colors", "value": forced}]
         self.driver.execute_cdp_cmd("Emulation.setEmulatedMedia",
                                     {"media": kind, "features": features})
 
@@ -134,11 +172,12 @@ class Screen:
     def is_readable(self):
         """Contrasts of at least 4.5, one heading of the first order, names and 24 pixels for what
         is pressed; no wider than a phone."""
-        for scheme in "light", "dark":
-            self.media(scheme=scheme)
+        for scheme, forced in itertools.product(("light", "dark"), ("none", "active")):
+            self.media(scheme=scheme, forced=forced)
             contrasts = self.run(CONTRASTS)
             assert len(contrasts) > 5
             assert [it for it in contrasts if it[1] < CONTRAST] == []
+        self.media()
         targets = self.run(TARGETS)
         assert [it for it in targets if not it[0].strip() or it[1] < TARGET] == []
         assert len(self.texts("h1")) == 1
