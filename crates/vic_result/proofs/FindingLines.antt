@@ -1,16 +1,10 @@
 -- The names and places in the lines of findings.
-use Rattle.vic_result.proofs.Words.{◌≡◌, ◌∙◌, ◌&&◌, ◌||◌, ◌<◌, ◌++◌, ◌+◌, ◌∷◌, [], ℕ, Bool, true, false, not, List, None, Some, ap, append_assoc, append-nil, codes, cond, filter, flat_map, get_or, length, list_any, map, refl, slice_get, sym, take, take_more}
-use Rattle.std.proofs.Common.{is_some}
+use Rattle.vic_result.proofs.Words.{◌≡◌, ◌∙◌, ◌<◌, ◌++◌, ◌+◌, ◌∷◌, [], ℕ, List, None, Some, ap, append_assoc, append-nil, codes, flat_map, get_or, length, refl, slice_get, sym, take, take_more}
 use Rattle.std.proofs.lemmas.Grind.{flat_map-append}
 use Rattle.vic_survey.specs.Surveys.{SurveyValue}
-use Rattle.vic_table.specs.Values.{ItemValue}
-use Rattle.vic_collection.specs.Collections.{CollectionValue, certain_logs, is_certain_in, is_certain_somewhere, is_possible_in, is_possible_somewhere, is_undecided_in, possible_logs}
-use Rattle.vic_collection.specs.States.{is_certain_at, is_uncounted, state_by, state_of}
-use Rattle.vic_collection.specs.declared.state.State.{State}
-use Rattle.vic_collection.specs.declared.state.State.TheVariants.{Returned, InPlace, Misplaced, There, NotProvable, Away, NotCounted, Missing}
+use Rattle.vic_collection.specs.Collections.{CollectionValue, certain_logs, is_certain_in}
 use Rattle.vic_result.specs.NamesAt.{name_at, names_at}
-use Rattle.vic_result.specs.ResultLines.{ended, first_certain, first_name, first_possible}
-use Rattle.vic_result.specs.ResultTable.{names_where}
+use Rattle.vic_result.specs.ResultLines.{ended, first_certain, first_name}
 use Rattle.vic_result.proofs.NamedLogs.{names_at-positions}
 
 -- ---- the first name
@@ -25,31 +19,6 @@ none_first surveys (log ∷ logs) at = absurd cc
 
 pub first_certain-at : (c : CollectionValue) (u : ℕ) → first_name (names_at c.surveys (certain_logs c u)) ≡ first_certain c u
 first_certain-at c u = ap first_name (names_at-positions (λ s. is_certain_in s u) c.surveys)
-
--- ---- where a UID is possible that is certain nowhere
-
-undecided_where : (u : ℕ) (surveys : List SurveyValue) → list_any (λ s. is_certain_in s u) surveys ≡ false → names_where (λ s. is_undecided_in s u) surveys ≡ names_where (λ s. is_possible_in s u) surveys
-undecided_where u [] none = refl
-undecided_where u (s ∷ surveys) none = go (is_certain_in s u) (is_possible_in s u) none (undecided_where u surveys) where
-  go : (k p : Bool) → (k || list_any (λ t. is_certain_in t u) surveys) ≡ false → (list_any (λ t. is_certain_in t u) surveys ≡ false → names_where (λ t. is_undecided_in t u) surveys ≡ names_where (λ t. is_possible_in t u) surveys)
-      → map (λ t. t.name) (cond (p && not k) (s ∷ filter (λ t. is_undecided_in t u) surveys) (filter (λ t. is_undecided_in t u) surveys)) ≡ map (λ t. t.name) (cond p (s ∷ filter (λ t. is_possible_in t u) surveys) (filter (λ t. is_possible_in t u) surveys))
-  go true p e rest = absurd cc
-  go false true e rest = ap (λ (ns : List (List ℕ)). s.name ∷ ns) (rest e)
-  go false false e rest = rest e
-
-certain_nowhere : (c : CollectionValue) (item : ItemValue) (u : ℕ) → item.uid ≡ Some u → state_of c item ≡ NotProvable → is_certain_somewhere c u ≡ false
-certain_nowhere c item u uid is =
-    go item.away (is_certain_somewhere c u) (is_certain_at c item.place u) (is_some item.place)
-    (cond (is_possible_somewhere c u) NotProvable (cond item.away Away (cond (is_uncounted c item.place) NotCounted Missing))) (ap (state_by c item) (sym uid) ∙ is) where
-      go : (away certain at placed : Bool) (rest : State) → cond (away && certain) Returned (cond at InPlace (cond (placed && certain) Misplaced (cond certain There rest))) ≡ NotProvable → certain ≡ false
-      go away false at placed rest e = refl
-      go true true at placed rest e = absurd cc
-      go false true true placed rest e = absurd cc
-      go false true false true rest e = absurd cc
-      go false true false false rest e = absurd cc
-
-pub first_possible-at : (c : CollectionValue) (item : ItemValue) (u : ℕ) → item.uid ≡ Some u → state_of c item ≡ NotProvable → first_name (names_at c.surveys (possible_logs c u)) ≡ first_possible c u
-first_possible-at c item u uid is = ap first_name (names_at-positions (λ s. is_undecided_in s u) c.surveys ∙ undecided_where u c.surveys (certain_nowhere c item u uid is))
 
 -- ---- texts
 

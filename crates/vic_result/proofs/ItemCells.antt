@@ -1,6 +1,7 @@
 -- The cells of an item, and its logs.
 use Rattle.vic_result.proofs.Words.{◌≡◌, ◌∙◌, ◌||◌, ◌&&◌, ℕ, Bool, true, false, List, [], ◌∷◌, Option, None, Some, ap, refl, slice_get, slice_get_within, get_or_from_slice_get, eq-eqb, ◌<◌, length, get_or, nat_eq, map, subst, sym, length-map}
 use Rattle.std.proofs.lemmas.List.Folds.{list_any_at}
+use Rattle.vic_frame.specs.Uids.{has}
 use Rattle.vic_verdict.specs.Rising.{IsListOf}
 use Rattle.std.proofs.lemmas.List.{get_or-map}
 use Rattle.vic_collection.specs.declared.unlisted.UnlistedUid.{UnlistedUid}
@@ -33,10 +34,11 @@ unexpected_named c u is = front (is_certain_somewhere c u) _ _ is where
   front true b d e = refl
   front false b d e = absurd cc
 
--- a UID of a list of them, with more beside it
+-- a UID of a list, with more beside it
+pub uid_among : {X : Type 0} (uid : X → ℕ) (xs : List X) (k : ℕ) (d : X) → k < length xs → has (map uid xs) (uid (get_or xs k d)) ≡ true
+uid_among uid xs k d lt =
+    let u = uid (get_or xs k d) in
+    list_any_at (nat_eq u) (map uid xs) k 0 (subst (λ n. k < n) (sym (length-map xs uid)) lt) (ap (nat_eq u) (get_or-map uid xs k d 0 lt) ∙ eq-eqb u u refl)
+
 pub unexpected_at : (P : ℕ → Type 0) (xs : List UnlistedUid) → IsListOf P (map (λ x. x.uid) xs) → (k : ℕ) (d : UnlistedUid) → k < length xs → P (get_or xs k d).uid
-unexpected_at P xs list k d lt =
-    let u = (get_or xs k d).uid in
-    let at : get_or (map (λ (x : UnlistedUid). x.uid) xs) k 0 ≡ u = get_or-map (λ (x : UnlistedUid). x.uid) xs k d 0 lt in
-    let within : k < length (map (λ (x : UnlistedUid). x.uid) xs) = subst (λ n. k < n) (sym (length-map xs (λ (x : UnlistedUid). x.uid))) lt in
-    (list.members u).0 (list_any_at (nat_eq u) (map (λ (x : UnlistedUid). x.uid) xs) k 0 within (ap (nat_eq u) at ∙ eq-eqb u u refl))
+unexpected_at P xs list k d lt = (list.members (get_or xs k d).uid).0 (uid_among (λ (x : UnlistedUid). x.uid) xs k d lt)

@@ -4,5 +4,6 @@ mod Elements
 mod LogParts
 mod ItemCells
 mod Commas
+mod FirstLogs
 mod FindingLines
 mod NamedLogs

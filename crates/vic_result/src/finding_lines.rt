@@ -1,19 +1,18 @@
 //! The lines of each kind of finding.
 
 ghost use Rattle.std.specs.Prelude.{◌≡◌, ◌++◌, OnOk, codes, decimal};
-ghost use Rattle.std.specs.List.{All, flat_map};
+ghost use Rattle.std.specs.List.{flat_map};
 ghost use Rattle.vic_text.specs.Digits.{uid_text};
-ghost use Rattle.vic_collection.specs.Findings.{IsFoundIn};
+ghost use Rattle.vic_collection.specs.Findings.{AreFoundIn};
 ghost use Rattle.vic_collection.specs.declared.state.State.TheVariants.{NotProvable};
 ghost use Rattle.vic_result.specs.NamesAt.{names_at};
-ghost use Rattle.vic_result.specs.ResultLines.{absent_lines, doubtful_lines, ended, first_certain, first_name, first_possible, misplaced_lines, not_counted_lines, place_at, returned_lines, unlisted_lines};
-ghost use Rattle.vic_result.specs.inner.ItemLogs.{ArePossibleLogs};
+ghost use Rattle.vic_result.specs.ResultLines.{absent_lines, doubtful_lines, ended, first_certain, first_name, misplaced_lines, not_counted_lines, place_at, returned_lines, unlisted_lines};
 
 use crate::answered::{push_words, push_words_uid};
+use crate::first_logs::{first_logs, name_of};
 use crate::names::name_at;
-use crate::table::logs_of_uid;
 use std::alloc::{AllocError, Global};
-use vic_collection::{Collection, FoundItem, PossibleLogs, UnlistedUid};
+use vic_collection::{Collection, FoundItem, UnlistedUid};
 use vic_frame::Uid;
 use vic_survey::Survey;
 use vic_text::push_decimal;
@@ -33,20 +32,6 @@ fn first_certain(collection: &Collection, uid: Uid) -> &[u8]
     ensures { result.now ≡ first_certain collection.now uid }
 {
     first_name(collection.surveys(), collection.certain_in(uid))
-}
-
-/// The first log in which an item may be that isn't provable.
-fn first_possible<'a>(
-    collection: &'a Collection,
-    possible: &PossibleLogs,
-    found: &FoundItem,
-) -> &'a [u8]
-    requires possible { ArePossibleLogs collection.now possible.now }
-    requires doubtful { IsFoundIn collection.now NotProvable found.now }
-    ensures { result.now ≡ first_possible collection.now found.now.uid }
-{
-    let logs = logs_of_uid(collection, possible, found.uid);
-    first_name(collection.surveys(), logs.possible)
 }
 
 /// The place of an item.
@@ -136,56 +121,23 @@ pub(crate) fn push_unlisted(
     Ok(())
 }
 
-/// Appends a line of an item that isn't provable.
-fn push_doubtful_line(
-    text: &mut Vec<u8>,
-    collection: &Collection,
-    possible: &PossibleLogs,
-    found: &FoundItem,
-) -> Result<(), AllocError>
-    requires possible { ArePossibleLogs collection.now possible.now }
-    requires doubtful { IsFoundIn collection.now NotProvable found.now }
-    ensures { OnOk result
-        (text.new.items ≡ text.old.items ++ doubtful_lines collection.now found.now) }
-{
-    let name = first_possible(collection, possible, found);
-    push_line(text, b"doubtful ", found.uid, b" in ", name)
-}
-
 /// Appends the items that aren't provable.
-fn push_doubtful(
-    text: &mut Vec<u8>,
-    collection: &Collection,
-    possible: &PossibleLogs,
-    doubtful: &[FoundItem],
-) -> Result<(), AllocError>
-    requires possible { ArePossibleLogs collection.now possible.now }
-    requires doubtful { All (IsFoundIn collection.now NotProvable) doubtful.now }
-    ensures { OnOk result (text.new.items ≡ text.old.items
-        ++ flat_map (doubtful_lines collection.now) doubtful.now) }
-{
-    for found in doubtful {
-        push_doubtful_line(text, collection, possible, found)?;
-    }
-    Ok(())
-}
-
-/// Appends the items that aren't provable, if there are any.
-pub(crate) fn push_all_doubtful(
+pub(crate) fn push_doubtful(
     alloc: Global,
     text: &mut Vec<u8>,
     collection: &Collection,
     doubtful: &[FoundItem],
 ) -> Result<(), AllocError>
-    requires { All (IsFoundIn collection.now NotProvable) doubtful.now }
+    requires { AreFoundIn collection.now NotProvable doubtful.now }
     ensures { OnOk result (text.new.items ≡ text.old.items
         ++ flat_map (doubtful_lines collection.now) doubtful.now) }
 {
-    if doubtful.is_empty() {
-        return Ok(());
+    let logs = first_logs(alloc, collection, doubtful)?;
+    for found in doubtful {
+        let name = name_of(collection.surveys(), &logs, found.uid);
+        push_line(text, b"doubtful ", found.uid, b" in ", name)?;
     }
-    let possible = PossibleLogs::of(alloc, collection)?;
-    push_doubtful(text, collection, &possible, doubtful)
+    Ok(())
 }
 
 /// Appends a line of an item that is misplaced.

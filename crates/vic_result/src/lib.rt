@@ -5,6 +5,7 @@ mod answered;
 mod cells;
 mod counts;
 mod finding_lines;
+mod first_logs;
 mod head;
 mod items;
 mod lines;

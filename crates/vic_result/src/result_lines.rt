@@ -7,7 +7,7 @@ ghost use Rattle.vic_result.specs.ResultLines.{AreFindingLines, AreLinesBy, AreL
 
 use crate::answered::push_answer_line;
 use crate::finding_lines::{
-    push_absent, push_all_doubtful, push_misplaced, push_not_counted, push_returned, push_unlisted,
+    push_absent, push_doubtful, push_misplaced, push_not_counted, push_returned, push_unlisted,
 };
 use crate::log_lines::{push_left_over, push_unsettled, push_without_log};
 use std::alloc::{AllocError, Global};
@@ -40,7 +40,7 @@ fn findings_text(
     push_absent(&mut text, &findings.absent)?;
     push_unlisted(&mut text, collection, &findings.unlisted)?;
     push_unsettled(alloc, &mut text, collection, &findings.unsettled)?;
-    push_all_doubtful(alloc, &mut text, collection, &findings.doubtful)?;
+    push_doubtful(alloc, &mut text, collection, &findings.doubtful)?;
     push_misplaced(&mut text, collection, &findings.misplaced)?;
     push_returned(&mut text, collection, &findings.returned)?;
     push_not_counted(&mut text, collection, &findings.not_counted)?;

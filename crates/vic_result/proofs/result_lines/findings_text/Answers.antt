@@ -1,6 +1,5 @@
 use Rattle.vic_result.proofs.Words.{◌≡◌, ◌∙◌, ◌++◌, [], ℕ, ap, ap₂, flat_map, List, map, subst, sym, then_piece}
-use Rattle.std.specs.List.{All}
-use Rattle.vic_collection.specs.Findings.{IsFoundIn}
+use Rattle.vic_collection.specs.Findings.{AreFoundIn}
 use Rattle.vic_collection.specs.Joins.{is_left_over, places_without_log}
 use Rattle.vic_collection.specs.declared.found_items.FoundItem.{FoundItem}
 use Rattle.vic_collection.specs.declared.state.State.TheVariants.{NotProvable}
@@ -11,8 +10,8 @@ use Rattle.vic_result.specs.ResultTable.{names_where}
 use Rattle.vic_result.proofs.NamedLogs.{names_at-positions}
 use Rattle.vic_result.proofs.result_lines.findings_text.Goals as goal
 
-pub push_all_doubtful-requires : goal.push_all_doubtful-requires
-push_all_doubtful-requires c = subst (All (IsFoundIn c.args.collection.now NotProvable)) (sym c.deref-3.ensures.value) c.requires.doubtful.items
+pub push_doubtful-requires : goal.push_doubtful-requires
+push_doubtful-requires c = subst (AreFoundIn c.args.collection.now NotProvable) (sym c.deref-3.ensures.value) c.requires.doubtful
 
 pub returns : goal.returns
 returns c =
@@ -23,8 +22,8 @@ returns c =
     c.in_ok-push_absent.ensures ∙ ap₂ (λ (s : List ℕ) (xs : List FoundItem). s ++ flat_map absent_lines xs) c.new-text.ensures.items c.deref.ensures.value in
     let unlisted = then_piece [] _ (flat_map (unlisted_lines C) f.unlisted.items) absent (c.in_ok-push_unlisted.ensures ∙ ap (λ (xs : List UnlistedUid). c.push_absent.new.text.items ++ flat_map (unlisted_lines C) xs) c.deref-2.ensures.value) in
     let unsettled = then_piece [] _ left.0 unlisted left.2 in
-    let doubtful = then_piece [] _ (flat_map (doubtful_lines C) f.doubtful.items) unsettled (c.in_ok-push_all_doubtful.ensures ∙ ap (λ (xs : List FoundItem). c.push_unsettled.new.text.items ++ flat_map (doubtful_lines C) xs) c.deref-3.ensures.value) in
-    let misplaced = then_piece [] _ (flat_map (misplaced_lines C) f.misplaced.items) doubtful (c.in_ok-push_misplaced.ensures ∙ ap (λ (xs : List FoundItem). c.push_all_doubtful.new.text.items ++ flat_map (misplaced_lines C) xs) c.deref-4.ensures.value) in
+    let doubtful = then_piece [] _ (flat_map (doubtful_lines C) f.doubtful.items) unsettled (c.in_ok-push_doubtful.ensures ∙ ap (λ (xs : List FoundItem). c.push_unsettled.new.text.items ++ flat_map (doubtful_lines C) xs) c.deref-3.ensures.value) in
+    let misplaced = then_piece [] _ (flat_map (misplaced_lines C) f.misplaced.items) doubtful (c.in_ok-push_misplaced.ensures ∙ ap (λ (xs : List FoundItem). c.push_doubtful.new.text.items ++ flat_map (misplaced_lines C) xs) c.deref-4.ensures.value) in
     let returned = then_piece [] _ (flat_map (returned_lines C) f.returned.items) misplaced (c.in_ok-push_returned.ensures ∙ ap (λ (xs : List FoundItem). c.push_misplaced.new.text.items ++ flat_map (returned_lines C) xs) c.deref-5.ensures.value) in
     let not_counted = then_piece [] _ (flat_map (not_counted_lines C) f.not_counted.items) returned (c.in_ok-push_not_counted.ensures ∙ ap (λ (xs : List FoundItem). c.push_returned.new.text.items ++ flat_map (not_counted_lines C) xs) c.deref-6.ensures.value) in
     let places = ap (map (λ place. place.now)) c.deref-7.ensures.value ∙ c.requires.without_log in
