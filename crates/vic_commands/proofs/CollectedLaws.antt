@@ -63,7 +63,7 @@ small_field (Refused n fault) = omega arith
 small_field (Impossible n) = omega arith
 small_field (Possible s) = omega arith
 
-small_at : (o : Option SurveyValue) → option_map_or (λ s. not_possible_status s.field) o 0 ≤ 3
+small_at : (o : Option SurveyValue) → option_map_or (λ s. not_possible_status s.field) o 3 ≤ 3
 small_at None = omega arith
 small_at (Some s) = small_field s.field
 

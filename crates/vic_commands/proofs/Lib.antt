@@ -2,3 +2,4 @@ mod SurveyLaws
 mod Tellings
 mod TextsSoFar
 mod CollectedLaws
+mod CompleteLaws

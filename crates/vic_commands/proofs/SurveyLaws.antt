@@ -11,7 +11,7 @@ use Rattle.vic_survey.proofs.Joined.{joined-append}
 use Rattle.vic_survey.specs.Making.{IsFieldOf}
 use Rattle.vic_survey.specs.Names.{IsName}
 use Rattle.vic_survey.specs.SurveyText.{survey_lines, text_of}
-use Rattle.vic_survey.specs.Surveys.{SurveyValue}
+use Rattle.vic_survey.specs.Surveys.{IsSurvey, SurveyValue}
 use Rattle.vic_answer.specs.declared.status.Status.{Status}
 use Rattle.vic_commands.specs.Surveyed.{AreSurveyed, AreWrittenAs, IsSurveying, status_of}
 
@@ -21,9 +21,9 @@ text_of-more ss s =
     ap joined (flat_map-append survey_lines ss (s ∷ []) ∙ ap (λ ls. flat_map survey_lines ss ++ ls) (append-nil (survey_lines s))) ∙ joined-append (flat_map survey_lines ss) (survey_lines s)
 
 -- so it is what is written for one survey more
-pub written-more : (ss : List SurveyValue) (s : SurveyValue) (text more : List ℕ) (before after : Status) → AreWrittenAs ss text before → more ≡ text ++ joined (survey_lines s)
+pub written-more : (ss : List SurveyValue) (s : SurveyValue) (text more : List ℕ) (before after : Status) → AreWrittenAs ss text before → IsSurvey s → more ≡ text ++ joined (survey_lines s)
     → after ≡ status_of (ss ++ s ∷ []) → AreWrittenAs (ss ++ s ∷ []) more after
-written-more ss s text more before after h t is = record { text = t ∙ ap (λ x. x ++ joined (survey_lines s)) h.text ∙ sym (text_of-more ss s); status_is = is }
+written-more ss s text more before after h valid t is = record { valid = All-push IsSurvey ss s h.valid valid; text = t ∙ ap (λ x. x ++ joined (survey_lines s)) h.text ∙ sym (text_of-more ss s); status_is = is }
 
 -- a text more
 pub surveyed-more : (names texts : List (List ℕ)) (name text answer more : List ℕ) (before after : Status) (s : SurveyValue) → AreSurveyed names texts answer before

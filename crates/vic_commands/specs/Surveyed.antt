@@ -4,7 +4,7 @@ use Rattle.std.specs.List.{All, AllZip, list_any}
 use Rattle.vic_survey.specs.Making.{IsFieldOf}
 use Rattle.vic_survey.specs.Names.{IsName}
 use Rattle.vic_survey.specs.SurveyText.{text_of}
-use Rattle.vic_survey.specs.Surveys.{SurveyValue}
+use Rattle.vic_survey.specs.Surveys.{AreSurveys, SurveyValue}
 use Rattle.vic_survey.specs.declared.survey.Field.{Field}
 use Rattle.vic_survey.specs.declared.survey.Field.TheVariants as field
 use Rattle.vic_answer.specs.declared.status.Status.{Status}
@@ -32,9 +32,10 @@ pub record AreSurveysOf (names texts : List (List ℕ)) (surveys : List SurveyVa
   pub named : map (λ s. s.name) surveys ≡ names
   pub say : AllZip (λ text s. IsFieldOf text s.field) texts surveys
 
--- this is the text of surveys, and their status
+-- this is the text of surveys, all of whose numbers are in their ranges, and their status
 pub record AreWrittenAs (surveys : List SurveyValue) (answer : List ℕ) (status : Status)
     : Type 0 where
+  pub valid : AreSurveys surveys
   pub text : answer ≡ text_of surveys
   pub status_is : status ≡ status_of surveys
 

@@ -6,6 +6,7 @@
 mod collected;
 mod commands;
 mod gathering;
+pub mod laws;
 mod surveyed;
 mod texts;
 

@@ -22,7 +22,7 @@ not_possible_line name (Possible s) = []
 abbrev pub not_possible_status : Field → ℕ
 not_possible_status (Refused n fault) = 3
 not_possible_status (Impossible n) = 2
-not_possible_status (Possible s) = 0
+not_possible_status (Possible s) = 3
 
 -- the line of an answer
 abbrev pub answer_line : CollectionValue → CollectionAnswer → List ℕ
@@ -39,10 +39,10 @@ answer_line c (answer.WithoutLog place) = codes "no log of " ++ place.now
 answer_line c (answer.LeftOver log) = codes "left over " ++ name_at c.surveys log
 answer_line c (answer.Complete count) = codes "complete " ++ decimal count
 
--- its status
+-- its status, which is 0 only of `Complete`
 abbrev pub answer_status : CollectionValue → CollectionAnswer → ℕ
 answer_status c (answer.NotPossible log) =
-    option_map_or (λ s. not_possible_status s.field) (slice_get c.surveys log) 0
+    option_map_or (λ s. not_possible_status s.field) (slice_get c.surveys log) 3
 answer_status c (answer.Complete count) = 0
 answer_status c (answer.Absent u) = 1
 answer_status c (answer.Unlisted u) = 1

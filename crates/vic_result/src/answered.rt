@@ -44,7 +44,7 @@ pub fn answer_status(collection: &Collection, answer: &CollectionAnswer<'_>) -> 
     match answer {
         CollectionAnswer::NotPossible { log } => match collection.surveys().get(*log) {
             Some(survey) => not_possible_status(survey.field()),
-            None => 0,
+            None => 3,
         },
         CollectionAnswer::Complete { .. } => 0,
         _ => 1,
@@ -58,7 +58,7 @@ fn not_possible_status(field: &Field) -> u8
     match field {
         Field::Refused { .. } => 3,
         Field::Impossible { .. } => 2,
-        Field::Possible(_) => 0,
+        Field::Possible(_) => 3,
     }
 }
 

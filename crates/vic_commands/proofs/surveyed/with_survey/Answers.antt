@@ -4,4 +4,4 @@ use Rattle.vic_commands.proofs.surveyed.with_survey.Goals as goal
 
 pub returns : goal.returns
 returns c surveys h =
-    written-more surveys c.args.survey.now _ _ _ _ h (search rules) (c.status_with-status.ensures surveys c.args.survey.now h.status_is (search rules))
+    written-more surveys c.args.survey.now _ _ _ _ h (search rules) (search rules) (c.status_with-status.ensures surveys c.args.survey.now h.status_is (search rules))
