@@ -356,8 +356,8 @@ enum vicinity_status vicinity_simulate(const uint8_t *text, size_t text_len, uin
  * or, where names are written, a name that no log can have (empty, above 4,096 bytes, or with a
  * control character), the result is VICINITY_STATUS_NO_ANSWER, and the line `vicinity: usage` is
  * written, which the program writes to standard error. If memory was refused, no command has the
- * number, `names` has not `count` lines, or the lengths do not add up to `texts_len`, the result is
- * the same, and `*needed` is 0.
+ * number, `names` has not `count` lines in UTF-8, or the lengths do not add up to `texts_len`, the
+ * result is the same, and `*needed` is 0.
  */
 enum vicinity_status vicinity_run(enum vicinity_command command, const uint8_t *names,
                                   size_t names_len, const uint8_t *texts, size_t texts_len,

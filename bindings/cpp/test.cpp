@@ -114,6 +114,11 @@ static void try_run()
     // a part of a survey is none
     IS(run(VICINITY_COMMAND_COLLECTION, {catalogue, {"sent", {sent.data(), sent.size() - 1}}})
            .status == 3);
+    // a buffer that is filled again, with a text of the same length
+    std::string buffer = std::string(VICINITY_HEADER_LINE) + "U E0040100000000A1\n";
+    const vicinity::Named first = {"first", buffer};
+    buffer.replace(buffer.size() - 3, 2, "B2");
+    IS(first.text.find("A1") != std::string::npos && buffer.find("A1") == std::string::npos);
     IS(thrown<vicinity::Usage>([] { run(VICINITY_COMMAND_CHECK, {}); }) == "usage");
     IS(thrown<vicinity::Usage>([] { run(VICINITY_COMMAND_CHECK, {{"\n", SILENT}}); }) == "usage");
 }

@@ -18,6 +18,7 @@
 #include <stdexcept>
 #include <string>
 #include <type_traits>
+#include <utility>
 #include <vector>
 #if __cplusplus >= 201703L
 #include <string_view>
@@ -311,10 +312,15 @@ inline Margin margin_listed(Text text, const std::vector<std::uint64_t> &uids)
     return detail::measured(answer, told);
 }
 
-// A text with its name, such as that of its file: UTF-8, without LF.
+// A text with its name, such as that of its file: UTF-8, without LF. Both are copies, so a buffer
+// may be filled again.
 struct Named {
-    std::string name;
-    Text text;
+    std::string name, text;
+
+    Named(std::string its_name, const Text &its_text)
+        : name(std::move(its_name)), text(its_text.bytes(), its_text.bytes() + its_text.size())
+    {
+    }
 };
 
 // What the program writes to standard output, and its exit status.
@@ -332,7 +338,7 @@ inline Written run(vicinity_command command, const std::vector<Named> &texts)
         if (one.name.find('\n') != std::string::npos)
             throw Usage();
         names += one.name + '\n';
-        joined.append(one.text.bytes(), one.text.bytes() + one.text.size());
+        joined += one.text;
         lengths.push_back(one.text.size());
     }
     std::vector<std::uint8_t> room(64);

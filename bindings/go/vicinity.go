@@ -148,7 +148,8 @@ func Simulate(text []byte) ([]byte, error) {
 	return written, err
 }
 
-// Named is a text with its name, such as that of its file.
+// Named is a text with its name, such as that of its file. The text is read when Run is called:
+// an array that is filled again before that has only what it was filled with last.
 type Named struct {
 	Name string // UTF-8, without LF
 	Text []byte

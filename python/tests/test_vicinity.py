@@ -20,6 +20,15 @@ import vicinity
 from vicinity import Fault, Kind, _calls, _native
 
 
+class Runs(unittest.TestCase):
+    """What the program writes."""
+
+    def test_what_is_written_is_no_condition(self):
+        for text in (b"vicinity-log 1\n", b""):
+            with self.assertRaisesRegex(TypeError, "whether its status is 0"):
+                bool(vicinity.run("check", text))
+
+
 class Frames(unittest.TestCase):
     """What frames say, with the values of docs/FRAMES.md
     and of the table of masks in docs/AIR.md."""

@@ -19,6 +19,10 @@ class Written(NamedTuple):
     status: int
     """0 to 3, as of the command."""
 
+    def __bool__(self) -> bool:
+        """An answer that isn't complete is one, too: so it is no condition."""
+        raise TypeError("what is written is neither true nor false: ask whether its status is 0")
+
 
 def _names(names: Sequence[str], count: int) -> bytes:
     """A line for each name; without any, empty ones."""
