@@ -5,12 +5,12 @@ import json
 import vicinity
 from cases import (ALL, ALONE, ANSWERS, CAPTURED_A, CAPTURED_B, HEARD_A, HEARD_B, LIST_A, LIST_B,
                    SILENCE_A, SILENCE_B, SIXTEEN, Command, log, third, within)
-from helpers.lines import log_of
+from helpers.lines import log_of, rows
 from helpers.records import drawn_in
-from test_page import BROKEN, LIGHTS, LOGS
 from vicinity.sessions.findings import Told
 from vicinity.sessions.words import headline, lights
 
+BROKEN = "This count can't be used. The log contradicts itself: "
 HOLDS = {"holds": True}
 NONE, EVEN = {"mask_len": 0, "mask_value": "-"}, {"mask_len": 1, "mask_value": "00"}
 ANY, OPEN = ({"holds": False, "status": 1, "kind": "unsettled", **mask} for mask in (NONE, EVEN))
@@ -85,18 +85,27 @@ class Said(Command):
 
 
 class Page(Command):
-    """What the page says of logs, in tests/test_page.py."""
+    """What the page says of logs, by the rows of tests/data/rows/page."""
+
+    def rows_of(self, kind, least):
+        """The logs of one kind of rows, and what is said of them."""
+        cells = ([cell.strip() for cell in line.split("|")] for _, line in rows("page"))
+        found = [(given, said) for looked_at, given, said, *_ in cells if looked_at == kind]
+        self.assertGreater(len(found), least)
+        return found
 
     def test_headlines(self):
         """Of a contradiction the page says more."""
-        for names, wanted in LOGS:
+        for names, wanted in self.rows_of("headline", 30):
             wanted = BROKEN if wanted.startswith(BROKEN) else wanted
             self.assertEqual(headline(Told(log_of(names)))[:len(wanted)], wanted, names)
 
     def test_lights(self):
-        for names, *wanted in LIGHTS:
+        """None of a text that is refused."""
+        for names, wanted in self.rows_of("lights", 10):
             said = dict(lights(Told(log_of(names))))
-            self.assertEqual([said["Search finished"], said["List"]], wanted, names)
+            values = [said[name] for name in ("Search finished", "List") if name in said]
+            self.assertEqual(" / ".join(values), wanted, names)
 
 
 class Sessions(Command):
