@@ -4,7 +4,6 @@
 
 pub mod answer;
 pub mod collection;
-pub mod commands;
 pub mod frame;
 pub mod log;
 pub mod margin;
