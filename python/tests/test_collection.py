@@ -210,7 +210,8 @@ class Asked(Command):
                 self.assertEqual((said, status), (b"", 4))
                 self.assertEqual(errors.decode(), (
                     f"vicinity: {gone} is no option any more: a collection is read as it stands. "
-                    "Join the tables first, and name the columns uid and place: see COLLECTIONS\n"))
+                    "Join the tables first, and name the columns uid and place, and each text of "
+                    "surveys among the files: see COLLECTIONS\n"))
         self.assertEqual(within("collection", catalogue, "--", "--tags")[1:], (
             b"vicinity: cannot read --tags: No such file or directory\n", 4))
 

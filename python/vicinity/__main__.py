@@ -52,7 +52,7 @@ GONE = {**{name: OF_PROGRAM.format(name)
 OPTIONS_GONE = frozenset(f"--{name}" for name in (
     "expected", "column", "tags", "place", "places", "encoding", "sep", "surveys", "strict"))
 JOIN = ("{} is no option any more: a collection is read as it stands. Join the tables first, and "
-        "name the columns uid and place: see COLLECTIONS")
+        "name the columns uid and place, and each text of surveys among the files: see COLLECTIONS")
 
 
 def words() -> tuple[Words, Mapping[str, Words]]:

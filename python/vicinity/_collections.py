@@ -119,7 +119,7 @@ def _made(said: dict[str, Any]) -> Any:
 
 
 def survey(text: BytesLike, name: str) -> Written:
-    """What a log of this name says of its field: a sealed text, which stands for it in
+    """What a log of this name says of its field: a text with a checksum, which stands for it in
     `collection`, also on another machine. The status is 2 or 3 if it is impossible or refused.
     Raises what `run` raises."""
     return run("survey", text, names=[name])
