@@ -404,4 +404,4 @@ def test_what_docs_let_a_reader_break(clone):
     commands = re.search(r"^cd crates.*?(?=^git checkout|^```$)", page, re.M | re.S)[0]
     refusal = re.search(r"^rt check .*# \.\. (.*)$", commands, re.M)[1]
     out, err, _ = Program("bash", "-ec", commands).run(cwd=clone.top, timeout=3000)
-    assert refusal in (out + err).decode() and b"BAD EDIT" in out + err
+    assert refusal in (out + err).decode() and b"fifteen_slots.edit" in out + err
