@@ -5,7 +5,7 @@ use Rattle.std.specs.List.{cons_option, filter_map, count_by, position, position
 use Rattle.std.specs.Prelude.{codes}
 use Rattle.vic_frame.specs.Uids.{AreDifferent}
 use Rattle.vic_table.specs.Cells.{cells_of}
-use Rattle.vic_table.specs.Columns.{separator_byte, are_of_catalogue, are_of_places, catalogue_columns, places_columns, named_columns, columns_under, columns_of, columns_fault, names_fault, is_misquoted, is_of_result, tells_elsewhere, first_line_fault}
+use Rattle.vic_table.specs.Columns.{separator_byte, are_of_catalogue, are_of_places, catalogue_columns, places_columns, named_columns, columns_under, columns_of, columns_fault, names_fault, is_misquoted, are_of_result, tells_elsewhere, first_line_fault}
 use Rattle.vic_table.specs.Conserved.{as_list, UidsAreConserved, IsTold, IsItems, told_uids}
 use Rattle.vic_table.specs.Contents.{hex_uid, hex_runs, is_blank, is_word, spelled_uid, tells_uid}
 use Rattle.vic_table.specs.Lines.{bytes_fault, table_lines}
@@ -204,7 +204,7 @@ module _ (c : CatalogueColumns) (lines : List (List ℕ)) (clean : HasNoFault li
     names_right = sym (ap (option_and_then (names_fault (Catalogue c))) split) ∙ (sym (ap (columns_fault line) named) ∙ right)
 
     none_elsewhere : tells_elsewhere c cells ≡ false
-    none_elsewhere = (if_none (tells_elsewhere c cells) fault.UidElsewhere None (if_none (list_any is_of_result cells) fault.Result (if tells_elsewhere c cells then Some fault.UidElsewhere else None) names_right).1).0
+    none_elsewhere = (if_none (tells_elsewhere c cells) fault.UidElsewhere None (if_none (are_of_result cells) fault.Result (if tells_elsewhere c cells then Some fault.UidElsewhere else None) names_right).1).0
 
     own : j ≡ c.uid
     own = elsewhere c cells j cell u none_elsewhere there told

@@ -1,5 +1,5 @@
 -- The columns of a table, by its first line.
-use Rattle.std.specs.Prelude.{ℕ, ◌==◌, Bool, ◌&&◌, false, nat_le, if◌then◌else◌, Option, Some, None, is_none, unwrap_or, List, length, take, count_by, position, codes}
+use Rattle.std.specs.Prelude.{ℕ, ◌==◌, Bool, ◌&&◌, ◌||◌, false, nat_le, if◌then◌else◌, Option, Some, None, is_some, is_none, unwrap_or, List, length, take, count_by, position, codes}
 use Rattle.std.specs.List.{list_any, remove}
 use Rattle.std.specs.Option.{option_and_then, option_or}
 use Rattle.std.specs.Str.{byte, bytes_eq}
@@ -86,6 +86,17 @@ is_misquoted line =
 abbrev pub is_of_result : List ℕ → Bool
 is_of_result cell = bytes_eq (take 9 (folded cell)) (codes "vicinity ")
 
+-- the names of the columns that version 1 of the program wrote about a catalogue, among others
+abbrev pub are_of_version_1 : List (List ℕ) → Bool
+are_of_version_1 cells =
+    is_some (place_of (codes "state") cells)
+    && is_some (place_of (codes "certain in") cells)
+    && is_some (place_of (codes "may be in") cells)
+
+-- the names of the columns of a table that was written about a catalogue
+abbrev pub are_of_result : List (List ℕ) → Bool
+are_of_result cells = list_any is_of_result cells || are_of_version_1 cells
+
 abbrev pub separator_of : Columns → Separator
 separator_of (Catalogue c) = c.separator
 separator_of (Places c) = c.separator
@@ -101,7 +112,7 @@ is_told_by_name (Places c) cells = false
 -- the first fault of the names of columns that count
 abbrev pub names_fault : Columns → List (List ℕ) → Option TableLineFault
 names_fault columns cells =
-    if list_any is_of_result cells then Some fault.Result
+    if are_of_result cells then Some fault.Result
     else if is_told_by_name columns cells then Some fault.UidElsewhere
     else None
 

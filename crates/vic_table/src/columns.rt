@@ -3,7 +3,7 @@
 ghost use Rattle.std.specs.Prelude.{◌≡◌, ◌≤◌, length, map, slice_range, Some, None, IfOk, MatchResult};
 ghost use Rattle.std.specs.Char.{to_ascii_lowercase};
 ghost use Rattle.std.specs.List.{list_any};
-ghost use Rattle.vic_table.specs.Columns.{separator_byte, count_of, place_of, named_columns, columns_of, names_fault, tells_elsewhere, is_of_result, first_line_fault};
+ghost use Rattle.vic_table.specs.Columns.{separator_byte, count_of, place_of, named_columns, columns_of, names_fault, tells_elsewhere, is_of_result, are_of_version_1, first_line_fault};
 ghost use Rattle.vic_table.specs.Contents.{tells_uid};
 ghost use Rattle.vic_table.specs.inner.Faults.{RefusesAt};
 ghost use Rattle.vic_table.specs.inner.Under.{IsUnder, is_misquoted_under};
@@ -183,11 +183,20 @@ fn any_is_of_result(cells: &LineCells) -> bool
     false
 }
 
+/// Whether the cells name the columns that version 1 of the program wrote about a catalogue.
+fn are_of_version_1(cells: &LineCells) -> bool
+    ensures { result ≡ are_of_version_1 cells.now }
+{
+    place_of(cells, b"state").is_some()
+        && place_of(cells, b"certain in").is_some()
+        && place_of(cells, b"may be in").is_some()
+}
+
 /// The first fault of the cells of a first line that name columns.
 fn names_fault(columns: &Columns, cells: &LineCells) -> Option<TableLineFault>
     ensures { result ≡ names_fault columns.now cells.now }
 {
-    if any_is_of_result(cells) {
+    if any_is_of_result(cells) || are_of_version_1(cells) {
         return Some(TableLineFault::Result);
     }
     match columns {
