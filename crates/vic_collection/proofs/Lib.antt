@@ -5,6 +5,7 @@ mod NameSets
 mod Knowing
 mod Leading
 mod Telling
+mod Sighted
 mod Placing
 mod Halves
 mod Listing

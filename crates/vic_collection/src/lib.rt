@@ -8,6 +8,7 @@
 
 mod alike;
 mod answer;
+mod certain_logs;
 mod collection;
 mod findings;
 mod found;

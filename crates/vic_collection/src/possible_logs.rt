@@ -3,7 +3,7 @@
 //! The logs are halved again and again, and a UID goes on to the halves of which some log leaves it
 //! open. So no log is asked for each UID.
 
-ghost use Rattle.std.specs.Prelude.{◌≡◌, ◌+◌, ◌<◌, ◌^◌, ◌++◌, ◌∷◌, [], ℕ, true, if◌then◌else◌, length, map, IfOk, OnOk};
+ghost use Rattle.std.specs.Prelude.{◌≡◌, ◌+◌, ◌<◌, ◌^◌, ◌++◌, ◌∷◌, [], ℕ, true, if◌then◌else◌, nat_eq, length, map, IfOk, OnOk};
 ghost use Rattle.std.specs.List.{filter};
 ghost use Rattle.std.specs.List.Sorted.{IsStrictlyIncreasing};
 ghost use Rattle.vic_frame.specs.Uids.{IsUid, has};
@@ -13,7 +13,6 @@ ghost use Rattle.vic_collection.specs.Collections.{is_named, is_undecided_in, lo
 ghost use Rattle.vic_collection.specs.inner.Told.{logs_at};
 
 use crate::collection::Collection;
-use crate::told::add;
 use crate::uids::push_uids;
 use std::alloc::{AllocError, Global};
 use std::collections::BTreeMap;
@@ -113,6 +112,25 @@ fn add_each(
     for uid in uids {
         add(alloc, logs, *uid, log)?;
     }
+    Ok(())
+}
+
+/// Adds a log to those of a UID.
+fn add(
+    alloc: Global,
+    known: &mut BTreeMap<Uid, Vec<usize>>,
+    uid: Uid,
+    log: usize,
+) -> Result<(), AllocError>
+    ensures { OnOk result ((u : ℕ) → logs_at known.new u ≡ logs_at known.old u
+        ++ (if nat_eq u uid then log ∷ [] else [])) }
+{
+    let mut logs = match known.remove(&uid) {
+        Some(logs) => logs,
+        None => Vec::new(alloc),
+    };
+    logs.push(log)?;
+    known.insert(uid, logs)?;
     Ok(())
 }
 

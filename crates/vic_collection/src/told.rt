@@ -1,6 +1,6 @@
 //! What logs say of UIDs together.
 
-ghost use Rattle.std.specs.Prelude.{◌≡◌, ℕ, ◌++◌, ◌∷◌, [], ◌||◌, if◌then◌else◌, nat_eq, IfOk, OnOk};
+ghost use Rattle.std.specs.Prelude.{◌≡◌, ℕ, ◌++◌, ◌∷◌, [], ◌||◌, if◌then◌else◌, IfOk, OnOk};
 ghost use Rattle.std.specs.List.{list_any};
 ghost use Rattle.std.specs.List.Sorted.{IsStrictlyIncreasing};
 ghost use Rattle.vic_frame.specs.Masks.{lies_in};
@@ -8,10 +8,10 @@ ghost use Rattle.vic_frame.specs.Uids.{IsUid, has};
 ghost use Rattle.vic_tree.specs.Ranges.{is_open_in};
 ghost use Rattle.vic_report.specs.Findings.{uids_of};
 ghost use Rattle.vic_collection.specs.Collections.{is_certain_in, positions_from, tells_nothing};
-ghost use Rattle.vic_collection.specs.inner.Told.{IsToldBy, logs_at, is_open_by};
+ghost use Rattle.vic_collection.specs.inner.Told.{IsToldBy, logs_with, is_open_by};
 
+use crate::certain_logs::{CertainLogs, Sighting};
 use std::alloc::{AllocError, Global};
-use std::collections::BTreeMap;
 use vic_frame::{Mask, Uid};
 use vic_report::ShownUid;
 use vic_survey::{Field, Survey};
@@ -20,8 +20,8 @@ use vic_tree::{OpenSet, RangeSet};
 /// What the logs of a collection say of UIDs.
 #[derive(Drop)]
 pub(crate) struct Told {
-    /// The UIDs that are certain in some log, each with the positions of these logs, in order.
-    pub(crate) certain: BTreeMap<Uid, Vec<usize>>,
+    /// In which logs UIDs are certain.
+    pub(crate) certain: CertainLogs,
     /// The UIDs that lie in an open mask of some log.
     pub(crate) open: RangeSet,
     /// Whether some log tells nothing, so that any UID may have been in its field.
@@ -34,8 +34,10 @@ impl Told {
         ensures { IfOk result (IsToldBy surveys.now) }
     {
         let masks = open_masks(alloc, surveys)?;
+        let sightings = all_sightings(alloc, surveys)?;
+        let certain = CertainLogs::of(alloc, sightings)?;
         Ok(Told {
-            certain: certain_logs(alloc, surveys)?,
+            certain,
             open: RangeSet::of_masks(alloc, &masks)?,
             nothing: any_tells_nothing(surveys),
         })
@@ -43,12 +45,9 @@ impl Told {
 
     /// The positions of the logs in which a UID is certain, in their order.
     pub(crate) fn logs_of(&self, uid: Uid) -> &[usize]
-        ensures { result.now ≡ logs_at self.now.certain uid }
+        ensures { result.now ≡ logs_with self.now.certain uid }
     {
-        match self.certain.get(&uid) {
-            Some(logs) => logs.as_slice(),
-            None => &[],
-        }
+        self.certain.logs_of(uid)
     }
 
     /// Whether a UID that is certain in no log may have been in a field.
@@ -92,52 +91,30 @@ fn open_masks(alloc: Global, surveys: &[Survey]) -> Result<Vec<Mask>, AllocError
     Ok(masks)
 }
 
-/// For each UID that is certain in some log the positions of these logs.
-fn certain_logs(alloc: Global, surveys: &[Survey]) -> Result<BTreeMap<Uid, Vec<usize>>, AllocError>
-    ensures { IfOk result (λ certain. (u : ℕ)
-        → logs_at certain u ≡ positions_from (λ s. is_certain_in s u) 0 surveys.now) }
+/// The UIDs that are certain in each log, one log after the other.
+fn all_sightings(alloc: Global, surveys: &[Survey]) -> Result<Vec<Sighting>, AllocError>
+    ensures { IfOk result (λ sightings. (u : ℕ) → logs_with sightings.items u
+        ≡ positions_from (λ s. is_certain_in s u) 0 surveys.now) }
 {
-    let mut certain = BTreeMap::new(alloc);
+    let mut sightings = Vec::new(alloc);
     for (index, survey) in surveys.iter().enumerate() {
         if let Field::Possible(seen) = survey.field() {
-            add_all(alloc, &mut certain, seen.certain.as_slice(), index)?;
+            push_all(&mut sightings, seen.certain.as_slice(), index)?;
         }
     }
-    Ok(certain)
+    Ok(sightings)
 }
 
-/// Adds a log to those of each of its certain UIDs.
-fn add_all(
-    alloc: Global,
-    certain: &mut BTreeMap<Uid, Vec<usize>>,
-    uids: &[ShownUid],
-    log: usize,
-) -> Result<(), AllocError>
+/// Appends the UIDs that are certain in a log.
+fn push_all(sightings: &mut Vec<Sighting>, uids: &[ShownUid], log: usize) -> Result<(), AllocError>
     requires { IsStrictlyIncreasing (uids_of uids.now) }
-    ensures { OnOk result ((u : ℕ) → logs_at certain.new u ≡ logs_at certain.old u
+    ensures { OnOk result ((u : ℕ) → logs_with sightings.new.items u
+        ≡ logs_with sightings.old.items u
         ++ (if has (uids_of uids.now) u then log ∷ [] else [])) }
 {
     for shown in uids {
-        add(alloc, certain, shown.uid, log)?;
+        let uid = shown.uid;
+        sightings.push(Sighting { uid, log })?;
     }
-    Ok(())
-}
-
-/// Adds a log to those of a UID.
-pub(crate) fn add(
-    alloc: Global,
-    certain: &mut BTreeMap<Uid, Vec<usize>>,
-    uid: Uid,
-    log: usize,
-) -> Result<(), AllocError>
-    ensures { OnOk result ((u : ℕ) → logs_at certain.new u ≡ logs_at certain.old u
-        ++ (if nat_eq u uid then log ∷ [] else [])) }
-{
-    let mut logs = match certain.remove(&uid) {
-        Some(logs) => logs,
-        None => Vec::new(alloc),
-    };
-    logs.push(log)?;
-    certain.insert(uid, logs)?;
     Ok(())
 }

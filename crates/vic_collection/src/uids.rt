@@ -24,7 +24,7 @@ impl Collection {
     }
 
     /// The UIDs that are certain in some log.
-    pub fn certain_uids(&self, alloc: Global) -> Result<RisingUids, AllocError>
+    pub(crate) fn certain_uids(&self, alloc: Global) -> Result<RisingUids, AllocError>
         ensures { IfOk result (λ uids. (u : ℕ) → has uids u ≡ is_certain_somewhere self.now u) }
     {
         let mut uids = Vec::new(alloc);
@@ -33,7 +33,7 @@ impl Collection {
     }
 
     /// The UIDs of items.
-    pub fn item_uids(&self, alloc: Global) -> Result<RisingUids, AllocError>
+    pub(crate) fn item_uids(&self, alloc: Global) -> Result<RisingUids, AllocError>
         ensures { IfOk result (λ uids. (u : ℕ) → has uids u ≡ is_of_item self.now u) }
     {
         let mut uids = Vec::new(alloc);

@@ -1,7 +1,0 @@
-use Rattle.vic_collection.proofs.Words.{◌≡◌, ℕ, take}
-use Rattle.vic_collection.specs.Collections.{is_certain_in, positions_from}
-use Rattle.vic_collection.specs.inner.Told.{logs_at}
-use Rattle.vic_collection.proofs.told.certain_logs.Given as goal
-
-abbrev pub invariant-loop-index : goal.invariant-loop-index
-invariant-loop-index l = (u : ℕ) → logs_at l.certain u ≡ positions_from (λ s. is_certain_in s u) 0 (take l.index l.surveys)
