@@ -80,7 +80,7 @@ class Clone:
     def build(self, *words, **more):
         """What make writes, by the kit that proves all at once."""
         path = f"{self.kit}/bin{os.pathsep}{os.environ['PATH']}"
-        return Program("make", PATH=path, **more).run(*words, cwd=self.top)
+        return Program("make", PATH=path, **more).run(*words, cwd=self.top, timeout=600)
 
     def proved_now(self):
         """The crates that building proves."""
@@ -349,6 +349,21 @@ def test_what_the_gate_has_proved_of_other_files_is_proved_here(clone, gate):
     out, built = gate([*proved(), "rt: vicinity proved"])
     assert (out, built[0], built[-1]) == (b"built here\n", "vic_answer", "vicinity")
     assert set(built[1:-1]) == {"vic_object", "vic_commands", "vic_words", "vic_program"}
+
+
+def test_what_the_gate_leaves_until_mutants_were_tried_is_proved_here(gate, tmp_path):
+    for crate in "vic_program", "vicinity":
+        shutil.rmtree(tmp_path / f"copy/crates/{crate}/out")
+    assert gate(proved("vic_program")) == (b"built here\n", ["vic_program", "vicinity"])
+
+
+def test_while_the_gate_proves_another_crate_it_is_waited_for(clone, gate, tmp_path):
+    """It proves the program next, while something sleeps here."""
+    made, begun = tmp_path / "made", tmp_path / "copy/crates/vicinity/out"
+    begun.rename(made)
+    script(clone.kit / "bin/sleep",
+           f"#!/bin/sh\nmv '{made}' '{begun}' && echo '{KEPT}' >>'{tmp_path}/gate'\n")
+    assert gate(proved("vic_sets")) == (b"of the gate\n", [])
 
 
 def test_a_gate_that_was_broken_off(gate):

@@ -1,4 +1,5 @@
-"""Holds that no two modules of a crate use each other, also not by way of others."""
+"""Holds that no two modules of a crate use each other, also not by way of others; and that the
+front page of web/ lists its modules."""
 import graphlib
 import re
 
@@ -42,3 +43,9 @@ def test_no_two_modules_use_each_other(crate):
 def test_a_way_back_is_found():
     assert sorted(way_back({"a": {"b"}, "b": {"c"}, "c": {"a"}})) == ["a", "a", "b", "c"]
     assert not way_back({"a": {"b", "c"}, "b": {"c"}, "c": {"d"}})
+
+
+def test_the_front_page_of_web_names_each_module():
+    cells = re.findall(r"^\| (`.*?) \|", (TOP / "web/README.md").read_text(), re.M)
+    assert sorted(re.findall(r"`(\w+)`", "".join(cells))) == sorted(
+        file.stem for file in (TOP / "web").glob("*.mjs"))

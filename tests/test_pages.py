@@ -1,5 +1,5 @@
-"""Tries what README.md, docs/ and the front pages of the crates show: `pytest tests/test_pages.py
--k COMMANDS.md`.
+"""Tries what README.md, docs/ and the front pages of folders show: `pytest tests/test_pages.py -k
+COMMANDS.md`.
 
 A fence (on a man page a literal display) in which a line begins with `$ ` is a session. Each such
 line is run by sh with the built program as `vicinity`, in a folder that has the repository's
@@ -37,7 +37,7 @@ from helpers.program import TOP, Program, needs
 
 FOLDERS = ("crates", "examples", "include", "out", "python", "tools")
 PAGES = ["README.md", "CHANGELOG.md", *sorted(str(page.relative_to(TOP)) for pattern in (
-    "docs/*.md", "docs/*.[15]", "crates/*/README.md") for page in TOP.glob(pattern))]
+    "docs/*.md", "docs/*.[15]", "*/README.md", "crates/*/README.md") for page in TOP.glob(pattern))]
 SECONDS = 600
 FRAME_FAULT = re.compile(r"\| `([0-9A-F]+)` \| (request|reply) \| `(\w+)` \|")
 FRAME = re.compile(r"\| `([0-9A-F]+)` \| "
