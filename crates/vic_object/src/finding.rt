@@ -169,6 +169,9 @@ fn push_absent_of(
     ensures { OnOk result (found.new.items ≡ found.old.items
         ++ map (spec.absent_of (margin_of (entries log.now.lines))) absent.now) }
 {
+    if absent.is_empty() {
+        return Ok(());
+    }
     let mut uids = Vec::new(alloc);
     for shown in absent {
         uids.push(shown.uid)?;
