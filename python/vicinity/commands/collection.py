@@ -19,7 +19,8 @@ from .._sentences import advice
 from ..pages.document import document, version
 from ..pages.log import page_object
 from ..sessions.findings import Told
-from ..sessions.words import READ_AGAIN, count, listing
+from ..sessions.headline import READ_AGAIN
+from ..sessions.words import count, listing
 from .summary import summary
 
 #: How a log begins, unless it is a text of surveys, which begins so; an empty file is a log.
