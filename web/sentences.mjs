@@ -74,9 +74,9 @@ export const SENTENCES = {
     "newVersion": "Tags that were silenced before they were heard answer only after the field was switched off and on, and a log of version 1 has no line for that. Begin a new log, of version 3, and ask for the whole field again."
   },
   "catalogues": {
-    "cut": "its last row has no line end, so the file may have been cut off",
+    "cut": "of which the last has no line end, so the file may have been cut off",
     "noPlaces": "The catalogue has no column 'place', so an item on a wrong shelf isn't noticed, nor a shelf that wasn't counted.",
-    "almost": "Column {} is '{}': that isn't the name place, so places aren't asked for."
+    "almost": "Column {} is called {}, which isn't that name."
   },
   "parts": {
     "count": "Don't change this line. Count again, using only Inventory and Stay Quiet.",

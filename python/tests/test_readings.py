@@ -7,6 +7,7 @@ from unittest import mock
 import vicinity
 from cases import (ALL, ALONE, ANSWERS, CAPTURED_A, CAPTURED_B, HEARD_A, HEARD_B, LIST_A, LIST_B,
                    SILENCE_A, SILENCE_B, SIXTEEN, Command, log, third, within)
+from helpers.frames import hex_of
 from helpers.lines import log_of, rows
 from helpers.records import drawn_in
 from vicinity.sessions.findings import Told
@@ -72,16 +73,16 @@ class Said(Command):
         """Of a text that is refused nothing is said."""
         hidden, deaf = "If replies were hidden", "If the reader went deaf"
         for text, wanted, not_said in (
-                (log(ALONE + LIST_A), f"{hidden}: still complete {deaf}: others may be here", ASK),
+                (log(ALONE + LIST_A), f"{hidden}: still complete; {deaf}: others may be here", ASK),
                 (b"vicinity-log 2\n" + CURED + LIST_A, f"{deaf}: still complete", "To know"),
-                (log(ALL + b"S\n"), f"{hidden}: still empty {deaf}: others may be", "To know"),
-                (log(ALL + HEARD_A), f"{hidden}: others may be here {deaf}: others", "still"),
+                (log(ALL + b"S\n"), f"{hidden}: still empty; {deaf}: others may be", "To know"),
+                (log(ALL + HEARD_A), f"{hidden}: others may be here; {deaf}: others", "still"),
                 (log(ALL + HEARD_A + LIST_A), f"{hidden}: others may be here", "and no other"),
                 (log(ALL + HEARD_A + LIST_B), f"{hidden}: the answer may be wrong", "still"),
                 (log(ALL + b"S\n" + LIST_A), f"{deaf}: the answer may be wrong", hidden),
                 (log(ALL + b"S\nS\n"), "line 4: S", hidden)):
             said = " ".join(within("show", self.write("one.log", text))[0].decode().split())
-            self.assertIn(wanted, said.replace(" · ", " "))
+            self.assertIn(wanted, said)
             self.assertNotIn(not_said, said)
 
     def test_what_to_send(self):
@@ -99,7 +100,7 @@ class Said(Command):
                 (third(alone), "T 060100CD09 asks all UIDs"),
                 (third(silenced), "Switch the field off and on, write F, and send 1 request for "
                  "tags that were silenced before they were heard: only then do they answer.", "F",
-                 "T 260138B200000000010484B0 asks E0040100000000B2"),
+                 f"T {hex_of(bytes.fromhex('260138B2000000000104'))} asks E0040100000000B2"),
                 (log(silenced), "Tags that were silenced before they were heard answer only after "
                  "the field was switched off and on, and a log of version 1 has no line for that. "
                  "Begin a new log, of version 3, and ask for the whole field again.")):
@@ -136,7 +137,6 @@ class Page(Command):
             said = dict(lights(Told(log_of(names))))
             values = [said[name] for name in ("Search finished", "List") if name in said]
             self.assertEqual(" / ".join(values), wanted, names)
-
 
     def test_how_sure(self):
         for names, wanted in self.rows_of("sure", 12):

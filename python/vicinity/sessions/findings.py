@@ -15,6 +15,8 @@ WORDS = {FindingKind.SILENCED_BY: "silenced by", FindingKind.CONFLICT_LINE: "con
          FindingKind.ABSENT: "absent", FindingKind.UNLISTED: "unlisted",
          FindingKind.UNSETTLED: "unsettled", FindingKind.OPEN_MASK: "open",
          FindingKind.MORE_OPEN_MASKS: "more open", FindingKind.DOUBTFUL: "doubtful"}
+#: Findings that are lines of a contradiction.
+CONFLICTS = FindingKind.SILENCED_BY, FindingKind.CONFLICT_LINE
 #: Of how many findings of each kind the lines are marked.
 MOST_LINES = 20
 

@@ -3,10 +3,10 @@ from __future__ import annotations
 
 from typing import Iterator
 
-from .._answers import FindingKind, Kind
+from .._answers import Kind
 from .._objects import UID_BITS
 from .._sentences import SENTENCES, numbered
-from .findings import Told
+from .findings import CONFLICTS, Told
 from .words import count, listing
 
 #: How many lines of a contradiction a sentence names.
@@ -40,56 +40,53 @@ def _unfinished(told: Told) -> str:
     """The sentence of a list that isn't complete."""
     found, listed, left = told.said["found"], told.session.listed, told.said["open"]
     certain, without = told.said["certain"], "" if listed else ANSWERS["noList"]
+    here = numbered("tagsHere", certain["count"])
     if not left["count"] and not listed:
-        number = certain["count"]
-        return f"{numbered('tagsHere', number)}{_others(told, number)}{without}"
+        return f"{here}{_others(told, certain['count'])}{without}"
     if not left["count"] and not certain["count"]:
         return numbered("noneAnswered", listed)
     silenced = sum(1 << UID_BITS - mask.length for mask in told.quiet)
     is_quiet, is_more = 0 < len(told.quiet) == left["count"], told.is_more
-    others = str(ANSWERS["othersAre" if is_more else "othersMayBe"])
+    others = "othersAre" if is_more else "othersMayBe"
     if is_quiet:
-        others = numbered("silencedListed" if silenced <= found["doubtful"] else "silenced",
-                          silenced)
+        others = "silencedListed" if silenced <= found["doubtful"] else "silenced"
+    others = numbered(others, silenced)
     head = ANSWERS["notFinished"] if left["count"] else ""
     if not listed:
-        here = (f"{numbered('tagsHere', certain['count'])}; {others}" if certain["count"] else
+        here = (f"{here}; {others}" if certain["count"] else
                 others if is_quiet else ANSWERS["noneRead" if is_more else "noneProved"])
         return f"{head}{here}.{without}"
-    if not any(found.values()):
-        return f"{head}{_inside(numbered('allListed', listed))}; {others}."
-    kinds = "absent", "unlisted", "doubtful"
-    parts = [numbered(kind, found[kind]) for kind in kinds[:3 - is_quiet] if found[kind]]
     here = _of_listed(listed - found["absent"] - found["doubtful"], listed, left["count"] > 0)
-    return f"{head}{listing(parts + [others] * is_quiet)}; {here}."
+    if not any(found.values()):
+        return f"{head}{here}; {others}."
+    kinds = ("absent", "unlisted", "doubtful")[:3 - is_quiet]
+    parts = [numbered(kind, found[kind]) for kind in kinds if found[kind]] + [others] * is_quiet
+    return f"{head}{listing(parts)}; {here}."
 
 
 def _of_listed(here: int, listed: int, is_open: bool) -> str:
-    """How many listed tags are here, or proved to be, of a search that isn't finished."""
+    """How many listed tags are here, or proved to be, of a search that isn't finished; behind the
+    beginning of a sentence."""
     if here == listed:
-        return _inside(numbered("allListed", listed))
+        whole = numbered("allListed", listed)
+        return whole[0].lower() + whole[1:]
     are = "is" if 1 in (here, listed) else "are"
     return f"{here:,} of {count(listed, 'listed tag')} {are} {'proved to be ' * is_open}here"
-
-
-def _inside(sentence: str) -> str:
-    """A sentence behind the beginning of another."""
-    return sentence[0].lower() + sentence[1:]
 
 
 def lights(told: Told) -> Iterator[tuple[str, str]]:
     """What else is known of an answer, by name: whether the search is finished, what the list is
     worth, how often each other tag was asked, and whether the answer holds if replies were hidden,
     and if the reader went deaf."""
-    said, kind, is_complete = told.said, told.answer.kind, told.answer.is_complete
+    kind, is_complete = told.answer.kind, told.answer.is_complete
     if kind is Kind.REFUSED:
         return
-    is_known = kind is not Kind.IMPOSSIBLE
-    yield "Search finished", ("not known" if not is_known else "no" if said["open"]["count"] else
-                              "yes" if told.settles("captured") else "not known yet")
-    yield "List", "not known" if told.session.listed and not is_known else _list(told)
+    yield "Search finished", (
+        "not known" if kind is Kind.IMPOSSIBLE else "no" if told.said["open"]["count"] else
+        "yes" if told.settles("captured") else "not known yet")
+    yield "List", _list(told)
     if is_complete:
-        yield "Each other tag was asked", f"{count(said['margin'], 'time')} or more"
+        yield "Each other tag was asked", f"{count(told.said['margin'], 'time')} or more"
     for reading, name in READ_AGAIN.items():
         if is_complete and told.holds(reading):
             yield name, "still complete" if told.answer.count else "still empty"
@@ -103,6 +100,8 @@ def _list(told: Told) -> str:
     found = told.said["found"]
     if not told.session.listed:
         return "none given"
+    if told.answer.kind is Kind.IMPOSSIBLE:
+        return "not known"
     if told.answer.is_complete:
         return "matches" if told.holds("captured") else "matches what was heard"
     if found["absent"] or found["unlisted"]:
@@ -112,8 +111,7 @@ def _list(told: Told) -> str:
 
 def _contradiction(told: Told) -> str:
     """Which lines contradict each other."""
-    lines = sorted({it.line for kind in (FindingKind.CONFLICT_LINE, FindingKind.SILENCED_BY)
-                    for it in told.of(kind)})
+    lines = sorted({it.line for kind in CONFLICTS for it in told.of(kind)})
     if len(lines) == 1:
         return f"line {lines[0]} can't be true"
     if len(lines) > MOST_NAMED:

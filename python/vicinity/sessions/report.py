@@ -28,21 +28,23 @@ def found(told: Told, most: Optional[int] = None) -> Iterator[tuple[Finding, str
     is one of the open ones."""
     for kind in WORDS:
         for it in told.of(kind)[:most] if kind is not FindingKind.UNSETTLED else ():
-            said = uid_text(it.uid) if it.uid else ""
-            slots = told.overlooked.get(said, 0) if kind is FindingKind.ABSENT else 0
-            said += (f" would have been missed in {count(slots, 'slot')}" * bool(slots) +
-                     " may be missing" * (kind is FindingKind.DOUBTFUL))
-            yield it, f"{ending(it.mask)} may be there" if kind is FindingKind.OPEN_MASK else said
+            said = ending(it.mask) + " may be there" if kind is FindingKind.OPEN_MASK else ""
+            if it.uid:
+                slots = told.overlooked.get(uid_text(it.uid))
+                said = uid_text(it.uid) + " may be missing" * (kind is FindingKind.DOUBTFUL) + (
+                    f" would have been missed in {count(slots, 'slot')}" if slots else "")
+            yield it, said
 
 
 def _left(told: Told, it: Finding) -> str:
     """What is left to ask of a finding that isn't settled."""
+    if it.kind not in (FindingKind.OPEN_MASK, FindingKind.DOUBTFUL):
+        return ""
     mask = Mask(UID_BITS, it.uid & (1 << UID_BITS) - 1) if it.uid else it.mask
-    line = f"send {told.session.ask(mask)}"
-    if mask in told.quiet:
-        line = f"switch the field off and on, write F, and {line}" if told.session.has_cycles \
-            else "count again, in a new log of version 3"
-    return line if it.kind in (FindingKind.OPEN_MASK, FindingKind.DOUBTFUL) else ""
+    cycle = "switch the field off and on, write F, and " * (mask in told.quiet)
+    if cycle and not told.session.has_cycles:
+        return "count again, in a new log of version 3"
+    return f"{cycle}send {told.session.ask(mask)}"
 
 
 def lines_of_report(name: str, told: Told) -> Iterator[str]:

@@ -12,7 +12,7 @@ from .._objects import UID_BITS, mask_of
 from .._process import shown
 from .._sentences import SENTENCES, numbered
 from ..frames import read_request, uid_text
-from .findings import MOST_LINES, WORDS, Told
+from .findings import CONFLICTS, MOST_LINES, WORDS, Told
 from .headline import headline, lights
 from .report import found
 from .session import READINGS, Row, Session, Slot
@@ -25,14 +25,14 @@ NAMED = "7"
 #: How many lines a picture has at most, what is found, what to send where rounds take the rest, and
 #: what signs mean.
 MOST, MOST_FOUND, MOST_SENT, MOST_LEGEND = 24, 6, 6, 2
+NO_BREAK = "\u00a0"
 #: The slots of a round, and how many columns each takes.
 SLOTS, CELL = 16, 3
 #: What the marks and signs of cells mean.
 LEGEND = {"·": "nobody", "╳": "two or more", "?": "unreadable", "-": "nothing known",
           "+": "perhaps over others", "q": "silenced afterwards", "!": "the answer rests on it"}
-#: Findings that a UID and a line say, and those of which the line says what they are.
+#: Findings that a UID and a line say.
 LISTED = FindingKind.ABSENT, FindingKind.UNLISTED, FindingKind.DOUBTFUL
-CONFLICTS = FindingKind.SILENCED_BY, FindingKind.CONFLICT_LINE
 REQUESTS = SENTENCES["requests"]
 MORE, OTHERS = "Causes, and what to do: python3 -m vicinity page LOG", "⋮  more"
 
@@ -48,17 +48,13 @@ class Look(NamedTuple):
         return f"\033[{colour}m{text}\033[0m" if self.colour else text
 
     def wrapped(self, text: str, indent: str = "") -> list[str]:
-        return wrap(text, max(self.columns, 20), subsequent_indent=indent, break_on_hyphens=False)
+        return wrap(text, max(self.columns, 20), subsequent_indent=indent, break_on_hyphens=False,
+                    break_long_words=False)
 
     def joined(self, parts: Iterable[str], between: str) -> list[str]:
-        """The parts in lines, which are broken only between them, where each fits into one."""
-        lines: list[str] = []
-        for part in parts:
-            if lines and len(lines[-1] + between + part) <= self.columns:
-                lines[-1] += between + part
-            else:
-                lines.append(part)
-        return [it for line in lines for it in self.wrapped(line)]
+        """The parts in lines that are broken between them alone."""
+        words = between.join(part.replace(" ", NO_BREAK) for part in parts)
+        return [line.replace(NO_BREAK, " ") for line in self.wrapped(words)]
 
 
 def show(told: Told, look: Look = Look()) -> Iterator[str]:
@@ -67,7 +63,7 @@ def show(told: Told, look: Look = Look()) -> Iterator[str]:
     answer, colour = told.answer, ANSWER_COLOURS[told.answer.status]
     known = [f"{name}: {value}" for name, value in (*lights(told), ("Answer", answer.text))]
     head = [*(look.painted(line, colour) for line in look.wrapped(headline(told))),
-            *look.joined(known, " · ")]
+            *look.joined(known, "; ")]
     findings, sent = _few(_found(told, look), MOST_FOUND), list(islice(_sent(told, look), MOST))
     last = [MORE] * (answer.status > 0)
     # between the parts are blank lines
@@ -87,7 +83,9 @@ def _few(lines: Iterable[str], most: int) -> list[str]:
 def _picture(told: Told, look: Look, most: int) -> Iterator[str]:
     """The rows that matter in so many lines, one for each row, or more where the slots don't fit
     into one."""
-    session, named = told.session, _named(told)
+    session = told.session
+    # without a list, no tag that is there is more than the others
+    named = told.lines(MOST_LINES) if session.listed or told.answer.status > 1 else set[int]()
     for of_row in range(1, SLOTS + 1):
         chosen = _chosen(session, named, max(1, (most - 1 - MOST_LEGEND) // of_row - 1))
         drawn = {index: session.row(index) for index in chosen}
@@ -122,12 +120,6 @@ def _picture(told: Told, look: Look, most: int) -> Iterator[str]:
     if session.listed:
         yield f"{span(*session.list_lines):>{labels}}  {session.listed:,} listed"
     yield from look.joined(_legend(drawn.values(), named), ", ")[:MOST_LEGEND]
-
-
-def _named(told: Told) -> set[int]:
-    """The lines that are marked. Without a list no tag that is there is more than the others."""
-    is_marked = told.session.listed or told.answer.status > 1
-    return told.lines(MOST_LINES) if is_marked else set()
 
 
 def _chosen(session: Session, named: set[int], most: int) -> list[int]:
@@ -195,11 +187,11 @@ def _sent(told: Told, look: Look) -> Iterator[str]:
     """What to send, as the page says it: what asks the open masks, those of silenced tags after a
     field cycle; else what shows whether replies were hidden, or the reader went deaf."""
     session, left, certain = told.session, told.said["open"], told.said["certain"]
-    plain, silenced = [], []
-    for it in left["masks"]:
-        (silenced if mask_of(it) in told.quiet else plain).extend(it["ask"])
-    asked = session.cut_short([mask_of(it) for it in left["masks"] if it["ask"][0] in plain])
-    is_shorter = asked and len(asked) < len(plain) and len(left["masks"]) == left["count"]
+    masks = [(mask_of(it), it["ask"]) for it in left["masks"]]
+    plain = [line for mask, lines in masks if mask not in told.quiet for line in lines]
+    silenced = [line for mask, lines in masks if mask in told.quiet for line in lines]
+    asked = session.cut_short([mask for mask, _ in masks if mask not in told.quiet])
+    is_shorter = asked and len(asked) < len(plain) and len(masks) == left["count"]
     yield from _asking([session.ask(it, SLOTS) for it in asked] if is_shorter else plain, look)
     if silenced and session.has_cycles:
         yield from look.wrapped(numbered("silenced", len(silenced), "requests"))
@@ -210,11 +202,10 @@ def _sent(told: Told, look: Look) -> Iterator[str]:
         return
     elif not told.settles("captured"):
         yield from [*look.wrapped(REQUESTS["hidden"]), session.ask(Mask(0, 0))]
-    elif told.is_shaken("deaf") and certain["count"] and session.has_cycles:
-        found = Mask(UID_BITS, int(certain["uids"][0][2:], 16))
-        yield from [*look.wrapped(REQUESTS["heard"]), "F", session.ask(found)]
     elif told.is_shaken("deaf") and certain["count"]:
-        yield from look.wrapped(f"{REQUESTS['heard']} {REQUESTS['noCycles']}")
+        lines = ["F", session.ask(Mask(UID_BITS, int(certain["uids"][0][2:], 16)))]
+        why = "" if session.has_cycles else f" {REQUESTS['noCycles']}"
+        yield from [*look.wrapped(REQUESTS["heard"] + why), *lines * session.has_cycles]
 
 
 def _asking(lines: Iterable[str], look: Look) -> Iterator[str]:
