@@ -29,7 +29,7 @@ NO_BREAK = "\u00a0"
 #: The slots of a round, and how many columns each takes.
 SLOTS, CELL = 16, 3
 #: What the marks and signs of cells mean.
-LEGEND = {"·": "nobody", "╳": "two or more", "?": "unreadable", "-": "nothing known",
+LEGEND = {"·": "no tag", "╳": "two or more", "?": "unreadable", "-": "nothing known",
           "+": "perhaps over others", "q": "silenced afterwards", "!": "the answer rests on it"}
 #: Findings that a UID and a line say.
 LISTED = FindingKind.ABSENT, FindingKind.UNLISTED, FindingKind.DOUBTFUL
