@@ -61,8 +61,8 @@ def drawn(name):
 
 
 def sentence_in(picture):
-    """The sentence under the first line of a picture."""
-    return " ".join(picture.split("\n\n")[0].splitlines()[1:])
+    """The headline, lights and answer of a picture, as one line."""
+    return " ".join(picture.split("\n\n")[0].splitlines())
 
 
 @pytest.fixture(scope="session")
@@ -80,7 +80,7 @@ def run(release):
 def test_show(run, name):
     done, wanted = run("show", file_of(name)), drawn(name)
     assert (done.stdout.decode(), done.stderr) == (wanted, b"")
-    assert done.returncode == STATUS[wanted.split()[0]]
+    assert done.returncode == STATUS[re.search("Answer: ([a-z]+)", wanted)[1]]
 
 
 @pytest.mark.parametrize("name", NAMES)
@@ -89,13 +89,13 @@ def test_show_in_ascii(run, name):
     assert run("show", "--ascii", file_of(name)).stdout.decode() == ascii_wanted
 
 
-@pytest.mark.parametrize("columns", [40, 60])
+@pytest.mark.parametrize("columns", [50, 60])
 @pytest.mark.parametrize("name", NAMES)
 def test_show_in_few_columns(run, name, columns):
-    lines = run("show", file_of(name), columns=columns).stdout.decode().splitlines()
-    assert not [line for line in lines
+    picture = run("show", file_of(name), columns=columns).stdout.decode()
+    assert not [line for line in picture.splitlines()
                 if len(line) > columns and not re.search(r"[0-9A-F]{10}|asks|LOG$", line)]
-    assert lines[0] == drawn(name).splitlines()[0]
+    assert sentence_in(picture) == sentence_in(drawn(name))
 
 
 @pytest.mark.parametrize("name", NAMES)
@@ -114,8 +114,8 @@ def test_show_fits_into_a_terminal(name):
 REFUSED = b"vicinity-log 1\nT 260100F60A\nS\nS <b>late</b>\x1b[31m\n"
 
 
-def test_show_in_forty_columns(run):
-    assert run("show", file_of("whole-shelf"), columns=40).stdout.decode() == drawn("narrow")
+def test_show_in_fifty_columns(run):
+    assert run("show", file_of("whole-shelf"), columns=50).stdout.decode() == drawn("narrow")
 
 
 def test_show_of_a_refused_text(run):
@@ -200,7 +200,7 @@ def test_random_pictures(vicinity):
     """Every log has a picture: random ones, possible and impossible, each with a sentence and what
     was found."""
     from vicinity.pages import log
-    from vicinity.sessions import findings, report, show, words
+    from vicinity.sessions import findings, headline, report, show
 
     rng, kinds = random.Random(1), set()
     for _ in range(RANDOM_LOGS):
@@ -209,13 +209,21 @@ def test_random_pictures(vicinity):
         text = random_logs.text_of(version, lines)
         found = findings.Told(text)
         kinds.add(found.answer.kind.word)
-        parts = [words.headline(found), *show.show(found), *report.lines_of_report("log", found)]
+        parts = [headline.headline(found), *show.show(found),
+                 *report.lines_of_report("log", found)]
         told = json.loads(json.dumps(report.object_of_report("log", found)))
         absent = [it["uid"] for it in told["findings"] if it["kind"] == "absent"]
         wanted = [vicinity.uid_text(it.uid) for it in found.of(vicinity.FindingKind.ABSENT)]
         assert absent == wanted, text
         json.dumps(log.page_object("log", found))
-        assert all(parts[:2]) and len(list(show.show(found))) <= MOST_LINES, text
+        assert all(parts[:2]), text
+        for columns in 80, rng.randint(40, 100):
+            picture = list(show.show(found, show.Look(columns=columns)))
+            assert columns != 80 or (len(picture) <= MOST_LINES
+                                     and max(map(len, picture)) <= MOST_COLUMNS), text
+            # no request is broken: it is a frame with its CRC
+            for request in re.findall(r"^T ([0-9A-F]*)", "\n".join(picture), re.M):
+                vicinity.read_request(bytes.fromhex(request))
     assert kinds >= {"complete", "impossible", "unsettled", "unlisted"}
 
 

@@ -66,6 +66,18 @@ export const SENTENCES = {
     "memory": "there isn't enough memory for it: close other tabs and programs, and open it again",
     "trap": "the page has failed while it judged this: open it anew, and if it happens again, send the file to whoever maintains vicinity"
   },
+  "requests": {
+    "hidden": "To know whether a strong reply hid a weaker one, silence each tag that was heard, and ask all in one slot, until none answers:",
+    "heard": "To know whether the reader still heard at the end, switch the field off and on, write F, and ask for a tag that was found: it has to answer.",
+    "noCycles": "That takes a log of version 2 or 3: one of version 1 has no line for it.",
+    "silenced": ["Switch the field off and on, write F, and send {} request for tags that were silenced before they were heard: only then do they answer.", "Switch the field off and on, write F, and send {} requests for tags that were silenced before they were heard: only then do they answer."],
+    "newVersion": "Tags that were silenced before they were heard answer only after the field was switched off and on, and a log of version 1 has no line for that. Begin a new log, of version 3, and ask for the whole field again."
+  },
+  "catalogues": {
+    "cut": "of which the last has no line end, so the file may have been cut off",
+    "noPlaces": "The catalogue has no column 'place', so an item on a wrong shelf isn't noticed, nor a shelf that wasn't counted.",
+    "almost": "Column {} is called {}, which isn't that name."
+  },
   "parts": {
     "count": "Don't change this line. Count again, using only Inventory and Stay Quiet.",
     "crc": "Write the frame as it was on the air, with both bytes of its CRC, low byte first. If the chip removes the CRC, add it again.",

@@ -2,6 +2,7 @@
 import dataclasses
 import json
 import os
+import re
 from hashlib import sha256
 from pathlib import Path
 from unittest import mock
@@ -259,6 +260,52 @@ class Asked(Command):
             said, _ = on_a_terminal(*words, *these, streams=["stderr"])
             self.assertEqual((said[:len(wanted)], said[-4:]),
                              (wanted, b"\r\33[K" if wanted else b""))
+
+
+class Doubts(Command):
+    """What is said of a catalogue of which nothing is refused, beside an answer that stays."""
+
+    def doubts_of(self, catalogue, *forms):
+        """The same by each form, or by these."""
+        name, errors = self.catalogue(catalogue), set()
+        for form in forms or FORMS:
+            said, warned, status = within("collection", *form, name, self.names[1])
+            self.assertEqual((bool(said), status), (True, 0))
+            errors.add(warned.decode().replace(name, "K"))
+        (warned,) = errors
+        return warned
+
+    def test_a_catalogue_that_may_be_cut(self):
+        """Behind its last row, or in the last cell of it."""
+        cut = ("vicinity: K has {} lines, of which the last has no line end, so the file may have "
+               "been cut off\n")
+        text = "uid,title\nE0040100000000A1,Emma\nnone,Map\n"
+        self.assertEqual(self.doubts_of(text), "")
+        self.assertEqual(self.doubts_of(text.replace("\n", "\r\n")), "")
+        self.assertEqual(self.doubts_of(text[:-1]), cut.format(3))
+        self.assertEqual(self.doubts_of(text[:-3]), cut.format(3))
+        self.assertEqual(self.doubts_of(text.partition("\nnone")[0]), cut.format(2))
+
+    def test_a_name_that_is_nearly_that_of_places(self):
+        for column in ("place\u00a0", "\ufeffplace", "\u200bplace", "\uff50lace", "place:",
+                       "[Place]", "places", "PLACES"):
+            for number, head in ((2, "uid,{}"), (3, "title;UID;{};b"), (1, "\ufeff{}\tuid")):
+                row = ["E0040100000000A1" if it.lower() == "uid" else "a" for it in re.split(
+                    "[,;\t]", head.lstrip("\ufeff"))]
+                separator = re.search("[,;\t]", head)[0]
+                said = self.doubts_of(f"{head.format(column)}\n{separator.join(row)}\n", ["--csv"])
+                self.assertEqual(said, (
+                    "vicinity: K: The catalogue has no column 'place', so an item on a wrong shelf "
+                    "isn't noticed, nor a shelf that wasn't counted. Column "
+                    f"{number} is called {json.dumps(column)}, which isn't that name.\n"))
+
+    def test_other_names(self):
+        """Those that the library reads as place, or as any other."""
+        for column in ("shelf", "place 2", "replaced", "location", ""):
+            said = self.doubts_of(f"uid,{column}\nE0040100000000A1,1\n", ["--json"])
+            self.assertEqual(said, "")
+        files = [self.catalogue("uid, PLACE\t,places\nE0040100000000A1,1,\n"), self.names[1]]
+        self.assertEqual(within("collection", *files)[1:], (b"", 0))
 
 
 class Sure(Command):

@@ -7,12 +7,12 @@ CATALOGUE = b"uid,title,place\nE0040100000000A1,Emma,a\nnone,Map,a\n"
 
 
 class Compare(Command):
-    def answer(self, name, catalogue=CATALOGUE, a=ALL + HEARD_A, **logs):
+    def answer(self, name, catalogue=CATALOGUE, a=ALL + HEARD_A, is_cut=False, **logs):
         """A file with the answer to a catalogue and to logs of the places a and others."""
         words = [self.write("catalogue.csv", catalogue), *(
             self.write(f"{place}.log", log(lines)) for place, lines in {"a": a, **logs}.items())]
         said, errors, _ = within("collection", "--json", *words)
-        self.assertEqual(errors, b"")
+        self.assertEqual(b"has no line end" in errors, is_cut)
         return self.write(name, said)
 
     def changes(self, old, new):
@@ -36,6 +36,15 @@ class Compare(Command):
             "status: 1, was 0", "answer: absent E0040100000000B2, was complete 1",
             "missing E0040100000000B2, was not in the catalogue: Emma, a",
             "unexpected E0040100000000A1 in a.log, was in place in a.log: Emma, a"])
+
+    def test_a_catalogue_that_was_cut(self):
+        """In its last cell, so that nothing else differs."""
+        whole = b"uid,place,title\nE0040100000000A1,a,Emma\n"
+        old, new = self.answer("old", whole), self.answer("new", whole[:-1], is_cut=True)
+        self.assertEqual(self.changes(old, new),
+                         ["catalogue: its last row has no line end, was none"])
+        self.assertEqual(self.changes(new, old),
+                         ["catalogue: none, was its last row has no line end"])
 
     def test_items_without_a_tag(self):
         old, new = self.answer("old"), self.answer("new", CATALOGUE + b"none,Map,a\nnone,Box,a\n")

@@ -1,14 +1,17 @@
 """Whether an answer also holds if strong replies hid weaker ones, and if the reader went deaf; and
 what is shown of a log in a terminal. The answers are the worked ones of version 3."""
 import json
+import re
+from unittest import mock
 
 import vicinity
 from cases import (ALL, ALONE, ANSWERS, CAPTURED_A, CAPTURED_B, HEARD_A, HEARD_B, LIST_A, LIST_B,
                    SILENCE_A, SILENCE_B, SIXTEEN, Command, log, third, within)
+from helpers.frames import hex_of
 from helpers.lines import log_of, rows
 from helpers.records import drawn_in
 from vicinity.sessions.findings import Told
-from vicinity.sessions.words import headline, lights
+from vicinity.sessions.headline import headline, lights
 
 BROKEN = "This count can't be used. The log contradicts itself: "
 HOLDS = {"holds": True}
@@ -21,6 +24,11 @@ READINGS = [({**HOLDS, "margin": 1, "weakest": NONE}, ANY), (OPEN, OPEN),
             ({**HOLDS, "settled": True}, {**OPEN, "settled": False}),
             ({**HOLDS, "settled": False}, {**HOLDS, "settled": False}),
             (HOLDS, ANY), (HOLDS, OPEN), (HOLDS, HOLDS), (None, None), (None, None)]
+#: What to do where replies may have been hidden, and where the reader may have gone deaf.
+ASK = ("To know whether a strong reply hid a weaker one, silence each tag that was heard, and ask "
+       "all in one slot, until none answers:")
+DEAF = ("To know whether the reader still heard at the end, switch the field off and on, write F, "
+        "and ask for a tag that was found: it has to answer.")
 #: Two tags, the first of which was read over the second: with R a contradiction, with H all tags.
 OVER = ALL + HEARD_A + SILENCE_A + ALL + HEARD_B + SILENCE_B + ALL + b"S\n" + LIST_A + LIST_B
 #: After the last silence, a tag that was found answers once more.
@@ -64,24 +72,46 @@ class Said(Command):
     def test_in_a_terminal(self):
         """Of a text that is refused nothing is said."""
         hidden, deaf = "If replies were hidden", "If the reader went deaf"
-        ask = "Silence each tag that was heard, and ask all in one slot, until none answers"
-        other = vicinity.write_line("T", vicinity.write_inventory(0, 1))
         for text, wanted, not_said in (
-                (log(ALONE + LIST_A),
-                 f"{hidden}: still complete · {deaf}: others may be here", ask),
-                (b"vicinity-log 2\n" + CURED + LIST_A, f"{deaf}: still complete", ask),
-                (log(ALL + b"S\n"), f"{hidden}: still empty · {deaf}: others may be", ask),
-                (log(ALL + HEARD_A), f"{ask}: T 260100F60A", "still"),
-                (log(ALL + HEARD_A), f"{hidden}: others may be here · {deaf}: others", "still"),
-                (log(ALL + HEARD_A + LIST_A), f"{hidden}: others may be here", "still"),
-                (log(ALL + HEARD_A + LIST_A), f"{ask}: T 260100F60A", "and no other"),
-                (log(other + HEARD_A + LIST_A), f"{ask}: {other.decode().strip()}", "still"),
+                (log(ALONE + LIST_A), f"{hidden}: still complete; {deaf}: others may be here", ASK),
+                (b"vicinity-log 2\n" + CURED + LIST_A, f"{deaf}: still complete", "To know"),
+                (log(ALL + b"S\n"), f"{hidden}: still empty; {deaf}: others may be", "To know"),
+                (log(ALL + HEARD_A), f"{hidden}: others may be here; {deaf}: others", "still"),
+                (log(ALL + HEARD_A + LIST_A), f"{hidden}: others may be here", "and no other"),
                 (log(ALL + HEARD_A + LIST_B), f"{hidden}: the answer may be wrong", "still"),
                 (log(ALL + b"S\n" + LIST_A), f"{deaf}: the answer may be wrong", hidden),
                 (log(ALL + b"S\nS\n"), "line 4: S", hidden)):
             said = " ".join(within("show", self.write("one.log", text))[0].decode().split())
             self.assertIn(wanted, said)
             self.assertNotIn(not_said, said)
+
+    def test_what_to_send(self):
+        """Each request is a line of its own. In a log of version 1 no line F can stand."""
+        other = vicinity.write_line("T", vicinity.write_inventory(0, 1))
+        alone, silenced = SIXTEEN + b"S\n" * 9, SILENCE_B + ALL + b"S\n"
+        for text, *wanted in (
+                (log(ALL + HEARD_A), ASK, "T 260100F60A"),
+                (log(ALL + HEARD_A + LIST_A), ASK, "T 260100F60A"),
+                (log(other + HEARD_A + LIST_A), ASK, other.decode().strip()),
+                (third(ALONE + LIST_A), DEAF, "F", "T 260138A1000000000104618F"),
+                (log(ALONE + LIST_A), DEAF + " That takes a log of version 2 or 3: one of "
+                 "version 1 has no line for it."),
+                (third(ALONE + b"F\n" + CURED[-len(HEARD_A) - 27:] + LIST_A),),
+                (third(alone), "T 060100CD09 asks all UIDs"),
+                (third(silenced), "Switch the field off and on, write F, and send 1 request for "
+                 "tags that were silenced before they were heard: only then do they answer.", "F",
+                 f"T {hex_of(bytes.fromhex('260138B2000000000104'))} asks E0040100000000B2"),
+                (log(silenced), "Tags that were silenced before they were heard answer only after "
+                 "the field was switched off and on, and a log of version 1 has no line for that. "
+                 "Begin a new log, of version 3, and ask for the whole field again.")):
+            for columns in "40", "80":
+                with mock.patch.dict("os.environ", COLUMNS=columns):
+                    said = within("show", self.write("one.log", text))[0].decode()
+                part = [it for it in said.split("\n\n") if re.search("^T |^F$|field", it, re.M)
+                        and "asked" not in it]
+                self.assertEqual(" ".join(" ".join(part).split()), " ".join(wanted))
+                for request in wanted[1:]:
+                    self.assertIn(f"\n{request.split(' asks')[0]}", said)
 
 
 class Page(Command):
@@ -90,7 +120,8 @@ class Page(Command):
     def rows_of(self, kind, least):
         """The logs of one kind of rows, and what is said of them."""
         cells = ([cell.strip() for cell in line.split("|")] for _, line in rows("page"))
-        found = [(given, said) for looked_at, given, said, *_ in cells if looked_at == kind]
+        found = [(given, said) for looked_at, given, said, *_ in cells
+                 if looked_at.split()[0] == kind]
         self.assertGreater(len(found), least)
         return found
 
@@ -105,6 +136,13 @@ class Page(Command):
         for names, wanted in self.rows_of("lights", 10):
             said = dict(lights(Told(log_of(names))))
             values = [said[name] for name in ("Search finished", "List") if name in said]
+            self.assertEqual(" / ".join(values), wanted, names)
+
+    def test_how_sure(self):
+        for names, wanted in self.rows_of("sure", 12):
+            said = dict(lights(Told(log_of(names))))
+            values = [said.get(name, "-") for name in (
+                "Each other tag was asked", "If replies were hidden", "If the reader went deaf")]
             self.assertEqual(" / ".join(values), wanted, names)
 
 

@@ -8,7 +8,7 @@ import sys
 from contextlib import suppress
 from importlib import import_module
 from itertools import takewhile
-from typing import Any, Callable, Mapping, Sequence
+from typing import Any, Callable, Mapping
 
 from . import __version__
 from ._process import NoAnswer, Words, run
@@ -44,13 +44,11 @@ ANY = sys.maxsize
 #: A log has fewer slots than this.
 MOST_MARGIN = 999_999
 #: What was a command here, and an option, and what is used instead.
-OF_PROGRAM = "it is a command of the program: vicinity {}"
-GONE = {**{name: OF_PROGRAM.format(name)
-           for name in ("explain", "frame", "margin", "simulate", "spell", "survey")},
-        "reconcile": "use collection CATALOGUE [PLACES] LOG .., "
-                     "or vicinity reconcile for a list"}
-OPTIONS_GONE = frozenset(f"--{name}" for name in (
-    "expected", "column", "tags", "place", "places", "encoding", "sep", "surveys", "strict"))
+GONE = {name: f"it is a command of the program: vicinity {name}"
+        for name in ("explain", "frame", "margin", "simulate", "spell", "survey")}
+GONE["reconcile"] = "use collection CATALOGUE [PLACES] LOG .., or vicinity reconcile for a list"
+OPTIONS_GONE = ("--expected", "--column", "--tags", "--place", "--places", "--encoding", "--sep",
+                "--surveys", "--strict")
 JOIN = ("{} is no option any more: a collection is read as it stands. Join the tables first, and "
         "name the columns uid and place, and each text of surveys among the files: see COLLECTIONS")
 
@@ -129,14 +127,6 @@ def _chance(word: str) -> float:
     raise argparse.ArgumentTypeError("a probability, from 0 to 1")
 
 
-def _refuse_gone(name: str, given: Sequence[str]) -> None:
-    """Raises NoAnswer for an option that collections had."""
-    options = (word.partition("=")[0] for word in takewhile(lambda word: word != "--", given))
-    gone = next((option for option in options if option in OPTIONS_GONE), "")
-    if name == "collection" and gone:
-        raise NoAnswer(JOIN.format(gone))
-
-
 def main() -> int:
     """Does what the words ask for, and returns the status."""
     (top, commands), given = words(), sys.argv[1:]
@@ -146,7 +136,10 @@ def main() -> int:
     if given[0] in GONE:
         raise NoAnswer(f"{given[0]} is no command here: {GONE[given[0]]}")
     name = given.pop(0) if given[0] in commands else "check"
-    _refuse_gone(name, given)
+    options = takewhile(lambda word: word != "--", given if name == "collection" else ())
+    for option in (word.partition("=")[0] for word in options):
+        if option in OPTIONS_GONE:
+            raise NoAnswer(JOIN.format(option))
     asked = commands[name].parse(given)
     module, _, function = asked.does.partition(".")
     status: int = getattr(import_module(f"vicinity.commands.{module}"), function)(asked)

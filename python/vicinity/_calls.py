@@ -11,11 +11,11 @@ from ._answers import (Answer, Explanation, Fault, Finding, FindingKind, Kind, M
                        Simulation, Weakest)
 from ._native import (AnswerStruct, BytesLike, FindingStruct, WeakestStruct, bytes_of, library,
                       room_of)
+from ._run import NO_ANSWER, run
 
 FIRST_ROOM = 64
 #: struct vicinity_finding.
 PACKED_FINDING = struct.Struct("IIIIQQ")
-NO_ANSWER = 4
 
 
 def _text(text: BytesLike) -> tuple[bytes, int]:
@@ -56,30 +56,16 @@ def _answer(told: ctypes.Structure) -> Answer:
                   told.mask_len, told.mask_value, told.uid, told.text.decode("ascii").rstrip("\n"))
 
 
-def _filled(place: Any, places: int, name: str,
-            given: Sequence[Any]) -> tuple[ctypes.Structure, Any, int]:
-    """Makes a call that fills a buffer, first with that many elements, and again if it needs more:
+def _filled(place: Any, name: str, given: Sequence[Any]) -> tuple[ctypes.Structure, Any, int]:
+    """Makes a call that fills a buffer, first with a few elements, and again if it needs more:
     what it answers, the buffer, and how many of its elements are filled."""
+    places = FIRST_ROOM
     while True:
         room, needed = room_of(place, places), ctypes.c_size_t()
         told = _asked(name, given, room, places, ctypes.byref(needed))
         if needed.value <= places:
             return told, room, needed.value
         places = needed.value
-
-
-def _explanation(name: str, given: Sequence[Any]) -> Explanation:
-    told, room, count = _filled(ctypes.c_uint64, FIRST_ROOM, name, given)
-    return Explanation(_answer(told), room[:count])
-
-
-def _report(name: str, given: Sequence[Any]) -> Report:
-    told, room, count = _filled(FindingStruct, FIRST_ROOM, name, given)
-    findings = memoryview(room).cast("B")[:count * PACKED_FINDING.size]
-    kinds = {kind.value: kind for kind in FindingKind}  # quicker than a call for each
-    return Report(_answer(told), [
-        Finding(kinds[kind], line, mask_len, mask_value, uid)
-        for kind, line, mask_len, _, mask_value, uid in PACKED_FINDING.iter_unpack(findings)])
 
 
 def _margin(name: str, given: Sequence[Any]) -> Margin:
@@ -111,7 +97,8 @@ def check_listed(text: BytesLike, uids: Collection[int]) -> Answer:
 
 def explain(text: BytesLike) -> Explanation:
     """The answer to a text, and the UIDs of tags that show it. Raises what `check` raises."""
-    return _explanation("explain", _text(text))
+    told, room, count = _filled(ctypes.c_uint64, "explain", _text(text))
+    return Explanation(_answer(told), room[:count])
 
 
 def explain_into(text: BytesLike, room: ctypes.Array[ctypes.c_uint64]) -> tuple[Answer, int]:
@@ -125,7 +112,12 @@ def explain_into(text: BytesLike, room: ctypes.Array[ctypes.c_uint64]) -> tuple[
 
 def report(text: BytesLike) -> Report:
     """The answer to a text, and every finding. Raises what `check` raises."""
-    return _report("report", _text(text))
+    told, room, count = _filled(FindingStruct, "report", _text(text))
+    findings = memoryview(room).cast("B")[:count * PACKED_FINDING.size]
+    kinds = {kind.value: kind for kind in FindingKind}  # quicker than a call for each
+    return Report(_answer(told), [
+        Finding(kinds[kind], line, mask_len, mask_value, uid)
+        for kind, line, mask_len, _, mask_value, uid in PACKED_FINDING.iter_unpack(findings)])
 
 
 def margin(text: BytesLike) -> Margin:
@@ -154,14 +146,8 @@ def simulate_into(text: BytesLike, room: ctypes.Array[ctypes.c_uint8]) -> tuple[
 def simulate(text: BytesLike) -> Simulation:
     """The log that conforming tags would produce: the text has the requests, and lists the tags.
     Raises what `check` raises."""
-    text = bytes_of(text)
-    places = FIRST_ROOM + 4 * len(text)
-    while True:
-        room = (ctypes.c_uint8 * places)()
-        status, needed = simulate_into(text, room)
-        if needed <= places:
-            return Simulation(status, bytes(memoryview(room)[:needed]))
-        places = needed
+    made, status = run("simulate", text)
+    return Simulation(status, made)
 
 
 class Page(str):

@@ -44,7 +44,7 @@ SIZE, POINTER = ctypes.c_size_t, ctypes.POINTER
 TEXT = [ctypes.c_char_p, SIZE]  # bytes, whose address C gets: never None, and read only
 UIDS = [POINTER(U64), SIZE]
 ANSWER, WEAKEST, FRAME = POINTER(AnswerStruct), POINTER(WeakestStruct), POINTER(FrameStruct)
-POPULATION = [*UIDS, POINTER(SIZE)]
+POPULATION, WRITTEN = [*UIDS, POINTER(SIZE)], [POINTER(ctypes.c_uint8), SIZE, POINTER(SIZE)]
 FINDINGS = [POINTER(FindingStruct), SIZE, POINTER(SIZE)]
 
 #: The commands of the program, by the numbers of vicinity.h, from 1.
@@ -52,25 +52,16 @@ COMMANDS = ("check", "explain", "report", "margin", "simulate", "reconcile", "fr
             "survey", "collection", "json", "json-collection")
 
 CALLS = {
-    "interface": [],
-    "version": [],
-    "check": [*TEXT, ANSWER],
-    "explain": [*TEXT, ANSWER, *POPULATION],
-    "report": [*TEXT, ANSWER, *FINDINGS],
-    "check_listed": [*TEXT, *UIDS, ANSWER],
-    "margin": [*TEXT, ANSWER, WEAKEST],
-    "margin_listed": [*TEXT, *UIDS, ANSWER, WEAKEST],
-    "simulate": [*TEXT, POINTER(ctypes.c_uint8), SIZE, POINTER(SIZE)],
-    "run": [U32, *TEXT, *TEXT, POINTER(SIZE), SIZE, POINTER(ctypes.c_uint8), SIZE, POINTER(SIZE)],
-    "kind_name": [U32, POINTER(NameStruct)],
-    "fault_name": [U32, POINTER(NameStruct)],
-    "write_inventory": [U32, U32, U32, U64, FRAME],
-    "write_stay_quiet": [U32, U64, FRAME],
-    "write_response": [U32, U32, U64, FRAME],
-    "add_crc": [*TEXT, FRAME],
+    "interface": [], "version": [],
+    "check": [*TEXT, ANSWER], "check_listed": [*TEXT, *UIDS, ANSWER],
+    "explain": [*TEXT, ANSWER, *POPULATION], "report": [*TEXT, ANSWER, *FINDINGS],
+    "margin": [*TEXT, ANSWER, WEAKEST], "margin_listed": [*TEXT, *UIDS, ANSWER, WEAKEST],
+    "simulate": [*TEXT, *WRITTEN], "run": [U32, *TEXT, *TEXT, POINTER(SIZE), SIZE, *WRITTEN],
+    "kind_name": [U32, POINTER(NameStruct)], "fault_name": [U32, POINTER(NameStruct)],
+    "write_inventory": [U32, U32, U32, U64, FRAME], "write_stay_quiet": [U32, U64, FRAME],
+    "write_response": [U32, U32, U64, FRAME], "add_crc": [*TEXT, FRAME],
     "write_line": [ctypes.c_uint8, *TEXT, U64, POINTER(LineStruct)],
-    "read_request": [*TEXT, POINTER(RequestStruct)],
-    "read_response": [*TEXT, POINTER(ReplyStruct)],
+    "read_request": [*TEXT, POINTER(RequestStruct)], "read_response": [*TEXT, POINTER(ReplyStruct)],
     "slot_mask": [U32, U32, U64, U32, POINTER(MaskStruct)],
 }
 

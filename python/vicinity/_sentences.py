@@ -38,7 +38,7 @@ def advice(fault: str, of: str = "faults") -> Advice:
                                         said["fix"]))
 
 
-def numbered(name: str, number: int) -> str:
-    """A sentence of an answer with a number in it."""
-    said = SENTENCES["answers"][name]
+def numbered(name: str, number: int, of: str = "answers") -> str:
+    """A sentence with a number in it, of an answer or of another part of the file."""
+    said = SENTENCES[of][name]
     return (said if isinstance(said, str) else str(said[number != 1])).replace("{}", f"{number:,}")

@@ -19,7 +19,9 @@ from .._sentences import advice
 from ..pages.document import document, version
 from ..pages.log import page_object
 from ..sessions.findings import Told
-from ..sessions.words import READ_AGAIN, count, listing
+from ..sessions.headline import READ_AGAIN
+from ..sessions.words import count, listing
+from .catalogue import columns_of, doubts
 from .summary import summary
 
 #: How a log begins, unless it is a text of surveys, which begins so; an empty file is a log.
@@ -46,11 +48,11 @@ def collection(asked: argparse.Namespace) -> int:
     library()
     files = _read(names_of(asked), asked.jobs)
     said, told = _written(WRITES[asked.form], files), dict[str, Any]()
-    is_complete, is_shown = said.status == 0, asked.form == "lines" and os.isatty(2)
-    if OBJECT == WRITES[asked.form] or is_complete and asked.margin or is_shown:
+    is_measured, is_shown = said.status == 0 < asked.margin, asked.form == "lines" and os.isatty(2)
+    if OBJECT == WRITES[asked.form] or is_measured or is_shown:
         written = said.text if OBJECT == WRITES[asked.form] else _written(OBJECT, files).text
         told = json.loads(written) if written.startswith(b"{") else told
-    less = _less(told, asked.margin) if is_complete and asked.margin else ""
+    less = _less(told, asked.margin) if is_measured else ""
     if less:
         told.update(status=NOT_COMPLETE, wanted=asked.margin)
     if asked.form == "page" and told:
@@ -61,6 +63,8 @@ def collection(asked: argparse.Namespace) -> int:
         write([f"{less}\n" if less and asked.form == "lines" else said.text])
     if less and asked.form == "csv":
         complain(less)
+    for doubt in doubts(_tables(files)):
+        complain(doubt)
     tell_terminal(f"{note}\n" for note in _notes(said, told, is_shown))
     return NOT_COMPLETE if less else said.status
 
@@ -111,7 +115,6 @@ def _less(told: Object, wanted: int) -> str:
 def _page(files: Files, told: Object) -> Iterator[str]:
     """One HTML file that draws the object, with the texts of logs, those first that have to be
     counted again."""
-    tables = [(name, text) for name, text in files if not text.startswith(SURVEYS)]
     surveys, room = dict(files), MOST_TEXT
     for log in sorted(told["logs"], key=lambda it: it["field"] == "possible" and not it["open"]):
         name, text = log["name"], b""
@@ -123,7 +126,8 @@ def _page(files: Files, told: Object) -> Iterator[str]:
         room -= len(text)
         if text and room >= 0:
             log["object"] = page_object(shown(os.path.basename(name)), Told(text))
-    name = shown(os.path.basename(next(name for name, text in tables if _is_catalogue(text))))
+    tables = _tables(files)
+    name = shown(os.path.basename(next(name for name, text in tables if columns_of(text))))
     told.update(version=version(), file=name, files=[
         {"file": name, "sha256": sha256(text).hexdigest()} for name, text in tables])
     lines = _written("reconcile", files).text.decode()
@@ -131,12 +135,8 @@ def _page(files: Files, told: Object) -> Iterator[str]:
     return document(f"{name}: {answer}", [json.dumps(told)], lines.splitlines())
 
 
-def _is_catalogue(table: bytes) -> bool:
-    """Whether a table is a catalogue: one of places isn't a collection by itself."""
-    try:
-        return bool(run("collection", table, names=["catalogue"]).text)
-    except ValueError:
-        return False
+def _tables(files: Files) -> Files:
+    return [(name, text) for name, text in files if not text.startswith(SURVEYS)]
 
 
 def _notes(said: Written, told: Object, is_shown: bool) -> Iterator[str]:

@@ -78,6 +78,7 @@ def _names(objects: list[Any]) -> Callable[[str], str]:
 def _answer(told: Object, name: Callable[[str], str]) -> Answer:
     logs = [name(log["name"]) for log in told["logs"]]
     said = {"status": str(told["status"]), "answer": told["answer"],
+            "catalogue": "" if told["ended"] else "its last row has no line end",
             **{f"place {place}": "no log" for place in told["without_log"]},
             **{f"log {it}": _field(log) for it, log in zip(logs, told["logs"])}}
     items: dict[str, list[Item]] = defaultdict(list)

@@ -6,7 +6,7 @@ import argparse
 import random
 from collections import defaultdict
 from io import BytesIO
-from typing import Iterator, Mapping, NamedTuple, Sequence
+from typing import Iterable, Iterator, Mapping, NamedTuple, Optional, Sequence
 
 from .._calls import check, simulate
 from .._process import REFUSED, read_log, write
@@ -56,18 +56,22 @@ def misread(asked: argparse.Namespace) -> int:
     return 0
 
 
+def _slots(lines: Iterable[bytes]) -> Iterator[tuple[bytes, Optional[Place]]]:
+    """Each line, and where its slot is if it is that of one."""
+    request = slot = 0
+    for line in lines:
+        is_slot = line[0] in OUTCOMES
+        yield line, (request, slot) if is_slot else None
+        request, slot = (request + 1, 0) if line[:1] == b"T" else (request, slot + is_slot)
+
+
 def _answering(requests: bytes, uids: Sequence[int]) -> Mapping[Place, list[int]]:
     """Which tags answer in each slot. The library says of each tag alone where it does."""
     found: dict[Place, list[int]] = defaultdict(list)
     for uid in uids:
-        request = slot = 0
-        for line in simulate(requests + write_line("U", uid=uid)).text.splitlines():
-            if line[:1] == b"T":
-                request, slot = request + 1, 0
-            elif line[0] in OUTCOMES:
-                if line[:1] == b"R":
-                    found[request, slot].append(uid)
-                slot += 1
+        for line, place in _slots(simulate(requests + write_line("U", uid=uid)).text.splitlines()):
+            if place and line[:1] == b"R":
+                found[place].append(uid)
     return found
 
 
@@ -76,13 +80,9 @@ def _written(lines: Sequence[bytes], answering: Mapping[Place, list[int]],
     """The lines of the log, with other slots,
     and with a list of the tags that are heard in them."""
     heard: set[bytes] = set()
-    request = slot = 0
-    for line in lines:
-        if line[:1] == b"T":
-            request, slot = request + 1, 0
-        if line[0] in OUTCOMES:
-            line = reader.line(answering.get((request, slot), ()))
-            slot += 1
+    for line, place in _slots(lines):
+        if place:
+            line = reader.line(answering.get(place, ()))
             if line[:1] in b"HR":
                 heard.add(write_line("U", uid=read_response(bytes.fromhex(line[2:].decode())).uid))
         if line[:1] != b"U" or line.rstrip().upper() + b"\n" in heard:

@@ -5,9 +5,9 @@ from functools import cached_property
 from itertools import groupby
 from typing import Mapping, Sequence
 
-from .._answers import Finding, FindingKind, Kind
+from .._answers import Finding, FindingKind, Kind, Mask
 from .._calls import report
-from .._objects import Fields, object_of
+from .._objects import Fields, mask_of, object_of
 from .session import Session
 
 #: The findings, in the order in which they are told, each with its word.
@@ -15,6 +15,8 @@ WORDS = {FindingKind.SILENCED_BY: "silenced by", FindingKind.CONFLICT_LINE: "con
          FindingKind.ABSENT: "absent", FindingKind.UNLISTED: "unlisted",
          FindingKind.UNSETTLED: "unsettled", FindingKind.OPEN_MASK: "open",
          FindingKind.MORE_OPEN_MASKS: "more open", FindingKind.DOUBTFUL: "doubtful"}
+#: Findings that are lines of a contradiction.
+CONFLICTS = FindingKind.SILENCED_BY, FindingKind.CONFLICT_LINE
 #: Of how many findings of each kind the lines are marked.
 MOST_LINES = 20
 
@@ -52,6 +54,19 @@ class Told:
         """Whether what is said of all tags, where nothing is open, holds by this reading, too."""
         return (self.holds(reading) if self.answer.is_complete else
                 self.said.get(reading, {}).get("settled") is not False)
+
+    def is_shaken(self, reading: str) -> bool:
+        """Whether an answer that leaves nothing to ask may be another one by this reading; without
+        a list, whether others may be there."""
+        of_list = self.session.listed or self.answer.is_complete
+        return self.answer.status < 2 and not self.said["open"]["count"] and not (
+            self.holds(reading) if of_list else self.settles(reading))
+
+    @cached_property
+    def quiet(self) -> set[Mask]:
+        """The open masks of tags that were silenced before they were heard, and of no others: these
+        answer again after a field cycle."""
+        return self.session.silenced(map(mask_of, self.said["open"]["masks"]))
 
     @cached_property
     def is_more(self) -> bool:

@@ -5,12 +5,13 @@ from __future__ import annotations
 import re
 from typing import Iterator, Optional
 
-from .._answers import FindingKind, Mask
+from .._answers import Finding, FindingKind, Mask
 from .._objects import UID_BITS, Object, of_file
 from ..frames import uid_text
 from .findings import WORDS, Told
-from .session import STAY_QUIET, Session, ask
-from .words import count, ending, headline, meaning
+from .headline import headline
+from .session import STAY_QUIET, Session
+from .words import count, ending, meaning
 
 REPLY = re.compile(rb"^[RH] ....(.{16})", re.MULTILINE)
 ALONE, SLOT = re.compile(rb"^R", re.MULTILINE), re.compile(rb"^[SRHCDN]", re.MULTILINE)
@@ -22,23 +23,28 @@ MOST_NOTES = 5
 MOST = 2000
 
 
-def found(told: Told, most: Optional[int] = None) -> Iterator[tuple[FindingKind, int, str]]:
-    """The findings, the first `most` of each kind: the kind, the line that shows it, or 0,
-    and what is said of it. The unsettled mask is one of the open ones."""
+def found(told: Told, most: Optional[int] = None) -> Iterator[tuple[Finding, str]]:
+    """The findings, the first `most` of each kind, each with what is said of it. The unsettled mask
+    is one of the open ones."""
     for kind in WORDS:
         for it in told.of(kind)[:most] if kind is not FindingKind.UNSETTLED else ():
-            uid, said = uid_text(it.uid), ""
-            if kind is FindingKind.ABSENT:
-                slots = told.overlooked.get(uid, 0)
-                said = uid + f" would have been missed in {count(slots, 'slot')}" * bool(slots)
-            elif kind is FindingKind.UNLISTED:
-                said = uid
-            elif kind is FindingKind.OPEN_MASK:
-                said = f"{ending(it.mask)} may be there: send {ask(told.session.text, 1, it.mask)}"
-            elif kind is FindingKind.DOUBTFUL:
-                of_one = Mask(UID_BITS, it.uid & (1 << UID_BITS) - 1)
-                said = f"{uid} may be missing: send {ask(told.session.text, 1, of_one)}"
-            yield kind, it.line, said
+            said = ending(it.mask) + " may be there" if kind is FindingKind.OPEN_MASK else ""
+            if it.uid:
+                slots = told.overlooked.get(uid_text(it.uid))
+                said = uid_text(it.uid) + " may be missing" * (kind is FindingKind.DOUBTFUL) + (
+                    f" would have been missed in {count(slots, 'slot')}" if slots else "")
+            yield it, said
+
+
+def _left(told: Told, it: Finding) -> str:
+    """What is left to ask of a finding that isn't settled."""
+    if it.kind not in (FindingKind.OPEN_MASK, FindingKind.DOUBTFUL):
+        return ""
+    mask = Mask(UID_BITS, it.uid & (1 << UID_BITS) - 1) if it.uid else it.mask
+    cycle = "switch the field off and on, write F, and " * (mask in told.quiet)
+    if cycle and not told.session.has_cycles:
+        return "count again, in a new log of version 3"
+    return f"{cycle}send {told.session.ask(mask)}"
 
 
 def lines_of_report(name: str, told: Told) -> Iterator[str]:
@@ -51,9 +57,9 @@ def lines_of_report(name: str, told: Told) -> Iterator[str]:
             why = f"{told.answer.fault.word}: {told.session.advice(told.answer.fault.word).wrong}"
         yield f"{name}:{told.answer.line}: {told.answer.kind.word}: {why}\n"
     quoted = {line: meaning(told.session, line) for line in told.lines(MOST)}
-    for kind, line, said in found(told):
-        text = ": ".join(filter(None, (WORDS[kind], said, quoted.get(line))))
-        yield f"{name}:{line or told.session.asked_until}: {text}\n"
+    for it, said in found(told):
+        text = ": ".join(filter(None, (WORDS[it.kind], said, _left(told, it), quoted.get(it.line))))
+        yield f"{name}:{it.line or told.session.asked_until}: {text}\n"
     yield from (f"{name}:{line}: note: {text}\n" for line, text in notes(told))
 
 

@@ -9,7 +9,7 @@ from array import array
 from bisect import bisect_right
 from functools import cached_property
 from itertools import islice
-from typing import Container, NamedTuple, Optional, Sequence
+from typing import Container, Iterable, NamedTuple, Optional, Sequence
 
 from .._answers import Mask
 from .._objects import UID_BITS
@@ -128,18 +128,34 @@ class Session:
         """What the fault of the refused line means."""
         return advice(fault, "replies" if self.refused[:2] in (b"R ", b"H ") else "faults")
 
-    def silenced(self, masks: Sequence[Mask]) -> tuple[int, int]:
-        """How many of these masks have no UIDs but those of tags that were silenced before they
-        were heard, and how many these are."""
-        narrow = {mask: 1 << UID_BITS - mask.length for mask in masks
-                  if mask.length >= LEAST_SILENCED}
-        if not narrow:
-            return 0, 0
+    @property
+    def has_cycles(self) -> bool:
+        """Whether its version has lines for field cycles."""
+        return not self.text.startswith(b"vicinity-log 1")
+
+    def ask(self, mask: Mask, slots: int = 1) -> str:
+        """The line that asks a mask, with the link of the log's requests."""
+        first = FIRST_REQUEST.search(self.text)
+        link = int(first[1], 16) & LINK if first else ANY_LINK
+        return write_line("T", write_inventory(link, slots, mask)).decode().rstrip()
+
+    def cut_short(self, masks: Sequence[Mask]) -> list[Mask]:
+        """What the last rounds asked that lack slots, if it has all these masks; else nothing."""
+        last = range(max(0, len(self.lines) - MOST_ROUNDS), len(self.lines)) if masks else ()
+        rows = map(self.row, last)
+        asked = dict.fromkeys(row.request.mask for row in rows
+                              if row.request and len(row.slots) < row.request.slots - 1)
+        needed = [{it for it in asked if it.length <= mask.length and it.has(mask.value)}
+                  for mask in masks]
+        return [it for it in asked if any(it in these for these in needed)] if all(needed) else []
+
+    def silenced(self, masks: Iterable[Mask]) -> set[Mask]:
+        """Those of the masks that have no UIDs but those of tags that were silenced."""
+        narrow = {mask for mask in masks if mask.length >= LEAST_SILENCED}
         uids = {int.from_bytes(bytes.fromhex(it.decode()), "little")
-                for it in SILENCED.findall(self.text)}
-        full = [number for mask, number in narrow.items()
-                if sum(map(mask.has, uids)) == number]
-        return len(full), sum(full)
+                for it in (SILENCED.findall(self.text) if narrow else ())}
+        return {mask for mask in narrow
+                if sum(map(mask.has, uids)) == 1 << UID_BITS - mask.length}
 
     def has_more(self, certain: Sequence[int]) -> bool:
         """Whether in a slot of the last rounds, whose tags no later one asked, two or more tags
@@ -154,13 +170,6 @@ class Session:
                 length, value = row.request.mask
                 asked.update(Mask(less, value & (1 << less) - 1) for less in range(length + 1))
         return False
-
-
-def ask(text: bytes, slots: int, mask: Mask) -> str:
-    """The line that asks a mask, with the link of the requests of a log."""
-    first = FIRST_REQUEST.search(text)
-    link = int(first[1], 16) & LINK if first else ANY_LINK
-    return write_line("T", write_inventory(link, slots, mask)).decode().rstrip()
 
 
 def _frame(line: bytes) -> bytes:

@@ -1,21 +1,12 @@
-"""What is said to people: numbers, masks and lines in words, the answer in one sentence,
-and how sure it is."""
+"""Numbers, masks and lines of a log in words."""
 from __future__ import annotations
 
-from typing import Iterator, Sequence
+from typing import Sequence
 
-from .._answers import FindingKind, Kind, Mask
-from .._objects import UID_BITS, mask_of
-from .._sentences import SENTENCES, numbered
+from .._answers import Mask
+from .._objects import UID_BITS
 from ..frames import uid_text
-from .findings import Told
 from .session import READINGS, Session
-
-#: How many lines of a contradiction a sentence names.
-MOST_NAMED = 4
-ANSWERS = SENTENCES["answers"]
-#: How an answer is read more cautiously.
-READ_AGAIN = {"captured": "If replies were hidden", "deaf": "If the reader went deaf"}
 
 
 def count(number: int, one: str, many: str = "") -> str:
@@ -33,20 +24,20 @@ def listing(items: Sequence[str], last: str = "and") -> str:
 
 
 def ending(mask: Mask) -> str:
-    """Which UIDs have a mask: any UID; UIDs ending in 61 or E1; E0040100000000A1."""
+    """Which UIDs have a mask: any UID; UIDs ending in 61 or E1, or in 01, 21 .. E1;
+    E0040100000000A1."""
     digits, bits = divmod(mask.length, 4)
+    low, top = str(Mask(4 * digits, mask.value))[2:], mask.value >> 4 * digits
     if not mask.length:
         return "any UID"
     if mask.length >= UID_BITS:
         whole = uid_text(mask.value | 0xE0 << UID_BITS)
         return whole if mask.length == UID_BITS else f"the UID {mask}"
-    low = f"{mask.value & (1 << 4 * digits) - 1:0{digits}X}" if digits else ""
-    if bits == 1:
-        parity = "odd" if mask.value >> 4 * digits else "even"
-        return f"UIDs ending in an {parity} digit" + f" before {low}" * bool(low)
-    heads = [head for head in range(16)
-             if bits and (head ^ mask.value >> 4 * digits) & (1 << bits) - 1 == 0]
-    return f"UIDs ending in {listing([f'{head:X}{low}' for head in heads] or [low], 'or')}"
+    if bits == 1 and not low:
+        return f"UIDs ending in an {'odd' if top else 'even'} digit"
+    ends = [f"{head:X}{low}" for head in range(top, 16, 1 << bits)] if bits else [low]
+    return f"UIDs ending in {ends[0]}, {ends[1]} .. {ends[-1]}" if bits == 1 else \
+        f"UIDs ending in {listing(ends, 'or')}"
 
 
 def meaning(session: Session, line: int) -> str:
@@ -58,118 +49,3 @@ def meaning(session: Session, line: int) -> str:
             asked = ending(slot.mask) if slot.mask.length else "all UIDs"
             return f"{read}; asked: {asked}"
     return f"Stay Quiet to {uid_text(row.request.uid)}" if row.request else "field off and on"
-
-
-def headline(told: Told) -> str:
-    """The answer in a sentence, as the page says it."""
-    answer = told.answer
-    if answer.kind is Kind.REFUSED:
-        cut = " The text ends in the middle of this line: was it cut?" * told.session.is_cut
-        what = ANSWERS["cannotBeUsed" if answer.line > 1 else "noLog"]
-        return f"{what}. Line {answer.line}: {told.session.advice(answer.fault.word).wrong}.{cut}"
-    if answer.kind is Kind.IMPOSSIBLE:
-        return f"{ANSWERS['contradicts']}{_contradiction(told)}."
-    if answer.kind is Kind.COMPLETE:
-        here = numbered("allListed", answer.count) + _others(told, answer.count)
-        return here if answer.count else str(ANSWERS["empty"])
-    return _unfinished(told)
-
-
-def _others(told: Told, number: int) -> str:
-    """What is said of other tags behind those that are here, where nothing is left to ask."""
-    return numbered("noOthers", number) if told.settles("captured") else str(ANSWERS["ifHidden"])
-
-
-def _unfinished(told: Told) -> str:
-    """The sentence of a list that isn't complete."""
-    found, listed, left = told.said["found"], told.session.listed, told.said["open"]
-    certain, without = told.said["certain"], "" if listed else ANSWERS["noList"]
-    if not left["count"] and not listed:
-        number = certain["count"]
-        return f"{numbered('tagsHere', number)}{_others(told, number)}{without}"
-    if not left["count"] and not certain["count"]:
-        return numbered("noneAnswered", listed)
-    quiet, silenced = told.session.silenced(list(map(mask_of, left["masks"])))
-    is_quiet = 0 < quiet == left["count"]
-    is_more = told.is_more
-    others = str(ANSWERS["othersAre" if is_more else "othersMayBe"])
-    if is_quiet:
-        others = numbered("silencedListed" if silenced <= found["doubtful"] else "silenced",
-                          silenced)
-    head = ANSWERS["notFinished"] if left["count"] else ""
-    if not listed:
-        here = (f"{numbered('tagsHere', certain['count'])}; {others}" if certain["count"] else
-                others if is_quiet else ANSWERS["noneRead" if is_more else "noneProved"])
-        return f"{head}{here}.{without}"
-    if not any(found.values()):
-        return f"{head}{_inside(numbered('allListed', listed))}; {others}."
-    kinds = "absent", "unlisted", "doubtful"
-    parts = [numbered(kind, found[kind]) for kind in kinds[:3 - is_quiet] if found[kind]]
-    here = _of_listed(listed - found["absent"] - found["doubtful"], listed, left["count"] > 0)
-    return f"{head}{listing(parts + [others] * is_quiet)}; {here}."
-
-
-def _of_listed(here: int, listed: int, is_open: bool) -> str:
-    """How many listed tags are here, or proved to be, of a search that isn't finished."""
-    if here == listed:
-        return _inside(numbered("allListed", listed))
-    are = "is" if 1 in (here, listed) else "are"
-    return f"{here:,} of {count(listed, 'listed tag')} {are} {'proved to be ' * is_open}here"
-
-
-def _inside(sentence: str) -> str:
-    """A sentence behind the beginning of another."""
-    return sentence[0].lower() + sentence[1:]
-
-
-def lights(told: Told) -> Iterator[tuple[str, str]]:
-    """What else is known of an answer, by name: whether the search is finished, what the list is
-    worth, how often each other tag was asked, and whether the answer holds if replies were hidden,
-    and if the reader went deaf."""
-    said, kind, is_complete = told.said, told.answer.kind, told.answer.is_complete
-    if kind is Kind.REFUSED:
-        return
-    is_known = kind is not Kind.IMPOSSIBLE
-    yield "Search finished", ("not known" if not is_known else "no" if said["open"]["count"] else
-                              "yes" if told.settles("captured") else "not known yet")
-    yield "List", "not known" if told.session.listed and not is_known else _list(told)
-    if is_complete:
-        yield "Each other tag was asked", f"{count(said['margin'], 'time')} or more"
-    for reading, name in READ_AGAIN.items():
-        if is_complete and told.holds(reading):
-            yield name, "still complete" if told.answer.count else "still empty"
-        elif _is_shaken(told, reading):
-            of_others = is_complete or not told.session.listed
-            yield name, "others may be here" if of_others else "the answer may be wrong"
-
-
-def _is_shaken(told: Told, reading: str) -> bool:
-    """Whether an answer that leaves nothing to ask may be another one by this reading; without a
-    list, whether others may be there."""
-    if told.answer.status > 1 or told.said["open"]["count"]:
-        return False
-    of_list = told.session.listed or told.answer.is_complete
-    return not (told.holds(reading) if of_list else told.settles(reading))
-
-
-def _list(told: Told) -> str:
-    """What the list is worth."""
-    found = told.said["found"]
-    if not told.session.listed:
-        return "none given"
-    if told.answer.is_complete:
-        return "matches" if told.holds("captured") else "matches what was heard"
-    if found["absent"] or found["unlisted"]:
-        return "differs"
-    return "incomplete" if told.is_more and not found["doubtful"] else "not known yet"
-
-
-def _contradiction(told: Told) -> str:
-    """Which lines contradict each other."""
-    lines = sorted({it.line for kind in (FindingKind.CONFLICT_LINE, FindingKind.SILENCED_BY)
-                    for it in told.of(kind)})
-    if len(lines) == 1:
-        return f"line {lines[0]} can't be true"
-    if len(lines) > MOST_NAMED:
-        return f"{len(lines):,} lines from {lines[0]} to {lines[-1]} can't all be true"
-    return f"lines {listing(list(map(str, lines)))} can't {'all' if lines[2:] else 'both'} be true"
