@@ -7,22 +7,21 @@ use Rattle.vic_words.specs.declared.asked.WordsFault.{WordsFault}
 use Rattle.vic_words.specs.declared.asked.WordsFault.TheVariants.{Usage as UsageFault, Memory as MemoryFault}
 use Rattle.vic_program.specs.Ends.{End, words_line}
 use Rattle.vic_program.specs.Program.{RunsWords}
-use Rattle.vic_program.specs.Files.{FileSource}
 use Rattle.vic_program.specs.Runs.{OverInput, RunsTask}
-use Rattle.vic_program.specs.Sides.{Reading, Writing}
+use Rattle.vic_program.specs.Sides.{Opening, Reading, Writing}
 
 some_is_none : (a : List ℕ) → Some a ≡ None → ⊥
 some_is_none a e = cc
 
-pub task_over_input : {F T I W : Type 0} (rf : Reading (FileSource F T)) (ri : Reading I) (w : Writing W) (task : Task) (name : Option (List ℕ)) (i i' : I) (o o' : W) (end : End)
-    → name ≡ None → OverInput ri w task i i' o o' end → RunsTask rf ri w task name i i' o o' end
-task_over_input rf ri w task None i i' o o' end e h = h
-task_over_input rf ri w task (Some a) i i' o o' end e h = absurd (some_is_none a e)
+pub task_over_input : {T I W : Type 0} (p : Opening T) (ri : Reading I) (w : Writing W) (task : Task) (name : Option (List ℕ)) (i i' : I) (o o' : W) (end : End)
+    → name ≡ None → OverInput ri w task i i' o o' end → RunsTask p ri w task name i i' o o' end
+task_over_input p ri w task None i i' o o' end e h = h
+task_over_input p ri w task (Some a) i i' o o' end e h = absurd (some_is_none a e)
 
-pub no_request_runs : {F T I W : Type 0} (rf : Reading (FileSource F T)) (ri : Reading I) (w : Writing W) (words : List (List ℕ)) (i : I) (o : W) (end : End) (fault : WordsFault)
-    → (fault ≡ UsageFault → (asked : Asked) → Ask words asked → ⊥) → end ≡ Err (words_line fault) → RunsWords rf ri w words i i o o end
-no_request_runs rf ri w words i o end UsageFault nothing e = inr (inl (record { nothing = nothing refl; silent = record { unread = refl; unwritten = refl; ends = e } }))
-no_request_runs rf ri w words i o end MemoryFault nothing e = inr (inr (record { unread = refl; unwritten = refl; ends = e }))
+pub no_request_runs : {T I W : Type 0} (p : Opening T) (ri : Reading I) (w : Writing W) (words : List (List ℕ)) (i : I) (o : W) (end : End) (fault : WordsFault)
+    → (fault ≡ UsageFault → (asked : Asked) → Ask words asked → ⊥) → end ≡ Err (words_line fault) → RunsWords p ri w words i i o o end
+no_request_runs p ri w words i o end UsageFault nothing e = inr (inl (record { nothing = nothing refl; silent = record { unread = refl; unwritten = refl; ends = e } }))
+no_request_runs p ri w words i o end MemoryFault nothing e = inr (inr (record { unread = refl; unwritten = refl; ends = e }))
 
 -- the end with a line
 abbrev pub as_end : List ℕ → End

@@ -1,36 +1,32 @@
 -- Files that are read one after the other.
-use Rattle.std.proofs.Common.{Result, Ok, Err, IfErr, IsErrAnd, ◌≡◌, ◌∙◌, ◌<◌, ◌+◌, ℕ, suc, List, [], ◌∷◌, ◌++◌, sym, ap, subst, length, take, drop, arith, get_or}
+use Rattle.std.proofs.Common.{Result, Ok, Err, IfErr, IsErrAnd, ◌≡◌, ◌∙◌, ◌<◌, ◌+◌, ℕ, suc, List, [], ◌∷◌, ◌++◌, sym, ap, subst, length, take, drop, arith, append_assoc, get_or}
 use Rattle.std.proofs.Math.Seq.{drop-cons}
 use Rattle.std.proofs.lemmas.List.{take_more, take-append-drop}
 use Rattle.std.proofs.lemmas.List.Elements.{AllZip-push, All-push}
 use Rattle.std.specs.List.{All}
+use Rattle.vic_log.specs.Device.{Grows}
 use Rattle.vic_survey.specs.Names.{IsName}
 use Rattle.vic_program.specs.Each.{IsTextOf, IsUnreadable, ReadsEach, StopsEarly}
-use Rattle.vic_program.specs.Files.{FileSource}
-use Rattle.vic_program.specs.Sides.{Reading}
-
--- a file as a source
-abbrev pub file_reading : {F T : Type 0} → Reading (FileSource F T)
-file_reading = record { returned = λ s. s.returned.bytes; ended = λ s. s.ended; reads = λ s. s.reads; has_failed = λ s. s.failed }
+use Rattle.vic_program.specs.Sides.{Opening}
 
 -- the first of them, and one more
 pub taken_next : (names : List (List ℕ)) (i : ℕ) (name : List ℕ) → i < length names → get_or names i [] ≡ name → take (i + 1) names ≡ take i names ++ name ∷ []
 taken_next names i name lt is = take_more names i [] lt ∙ ap (λ n. take i names ++ n ∷ []) is
 
-pub reads_none : {F T : Type 0} (r : Reading (FileSource F T)) (P : List (List ℕ) → Type 0) → P [] → ReadsEach r [] P
-reads_none r P h = record { texts = []; each = tt; holds = h }
+pub reads_none : {T : Type 0} (o : Opening T) (P : List (List ℕ) → Type 0) → P [] → ReadsEach o [] P
+reads_none o P h = record { texts = []; each = tt; holds = h }
 
-pub reads_more : {F T : Type 0} (r : Reading (FileSource F T)) (names : List (List ℕ)) (name text : List ℕ) (P Q : List (List ℕ) → Type 0) → ReadsEach r names P → IsTextOf r name text
-    → ((texts : List (List ℕ)) → P texts → Q (texts ++ text ∷ [])) → ReadsEach r (names ++ name ∷ []) Q
-reads_more r names name text P Q h one more = record {
+pub reads_more : {T : Type 0} (o : Opening T) (names : List (List ℕ)) (name text : List ℕ) (P Q : List (List ℕ) → Type 0) → ReadsEach o names P → IsTextOf o name text
+    → ((texts : List (List ℕ)) → P texts → Q (texts ++ text ∷ [])) → ReadsEach o (names ++ name ∷ []) Q
+reads_more o names name text P Q h one more = record {
   texts = h.texts ++ text ∷ [];
-  each = AllZip-push (IsTextOf r) names h.texts name text h.each one;
+  each = AllZip-push (IsTextOf o) names h.texts name text h.each one;
   holds = more h.texts h.holds;
 }
 
-pub stops_at : {F T : Type 0} (r : Reading (FileSource F T)) (names : List (List ℕ)) (i : ℕ) (name line : List ℕ) (P : List (List ℕ) → Type 0) → i < length names → get_or names i [] ≡ name
-    → ReadsEach r (take i names) P → IsUnreadable r name line → StopsEarly r names line
-stops_at r names i name line P lt is h stopped = record {
+pub stops_at : {T : Type 0} (o : Opening T) (names : List (List ℕ)) (i : ℕ) (name line : List ℕ) (P : List (List ℕ) → Type 0) → i < length names → get_or names i [] ≡ name
+    → ReadsEach o (take i names) P → IsUnreadable o name line → StopsEarly o names line
+stops_at o names i name line P lt is h stopped = record {
   before = take i names;
   name = name;
   after = drop (i + 1) names;
@@ -47,6 +43,12 @@ no_name_in names i name lt is none all = none (subst IsName is (all i [] lt))
 
 pub names_more : (names : List (List ℕ)) (i : ℕ) (name : List ℕ) → i < length names → get_or names i [] ≡ name → IsName name → All IsName (take i names) → All IsName (take (i + 1) names)
 names_more names i name lt is here all = subst (All IsName) (sym (taken_next names i name lt is)) (All-push IsName (take i names) name all here)
+
+-- ---- what was read so far
+
+pub part_read : {X E : Type 0} (r : Result X E) (a b c text more : List ℕ) → Grows a b text → Grows b c more → IfErr r (λ _. (t : List ℕ) × Grows a c t)
+part_read (Ok x) a b c text more h k = tt
+part_read (Err y) a b c text more h k = (text ++ more, k ∙ (ap (λ l. l ++ more) h ∙ append_assoc a text more))
 
 -- ---- an error that was passed up
 

@@ -1,8 +1,8 @@
 -- How the program ends.
-use Rattle.std.specs.Prelude.{ℕ, List, ◌++◌, Option, Some, Result, Ok, Err, codes}
+use Rattle.std.specs.Prelude.{ℕ, List, ◌++◌, Result, Ok, Err, codes}
 use Rattle.vic_answer.specs.Status.{fault_text, status_code}
 use Rattle.vic_answer.specs.declared.status.RunFault.{RunFault}
-use Rattle.vic_answer.specs.declared.status.RunFault.TheVariants.{Read, Memory}
+use Rattle.vic_answer.specs.declared.status.RunFault.TheVariants.{Memory}
 use Rattle.vic_answer.specs.declared.status.Status.{Status}
 use Rattle.vic_words.specs.declared.asked.WordsFault.{WordsFault}
 use Rattle.vic_words.specs.declared.asked.WordsFault.TheVariants.{Usage as UsageFault, Memory as MemoryFault}
@@ -22,11 +22,10 @@ abbrev pub end_of : Result Status NoAnswer → End
 end_of (Ok status) = Ok status
 end_of (Err why) = Err (line_of why)
 
--- the end of a run over files, of which one couldn't be opened, or none
-abbrev pub ended : Option (List ℕ) → Result Status RunFault → End
-ended unopened (Ok status) = Ok status
-ended (Some name) (Err Read) = Err (codes "vicinity: cannot open " ++ name)
-ended unopened (Err fault) = Err (fault_text fault)
+-- the end of a run
+abbrev pub ended : Result Status RunFault → End
+ended (Ok status) = Ok status
+ended (Err fault) = Err (fault_text fault)
 
 -- the exit status
 abbrev pub exit_code : End → ℕ

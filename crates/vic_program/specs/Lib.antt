@@ -1,4 +1,3 @@
-pub mod Files
 pub mod Ends
 pub mod Lines
 pub mod Sides

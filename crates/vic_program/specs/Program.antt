@@ -5,9 +5,8 @@ use Rattle.vic_answer.specs.declared.status.RunFault.TheVariants.{Memory}
 use Rattle.vic_words.specs.Words.{Ask}
 use Rattle.vic_words.specs.declared.asked.Asked.{Asked}
 use Rattle.vic_program.specs.Ends.{End, exit_code}
-use Rattle.vic_program.specs.Files.{FileSource}
 use Rattle.vic_program.specs.Runs.{RunsAsked}
-use Rattle.vic_program.specs.Sides.{Reading, Writing}
+use Rattle.vic_program.specs.Sides.{Opening, Reading, Writing}
 
 -- nothing was read or written, and standard error has this line
 pub record IsSilent {I W : Type 0} (line : List ℕ) (input input' : I) (output output' : W)
@@ -17,12 +16,11 @@ pub record IsSilent {I W : Type 0} (line : List ℕ) (input input' : I) (output 
   pub ends : end ≡ Err line
 
 -- the words ask for this, and it was done
-pub record IsDone {F T I W : Type 0} (rf : Reading (FileSource F T)) (ri : Reading I)
-    (w : Writing W) (words : List (List ℕ)) (input input' : I) (output output' : W) (end : End)
-    : Type 0 where
+pub record IsDone {T I W : Type 0} (o : Opening T) (ri : Reading I) (w : Writing W)
+    (words : List (List ℕ)) (input input' : I) (output output' : W) (end : End) : Type 0 where
   pub asked : Asked
   pub asks : Ask words asked
-  pub runs : RunsAsked rf ri w asked input input' output output' end
+  pub runs : RunsAsked o ri w asked input input' output output' end
 
 -- the words ask for nothing
 pub record IsUsage {I W : Type 0} (words : List (List ℕ)) (input input' : I) (output output' : W)
@@ -31,10 +29,10 @@ pub record IsUsage {I W : Type 0} (words : List (List ℕ)) (input input' : I) (
   pub silent : IsSilent (codes "vicinity: usage") input input' output output' end
 
 -- what was done for the words; or memory to read them was refused
-abbrev pub RunsWords : {F T I W : Type 0} → Reading (FileSource F T) → Reading I → Writing W
+abbrev pub RunsWords : {T I W : Type 0} → Opening T → Reading I → Writing W
     → List (List ℕ) → I → I → W → W → End → Type 0
-RunsWords rf ri w words input input' output output' end =
-    IsDone rf ri w words input input' output output' end
+RunsWords o ri w words input input' output output' end =
+    IsDone o ri w words input input' output output' end
     ⊎ (IsUsage words input input' output output' end
     ⊎ IsSilent (fault_text Memory) input input' output output' end)
 

@@ -1,5 +1,5 @@
 -- What is read and written for what the words ask for.
-use Rattle.std.specs.Prelude.{◌≡◌, ℕ, List, map, Option, Some, None, Result, option_map, string_bytes}
+use Rattle.std.specs.Prelude.{◌≡◌, ◌⊎◌, ℕ, false, List, map, Option, Some, None, Result, option_map, string_bytes}
 use Rattle.vic_answer.specs.Runs.{LeavesSink}
 use Rattle.vic_answer.specs.Tasks.{Does, LeavesSourceAfter, file_of}
 use Rattle.vic_answer.specs.declared.status.RunFault.{RunFault}
@@ -12,12 +12,10 @@ use Rattle.vic_words.specs.declared.asked.FilesCommand.TheVariants.{Reconcile, S
 use Rattle.vic_commands.specs.Collected.{IsListing, IsReconciling, IsTabling}
 use Rattle.vic_commands.specs.Surveyed.{IsSurveying}
 use Rattle.vic_object.specs.Object.{IsObjectOf}
-use Rattle.vic_log.specs.Device.{from_read_inner}
 use Rattle.vic_program.specs.Ends.{End, ended}
-use Rattle.vic_program.specs.Each.{ForTexts, OverEach}
-use Rattle.vic_program.specs.Single.{OverText}
-use Rattle.vic_program.specs.Sides.{Reading, Writing}
-use Rattle.vic_program.specs.Files.{FileSource, IsNew, unopened_name}
+use Rattle.vic_program.specs.Each.{ForTexts, IsUnopened, OverEach}
+use Rattle.vic_program.specs.Single.{IsUnanswered, OverText}
+use Rattle.vic_program.specs.Sides.{Opening, Reading, Writing}
 
 -- a task was done from a source to a sink, with this result
 pub record DoesTask {S W : Type 0} (r : Reading S) (w : Writing W) (task : Task) (from from' : S)
@@ -32,26 +30,34 @@ pub record OverInput {S W : Type 0} (r : Reading S) (w : Writing W) (task : Task
     (input input' : S) (output output' : W) (end : End) : Type 0 where
   pub ran : Result Status RunFault
   pub does : DoesTask r w task input input' output output' ran
-  pub ends : end ≡ ended None ran
+  pub ends : end ≡ ended ran
 
--- a task over the file with this name
-pub record OverFile {F T W : Type 0} (r : Reading (FileSource F T)) (w : Writing W) (task : Task)
+-- a task over a file that was opened by this name
+pub record OverOpened {T W : Type 0} (o : Opening T) (w : Writing W) (task : Task)
     (name : List ℕ) (output output' : W) (end : End) : Type 0 where
-  pub file : FileSource F T
-  pub file' : FileSource F T
-  pub new : IsNew r.returned r.has_failed name file
+  pub file : T
+  pub file' : T
+  pub new : o.reading.returned file ≡ o.origin name
+  pub works : o.reading.has_failed file ≡ false
   pub ran : Result Status RunFault
-  pub does : DoesTask r w task file file' output output' ran
-  pub ends : end ≡ ended (unopened_name (from_read_inner file')) ran
+  pub does : DoesTask o.reading w task file file' output output' ran
+  pub ends : end ≡ ended ran
+
+-- a task over the file with this name: nothing was written if it couldn't be opened
+abbrev pub OverFile : {T W : Type 0} → Opening T → Writing W → Task → List ℕ → W → W → End
+    → Type 0
+OverFile o w task name output output' end =
+    OverOpened o w task name output output' end
+    ⊎ IsUnanswered (IsUnopened o name) output output' end
 
 -- ---- what is asked for
 
 -- a task, over the file that it names or over standard input
-abbrev pub RunsTask : {F T I W : Type 0} → Reading (FileSource F T) → Reading I → Writing W
-    → Task → Option (List ℕ) → I → I → W → W → End → Type 0
-RunsTask rf ri w task (Some name) input input' output output' end =
-    OverFile rf w task name output output' end × (input' ≡ input)
-RunsTask rf ri w task None input input' output output' end =
+abbrev pub RunsTask : {T I W : Type 0} → Opening T → Reading I → Writing W → Task
+    → Option (List ℕ) → I → I → W → W → End → Type 0
+RunsTask o ri w task (Some name) input input' output output' end =
+    OverFile o w task name output output' end × (input' ≡ input)
+RunsTask o ri w task None input input' output output' end =
     OverInput ri w task input input' output output' end
 
 -- what a command writes that takes one file after the other
@@ -61,12 +67,12 @@ writes_of Survey = IsSurveying
 writes_of Collection = IsTabling
 writes_of JsonCollection = IsListing
 
-abbrev pub RunsAsked : {F T I W : Type 0} → Reading (FileSource F T) → Reading I → Writing W
+abbrev pub RunsAsked : {T I W : Type 0} → Opening T → Reading I → Writing W
     → Asked → I → I → W → W → End → Type 0
-RunsAsked rf ri w (OneTask task) input input' output output' end =
-    RunsTask rf ri w task (file_of task) input input' output output' end
-RunsAsked rf ri w (Json file) input input' output output' end =
-    OverText rf ri w IsObjectOf (option_map string_bytes file) input input' output output' end
-RunsAsked rf ri w (Files command names) input input' output output' end =
-    OverEach rf w (writes_of command) (map string_bytes names.items) output output' end
+RunsAsked o ri w (OneTask task) input input' output output' end =
+    RunsTask o ri w task (file_of task) input input' output output' end
+RunsAsked o ri w (Json file) input input' output output' end =
+    OverText o ri w IsObjectOf (option_map string_bytes file) input input' output output' end
+RunsAsked o ri w (Files command names) input input' output output' end =
+    OverEach o w (writes_of command) (map string_bytes names.items) output output' end
     × (input' ≡ input)

@@ -8,8 +8,7 @@ use Rattle.vic_answer.specs.declared.status.RunFault.TheVariants.{Memory, Write}
 use Rattle.vic_answer.specs.declared.status.Status.{Status}
 use Rattle.vic_program.specs.Each.{IsCut, IsOut, IsTextOf, IsUnreadable, unread_line}
 use Rattle.vic_program.specs.Ends.{End}
-use Rattle.vic_program.specs.Files.{FileSource}
-use Rattle.vic_program.specs.Sides.{Reading, Writing}
+use Rattle.vic_program.specs.Sides.{Opening, Reading, Writing}
 
 -- what a command writes for a text, and with which status
 abbrev pub ForText : Type 1
@@ -29,7 +28,7 @@ pub record IsInputUnread {I : Type 0} (r : Reading I) (input input' : I) (line :
     : Type 0 where
   pub fault : ReadFault
   pub failed : (fault ≡ read.Read) ↔ (r.has_failed input' ≡ true)
-  pub line_is : line ≡ unread_line None fault
+  pub line_is : line ≡ unread_line fault
   pub untouched : r.has_failed input ≡ true → input' ≡ input
 
 -- ---- what is written
@@ -75,12 +74,12 @@ pub record IsUnanswered {O : Type 0} (IsUnread : List ℕ → Type 0) (output ou
   pub untouched : output' ≡ output
 
 -- a command over the text in the file with this name, or over that of standard input
-abbrev pub OverText : {F T I O : Type 0} → Reading (FileSource F T) → Reading I → Writing O
-    → ForText → Option (List ℕ) → I → I → O → O → End → Type 0
-OverText rf ri w W (Some name) input input' output output' end =
-    (IsAnswered w (IsTextOf rf name) W output output' end
-    ⊎ IsUnanswered (IsUnreadable rf name) output output' end)
+abbrev pub OverText : {T I O : Type 0} → Opening T → Reading I → Writing O → ForText
+    → Option (List ℕ) → I → I → O → O → End → Type 0
+OverText o ri w W (Some name) input input' output output' end =
+    (IsAnswered w (IsTextOf o name) W output output' end
+    ⊎ IsUnanswered (IsUnreadable o name) output output' end)
     × (input' ≡ input)
-OverText rf ri w W None input input' output output' end =
+OverText o ri w W None input input' output output' end =
     IsAnswered w (IsInputText ri input input') W output output' end
     ⊎ IsUnanswered (IsInputUnread ri input input') output output' end

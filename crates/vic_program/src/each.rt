@@ -1,6 +1,6 @@
 //! What is done for a command that takes one file after the other.
 
-ghost use Rattle.std.specs.Prelude.{◌≡◌, ◌↔◌, ◌⊎◌, IfErr, IfOk, true, false, map, string_bytes};
+ghost use Rattle.std.specs.Prelude.{◌≡◌, ◌↔◌, ◌⊎◌, ℕ, List, IfErr, IfOk, true, false, map, string_bytes};
 ghost use Rattle.std.specs.List.{All};
 ghost use Rattle.vic_log.specs.Device.{Grows};
 ghost use Rattle.vic_log.specs.declared.source.ReadFault.TheVariants.{Read};
@@ -10,12 +10,12 @@ ghost use Rattle.vic_survey.specs.Names.{IsName};
 ghost use Rattle.vic_program.specs.Each.{IsCut, IsOut, IsTextOf, IsUnreadable, OverEach, ReadsEach, StopsEarly};
 ghost use Rattle.vic_program.specs.Ends.{end_of, line_of};
 
-use crate::files::{Files, LateFile};
+use crate::files::Files;
 use crate::no_answer::{NoAnswer, unread};
 use std::alloc::{AllocError, Global};
 use vic_answer::{RunFault, Status, WrittenText};
 use vic_commands::{Gather, Told};
-use vic_log::{FromRead, ReadFault, Sink, Source, write_whole};
+use vic_log::{ReadFault, Sink, Source, write_whole};
 use vic_survey::Name;
 
 /// How many bytes are requested at once.
@@ -25,15 +25,19 @@ const PIECE: usize = 16384;
 /// opened, and nothing is written before all are read.
 pub(crate) fn run_over_each<'a, G: Gather, F: Files, O: Sink>(
     alloc: Global,
-    files: &'a F,
+    files: &F,
     names: &'a [String],
     output: &mut O,
 ) -> Result<Status, NoAnswer<'a>>
     ensures { OverEach (record {
-      returned = ⟦<FromRead<LateFile<'a, F>> as Source>⟧.returned;
-      ended = ⟦<FromRead<LateFile<'a, F>> as Source>⟧.ended;
-      reads = ⟦<FromRead<LateFile<'a, F>> as Source>⟧.reads;
-      has_failed = ⟦<FromRead<LateFile<'a, F>> as Source>⟧.has_failed;
+      reading = record {
+        returned = F.File.returned;
+        ended = F.File.ended;
+        reads = F.File.reads;
+        has_failed = F.File.has_failed;
+      };
+      origin = F.origin files.now;
+      Refuses = F.Refuses files.now;
     }) (record {
       written = O.written;
       is_flushed = O.is_flushed;
@@ -75,21 +79,29 @@ fn is_name(alloc: Global, text: &str) -> Result<bool, AllocError>
 /// What a command has taken of the files with these names.
 fn taken_from<'a, G: Gather, F: Files>(
     alloc: Global,
-    files: &'a F,
+    files: &F,
     names: &'a [String],
 ) -> Result<G, NoAnswer<'a>>
     ensures taken { IfOk result (λ taken. ReadsEach (record {
-      returned = ⟦<FromRead<LateFile<'a, F>> as Source>⟧.returned;
-      ended = ⟦<FromRead<LateFile<'a, F>> as Source>⟧.ended;
-      reads = ⟦<FromRead<LateFile<'a, F>> as Source>⟧.reads;
-      has_failed = ⟦<FromRead<LateFile<'a, F>> as Source>⟧.has_failed;
+      reading = record {
+        returned = F.File.returned;
+        ended = F.File.ended;
+        reads = F.File.reads;
+        has_failed = F.File.has_failed;
+      };
+      origin = F.origin files.now;
+      Refuses = F.Refuses files.now;
     }) (map string_bytes names.entry.now)
         (λ texts. G.HasTaken (map string_bytes names.entry.now) texts taken)) }
     ensures stops { IfErr result (λ why. StopsEarly (record {
-      returned = ⟦<FromRead<LateFile<'a, F>> as Source>⟧.returned;
-      ended = ⟦<FromRead<LateFile<'a, F>> as Source>⟧.ended;
-      reads = ⟦<FromRead<LateFile<'a, F>> as Source>⟧.reads;
-      has_failed = ⟦<FromRead<LateFile<'a, F>> as Source>⟧.has_failed;
+      reading = record {
+        returned = F.File.returned;
+        ended = F.File.ended;
+        reads = F.File.reads;
+        has_failed = F.File.has_failed;
+      };
+      origin = F.origin files.now;
+      Refuses = F.Refuses files.now;
     }) (map string_bytes names.entry.now) (line_of why)
         ⊎ (line_of why ≡ fault_text Memory)) }
 {
@@ -104,26 +116,36 @@ fn taken_from<'a, G: Gather, F: Files>(
 /// The text of the file with a name.
 pub(crate) fn file_text<'a, F: Files>(
     alloc: Global,
-    files: &'a F,
+    files: &F,
     name: &'a str,
 ) -> Result<Vec<u8>, NoAnswer<'a>>
     ensures text { IfOk result (λ text. IsTextOf (record {
-      returned = ⟦<FromRead<LateFile<'a, F>> as Source>⟧.returned;
-      ended = ⟦<FromRead<LateFile<'a, F>> as Source>⟧.ended;
-      reads = ⟦<FromRead<LateFile<'a, F>> as Source>⟧.reads;
-      has_failed = ⟦<FromRead<LateFile<'a, F>> as Source>⟧.has_failed;
+      reading = record {
+        returned = F.File.returned;
+        ended = F.File.ended;
+        reads = F.File.reads;
+        has_failed = F.File.has_failed;
+      };
+      origin = F.origin files.now;
+      Refuses = F.Refuses files.now;
     }) name.entry.now text.items) }
     ensures unread { IfErr result (λ why. IsUnreadable (record {
-      returned = ⟦<FromRead<LateFile<'a, F>> as Source>⟧.returned;
-      ended = ⟦<FromRead<LateFile<'a, F>> as Source>⟧.ended;
-      reads = ⟦<FromRead<LateFile<'a, F>> as Source>⟧.reads;
-      has_failed = ⟦<FromRead<LateFile<'a, F>> as Source>⟧.has_failed;
+      reading = record {
+        returned = F.File.returned;
+        ended = F.File.ended;
+        reads = F.File.reads;
+        has_failed = F.File.has_failed;
+      };
+      origin = F.origin files.now;
+      Refuses = F.Refuses files.now;
     }) name.entry.now (line_of why)) }
 {
-    let mut file = FromRead::new(LateFile::new(files, name));
-    match text_of(alloc, &mut file) {
-        Ok(text) => Ok(text),
-        Err(fault) => Err(unread(file.into_inner().unopened(), fault)),
+    match files.open(name) {
+        Ok(mut file) => match text_of(alloc, &mut file) {
+            Ok(text) => Ok(text),
+            Err(fault) => Err(unread(fault)),
+        },
+        Err(_) => Err(NoAnswer::CannotOpen(name)),
     }
 }
 
@@ -132,6 +154,8 @@ pub(crate) fn text_of<R: Source>(alloc: Global, source: &mut R) -> Result<Vec<u8
     requires { R.has_failed source.old ≡ false }
     ensures returned { IfOk result (λ text.
         Grows (R.returned source.old) (R.returned source.new) text.items) }
+    ensures part { IfErr result (λ _. (text : List ℕ)
+        × Grows (R.returned source.old) (R.returned source.new) text) }
     ensures ended { IfOk result (λ _. R.ended source.new ≡ true) }
     ensures works { IfOk result (λ _. R.has_failed source.new ≡ false) }
     ensures read { IfErr result (λ e. (e ≡ Read) ↔ (R.has_failed source.new ≡ true)) }

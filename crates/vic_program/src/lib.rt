@@ -10,7 +10,7 @@ mod program;
 mod run;
 mod single;
 
-pub use files::{Files, LateFile};
+pub use files::Files;
 pub use no_answer::NoAnswer;
 pub use program::run_program;
 pub use run::run_asked;

@@ -1,6 +1,6 @@
 //! Why a run has no answer, and what standard error says about it.
 
-ghost use Rattle.std.specs.Prelude.{◌≡◌, ◌++◌, codes, option_copied};
+ghost use Rattle.std.specs.Prelude.{◌≡◌, ◌++◌, codes};
 ghost use Rattle.vic_program.specs.Each.{unread_line};
 ghost use Rattle.vic_program.specs.Ends.{end_of, line_of, ended};
 ghost use Rattle.vic_program.specs.Lines.{Tells, Told};
@@ -35,28 +35,23 @@ impl<'a> From<AllocError> for NoAnswer<'a> {
     }
 }
 
-/// How a run over files ends, by the name of the file that couldn't be opened, if there is one.
-pub(crate) fn ended<'a>(
-    unopened: Option<&'a str>,
-    ran: Result<Status, RunFault>,
-) -> Result<Status, NoAnswer<'a>>
-    ensures { end_of result ≡ ended (option_copied unopened.entry) ran }
+/// How a run ends.
+pub(crate) fn ended<'a>(ran: Result<Status, RunFault>) -> Result<Status, NoAnswer<'a>>
+    ensures { end_of result ≡ ended ran }
 {
-    match (ran, unopened) {
-        (Ok(status), _) => Ok(status),
-        (Err(RunFault::Read), Some(name)) => Err(NoAnswer::CannotOpen(name)),
-        (Err(fault), _) => Err(NoAnswer::Run(fault)),
+    match ran {
+        Ok(status) => Ok(status),
+        Err(fault) => Err(NoAnswer::Run(fault)),
     }
 }
 
-/// Why there is no answer where a file wasn't read to its end, by its name if it didn't open.
-pub(crate) fn unread<'a>(unopened: Option<&'a str>, fault: ReadFault) -> NoAnswer<'a>
-    ensures { line_of result ≡ unread_line (option_copied unopened.entry) fault }
+/// Why there is no answer where a source wasn't read to its end.
+pub(crate) fn unread<'a>(fault: ReadFault) -> NoAnswer<'a>
+    ensures { line_of result ≡ unread_line fault }
 {
-    match (fault, unopened) {
-        (ReadFault::Read, Some(name)) => NoAnswer::CannotOpen(name),
-        (ReadFault::Read, None) => NoAnswer::Run(RunFault::Read),
-        (ReadFault::Memory, _) => NoAnswer::Run(RunFault::Memory),
+    match fault {
+        ReadFault::Read => NoAnswer::Run(RunFault::Read),
+        ReadFault::Memory => NoAnswer::Run(RunFault::Memory),
     }
 }
 

@@ -5,12 +5,12 @@ ghost use Rattle.vic_program.specs.Ends.{end_of, exit_code, line_of, words_line}
 ghost use Rattle.vic_program.specs.Lines.{Says};
 ghost use Rattle.vic_program.specs.Program.{Ends, IsSilent, RunsWords};
 
-use crate::files::{Files, LateFile};
+use crate::files::Files;
 use crate::no_answer::{NO_ANSWER, NoAnswer};
 use crate::run::run_asked;
 use std::alloc::Global;
 use vic_answer::{RunFault, Status};
-use vic_log::{FromRead, Sink, Source};
+use vic_log::{Sink, Source};
 use vic_words::{WordsFault, read_words};
 
 /// Why there is no answer to words that ask for nothing.
@@ -39,19 +39,23 @@ fn end<E: Sink>(ended: Result<Status, NoAnswer<'_>>, errors: &mut E) -> u8
 }
 
 /// Does what the words ask for, and returns the exit status.
-fn run_words<'a, F: Files, I: Source, O: Sink, E: Sink>(
+fn run_words<F: Files, I: Source, O: Sink, E: Sink>(
     alloc: Global,
     words: Vec<String>,
-    files: &'a F,
+    files: &F,
     input: &mut I,
     output: &mut O,
     errors: &mut E,
 ) -> u8
     ensures { Ends (RunsWords (record {
-      returned = ⟦<FromRead<LateFile<'a, F>> as Source>⟧.returned;
-      ended = ⟦<FromRead<LateFile<'a, F>> as Source>⟧.ended;
-      reads = ⟦<FromRead<LateFile<'a, F>> as Source>⟧.reads;
-      has_failed = ⟦<FromRead<LateFile<'a, F>> as Source>⟧.has_failed;
+      reading = record {
+        returned = F.File.returned;
+        ended = F.File.ended;
+        reads = F.File.reads;
+        has_failed = F.File.has_failed;
+      };
+      origin = F.origin files.now;
+      Refuses = F.Refuses files.now;
     }) (record {
       returned = I.returned;
       ended = I.ended;
@@ -73,20 +77,24 @@ fn run_words<'a, F: Files, I: Source, O: Sink, E: Sink>(
 /// Reads the words, of which the first is the program's name, or is told why there are none. Does
 /// what they ask for, and returns the exit status: 0 to 3 with an answer on `output`, or 4 with a
 /// line on `errors`.
-pub fn run_program<'a, F: Files, I: Source, O: Sink, E: Sink>(
+pub fn run_program<F: Files, I: Source, O: Sink, E: Sink>(
     alloc: Global,
     words: Result<Vec<String>, WordsFault>,
-    files: &'a F,
+    files: &F,
     input: &mut I,
     output: &mut O,
     errors: &mut E,
 ) -> u8
     ensures { Ends (λ end. MatchResult words
         (λ w. RunsWords (record {
-          returned = ⟦<FromRead<LateFile<'a, F>> as Source>⟧.returned;
-          ended = ⟦<FromRead<LateFile<'a, F>> as Source>⟧.ended;
-          reads = ⟦<FromRead<LateFile<'a, F>> as Source>⟧.reads;
-          has_failed = ⟦<FromRead<LateFile<'a, F>> as Source>⟧.has_failed;
+          reading = record {
+            returned = F.File.returned;
+            ended = F.File.ended;
+            reads = F.File.reads;
+            has_failed = F.File.has_failed;
+          };
+          origin = F.origin files.now;
+          Refuses = F.Refuses files.now;
         }) (record {
           returned = I.returned;
           ended = I.ended;

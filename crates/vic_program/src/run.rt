@@ -7,52 +7,61 @@ ghost use Rattle.vic_program.specs.Ends.{end_of};
 ghost use Rattle.vic_program.specs.Runs.{OverFile, RunsAsked, RunsTask, writes_of};
 
 use crate::each::run_over_each;
-use crate::files::{Files, LateFile};
+use crate::files::Files;
 use crate::no_answer::{NoAnswer, ended};
 use crate::single::run_json;
 use std::alloc::Global;
 use vic_answer::{Status, Task, do_task};
 use vic_commands::{ForLines, ForObject, ForTable, TakenLogs};
-use vic_log::{FromRead, Sink, Source};
+use vic_log::{Sink, Source};
 use vic_words::{Asked, FilesCommand};
 
 /// Does a task over the file with a name.
 fn run_over_file<'a, F: Files, O: Sink>(
     alloc: Global,
     task: &Task,
-    files: &'a F,
+    files: &F,
     name: &'a str,
     output: &mut O,
 ) -> Result<Status, NoAnswer<'a>>
     ensures { OverFile (record {
-      returned = ⟦<FromRead<LateFile<'a, F>> as Source>⟧.returned;
-      ended = ⟦<FromRead<LateFile<'a, F>> as Source>⟧.ended;
-      reads = ⟦<FromRead<LateFile<'a, F>> as Source>⟧.reads;
-      has_failed = ⟦<FromRead<LateFile<'a, F>> as Source>⟧.has_failed;
+      reading = record {
+        returned = F.File.returned;
+        ended = F.File.ended;
+        reads = F.File.reads;
+        has_failed = F.File.has_failed;
+      };
+      origin = F.origin files.now;
+      Refuses = F.Refuses files.now;
     }) (record {
       written = O.written;
       is_flushed = O.is_flushed;
       has_failed = O.has_failed;
     }) task.now name.entry.now output.old output.new (end_of result) }
 {
-    let mut file = FromRead::new(LateFile::new(files, name));
-    let ran = do_task(alloc, task, &mut file, output);
-    ended(file.into_inner().unopened(), ran)
+    match files.open(name) {
+        Ok(mut file) => ended(do_task(alloc, task, &mut file, output)),
+        Err(_) => Err(NoAnswer::CannotOpen(name)),
+    }
 }
 
 /// Does a task over the file that it names, or over standard input.
 fn run_task<'a, F: Files, I: Source, O: Sink>(
     alloc: Global,
     task: &'a Task,
-    files: &'a F,
+    files: &F,
     input: &mut I,
     output: &mut O,
 ) -> Result<Status, NoAnswer<'a>>
     ensures { RunsTask (record {
-      returned = ⟦<FromRead<LateFile<'a, F>> as Source>⟧.returned;
-      ended = ⟦<FromRead<LateFile<'a, F>> as Source>⟧.ended;
-      reads = ⟦<FromRead<LateFile<'a, F>> as Source>⟧.reads;
-      has_failed = ⟦<FromRead<LateFile<'a, F>> as Source>⟧.has_failed;
+      reading = record {
+        returned = F.File.returned;
+        ended = F.File.ended;
+        reads = F.File.reads;
+        has_failed = F.File.has_failed;
+      };
+      origin = F.origin files.now;
+      Refuses = F.Refuses files.now;
     }) (record {
       returned = I.returned;
       ended = I.ended;
@@ -67,7 +76,7 @@ fn run_task<'a, F: Files, I: Source, O: Sink>(
 {
     match task.file() {
         Some(name) => run_over_file(alloc, task, files, name, output),
-        None => ended(None, do_task(alloc, task, input, output)),
+        None => ended(do_task(alloc, task, input, output)),
     }
 }
 
@@ -75,15 +84,19 @@ fn run_task<'a, F: Files, I: Source, O: Sink>(
 fn run_files_command<'a, F: Files, O: Sink>(
     alloc: Global,
     command: FilesCommand,
-    files: &'a F,
+    files: &F,
     names: &'a [String],
     output: &mut O,
 ) -> Result<Status, NoAnswer<'a>>
     ensures { OverEach (record {
-      returned = ⟦<FromRead<LateFile<'a, F>> as Source>⟧.returned;
-      ended = ⟦<FromRead<LateFile<'a, F>> as Source>⟧.ended;
-      reads = ⟦<FromRead<LateFile<'a, F>> as Source>⟧.reads;
-      has_failed = ⟦<FromRead<LateFile<'a, F>> as Source>⟧.has_failed;
+      reading = record {
+        returned = F.File.returned;
+        ended = F.File.ended;
+        reads = F.File.reads;
+        has_failed = F.File.has_failed;
+      };
+      origin = F.origin files.now;
+      Refuses = F.Refuses files.now;
     }) (record {
       written = O.written;
       is_flushed = O.is_flushed;
@@ -105,15 +118,19 @@ fn run_files_command<'a, F: Files, O: Sink>(
 pub fn run_asked<'a, F: Files, I: Source, O: Sink>(
     alloc: Global,
     asked: &'a Asked,
-    files: &'a F,
+    files: &F,
     input: &mut I,
     output: &mut O,
 ) -> Result<Status, NoAnswer<'a>>
     ensures { RunsAsked (record {
-      returned = ⟦<FromRead<LateFile<'a, F>> as Source>⟧.returned;
-      ended = ⟦<FromRead<LateFile<'a, F>> as Source>⟧.ended;
-      reads = ⟦<FromRead<LateFile<'a, F>> as Source>⟧.reads;
-      has_failed = ⟦<FromRead<LateFile<'a, F>> as Source>⟧.has_failed;
+      reading = record {
+        returned = F.File.returned;
+        ended = F.File.ended;
+        reads = F.File.reads;
+        has_failed = F.File.has_failed;
+      };
+      origin = F.origin files.now;
+      Refuses = F.Refuses files.now;
     }) (record {
       returned = I.returned;
       ended = I.ended;

@@ -7,26 +7,30 @@ ghost use Rattle.vic_program.specs.Ends.{end_of, line_of};
 ghost use Rattle.vic_program.specs.Single.{IsAnswered, IsInputText, IsInputUnread, IsUnanswered, OverText, WritesFor};
 
 use crate::each::{file_text, text_of, write_answer};
-use crate::files::{Files, LateFile};
+use crate::files::Files;
 use crate::no_answer::{NoAnswer, unread};
 use std::alloc::Global;
 use vic_answer::{RunFault, Status};
-use vic_log::{FromRead, Sink, Source};
+use vic_log::{Sink, Source};
 use vic_object::object_of;
 
 /// Prints the object of the log in the file with a name, or of standard input.
 pub(crate) fn run_json<'a, F: Files, I: Source, O: Sink>(
     alloc: Global,
     file: Option<&'a str>,
-    files: &'a F,
+    files: &F,
     input: &mut I,
     output: &mut O,
 ) -> Result<Status, NoAnswer<'a>>
     ensures { OverText (record {
-      returned = ⟦<FromRead<LateFile<'a, F>> as Source>⟧.returned;
-      ended = ⟦<FromRead<LateFile<'a, F>> as Source>⟧.ended;
-      reads = ⟦<FromRead<LateFile<'a, F>> as Source>⟧.reads;
-      has_failed = ⟦<FromRead<LateFile<'a, F>> as Source>⟧.has_failed;
+      reading = record {
+        returned = F.File.returned;
+        ended = F.File.ended;
+        reads = F.File.reads;
+        has_failed = F.File.has_failed;
+      };
+      origin = F.origin files.now;
+      Refuses = F.Refuses files.now;
     }) (record {
       returned = I.returned;
       ended = I.ended;
@@ -48,7 +52,7 @@ pub(crate) fn run_json<'a, F: Files, I: Source, O: Sink>(
 /// Prints the object of the log in the file with a name.
 fn run_over_file<'a, F: Files, O: Sink>(
     alloc: Global,
-    files: &'a F,
+    files: &F,
     name: &'a str,
     output: &mut O,
 ) -> Result<Status, NoAnswer<'a>>
@@ -57,16 +61,24 @@ fn run_over_file<'a, F: Files, O: Sink>(
       is_flushed = O.is_flushed;
       has_failed = O.has_failed;
     }) (IsTextOf (record {
-      returned = ⟦<FromRead<LateFile<'a, F>> as Source>⟧.returned;
-      ended = ⟦<FromRead<LateFile<'a, F>> as Source>⟧.ended;
-      reads = ⟦<FromRead<LateFile<'a, F>> as Source>⟧.reads;
-      has_failed = ⟦<FromRead<LateFile<'a, F>> as Source>⟧.has_failed;
+      reading = record {
+        returned = F.File.returned;
+        ended = F.File.ended;
+        reads = F.File.reads;
+        has_failed = F.File.has_failed;
+      };
+      origin = F.origin files.now;
+      Refuses = F.Refuses files.now;
     }) name.entry.now) IsObjectOf output.old output.new (end_of result)
         ⊎ IsUnanswered (IsUnreadable (record {
-          returned = ⟦<FromRead<LateFile<'a, F>> as Source>⟧.returned;
-          ended = ⟦<FromRead<LateFile<'a, F>> as Source>⟧.ended;
-          reads = ⟦<FromRead<LateFile<'a, F>> as Source>⟧.reads;
-          has_failed = ⟦<FromRead<LateFile<'a, F>> as Source>⟧.has_failed;
+          reading = record {
+            returned = F.File.returned;
+            ended = F.File.ended;
+            reads = F.File.reads;
+            has_failed = F.File.has_failed;
+          };
+          origin = F.origin files.now;
+          Refuses = F.Refuses files.now;
         }) name.entry.now) output.old output.new (end_of result) }
 {
     match file_text(alloc, files, name) {
@@ -124,7 +136,7 @@ fn input_text<'a, I: Source>(alloc: Global, input: &mut I) -> Result<Vec<u8>, No
     }
     match text_of(alloc, input) {
         Ok(text) => Ok(text),
-        Err(fault) => Err(unread(None, fault)),
+        Err(fault) => Err(unread(fault)),
     }
 }
 

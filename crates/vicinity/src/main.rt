@@ -1,6 +1,8 @@
 //! Whether a list of vicinity tags is complete, from the log of the session that found them.
 #![tactic(auto)]
 
+ghost use Rattle.std.specs.Prelude.{[], ⊤};
+
 use std::fs::File;
 use std::io::ErrorKind;
 use std::process::ExitCode;
@@ -16,10 +18,14 @@ struct HostFiles<'a> {
 }
 
 impl<'a> Files for HostFiles<'a> {
-    type File = File;
+    type File = FromRead<File>;
 
-    fn open(&self, name: &str) -> io::Result<File> {
-        fs::open(self.rt, name)
+    ghost origin = { λ _ _. [] };
+
+    ghost Refuses = { λ _ _. ⊤ };
+
+    fn open(&self, name: &str) -> io::Result<FromRead<File>> {
+        Ok(FromRead::new(fs::open(self.rt, name)?))
     }
 }
 

@@ -2,7 +2,8 @@ use Rattle.std.proofs.Common.{◌≡◌, ◌∙◌, ◌++◌, ◌∷◌, ◌<◌
 use Rattle.std.proofs.lemmas.List.{get_or-map, length-map, take_all}
 use Rattle.vic_program.specs.Each.{ReadsEach}
 use Rattle.vic_program.specs.Ends.{line_of}
-use Rattle.vic_program.proofs.InTurn.{err_is, file_reading, reads_more, stops_at, taken_next}
+use Rattle.vic_program.specs.Sides.{Opening}
+use Rattle.vic_program.proofs.InTurn.{err_is, reads_more, stops_at, taken_next}
 use Rattle.vic_program.proofs.each.taken_from.Goals as goal
 
 pub returns-in_err-text-clause-stops : goal.returns-in_err-text-clause-stops
@@ -13,7 +14,7 @@ returns-in_err-text-clause-stops g c =
     let below : i < length ns = omega (arith, length-map c.args.names.now string_bytes, within) in
     let named : get_or ns i [] ≡ c.as_str.result.now = get_or-map string_bytes c.args.names.now i c.name-item.result [] within ∙ ap string_bytes (sym c.name-item.is) ∙ sym c.as_str.ensures.value in
     let same : IsErrAnd c.from_residual.result (λ e. e ≡ c.in_err-text.field-0.0) = search rules in
-    err_is c.from_residual.result _ _ same (inl (stops_at file_reading ns i c.as_str.result.now (line_of c.in_err-text.field-0.0) _ below named c.loop-name.invariant c.in_err-text.ensures.unread))
+    err_is c.from_residual.result _ _ same (inl (stops_at _ ns i c.as_str.result.now (line_of c.in_err-text.field-0.0) _ below named c.loop-name.invariant c.in_err-text.ensures.unread))
 
 pub loop-name-preserved : goal.loop-name-preserved
 loop-name-preserved g c =
@@ -25,12 +26,14 @@ loop-name-preserved g c =
     let name = c.as_str.result.now in
     let text = c.in_ok-text.text.items in
     let other : c.as_str-in-loop-name.result.now ≡ name = c.as_str-in-loop-name.ensures.value ∙ sym c.as_str.ensures.value in
-    subst (λ us. ReadsEach {F = g.row.F.Denot} {T = g.row.F-File.Denot} file_reading us (λ texts. g.G.Gather.HasTaken us texts c.in_ok-taken.taken)) (sym (taken_next ns i name below named))
-    (reads_more file_reading (take i ns) name text _ (λ texts. g.G.Gather.HasTaken (take i ns ++ name ∷ []) texts c.in_ok-taken.taken) c.loop-name.invariant c.in_ok-text.ensures.text
+    let o : Opening g.row.F-File.Denot = record { reading = record { returned = g.F.File.Source.returned; ended = g.F.File.Source.ended; reads = g.F.File.Source.reads; has_failed = g.F.File.Source.has_failed }; origin = g.F.Files.origin c.args.files.now; Refuses = g.F.Files.Refuses c.args.files.now } in
+    subst (λ us. ReadsEach o us (λ texts. g.G.Gather.HasTaken us texts c.in_ok-taken.taken)) (sym (taken_next ns i name below named))
+    (reads_more o (take i ns) name text _ (λ texts. g.G.Gather.HasTaken (take i ns ++ name ∷ []) texts c.in_ok-taken.taken) c.loop-name.invariant c.in_ok-text.ensures.text
     (λ texts h. subst (λ n. g.G.Gather.HasTaken (take i ns ++ n ∷ []) (texts ++ text ∷ []) c.in_ok-taken.taken) other (c.in_ok-taken.ensures (take i ns) texts h)))
 
 pub returns-clause-taken : goal.returns-clause-taken
 returns-clause-taken g c =
     let ns = map string_bytes c.args.names.now in
     let end = c.loop-name-test.false in
-    subst (λ us. ReadsEach {F = g.row.F.Denot} {T = g.row.F-File.Denot} file_reading us (λ texts. g.G.Gather.HasTaken us texts c.loop-name.taken)) (take_all c.loop-name.name-index ns (omega (arith, length-map c.args.names.now string_bytes, end))) c.loop-name.invariant
+    let o : Opening g.row.F-File.Denot = record { reading = record { returned = g.F.File.Source.returned; ended = g.F.File.Source.ended; reads = g.F.File.Source.reads; has_failed = g.F.File.Source.has_failed }; origin = g.F.Files.origin c.args.files.now; Refuses = g.F.Files.Refuses c.args.files.now } in
+    subst (λ us. ReadsEach o us (λ texts. g.G.Gather.HasTaken us texts c.loop-name.taken)) (take_all c.loop-name.name-index ns (omega (arith, length-map c.args.names.now string_bytes, end))) c.loop-name.invariant
