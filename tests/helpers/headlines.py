@@ -1,0 +1,139 @@
+"""Whether a headline, and the lights below it, say more than the object: written from VERDICTS.md,
+COLLECTIONS.md and what the sentences mean, and not from the page. Words that aren't known here
+say too much."""
+import re
+
+NUMBER = r"(\d[\d,]*)"
+NOT_FINISHED, HIDDEN = "Not finished: ", "if stronger replies hid them"
+NO_LIST = " The log has no list to compare with."
+UNUSABLE = {2: "This count can't be used. The log contradicts itself: ",
+            3: ("This text isn't a log", "This log can't be used", "This file isn't a log")}
+
+
+def number_in(text):
+    return int(text.replace(",", ""))
+
+
+class Log:
+    """What a headline may say of the object of a log, whose text lists so many UIDs."""
+
+    def __init__(self, told, listed):
+        self.told, self.listed, self.found = told, listed, told["found"]
+        self.certain, self.is_open = told["certain"]["count"], told["open"]["count"] > 0
+        self.is_complete = told["kind"] == "complete"
+        # whether others may be there if replies were hidden
+        key = "holds" if self.is_complete and listed else "settled"
+        self.is_hiding = told["captured"].get(key) is False
+        # the words that must be there, by what they say; where there is no list, all are unlisted
+        self.must = {"didn't answer|but .* listed": self.found["absent"],
+                     "listed": self.found["unlisted"] if listed else 0,
+                     "proved": self.found["doubtful"],
+                     HIDDEN: self.is_hiding and not self.is_open and self.certain and (
+                         self.is_complete or not listed)}
+
+    def may_say(self):
+        """Each claim, and whether it holds for the number in it."""
+        found, certain = self.found, self.certain
+        proved = self.listed - found["absent"] - found["doubtful"]
+        return {
+            rf"{NUMBER} tags? (?:is|are) here": lambda n: not self.listed and n == certain,
+            r"tags are here, but none was read": lambda: self.is_open and not certain,
+            r"no tag is proved to be here, but some may be": lambda: self.is_open and not certain,
+            r"others are too|others may be too": lambda: self.is_open,
+            rf"all {NUMBER} listed tags are here": lambda n: n == self.listed == proved,
+            r"the one listed tag is here": lambda: self.listed == proved == 1,
+            r"and no others?": lambda: (self.is_complete or not self.listed) and not (
+                self.is_open or self.is_hiding or found["absent"]),
+            rf"others may be, {HIDDEN}": lambda: not self.is_open and (
+                self.is_complete or not self.listed),
+            r"No tag answered, and nothing is listed": lambda: (
+                self.is_complete and not self.listed and not certain),
+            rf"No tag answered, but {NUMBER} (?:is|are) listed": lambda n: (
+                n == found["absent"] == self.listed and not self.is_open and not certain),
+            rf"{NUMBER} didn't answer": lambda n: n == found["absent"],
+            rf"{NUMBER} tags? here (?:isn't|aren't) listed": lambda n: n == found["unlisted"],
+            rf"{NUMBER} (?:isn't|aren't) proved": lambda n: n == found["doubtful"],
+            rf"{NUMBER} listed tags? (?:isn't|aren't) proved, since .* heard": lambda n: (
+                n == found["doubtful"]),
+            rf"{NUMBER} tags? may be here or not, since .* heard": lambda n: (
+                self.is_open and n >= found["doubtful"]),
+            rf"{NUMBER} of {NUMBER} listed tags? (?:is|are) (?:proved to be )?here":
+                lambda n, all: (n, all) == (proved, self.listed)}
+
+
+def log_says_too_much(said, listed):
+    """Why, if so."""
+    told, headline = said["object"], said["headline"]
+    if told["status"] in UNUSABLE:
+        return None if headline.startswith(UNUSABLE[told["status"]]) else "it can't be used"
+    log = Log(told, listed)
+    if headline.startswith(NOT_FINISHED) != log.is_open:
+        return "whether the search is finished"
+    rest = headline.removeprefix(NOT_FINISHED).removesuffix(NO_LIST)
+    for words, holds in log.may_say().items():
+        claim = re.compile(rf"\b(?:{words})(?=[.;,]| and )", re.I)
+        for found in claim.finditer(rest):
+            if not holds(*map(number_in, found.groups())):
+                return found[0]
+        rest = claim.sub("", rest)
+    if re.sub(r"[.;, ]|\band\b", "", rest):
+        return f"not known: {rest}"
+    lacking = [words for words, number in log.must.items() if number
+               and not re.search(words, headline)]
+    return f"it lacks {lacking}" if lacking else light_says_too_much(said, log)
+
+
+def light_says_too_much(said, log):
+    """Why the look of the answer or a light does, if so."""
+    told, lights = said["object"], said["lights"]
+    holds = {"If replies were hidden": told["captured"]["holds"],
+             "If the reader went deaf": told["deaf"]["holds"]}
+    wrong = [name for name, is_so in holds.items()
+             if lights.get(name, "").startswith("still") and not (is_so and log.is_complete)]
+    if lights["Search finished"] == "yes" and (log.is_open or log.is_hiding):
+        wrong.append("finished")
+    if lights.get("List") == "matches" and not (log.is_complete and not log.is_hiding):
+        wrong.append("matches")
+    if said["look"] == "yes" and not (log.is_complete and told["count"] and not log.is_hiding
+                                      and "If the reader went deaf" in lights):
+        wrong.append("green")
+    return f"lights: {wrong}" if wrong else None
+
+
+# Collections.
+
+KINDS = {"missing": "missing", "not heard on": "not provable", "not known yet": "not provable",
+         "in the wrong place": "misplaced", "not in the catalogue": "unexpected",
+         "back that should be away": "returned", "not counted": "not counted",
+         "without a tag": "no tag"}
+ALL_HERE = re.compile(rf"All {NUMBER} expected items are here|The one expected item is here"
+                      r"|Nothing is expected here, and no tag answered")
+
+
+def collection_says_too_much(said):
+    """Why, if so, of a collection with at least one log."""
+    told, headline = said["object"], said["headline"]
+    counts, logs = told["counts"], told["logs"]
+    here, is_complete = counts["in place"] + counts["there"], told["status"] == 0
+    wanted = {state: counts[state] for state in KINDS.values() if counts[state]}
+    if is_all := ALL_HERE.match(headline):
+        number = number_in(is_all[1]) if is_all[1] else "one" in is_all[0]
+        if number != here or wanted.keys() - {"no tag"}:
+            return is_all[0]
+        if "no other" in headline and (not is_complete or any(log["hidden"] for log in logs)):
+            return "no others"
+        if is_complete and any(log["hidden"] for log in logs) and HIDDEN not in headline:
+            return f"it lacks {HIDDEN!r}"
+    if is_complete:
+        has_untagged = bool(re.search(r"ha(s|ve) no tag\b", headline))
+        return None if is_all and has_untagged == bool(counts["no tag"]) else "complete"
+    told_of = dict.fromkeys(wanted, 0)
+    for number, kind in re.findall(rf"{NUMBER} (?:items? )?({'|'.join(KINDS)})", headline):
+        told_of[KINDS[kind]] = told_of.get(KINDS[kind], 0) + number_in(number)
+    if told_of != wanted:
+        return f"{told_of}, and not {wanted}"
+    lacking = [words for words, is_so in (
+        (" again", any(log["field"] != "possible" or log["open"] for log in logs)),
+        ("o log of ", told["without_log"]),
+        (" of no place", any(log["left_over"] for log in logs))) if is_so and words not in headline]
+    return f"it lacks {lacking}" if lacking else None

@@ -1,0 +1,30 @@
+/**
+ * What the page says of logs and collections, beside the objects that it says it of: a line of JSON for each.
+ *
+ *     node headlines.mjs MODULE.wasm <CASES
+ *
+ * A case is a line of JSON, the files of one collection or a log alone: `[[NAME, TEXT], ..]`, each text in base64.
+ */
+import { readFileSync, writeFileSync } from "node:fs";
+import { headlineOf } from "../../web/collection.mjs";
+import { judge, judgeAll } from "../../web/judge.mjs";
+import { Library } from "../../web/library.mjs";
+import { say } from "../../web/say.mjs";
+import { tell } from "../../web/told.mjs";
+
+const library = await Library.of(readFileSync(process.argv[2])), written = [];
+
+async function saidOf(files) {
+  if (files.length > 1) {
+    const object = await judgeAll(library, files);
+    return { object, headline: headlineOf(object) };
+  }
+  const { name, text } = files[0], told = tell(await judge(library, text, name), text), { look, headline, lights } = say(told);
+  return { object: { ...told.object, text: "" }, headline, look, lights: Object.fromEntries(lights.map((it) => [it.name, it.value])) };
+}
+
+for (const line of readFileSync(0, "utf-8").split("\n").filter((it) => it)) {
+  const files = JSON.parse(line).map(([name, text]) => ({ name, text: new Uint8Array(Buffer.from(text, "base64")) }));
+  written.push(JSON.stringify(await saidOf(files).catch(({ message }) => ({ error: message }))), "\n");
+}
+writeFileSync(1, written.join(""));
