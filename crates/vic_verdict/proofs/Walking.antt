@@ -7,7 +7,7 @@ use Rattle.vic_walk.specs.Met.{AreMetBefore, IsMetAt, answers_open}
 use Rattle.vic_walk.specs.Walk.{IsEndOfWalk}
 use Rattle.vic_walk.specs.declared.log_walk.LogWalk.{LogWalk}
 use Rattle.vic_walk.proofs.Ending.{open_earlier}
-use Rattle.vic_walk.proofs.GoingBack.{met_only_by}
+use Rattle.vic_walk.proofs.Meeting.{met_only_by}
 use Rattle.vic_verdict.proofs.Decide.{IsPossible-iff}
 use Rattle.vic_verdict.proofs.Possibility.{IsPossible-front}
 use Rattle.vic_verdict.proofs.Entries.{EntryAsks, SuppliesBefore, SuppliesAll-places, enough_needed}

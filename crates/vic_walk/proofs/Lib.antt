@@ -12,5 +12,5 @@ pub mod LineLaws
 mod PartUids
 mod OpenAnswers
 pub mod Ending
-pub mod GoingBack
+pub mod Meeting
 mod PartKeys

@@ -6,5 +6,4 @@ pub mod Ruled
 pub mod WalkState
 pub mod PartUids
 pub mod RangesTo
-pub mod Ends
-pub mod Reach
+pub mod Unmet

@@ -101,23 +101,4 @@ impl PartStates {
             | Entry::Listed(_) => Ok(()),
         }
     }
-
-    /// Adds parts: those that are marked in `ready` are Ready, and the others Quiet.
-    pub(crate) fn add(&mut self, ready: &Marks, parts: &[usize]) -> Result<(), AllocError>
-        requires { (p : ℕ) → has parts.now p ≡ true → p < length self.old.ready }
-        ensures ready { OnOk result ((p : ℕ) → is_marked self.new.ready p
-            ≡ (is_marked self.old.ready p || (has parts.now p && is_marked ready.now p))) }
-        ensures quiet { OnOk result ((p : ℕ) → has self.new.quiet.items p
-            ≡ (has self.old.quiet.items p || (has parts.now p && not (is_marked ready.now p)))) }
-        ensures room { length self.new.ready ≡ length self.old.ready }
-    {
-        for part in parts {
-            if ready.has(*part) {
-                self.ready.put(*part);
-            } else {
-                self.quiet.push(*part)?;
-            }
-        }
-        Ok(())
-    }
 }
