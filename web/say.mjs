@@ -117,7 +117,8 @@ function possible(told, isAlone) {
  */
 function lightsOf(told, isAlone, finished, list) {
   const { counts } = told, shown = counts.listed && isAlone ? [list] : isAlone ? [{ value: "none given", look: /** @type {const} */ ("plain") }] : [];
-  return [{ name: "Search finished", ...finished }, ...shown.map((it) => ({ name: "List", ...it })), ...isAlone ? howSure(told) : []];
+  return [{ name: "Search finished", ...finished },
+    ...shown.map((it) => ({ name: "List", ...it })), ...howSure(told)];
 }
 
 /**
@@ -160,9 +161,8 @@ function steps({ object: { kind, found, open, captured, deaf }, counts, quiet, n
 }
 
 /** @param {number} number of tags that the reader silenced and never heard */
-function silencedBefore(number) {
-  return `The reader silenced ${count(number, "tag")} that it hadn't heard, so ${number === 1 ? "a reply" : "replies"} ${LOST}`;
-}
+const silencedBefore = (number) =>
+  `The reader silenced ${count(number, "tag")} that it hadn't heard, so ${number === 1 ? "a reply" : "replies"} ${LOST}`;
 
 /** @param {number} number of listed tags that didn't answer */
 const lookFor = (number) => number === 1 ? `look on this shelf for the item below. If it ${IS_BROKEN}`
@@ -173,18 +173,25 @@ const lookFor = (number) => number === 1 ? `look on this shelf for the item belo
  * @param {Told} told
  * @param {boolean} isAlone
  */
-function headline({ object: { kind, count: number = 0, found, certain, open, captured }, counts, silenced, quiet, isMore }, isAlone) {
-  const { listed } = counts, only = open.count > 0 && quiet === open.count, without = listed || !isAlone ? "" : ANSWERS.noList;
+function headline(told, isAlone) {
+  const { object: { kind, count: number = 0, found, certain, open, captured, deaf }, silenced, quiet,
+    isMore, counts: { listed } } = told;
+  const isShakenBy = (/** @type {typeof captured} */ reading) =>
+    reading !== undefined && isShaken(told, reading);
+  const noMore = noOthers(certain.count, isShakenBy(captured), isShakenBy(deaf));
+  const tagsHere = numbered(ANSWERS.tagsHere, certain.count);
+  const only = open.count > 0 && quiet === open.count, without = listed || !isAlone ? "" : ANSWERS.noList;
   const others = only ? unproved(silenced.length, found.doubtful) : isMore ? ANSWERS.othersAre : ANSWERS.othersMayBe;
   // what else a catalogue says of it stands above
-  if (kind === KIND.COMPLETE && !isAlone) return number ? tagsHere(number, captured?.holds === false) : ANSWERS.emptyField;
-  if (kind === KIND.COMPLETE) return whole(number, captured?.holds === false);
-  if (!open.count && !listed) return `${tagsHere(certain.count, captured?.settled === false)}${without}`;
+  if (kind === KIND.COMPLETE && !isAlone) return number ? tagsHere + noMore : ANSWERS.emptyField;
+  if (kind === KIND.COMPLETE) return number ? allListed(number) + noMore : ANSWERS.empty;
+  if (!open.count && !listed) return tagsHere + noMore + without;
   if (!open.count && !certain.count) return numbered(ANSWERS.noneAnswered, listed);
   const left = open.count ? ANSWERS.notFinished : "";
   if (!listed) {
-    const here = certain.count ? `${numbered(ANSWERS.tagsHere, certain.count)}; ${others}` : only ? others : isMore ? ANSWERS.noneRead : ANSWERS.noneProved;
-    return `${left}${here}.${without}`;
+    const some = certain.count ? `${tagsHere}; ${others}` : only ? others
+      : isMore ? ANSWERS.noneRead : ANSWERS.noneProved;
+    return `${left}${some}.${without}`;
   }
   if (!found.absent && !found.unlisted && !found.doubtful) return `${left}${inside(allListed(listed))}; ${others}.`;
   const parts = [...found.absent ? [numbered(ANSWERS.absent, found.absent)] : [], ...found.unlisted ? [numbered(ANSWERS.unlisted, found.unlisted)] : [],
@@ -210,15 +217,10 @@ const inside = (sentence) => sentence[0].toLowerCase() + sentence.slice(1);
  * What is said behind tags that are here, where nothing is left to ask.
  * @param {number} number
  * @param {boolean} isHiding whether others may be there if their replies were hidden
+ * @param {boolean} isDeaf whether others may be there if the reader went deaf
  */
-export const noOthers = (number, isHiding) => isHiding ? ANSWERS.ifHidden : numbered(ANSWERS.noOthers, number);
-
-/**
- * The tags of a log without a list in which nothing is left to ask.
- * @param {number} number
- * @param {boolean} isHiding
- */
-const tagsHere = (number, isHiding) => numbered(ANSWERS.tagsHere, number) + noOthers(number, isHiding);
+export const noOthers = (number, isHiding, isDeaf) => isHiding ? ANSWERS.ifHidden
+  : numbered(isDeaf ? ANSWERS.noOthersHeard : ANSWERS.noOthers, number);
 
 /**
  * Of tags that are open only since they were silenced before they were heard.
@@ -226,14 +228,6 @@ const tagsHere = (number, isHiding) => numbered(ANSWERS.tagsHere, number) + noOt
  * @param {number} listed
  */
 const unproved = (number, listed) => numbered(number > listed ? ANSWERS.silenced : ANSWERS.silencedListed, number);
-
-/**
- * @param {number} number
- * @param {boolean} isHiding
- */
-function whole(number, isHiding) {
-  return number ? allListed(number) + noOthers(number, isHiding) : ANSWERS.empty;
-}
 
 /** @param {number} number */
 const allListed = (number) => numbered(ANSWERS.allListed, number);

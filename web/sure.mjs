@@ -65,12 +65,14 @@ export function alsoHolds({ object: { kind, captured, margin, answer }, counts, 
 }
 
 /**
- * Whether an answer that leaves nothing to ask may be another one if a log is read more cautiously; without a list, whether others may be there.
+ * Whether an answer that leaves nothing to ask, or says that a tag didn't answer, may be another
+ * one if a log is read more cautiously; without a list, whether others may be there.
  * @param {Told} told
  * @param {import("./told.mjs").Captured} reading
  */
-export const isShaken = ({ object: { status, open }, counts }, { holds, settled }) =>
-  status < 2 && !open.count && (counts.listed || !status ? !holds : settled === false);
+export const isShaken = ({ object: { status, open, found }, counts }, { holds, settled }) =>
+  status < 2 && (!open.count || found.absent > 0) &&
+  (counts.listed || !status ? !holds : settled === false);
 
 /**
  * Whether an answer also holds if the reader went deaf before its last, silent rounds, and if not, what shows whether it did.
@@ -138,6 +140,4 @@ export function notSure(margin, wanted) {
  * How sure it is that a tag isn't here.
  * @param {number} slots
  */
-export function silentIn(slots) {
-  return `would have been missed in ${count(slots, "slot")}`;
-}
+export const silentIn = (slots) => `would have been missed in ${count(slots, "slot")}`;
