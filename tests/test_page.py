@@ -791,7 +791,8 @@ def test_a_log_of_a_collection_is_compared_with_its_catalogue(page):
     """So it lacks no list, and nothing is to be compared at the shelf."""
     page.drop(**{"catalogue": b"uid,title\nnone,Emma\n", "one.log": log_of("I1 RA QA I1 S"),
                  "two.log": log_of("I1 S")})
-    page.until("h1", "1 item not in the catalogue and 1 without a tag.")
+    page.until("h1", "1 item not in the catalogue and 1 without a tag; "
+               "nothing answered in two.log.")
     page.run("for (const it of document.querySelectorAll('details')) it.open = true")
     page.wait(lambda: len(page.texts(".logs h3")) == 2)
     assert page.texts(".logs h3") == ["1 tag is here, and no other answered.", "No tag answered."]

@@ -5,7 +5,7 @@ import { doubted, doubtsOf } from "./logs.mjs";
 import { Pane } from "./pane.mjs";
 import { noOthers } from "./say.mjs";
 import { inOrder, MOST_NAMES, nameOf, shelved, Shelves } from "./shelves.mjs";
-import { deafIn, granted, HOLDS, mayBeWrong, missed, notSure, stillHolds, TO_KNOW } from "./sure.mjs";
+import { deafIn, granted, HOLDS, howSure, mayBeWrong, missed, notSure, stillHolds, TO_KNOW } from "./sure.mjs";
 import { banner, signed, view } from "./view.mjs";
 import { count, EDITED, endings, grouped, KIND, listing, madeOnce, printable } from "./words.mjs";
 
@@ -201,9 +201,8 @@ const summaryOf = (object) => madeOnce(SUMMARIES, object, () => {
 export function headlineOf(object) {
   const summary = summaryOf(object), { hiding, deaf } = summary;
   if (!object.logs.length) return waiting(object);
-  if (!isComplete(object)) {
-    return object.wanted ? notSure(object.margin?.margin, object.wanted) : lacking(object, summary);
-  }
+  if (object.wanted) return notSure(object.margin?.margin, object.wanted);
+  if (!isComplete(object)) return lacking(object, summary);
   const doubts = summary.doubts.map(({ short }) => short), more = doubts.length - MOST_DOUBTS;
   const number = found(object), without = object.counts["no tag"];
   const untagged = without ? [`${count(without, "item")} ${without === 1 ? "has" : "have"} no tag`] : [];
@@ -248,8 +247,11 @@ function lacking(object, { shelves, of, doubts, elsewhere: { length: elsewhere }
  * @returns {import("./say.mjs").Light[]}
  */
 function lights(object, summary) {
-  const { counts, items, logs, without_log: places } = object, here = found(object);
-  const { isAsked: isPlaced } = summary.shelves, done = logs.filter((log) => !isOpen(log) && !log.hidden).length;
+  const { counts, items, logs, without_log: places, margin } = object, here = found(object);
+  const { hiding, deaf, isResting, shelves: { isAsked: isPlaced } } = summary;
+  const other = margin ? "others may be here" : "the answer may be wrong";
+  const sure = howSure(margin?.margin, "still complete", other, hiding.length > 0, deaf.length > 0);
+  const done = logs.filter((log) => !isOpen(log) && !log.hidden).length;
   if (!logs.length) return [];
   const more = (/** @type {number} */ number, /** @type {string} */ words) => number ? `, ${number.toLocaleString("en")} ${words}` : "";
   const differs = counts.missing || counts.misplaced || counts.unexpected || counts.returned;
@@ -257,23 +259,7 @@ function lights(object, summary) {
     more(isPlaced ? counts.there : 0, "without a place");
   const lost = places.length ? `, no log of ${count(places.length, "place")}` : "";
   return [{ name: "Search finished", value: `${done.toLocaleString("en")} of ${count(logs.length, "log")}${lost}`, look: done === logs.length && !lost ? "yes" : "no" },
-    { name: isPlaced ? "In place" : "Here", value, look: here + counts.away === items.length ? "yes" : differs ? "no" : "plain" }, ...sureOfAll(object, summary)];
-}
-
-/**
- * How sure it is what is complete, or missing, as of a list.
- * @param {CollectionObject} object
- * @param {Summary} summary
- * @returns {import("./say.mjs").Light[]}
- */
-function sureOfAll({ margin }, { hiding, deaf, isResting }) {
-  const other = margin ? "others may be here" : "the answer may be wrong";
-  const light = (/** @type {string} */ name, /** @type {number[]} */ fields) => fields.length
-    ? [{ name, value: other, look: /** @type {const} */ ("no") }]
-    : margin ? [{ name, value: "still complete", look: /** @type {const} */ ("yes") }] : [];
-  return !isResting ? [] : [...margin ? [{ name: "Each other tag was asked",
-    value: `${count(margin.margin, "time")} or more`, look: /** @type {const} */ ("plain") }] : [],
-  ...light("If replies were hidden", hiding), ...light("If the reader went deaf", deaf)];
+    { name: isPlaced ? "In place" : "Here", value, look: here + counts.away === items.length ? "yes" : differs ? "no" : "plain" }, ...isResting ? sure : []];
 }
 
 /**

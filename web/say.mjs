@@ -3,7 +3,7 @@ import { contradiction, HIDDEN } from "./contradiction.mjs";
 import { MOST_NOTES } from "./notes.mjs";
 import { refused } from "./refused.mjs";
 import { SENTENCES } from "./sentences.mjs";
-import { isShaken } from "./sure.mjs";
+import { howSure, isShaken } from "./sure.mjs";
 import { count, KIND, listing, numbered } from "./words.mjs";
 import { mainly, whyOpen } from "./why.mjs";
 
@@ -26,7 +26,7 @@ import { mainly, whyOpen } from "./why.mjs";
  * @property {string[]} ask lines that send it
  */
 
-const NOT_KNOWN = "not known";
+const NOT_KNOWN = "not known", NO_LIST = { value: "none given", look: /** @type {const} */ ("plain") };
 const AGAIN = "Run the inventory again, to its end.";
 const NEW_LOG = "Count again, in a new log: with less interference, tags that lie still and not on top of each other, and no " +
   "second reader nearby.";
@@ -116,25 +116,12 @@ function possible(told, isAlone) {
  * @returns {Light[]}
  */
 function lightsOf(told, isAlone, finished, list) {
-  const { counts } = told, shown = counts.listed && isAlone ? [list] : isAlone ? [{ value: "none given", look: /** @type {const} */ ("plain") }] : [];
-  return [{ name: "Search finished", ...finished },
-    ...shown.map((it) => ({ name: "List", ...it })), ...howSure(told)];
-}
-
-/**
- * How sure a complete list is: how often each other tag was asked, and what else could be here. Of another answer that leaves nothing to ask
- * only what may be wrong.
- * @param {Told} told
- * @returns {Light[]}
- */
-function howSure(told) {
-  const { object: { kind, count: number, margin, captured, deaf } } = told, isComplete = kind === KIND.COMPLETE;
-  const still = number ? "still complete" : "still empty", other = isComplete || !told.counts.listed ? "others may be here" : "the answer may be wrong";
-  const light = (/** @type {string} */ name, /** @type {import("./told.mjs").Captured | undefined} */ reading) => !reading ? []
-    : isComplete && reading.holds ? [{ name, value: still, look: /** @type {const} */ ("yes") }]
-      : isShaken(told, reading) ? [{ name, value: other, look: /** @type {const} */ ("no") }] : [];
-  return [...isComplete && margin ? [{ name: "Each other tag was asked", value: `${count(margin, "time")} or more`, look: /** @type {const} */ ("plain") }] : [],
-    ...light("If replies were hidden", captured), ...light("If the reader went deaf", deaf)];
+  const { object: { kind, count: number, margin, captured, deaf }, counts: { listed } } = told;
+  const shown = !isAlone ? [] : [{ name: "List", ...listed ? list : NO_LIST }];
+  const other = kind === KIND.COMPLETE || !listed ? "others may be here" : "the answer may be wrong";
+  return [{ name: "Search finished", ...finished }, ...shown,
+    ...howSure(kind === KIND.COMPLETE && deaf ? margin : 0, number ? "still complete" : "still empty", other,
+      isShaken(told, captured), isShaken(told, deaf))];
 }
 
 /**
@@ -176,9 +163,7 @@ const lookFor = (number) => number === 1 ? `look on this shelf for the item belo
 function headline(told, isAlone) {
   const { object: { kind, count: number = 0, found, certain, open, captured, deaf }, silenced, quiet,
     isMore, counts: { listed } } = told;
-  const isShakenBy = (/** @type {typeof captured} */ reading) =>
-    reading !== undefined && isShaken(told, reading);
-  const noMore = noOthers(certain.count, isShakenBy(captured), isShakenBy(deaf));
+  const noMore = noOthers(certain.count, isShaken(told, captured), isShaken(told, deaf));
   const tagsHere = numbered(ANSWERS.tagsHere, certain.count);
   const only = open.count > 0 && quiet === open.count, without = listed || !isAlone ? "" : ANSWERS.noList;
   const others = only ? unproved(silenced.length, found.doubtful) : isMore ? ANSWERS.othersAre : ANSWERS.othersMayBe;

@@ -4,6 +4,7 @@ import { count, ending, KIND } from "./words.mjs";
 
 /** @typedef {import("./told.mjs").Told} Told */
 /** @typedef {import("./told.mjs").Margin} Margin */
+/** @typedef {import("./say.mjs").Look} Look */
 
 /** What a complete answer speaks of. */
 export const HOLDS = "This is said of tags that had power, heard the reader, and were heard when they answered.";
@@ -68,11 +69,29 @@ export function alsoHolds({ object: { kind, captured, margin, answer }, counts, 
  * Whether an answer that leaves nothing to ask, or says that a tag didn't answer, may be another
  * one if a log is read more cautiously; without a list, whether others may be there.
  * @param {Told} told
- * @param {import("./told.mjs").Captured} reading
+ * @param {import("./told.mjs").Captured} [reading] without one nothing is shaken
  */
-export const isShaken = ({ object: { status, open, found }, counts }, { holds, settled }) =>
-  status < 2 && (!open.count || found.absent > 0) &&
-  (counts.listed || !status ? !holds : settled === false);
+export const isShaken = ({ object: { status, open, found }, counts }, reading) =>
+  reading !== undefined && status < 2 && (!open.count || found.absent > 0) &&
+  (counts.listed || !status ? !reading.holds : reading.settled === false);
+
+/**
+ * How sure an answer is, as lights: of a complete one how often each other tag was asked, and that
+ * it still holds; of any that it may not.
+ * @param {number | undefined} margin of a complete one
+ * @param {string} still
+ * @param {string} other
+ * @param {boolean} isHiding
+ * @param {boolean} isDeaf
+ * @returns {import("./say.mjs").Light[]}
+ */
+export function howSure(margin, still, other, isHiding, isDeaf) {
+  const light = (/** @type {string} */ name, /** @type {boolean} */ isWrong) =>
+    ({ name, value: isWrong ? other : still, look: /** @type {Look} */ (isWrong ? "no" : "yes") });
+  const both = [light("If replies were hidden", isHiding), light("If the reader went deaf", isDeaf)];
+  if (!margin) return both.filter(({ look }) => look === "no");
+  return [{ name: "Each other tag was asked", value: `${count(margin, "time")} or more`, look: "plain" }, ...both];
+}
 
 /**
  * Whether an answer also holds if the reader went deaf before its last, silent rounds, and if not, what shows whether it did.
