@@ -270,10 +270,10 @@ function lights(object, summary) {
  */
 function conditionsOfAll({ counts, margin }, { shelves, hiding, deaf, isResting }) {
   if (!isResting && !counts.unexpected) return [];
-  const also = hiding.length ? `${mayBeWrong(` in the field of ${shelves.names(hiding)},`)}.`
+  const also = hiding.length ? `${mayBeWrong(` ${shelves.fields(hiding)},`)}.`
     : stillHolds(margin?.margin);
-  const sure = margin ? [HOLDS, ...missed(margin, ` in the field of ${shelves.name(margin.log)}`)] : [];
-  const said = [...sure, also, ...isResting && deaf.length ? [deafIn(shelves.names(deaf))] : []];
+  const sure = margin ? [HOLDS, ...missed(margin, ` ${shelves.fields([margin.log])}`)] : [];
+  const said = [...sure, also, ...isResting && deaf.length ? [deafIn(shelves.fields(deaf))] : []];
   return [el("section", { class: "holds" }, said.map((it) => el("p", {}, it)))];
 }
 

@@ -50,6 +50,9 @@ export class Shelves {
    */
   names(logs, last) { return firstOf(logs.map((at) => this.name(at)), last); }
 
+  /** @param {number[]} logs */
+  fields(logs) { return `in the field${logs.length > 1 ? "s" : ""} of ${this.names(logs)}`; }
+
   /**
    * Whether an item that no log proves is not on its own shelf: the logs of that rule it out.
    * @param {Item} item

@@ -13,8 +13,8 @@ const IF_HIDDEN = "If a strong reply hid a weaker one, the answer ";
 const IF_DEAF = "If the reader had gone deaf after the last answer of a tag, the answer ";
 const HEARS_STILL = "To know, switch its field off and on, and let it ask once more for a tag that was found.";
 /** @param {string} where */
-export const deafIn = (where) => `${IF_DEAF}may be wrong in the field of ${where}. To know, switch the field off and on there, and let the reader ask once ` +
-  "more for a tag that was found.";
+export const deafIn = (where) => `${IF_DEAF}may be wrong ${where}. To know, switch the field off ` +
+  "and on there, and let the reader ask once more for a tag that was found.";
 const DEAF = "A reader that is deaf writes the same log: only a tag at its antenna shows that it hears.";
 export const ONCE_MORE = "Asking all of them once more, when none answers, adds one.";
 export const TO_KNOW = "silence each tag that was heard, and ask all in one slot, until none answers";
