@@ -737,7 +737,7 @@ def saved(page, folder):
 
 @pytest.mark.parametrize(("two", "others", "look"), [
     ("I1 RB", "; others may be, if stronger replies hid them.", "read"),
-    ("I1 RB QB I1 S", ", and no others.", "yes")])
+    ("I1 RB QB I1 S", ", and no others answered.", "yes")])
 def test_a_collection_is_not_green_where_a_list_is_not(page, two, others, look):
     """In a field in which not all were asked once more, others may have been hidden."""
     page.drop(**{"books.csv": b"uid,place\nE0040100000000A1,one\nE0040100000000B2,two\n",
@@ -765,12 +765,12 @@ def test_items_without_a_place_are_not_called_in_place(page):
     logs = {"A.log": log_of("I1 RA QA I1 S"), "B.log": log_of("I1 RB QB I1 S")}
     page.drop(**{"books.csv": books, **logs})
     page.until("h1", "1 item missing.")
-    assert page.texts(".lights dd") == ["2 of 2 logs", "2 of 3 items, 1 without a place"]
+    assert page.texts(".lights dd")[:2] == ["2 of 2 logs", "2 of 3 items, 1 without a place"]
     assert page.texts("#told > p") == ["The 2 other items of the catalogue are here."]
     page.drop(**{"books.csv": books.replace(b"any", b"B")})
     page.until("#told > p", "The 2 other items of the catalogue are here, and in place.")
     page.drop(**{"books.csv": b"uid,place\nE0040100000000A1,A\nE0040100000000B2,B\n"})
-    page.until(".banner.yes h1", "All 2 expected items are here, and no others.")
+    page.until(".banner.yes h1", "All 2 expected items are here, and no others answered.")
     assert page.texts(".lights dd")[:2] == ["2 of 2 logs", "2 of 2 items"]
 
 
@@ -791,11 +791,15 @@ def test_a_log_of_a_collection_is_compared_with_its_catalogue(page):
     """So it lacks no list, and nothing is to be compared at the shelf."""
     page.drop(**{"catalogue": b"uid,title\nnone,Emma\n", "one.log": log_of("I1 RA QA I1 S"),
                  "two.log": log_of("I1 S")})
-    page.until("h1", "1 item not in the catalogue and 1 without a tag.")
+    page.until("h1", "1 item not in the catalogue and 1 without a tag; "
+               "nothing answered in two.log.")
     page.run("for (const it of document.querySelectorAll('details')) it.open = true")
     page.wait(lambda: len(page.texts(".logs h3")) == 2)
-    assert page.texts(".logs h3") == ["1 tag is here, and no other.", "No tag answered."]
-    assert page.texts(".logs dt") == ["Search finished"] * 2
+    assert page.texts(".logs h3") == ["1 tag is here, and no other answered.", "No tag answered."]
+    assert page.texts(".logs dt") == [
+        "Search finished", "If the reader went deaf",
+        "Search finished", "Each other tag was asked", "If replies were hidden",
+        "If the reader went deaf"]
     assert page.texts(".logs h4").count("At the shelf") == 1
     assert page.texts(ROWS)[:2] == ["one.log", "not in the catalogue\nE0040100000000A1"]
     page.media("print")
@@ -833,7 +837,7 @@ def test_rows_without_a_tag(page):
     catalogue = b"uid,title\nE0040100000000A1,Walden\nnone,Emma\n"
     page.drop(**{"catalogue": catalogue, "one.log": log_of("I1 RB QB I1 S")})
     page.until("h1", "1 item missing, 1 not in the catalogue and 1 without a tag.")
-    assert page.texts(".lights dd") == ["1 of 1 log", "0 of 2 items, 1 without a tag"]
+    assert page.texts(".lights dd")[:2] == ["1 of 1 log", "0 of 2 items, 1 without a tag"]
     names = "return [...document.querySelectorAll('.items th[scope=row]')]"
     assert page.run(f"{names}.map((it) => [it.cellIndex, it.innerText])") == [
         [1, "Walden"], [2, "E0040100000000B2"], [1, "Emma"]]
@@ -844,7 +848,7 @@ def test_an_item_of_a_catalogue_with_many_columns_is_read_in_lines(page):
     columns = [f"column {number}" for number in range(20)]
     page.drop(**{"books.csv": f"uid,title,{','.join(columns)},place\nE0040100000000A1,Emma,"
                  f"{','.join(['available'] * 20)},A\n".encode(), "A.log": log_of("I1 S")})
-    page.until("h1", "1 item missing.")
+    page.until("h1", "1 item missing; nothing answered in A.")
     for kind, width in ("print", 780), ("", 1000):
         page.media(kind)
         size = {"width": width, "height": 900, "deviceScaleFactor": 1, "mobile": False}
@@ -866,7 +870,7 @@ def test_a_long_table_of_items_stands_in_one_column_on_paper(page):
     page.drop(**{"books.csv": b"uid,title,place\n" + b"".join(
         b"%016X,Walden,%d\n" % (uid, uid % 2) for uid in uids),
                  "0.log": log_of("I1 S"), "1.log": log_of("I1 S")})
-    page.until("h1", "40 items missing.")
+    page.until("h1", "40 items missing; nothing answered in 0 and 1.")
     page.media("print")
     assert page.run("return getComputedStyle(document.querySelector('details:has(> .items)'))"
                     ".columnWidth") == "auto"
@@ -876,7 +880,7 @@ def test_a_name_written_from_right_to_left_does_not_move_a_number(page):
     """One that follows it stood before it, away from what it counts."""
     page.drop(**{"books.csv": "uid,place\nE0040100000000A1,\u05de\u05d3\u05e3 1\n".encode(),
                  "\u05de\u05d3\u05e3 1.log": log_of("I1 RA QA I1 S")})
-    page.until("h1", "The one expected item is here, and no other.")
+    page.until("h1", "The one expected item is here, and no other answered.")
     page.press("details:has(.logs) > summary")
     assert page.texts(".logs summary") == ["\u05de\u05d3\u05e3 1: 1 tag proved"]
     name, number = page.run("""
@@ -907,7 +911,8 @@ def test_a_stopped_log_is_not_left_out_of_a_collection(page):
     page.until("#logs", "two stopped")
     page.run("window.free()")
     page.drop(**{"books.csv": OF_A})
-    page.until("h1", "1 item in the wrong place and 1 not in the catalogue; no log of A; one and")
+    page.until("h1", "1 item heard in a log of no place and 1 not in the catalogue; no log of A; "
+               "one and two are of no place")
 
 
 @pytest.mark.parametrize("why", UNANSWERED)
@@ -928,7 +933,7 @@ def test_an_edited_log_is_called_so_in_a_collection(page):
     page.until("h1", "1 tag is here")
     type_in(page, log_of("I1 RA QA I1 S").decode())
     page.drop(**{"books.csv": OF_A})
-    page.until(".banner.yes h1", "The one expected item is here, and no other.")
+    page.until(".banner.yes h1", "The one expected item is here, and no other answered.")
     assert page.texts(".banner div > p") == ["books.csv · 1 log (1 edited)"]
     page.press("#told > details > summary")
     assert page.texts(".logs summary") == ["A (A.log (edited)): 1 tag proved"]
@@ -952,15 +957,15 @@ def test_the_next_catalogue_does_not_lose_the_places(page):
     """Nor do other places lose the catalogue."""
     page.drop(**{"books.csv": OF_A, "places.csv": b"place,log\nA,1.log\nReturns,2.log\n",
                  "1.log": log_of("I1 S"), "2.log": log_of("I1 RA QA I1 S")})
-    page.until("h1", "1 item in the wrong place.")
+    page.until("h1", "1 item in the wrong place; nothing answered in A.")
     page.drop(**{"better.csv": OF_A.replace(b"Emma", b"Kim")})
     page.until(".banner", "better.csv")
-    assert page.texts("h1") == ["1 item in the wrong place."]
+    assert page.texts("h1") == ["1 item in the wrong place; nothing answered in A."]
     page.drop(**{"others.csv": b"place,log\nA,2.log\nReturns,1.log\n"})
-    page.until("h1", "The one expected item is here, and no other.")
+    page.until("h1", "The one expected item is here, and no other answered.")
     assert "better.csv" in page.texts(".banner")[0] and "others.csv" in page.texts(".record")[0]
     page.drop(**{"places.csv": b"place,log\nA,1.log\nReturns,2.log\n"})
-    page.until("h1", "1 item in the wrong place.")
+    page.until("h1", "1 item in the wrong place; nothing answered in A.")
 
 
 # The file slow.log is read once `go` is called.
@@ -979,7 +984,7 @@ def test_a_table_waits_for_a_log_that_is_still_read(page):
     page.drop(**{"books.csv": OF_A.replace(b",A", b",slow")})
     page.wait(lambda: page.run("return 'go' in window"))
     page.run("window.go()")
-    page.until(".banner.yes h1", "The one expected item is here, and no other.")
+    page.until(".banner.yes h1", "The one expected item is here, and no other answered.")
 
 
 @pytest.mark.parametrize("is_example", [False, True])
@@ -1126,7 +1131,7 @@ def test_no_sum_is_named_where_none_can_be_had(page, file):
     """As on a page that comes by http."""
     open_lacking(page, file, "Object.defineProperty(self, 'crypto', { value: {} });")
     page.drop(**{"books.csv": OF_A, "A.log": log_of("I1 RA QA I1 S")})
-    page.until(".banner.yes h1", "The one expected item is here, and no other.")
+    page.until(".banner.yes h1", "The one expected item is here, and no other answered.")
     assert "SHA-256" not in page.texts(".record")[0]
 
 
@@ -1156,15 +1161,15 @@ def test_a_page_of_which_a_letter_has_changed_judges_nothing(page, file, tmp_pat
 
 def test_a_page_that_was_saved_is_read_without_its_script(page, tmp_path):
     page.drop(log=log_of("I1 RA QA I1 S UA"))
-    page.until("h1", "The one listed tag is here, and no other.")
+    page.until("h1", "The one listed tag is here, and no other answered.")
     file = saved(page, tmp_path / "saved")
     page.open(file)
     assert (page.texts("h1"), page.texts("#old")) == (
-        ["The one listed tag is here, and no other."], [])
+        ["The one listed tag is here, and no other answered."], [])
     file.write_text(file.read_text().replace('<script type="module">', '<script type="module">;'))
     page.open(file)
     page.wait(page.driver.find_element("id", "old").is_displayed)
-    assert "The one listed tag is here, and no other." in page.texts("#old")[0]
+    assert "The one listed tag is here, and no other answered." in page.texts("#old")[0]
     assert "Content Security Policy" in page.browser.console()[0]
 
 
@@ -1172,7 +1177,7 @@ def test_the_text_of_a_page_that_was_saved_has_what_is_folded(page, tmp_path):
     """As a long list of items is, which stays so on the screen."""
     uids = [f"E004{number:012X}" for number in range(300)]
     page.drop(**{"books.csv": "\n".join(["uid", *uids]).encode(), "A.log": log_of("I1 S")})
-    page.until("h1", "300 items missing.")
+    page.until("h1", "300 items missing; nothing answered in A.log.")
     _, plain = drawn_in(saved(page, tmp_path / "saved").read_text())
     assert [uid for uid in uids if uid not in plain] == []
     assert uids[0] not in page.said()
@@ -1194,7 +1199,7 @@ def test_a_page_that_a_browser_has_saved(page, tmp_path):
     page.until("#status", "This is what a browser has saved of the page: its answers, without the")
     page.press("#logs button", 1)
     assert "two ! No tag answered, but 1 is listed." in page.texts("#logs")[0]
-    assert page.texts("h1") == ["The one listed tag is here, and no other."]
+    assert page.texts("h1") == ["The one listed tag is here, and no other answered."]
     assert not any(page.driver.find_element("id", it).is_displayed() for it in ("text", "save"))
     page.drop(two=log_of("I1 S UA"))
     page.until("h1", "No tag answered, but 1 is listed")

@@ -17,6 +17,8 @@ from helpers.records import drawn_in
 from helpers.screen import Screen
 
 SEED, NUMBER, PARTS = 15693, 100, 2
+# What may be wrong, by the light that says it.
+READINGS = {"If replies were hidden": "hidden", "If the reader went deaf": "deaf"}
 DROP = """
 const data = new DataTransfer();
 for (const [name, text] of arguments[0]) {
@@ -30,6 +32,9 @@ return document.getElementById("told").getAttribute("aria-busy") !== "true" &&
   document.getElementById("status").textContent === "" &&
   !!document.querySelector("#told h1, #each h1");
 """
+# What has the focus, and what is told to whoever doesn't see the page.
+FOCUS = "return document.activeElement.innerText"
+TOLD = "return document.getElementById('said').textContent"
 BANNER = "return document.querySelector('.banner')?.classList[1] ?? ''"
 UID_A, UID_B, UID_C = (0xE0040100000000A1, 0xE0040100000000B2, 0xE0040100000000C3)
 TITLES = {UID_A: "Emma", UID_B: "Walden", UID_C: "Kim"}
@@ -60,9 +65,9 @@ def look(page):
     return page.run(BANNER)
 
 
-def field(*uids, is_heard=True, asks=1):
+def field(*uids, is_heard=True, asks=1, listed=()):
     """A log of a field with these tags, in which all is asked so often, and at last one of them
-    once more."""
+    once more; with a list of its own."""
     lines = ["vicinity-log 3"]
     for uid in uids:
         lines += [biglog.ask((56, uid & (1 << 56) - 1)), f"H{biglog.reply(uid)[1:]}",
@@ -70,7 +75,7 @@ def field(*uids, is_heard=True, asks=1):
     lines += [biglog.ask((0, 0)), "S"] * asks
     if uids and is_heard:
         lines += ["F", biglog.ask((56, uids[0] & (1 << 56) - 1)), f"H{biglog.reply(uids[0])[1:]}"]
-    return text_of(lines)
+    return text_of([*lines, *[f"U {uid:016X}" for uid in listed]])
 
 
 def books(*rows, head="uid,title,place"):
@@ -89,7 +94,7 @@ def is_sure(told):
     logs, counts = told["logs"], told["counts"]
     asks = any(name.strip(" \t").lower() == "place" for name in told["columns"])
     return (told["status"] == 0 and counts["in place"] + counts["there"] > 0
-            and not counts["no tag"] and not told["without_log"]
+            and not counts["no tag"] and not told["without_log"] and told["ended"]
             and (asks or len(logs) < 2)
             and not any(log["left_over"] or log["hidden"] or log["shared"] or not log["answers"]
                         for log in logs))
@@ -149,12 +154,14 @@ def compare(page, told):
     for log in told["logs"]:
         assert not log["left_over"] or log["name"].split("-")[-1].strip() in words
     lights = dict(zip(page.texts(".lights dt"), page.texts(".lights dd")))
-    assert is_complete == ("If replies were hidden" in lights)
-    if is_complete:
-        for light, reading in (("If replies were hidden", "hidden"), ("If the reader went deaf",
-                                                                      "deaf")):
-            holds = not any(log[reading] for log in told["logs"])
-            assert lights[light] == ("still complete" if holds else "others may be here")
+    is_missing = told["counts"]["missing"] or "Not heard on their shelves" in page.said()
+    for light, reading in READINGS.items():
+        holds = not any(log.get(reading) for log in told["logs"])
+        wanted = ("still complete" if holds else "others may be here") if is_complete else (
+            "the answer may be wrong" if is_missing and not holds else None)
+        assert lights.get(light) == wanted, told
+    assert not is_complete or "and no others." not in headline or (
+        lights["If the reader went deaf"] == "still complete")
     number = sum(told["counts"][state] for state in ("in place", "there"))
     place = "In place" if "In place" in lights else "Here"
     assert lights[place].startswith(f"{number} of {len(told['items'])} item")
@@ -184,6 +191,7 @@ def test_green_is_never_without_the_light_of_a_deaf_reader(page):
     """As of a list: it says so, and what shows whether the reader heard."""
     drop(page, {**COMPLETE, "B.log": field(UID_B, is_heard=False)})
     assert (look(page), page.texts(".lights dd")[-1]) == ("yes", "others may be here")
+    assert page.texts("#told h1") == ["All 2 expected items are here, and no others answered."]
     assert "deaf after the last answer of a tag, the answer may be wrong in the field of B" in (
         page.texts(".holds p")[-1])
 
@@ -194,7 +202,10 @@ NOT_SURE = {
     "places aren't asked for": ("books.csv", books((UID_A, ""), (UID_B, ""), head="uid,title"),
                                 "But where each belongs wasn't asked."),
     "two prove the same": ("A.log", field(UID_A, UID_B), "But A and B prove the same tags."),
-    "an item has no tag": ("books.csv", BOTH + b"none,Kim,A\n", "But 1 item has no tag.")}
+    "an item has no tag": ("books.csv", BOTH + b"none,Kim,A\n", "But 1 item has no tag."),
+    "it may be cut off": ("books.csv", BOTH[:-1], "But the catalogue may have been cut off."),
+    "its own list says more": ("B.log", field(UID_B, listed=[UID_B, UID_C]),
+                               "But the list in B has what its log rules out.")}
 
 
 @pytest.mark.parametrize("why", NOT_SURE)
@@ -202,6 +213,66 @@ def test_what_is_not_sure_is_not_green(page, why):
     name, text, words = NOT_SURE[why]
     drop(page, {**COMPLETE, name: text})
     assert look(page) == "read" and words in page.texts("#told h1")[0]
+
+
+@pytest.mark.parametrize("is_heard", [True, False])
+def test_nothing_is_missing_without_the_light_of_a_deaf_reader(page, is_heard):
+    """Nor without that of hidden replies: an item is missing only as far as no tag answered."""
+    drop(page, {**COMPLETE, "A.log": field(UID_B, is_heard=is_heard)})
+    assert page.texts("#told h1")[0].startswith("1 item missing")
+    lights = dict(zip(page.texts(".lights dt")[2:], page.texts(".lights dd")[2:]))
+    assert lights == ({} if is_heard else {"If the reader went deaf": "the answer may be wrong"})
+    said = "deaf after the last answer of a tag, the answer may be wrong in the field of A"
+    assert any(said in it for it in page.texts(".holds p")) == (not is_heard)
+    drop(page, {"A.log": log_of("I1 RB")})
+    assert page.texts(".lights dt")[2:] == list(READINGS)
+    assert page.texts(".lights dd")[2:] == ["the answer may be wrong"] * 2
+
+
+def test_a_log_of_a_collection_says_how_sure_it_is(page):
+    """As it does by itself, since what is said of the items rests on it."""
+    drop(page, {**COMPLETE, "B.log": field(UID_B, is_heard=False)})
+    page.press("details:has(.logs) > summary")
+    page.press(".logs summary", 1)
+    page.until(".logs h3", "1 tag is here, and no other answered.")
+    assert page.texts(".logs dt") == ["Search finished", "If the reader went deaf"]
+    assert page.texts(".logs dd") == ["yes", "others may be here"]
+    page.until(".logs .holds p", "If the reader had gone deaf after the last answer of a tag,")
+
+
+@pytest.mark.parametrize(("catalogue", "listed", "words"), [
+    (BOTH, [UID_B], "has 1 tag that its log rules out: Walden."),
+    (BOTH, [UID_A], None), (BOTH, [UID_A, UID_C], "rules out: E0040100000000C3."),
+    (books((UID_A, ""), (UID_B, ""), head="uid,title"), [UID_A, UID_B], "rules out: Walden.")])
+def test_what_a_log_has_on_its_list_and_rules_out(page, catalogue, listed, words):
+    """It may be that a reply was lost on the way into the log."""
+    drop(page, {"books.csv": catalogue, "A.log": field(UID_A, listed=listed)})
+    doubts = "\n".join(page.texts(".doubts b"))
+    assert (words in doubts) if words else "rules out" not in doubts
+
+
+def test_what_an_unfinished_log_has_on_its_list_may_be_there(page):
+    """Its first slots rule out what ends in 2, and no more."""
+    log = log_of("I16 S RA S UB") + b"U E0040100000000C3\n"
+    drop(page, {"books.csv": BOTH, "A.log": log})
+    doubts = "\n".join(page.texts(".doubts b"))
+    assert "The reader's own list in A has 1 tag that its log rules out: Walden." in doubts
+
+
+def test_a_catalogue_that_may_have_been_cut_off(page):
+    """It waits for logs with that, too."""
+    drop(page, {"books.csv": BOTH[:-1]})
+    for _ in "waiting", "judged":
+        assert "The last of the 2 rows of the catalogue has no line end." in page.texts(".doubts b")
+        drop(page, {"A.log": field(UID_A), "B.log": field(UID_B)})
+    assert "no line end" not in page.texts("#told > details")[-1]
+
+
+def test_where_others_may_be_hidden_something_is_left_to_ask(page):
+    drop(page, {**COMPLETE, "B.log": log_of("I1 RB")})
+    assert page.texts(".lights dd")[0] == "1 of 2 logs"
+    assert page.texts("#told > details > summary")[:2] == [
+        "Ask all once more (1 log)", "Nothing left to ask (1 log)"]
 
 
 def test_a_field_in_which_nothing_answered(page):
@@ -252,9 +323,26 @@ def test_a_shelf_without_a_log(page):
 
 def test_a_log_of_no_place(page):
     drop(page, {**COMPLETE, "cart.log": field()})
-    assert page.texts("#told h1") == ["All 2 expected items are here; cart.log is of no place."]
+    assert page.texts("#told h1") == ["All 2 expected items are here; cart.log is of no place; "
+                                      "nothing answered in cart.log."]
     assert page.texts(".doubts b") == ["1 log of no place: cart.log.",
                                        "Nothing answered in 1 log: cart.log."]
+    page.press(".doubts button")
+    page.until("h1", "All 2 expected items are here, and no others.")
+
+
+def test_an_item_that_only_a_log_of_no_place_proves(page):
+    """Nobody knows where it was heard: it may be in its place. Where a place is known, too, it is
+    taken from there."""
+    drop(page, {"books.csv": BOTH, "B.log": field(UID_B), "cart.log": field(UID_A)})
+    assert page.texts("#told h1") == [
+        "1 item heard in a log of no place; no log of A; cart.log is of no place."]
+    assert page.texts(".items :is(thead tr + tr, tbody tr)") == [
+        "cart.log", "heard in a log of no place; belongs to A\nEmma\nE0040100000000A1"]
+    drop(page, {"B.log": field(UID_A, UID_B)})
+    assert page.texts("#told h1")[0].startswith("1 item in the wrong place; no log of A;")
+    assert page.texts(".items :is(thead tr + tr, tbody tr)") == [
+        "Shelf B", "take to A; also in cart.log\nEmma\nE0040100000000A1"]
 
 
 @pytest.mark.parametrize(("uids", "words"), [
@@ -293,7 +381,8 @@ def test_the_example(page):
         "1 item missing, 1 in the wrong place and 1 not known yet; count C again."]
     assert page.texts(".logs summary")[0] == (
         "C (shelf-c.log): 3 tags proved; left to ask: UIDs ending in E or F")
-    assert page.texts(".lights dd") == ["2 of 3 logs", "9 of 12 items"]
+    assert page.texts(".lights dd") == ["2 of 3 logs", "9 of 12 items"] + [
+        "the answer may be wrong"] * 2
 
 
 # How a collection comes.
@@ -337,12 +426,14 @@ def test_a_log_joins_a_collection_or_replaces_that_of_its_place(page):
     drop(page, {"books.csv": BOTH, "A.log": field(UID_A)})
     drop(page, {"B.log": field()})
     assert page.texts(".note") == ["B.log joined the logs that were here."]
-    assert page.texts("#told h1") == ["1 item missing."]
+    assert page.texts("#told h1") == ["1 item missing; nothing answered in B."]
+    assert page.run(TOLD) == f"{page.texts('.note')[0]} {page.texts('#told h1')[0]}"
     drop(page, {"B.txt": field(UID_B)})
     assert page.texts(".note") == ["B.log was replaced by what you opened under the same name."]
     assert look(page) == "yes"
     page.press("#back")
-    page.until("h1", "1 item missing.")
+    page.until("h1", "1 item missing; nothing answered in B.")
+    assert page.run(FOCUS) == page.texts("h1")[0]
     page.press("#back")
     page.until("h1", "1 item not counted; no log of B.")
     assert not page.driver.find_element("id", "back").is_displayed()
@@ -356,10 +447,12 @@ def test_a_collection_with_its_catalogue_is_one_of_its_own(page):
 
 
 @pytest.mark.parametrize(("press", "headline"), [
-    (0, "1 item missing."), (1, "All 2 expected items are here, and no others."),
+    (0, "1 item missing; nothing answered in A."),
+    (1, "All 2 expected items are here, and no others."),
     (2, "1 item not in the catalogue; A (1).log is of no place.")])
 def test_it_is_asked_which_of_two_counts(page, press, headline):
-    """Until that is said, both are here, and nothing is green."""
+    """Until that is said, both are here, and nothing is green. Then the one that counts is of the
+    place of the other, and the focus is on what has changed."""
     drop(page, {"books.csv": BOTH, "A.log": field(UID_A), "B.log": field(UID_B)})
     more = field() if press < 2 else field(UID_C)
     drop(page, {"A (1).log": more})
@@ -367,11 +460,12 @@ def test_it_is_asked_which_of_two_counts(page, press, headline):
     assert page.texts(".doubts button") == ["Only A (1).log", "Only A.log", "Both: other fields"]
     assert "say whether A.log or A (1).log counts" in page.texts("h1")[0]
     page.press(".doubts button", press)
-    page.wait(lambda: page.run(IS_DONE) and not page.texts(".doubts button"))
-    # the one that is left is called so, but is of no place
-    if press == 0:
-        headline = "1 item not counted; no log of A; A (1).log is of no place."
-    assert page.texts("h1") == [headline]
+    page.until("h1", headline)
+    assert page.run(FOCUS) == headline and headline in page.run(TOLD)
+    assert page.texts(".note") == [["A.log was left out: A (1).log takes its place."],
+                                   ["A (1).log was left out."], []][press]
+    drawn = page.run("return document.querySelector('.logs').textContent")
+    assert ("A (A (1).log): " in drawn) == (press == 0)
 
 
 def test_one_goes_back_after_a_paste(page):
@@ -387,7 +481,9 @@ def test_one_goes_back_after_a_paste(page):
     page.press("#back")
     page.until(".banner.yes h1", "All 2 expected items are here")
     page.press("#close")
-    page.wait(lambda: page.run("return document.body.classList.contains('empty')"))
+    page.until("h1", "Did the RFID reader find every tag?")
+    assert page.run(FOCUS) == page.texts("h1")[0] and not page.texts(".banner")
+    assert page.driver.title == "vicinity: did the RFID reader find every tag?"
     drop(page, {"A.log": log_of("I1 S")})
     assert page.texts("h1") == ["No tag answered, and nothing is listed."]
 
@@ -399,6 +495,8 @@ def test_one_goes_back_after_a_paste(page):
      "Line 3 is: E0040100000000B2,Walden"),
     ("books.csv", BOTH.replace(b"E00401", b"E004", 1), "books.csv, line 2: the cell uid has no UID",
      "Store the column as text"),
+    ("books.csv", BOTH.replace(b"E0040100000000A1", b"A1000000000104E0"),
+     "books.csv, line 2: the bytes of the UID are in the opposite order", "A1000000000104E0 is E0"),
     ("books.csv", b"Tag ID;title\n", "books.csv, line 1: these aren't the columns of a catalogue",
      "Line 1 is: Tag ID;title"),
     ("books.xlsx", b"PK\x03\x04", "books.xlsx is a spreadsheet", "save it as CSV, and open that;"),
@@ -417,6 +515,39 @@ def test_two_catalogues_are_one_too_many(page):
     drop(page, {**COMPLETE, "more.csv": BOTH})
     assert "the tables are books.csv, more.csv" in page.texts(".error")[0]
     assert "Open one catalogue (a table with a column uid)" in page.said()
+
+
+@pytest.mark.parametrize("name", ["Thumbs.db", "desktop.ini"])
+def test_a_file_that_belongs_to_no_collection_is_left_out(page, name):
+    """Beside which no other catalogue would help."""
+    drop(page, {**COMPLETE, name: b"\xD0\xCF\x11\xE0" if name == "Thumbs.db" else b"[x]\n"})
+    assert name in page.texts(".error")[0]
+    assert page.texts("#told button") == [f"Leave out {name}"]
+    page.press("#told button")
+    page.until("h1", "All 2 expected items are here, and no others.")
+    assert page.texts(".note") == [f"{name} was left out."] and look(page) == "yes"
+
+
+@pytest.mark.parametrize("names", [("A.log", "A.log"), ("A.log", "A.txt")])
+def test_of_two_logs_of_one_name_one_is_left_out(page, names):
+    """They have the times at which they were changed. The second one is the log of a tag more."""
+    files = zip((*names, "B.log", "books.csv"),
+                (field(UID_A), field(UID_A, UID_C), field(UID_B), BOTH))
+    page.run(DROP, [[name, b64encode(text).decode()] for name, text in files])
+    page.until(".error", "another log has that name, or is of a place by the same name")
+    assert "still here" not in page.said()
+    told = page.texts("#told button")
+    assert [re.sub(r" of \d+ \w+ \d{4}, \d\d:\d\d$", "", it) for it in told] == [
+        f"Leave out {name}" for name in names]
+    page.press("#told button", 1)
+    page.until("h1", "All 2 expected items are here, and no others.")
+    assert page.run(FOCUS) == page.texts("h1")[0]
+
+
+def test_a_table_too_many_is_left_out(page):
+    drop(page, {**COMPLETE, "notes.csv": b"a,b\n"})
+    page.press("#told button", page.texts("#told button").index("Leave out notes.csv"))
+    page.until("h1", "All 2 expected items are here, and no others.")
 
 
 @pytest.mark.parametrize("coding", ["utf-16-le", "utf-16-be", "utf-8"])
@@ -443,6 +574,11 @@ def test_a_text_of_surveys_stands_in_place_of_its_logs(page, program, tmp_path):
 
 
 # What is saved and printed.
+
+CELLS = """
+return [...document.querySelectorAll("td[data-head='may be in']")].map((it) => it.textContent);
+"""
+
 
 def saved(page, folder):
     """The file that the page saves."""
@@ -474,6 +610,20 @@ def test_what_is_saved_is_the_object_and_its_logs(page, program, tmp_path):
     assert page.texts("h1") == heading
     page.press(".logs summary")
     page.until(".logs h3", "Not finished")
+
+
+def test_a_list_of_logs_is_saved_once(page, tmp_path):
+    """As where each item may be in each of many fields; then it is drawn as it was."""
+    uids = [f"E004{number:012X}" for number in range(500)]
+    drop(page, {"books.csv": "\n".join(["uid", *uids, ""]).encode(),
+                **{f"field {number}.log": log_of("I16 S S") for number in range(100)}})
+    heading, may_be = page.texts("h1"), "\n".join(page.run(CELLS))
+    made = saved(page, tmp_path / "saved")
+    told, _ = drawn_in(made.read_text())
+    assert told["lists"] == [list(range(100))] and len(json.dumps(told["items"])) < 200 * len(uids)
+    page.open(made)
+    assert page.texts("h1") == heading and "\n".join(page.run(CELLS)) == may_be
+    assert may_be.startswith("field 0.log, field 1.log, field 2.log or 97 more")
 
 
 def test_the_sheets_say_of_what_they_are(page):

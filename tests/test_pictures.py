@@ -36,7 +36,7 @@ HEADLINES = {
     "shelf": "Not finished: 1 didn't answer, 1 tag here isn't listed and 1 isn't proved; 1 of 3 "
              "listed tags is proved to be here.",
     "unfinished-count": "Not finished: all 2 listed tags are here; others may be too.",
-    "whole-shelf": "All 4 listed tags are here, and no others.",
+    "whole-shelf": "All 4 listed tags are here, and no others",
     "woke": "This count can't be used. The log contradicts itself: tag ..00A1 was silenced in "
             "line 4, but answered in line 6",
 }
@@ -393,7 +393,7 @@ def test_page_of_a_collection_that_is_not_sure_enough(run, browser, tmp_path):
     missed = "a tag would have had to be missed in 2 slots"
     page = Screen(browser)
     for most, status, headline in (
-            ("2", 0, "All 4 expected items are here, and no others."),
+            ("2", 0, "All 4 expected items are here, and no others answered."),
             ("3", 1, f"Not sure enough: {missed}, and 3 or more were asked for.")):
         done = run(*words, "--margin", most)
         (tmp_path / "page.html").write_bytes(done.stdout)

@@ -5,7 +5,7 @@ import { doubted, doubtsOf } from "./logs.mjs";
 import { Pane } from "./pane.mjs";
 import { noOthers } from "./say.mjs";
 import { inOrder, MOST_NAMES, nameOf, shelved, Shelves } from "./shelves.mjs";
-import { deafIn, granted, HOLDS, mayBeWrong, missed, notSure, stillHolds } from "./sure.mjs";
+import { deafIn, granted, HOLDS, howSure, mayBeWrong, missed, notSure, stillHolds, TO_KNOW } from "./sure.mjs";
 import { banner, signed, view } from "./view.mjs";
 import { count, EDITED, endings, grouped, KIND, listing, madeOnce, printable } from "./words.mjs";
 
@@ -17,7 +17,9 @@ import { count, EDITED, endings, grouped, KIND, listing, madeOnce, printable } f
 /** @typedef {{uid: string | null, state: State, place: string | null, cells?: string[], certain_in: number[], possible_in: number[]}} Item */
 /** @typedef {Omit<Item, "state" | "place" | "cells"> & {line: number}} Unexpected */
 /** @typedef {{name: string, place: string | null, left_over: boolean, field: string, answers?: number, certain?: number, shared?: number, open?: MaskFields[],
- *   more?: boolean, margin?: number, hidden?: MaskFields | null, deaf?: MaskFields | null, sha256?: string, object?: LogObject}} OneLog */
+ *   more?: boolean, margin?: number, hidden?: MaskFields | null, deaf?: MaskFields | null, sha256?: string, object?: LogObject,
+ *   denied?: string[], was?: string}} OneLog of which `denied` are the UIDs on its own list that it rules out, and `was` is the name of
+ *   its file, if it took the place of another */
 /**
  * The object of a collection, as docs/answers.schema.json has it.
  * @typedef {Object} CollectionObject
@@ -38,9 +40,14 @@ import { count, EDITED, endings, grouped, KIND, listing, madeOnce, printable } f
  * @property {{file: string, sha256: string}[]} files what was given beside the logs
  * @property {string[]} [both] logs that are called like copies and are none, as was said
  */
-/** @typedef {{shelves: Shelves, doubts: import("./logs.mjs").Doubt[], open: number[], of: (...states: State[]) => Item[], elsewhere: Item[], others: Item[],
- *   headline: string}} Summary what is worked out of an object once: the logs to count again, the items by their states, and of those that aren't known which
- *   the logs of their own places rule out */
+/**
+ * What is worked out of an object once: the logs to count again, the items by their states, and of
+ * those that aren't known which the logs of their own places rule out; whether tags could be in
+ * some field if replies were hidden, and if the reader went deaf; and whether anything rests on it.
+ * @typedef {{shelves: Shelves, doubts: import("./logs.mjs").Doubt[], open: number[],
+ *   of: (...states: State[]) => Item[], elsewhere: Item[], others: Item[],
+ *   hiding: number[], deaf: number[], isResting: boolean}} Summary
+ */
 /** @typedef {(at: number) => null | (() => Promise<Told | undefined>)} Opener what is told of a log, by its number, if it can be had */
 
 /** How many logs are drawn, how many items are seen unfolded, how many masks are named, and by how many doubts a headline is explained. */
@@ -59,6 +66,7 @@ const NOT_COUNTED = "Nothing is known of these, as their places have no log.";
 const WAITS = "The catalogue can be read, and waits here: open or drop the logs, in any order. They are compared with it at once.";
 const AGAIN_BROKEN = " If a log contradicts itself again, send it and this page to whoever maintains the reader.";
 const CARRIED = "Nothing was carried from one field to another while the logs were written.";
+const ONCE_AGAIN = `Of these a strong reply may have hidden others: ${TO_KNOW}.`;
 const PROVED = "What is said of each item and log is what the library writes of these files, which is proved; how the page draws it is tested.";
 
 /** @param {OneLog} log */
@@ -88,7 +96,8 @@ function byState({ items, unexpected }) {
  * @returns {Node[]}
  */
 export function collectionView(object, opener = () => null, canLeave = () => false) {
-  const { shelves, doubts, of, elsewhere, others, open, headline } = summaryOf(object), { counts } = object;
+  const summary = summaryOf(object), { shelves, doubts, of, elsewhere, others, open, hiding } = summary;
+  const { counts } = object, headline = headlineOf(object);
   const home = (/** @type {Item} */ { place }) => printable(place ?? ""), known = new Set(["", ...of("in place").map(home)]);
   const mayBe = { "may be in": (/** @type {Item} */ item) => shelves.mayBe(item) };
   const some = others.filter((item) => known.has(home(item))), none = others.filter((item) => !known.has(home(item)));
@@ -97,8 +106,12 @@ export function collectionView(object, opener = () => null, canLeave = () => fal
   const which = none.length ? ` They are ${count(none.length, "item")} of ${all}, not named here${these}` : "";
   const todo = of("missing", "misplaced", "unexpected", "returned"), isKnown = !todo.length && !counts["not provable"] && !counts["not counted"];
   const edited = object.logs.filter(({ name }) => name.endsWith(EDITED)).length, changes = edited ? ` (${edited.toLocaleString("en")} edited)` : "";
-  const said = { ...lookOf(object, doubts), headline, lights: lights(object, shelves) }, rests = conditionsOfAll(object, shelves);
-  if (!object.logs.length) return [banner({ look: "read", sign: "…", headline, lights: [] }, printable(object.file)), el("p", {}, WAITS)];
+  const said = { ...lookOf(object, summary), headline, lights: lights(object, summary) };
+  const rests = conditionsOfAll(object, summary), done = [...object.logs.keys()].filter((at) => !open.includes(at));
+  if (!object.logs.length) {
+    const waits = { look: /** @type {const} */ ("read"), sign: "…", headline, lights: [] };
+    return [banner(waits, printable(object.file)), ...doubted(doubts, canLeave), el("p", {}, WAITS)];
+  }
   const drawn = (/** @type {string} */ title, /** @type {string} */ words, /** @type {number[]} */ list, /** @type {boolean} */ isFirst) =>
     logs(title, words, list, isFirst, object, shelves, opener);
   return [banner(said, `${printable(object.file)} · ${count(object.logs.length, "log")}${changes}`), ...doubted(doubts, canLeave), ...isKnown ? rests : [],
@@ -108,7 +121,9 @@ export function collectionView(object, opener = () => null, canLeave = () => fal
     ...part("Without a tag", of("no tag"), true, NO_TAG, shelved(of("no tag"), shelves, home, {}, () => "look for")),
     ...part("Not counted", of("not counted"), false, NOT_COUNTED, shelved(of("not counted"), shelves, home)),
     ...part("Not known yet", others, false, UNKNOWN_YET + which, shelved(some, shelves, home, some.every(home) ? {} : mayBe)),
-    ...inPlace(object), ...isKnown ? [] : rests, ...drawn("Nothing left to ask", "", [...object.logs.keys()].filter((at) => !isOpen(object.logs[at])), false),
+    ...inPlace(object), ...isKnown ? [] : rests,
+    ...drawn("Ask all once more", ONCE_AGAIN, done.filter((at) => hiding.includes(at)), false),
+    ...drawn("Nothing left to ask", "", done.filter((at) => !hiding.includes(at)), false),
     ...grantedOfAll(object), recordOfAll(object)];
 }
 
@@ -156,50 +171,45 @@ const namesIn = ({ items }, shelves) => new Map(items.flatMap((item) => item.uid
 const isComplete = ({ answer, status }) => status === 0 && answer.startsWith(KIND.COMPLETE);
 
 /**
- * Whether other tags may be in some field if strong replies hid weaker ones.
+ * As of one log, what is complete isn't green without a tag that was expected, nor where others may
+ * be hidden, nor where anything isn't sure of its logs.
  * @param {CollectionObject} object
- */
-const isHiding = ({ logs: all }) => all.some(({ hidden }) => hidden);
-
-/**
- * As of one log, what is complete isn't green without a tag that was expected, nor where others may be hidden, nor where anything isn't sure of
- * its logs.
- * @param {CollectionObject} object
- * @param {import("./logs.mjs").Doubt[]} doubts
+ * @param {Summary} summary
  * @returns {Pick<import("./say.mjs").Said, "look" | "sign">}
  */
-function lookOf(object, doubts) {
+function lookOf(object, { doubts, hiding }) {
   if (!isComplete(object)) return { look: "no", sign: "!" };
-  const isSure = found(object) && !object.counts["no tag"] && !isHiding(object) && !doubts.length;
+  const isSure = found(object) && !object.counts["no tag"] && !hiding.length && !doubts.length;
   return isSure ? { look: "yes", sign: "✓" } : { look: "read", sign: "i" };
 }
-
-/** @param {CollectionObject} object */
-export const headlineOf = (object) => summaryOf(object).headline;
 
 /** @type {WeakMap<CollectionObject, Summary>} */
 const SUMMARIES = new WeakMap();
 
 /** @param {CollectionObject} object */
 const summaryOf = (object) => madeOnce(SUMMARIES, object, () => {
-  const shelves = new Shelves(object), of = byState(object), unknown = of("not provable"), elsewhere = unknown.filter((item) => shelves.isElsewhere(item));
+  const shelves = new Shelves(object), of = byState(object), { logs, counts, margin } = object;
+  const unknown = of("not provable"), elsewhere = unknown.filter((item) => shelves.isElsewhere(item));
   const found = new Set(elsewhere), others = unknown.filter((item) => !found.has(item));
-  const open = [...object.logs.keys()].filter((at) => isOpen(object.logs[at])), doubts = doubtsOf(object, shelves);
-  return { shelves, doubts, open, of, elsewhere, others, headline: titled(object, { shelves, doubts, open, elsewhere, others }) };
+  const those = (/** @type {(log: OneLog) => unknown} */ is) => [...logs.keys()].filter((at) => is(logs[at]));
+  return { shelves, of, elsewhere, others, doubts: doubtsOf(object, shelves), open: those(isOpen),
+    hiding: those(({ hidden }) => hidden), deaf: those(({ deaf }) => deaf),
+    isResting: margin !== undefined || counts.missing > 0 || elsewhere.length > 0 };
 });
 
-/**
- * @param {CollectionObject} object
- * @param {Omit<Summary, "of" | "headline">} summary
- */
-function titled(object, summary) {
+/** @param {CollectionObject} object */
+export function headlineOf(object) {
+  const summary = summaryOf(object), { hiding, deaf } = summary;
   if (!object.logs.length) return waiting(object);
-  if (!isComplete(object)) return object.wanted ? notSure(object.margin?.margin, object.wanted) : lacking(object, summary);
-  const doubts = summary.doubts.map(({ short }) => short), more = doubts.length - MOST_DOUBTS, number = found(object), without = object.counts["no tag"];
+  if (object.wanted) return notSure(object.margin?.margin, object.wanted);
+  if (!isComplete(object)) return lacking(object, summary);
+  const doubts = summary.doubts.map(({ short }) => short), more = doubts.length - MOST_DOUBTS;
+  const number = found(object), without = object.counts["no tag"];
   const untagged = without ? [`${count(without, "item")} ${without === 1 ? "has" : "have"} no tag`] : [];
   const but = [...untagged, ...doubts.slice(0, MOST_DOUBTS), ...more > 0 ? [`${more} more`] : []];
-  const here = number ? `${number === 1 ? "The one expected item is" : `All ${count(number, "expected item")} are`} here${noOthers(number, isHiding(object))}`
-    : `Nothing is expected here, and no tag answered.`;
+  const all = number === 1 ? "The one expected item is" : `All ${count(number, "expected item")} are`;
+  const here = number ? `${all} here${noOthers(number, hiding.length > 0, deaf.length > 0)}`
+    : "Nothing is expected here, and no tag answered.";
   return but.length ? `${here} But ${listing(but)}.` : here;
 }
 
@@ -212,12 +222,14 @@ function waiting({ items, without_log: places }) {
 /**
  * What isn't as it should be, the most important first, and what to count.
  * @param {CollectionObject} object
- * @param {Omit<Summary, "of" | "headline">} summary
+ * @param {Summary} summary
  */
-function lacking(object, { shelves, doubts, elsewhere: { length: elsewhere }, others, open }) {
+function lacking(object, { shelves, of, doubts, elsewhere: { length: elsewhere }, others, open }) {
+  const strays = of("misplaced").filter((item) => shelves.isStray(item)).length;
   const { counts, logs: fields } = object, again = [...open].sort((one, other) => inOrder(shelves.name(one), shelves.name(other)));
   const parts = /** @type {[number, string][]} */ ([[counts.missing, "missing"], [elsewhere, `not heard on ${elsewhere === 1 ? "its shelf" : "their shelves"}`],
-    [counts.misplaced, "in the wrong place"], [counts.unexpected, "not in the catalogue"], [counts.returned, "back that should be away"],
+    [counts.misplaced - strays, "in the wrong place"], [strays, "heard in a log of no place"],
+    [counts.unexpected, "not in the catalogue"], [counts.returned, "back that should be away"],
     [counts["not counted"], "not counted"], [others.length, "not known yet"], [counts["no tag"], "without a tag"]]);
   const said = parts.filter(([number]) => number).map(([number, words], at) => at ? `${number.toLocaleString("en")} ${words}`
     : `${count(number, "item")} ${words}`);
@@ -231,11 +243,15 @@ function lacking(object, { shelves, doubts, elsewhere: { length: elsewhere }, ot
 
 /**
  * @param {CollectionObject} object
- * @param {Shelves} shelves
+ * @param {Summary} summary
  * @returns {import("./say.mjs").Light[]}
  */
-function lights(object, { isAsked: isPlaced }) {
-  const { counts, items, logs, without_log: places } = object, done = logs.filter((log) => !isOpen(log) && !log.hidden).length, here = found(object);
+function lights(object, summary) {
+  const { counts, items, logs, without_log: places, margin } = object, here = found(object);
+  const { hiding, deaf, isResting, shelves: { isAsked: isPlaced } } = summary;
+  const other = margin ? "others may be here" : "the answer may be wrong";
+  const sure = howSure(margin?.margin, "still complete", other, hiding.length > 0, deaf.length > 0);
+  const done = logs.filter((log) => !isOpen(log) && !log.hidden).length;
   if (!logs.length) return [];
   const more = (/** @type {number} */ number, /** @type {string} */ words) => number ? `, ${number.toLocaleString("en")} ${words}` : "";
   const differs = counts.missing || counts.misplaced || counts.unexpected || counts.returned;
@@ -243,37 +259,22 @@ function lights(object, { isAsked: isPlaced }) {
     more(isPlaced ? counts.there : 0, "without a place");
   const lost = places.length ? `, no log of ${count(places.length, "place")}` : "";
   return [{ name: "Search finished", value: `${done.toLocaleString("en")} of ${count(logs.length, "log")}${lost}`, look: done === logs.length && !lost ? "yes" : "no" },
-    { name: isPlaced ? "In place" : "Here", value, look: here + counts.away === items.length ? "yes" : differs ? "no" : "plain" }, ...sureOfAll(object)];
+    { name: isPlaced ? "In place" : "Here", value, look: here + counts.away === items.length ? "yes" : differs ? "no" : "plain" }, ...isResting ? sure : []];
 }
 
 /**
- * How sure a complete collection is, as of a list that is complete.
+ * What is said of what is here and missing: what a complete answer is said of, and whether it also
+ * holds if strong replies hid weaker ones, or the reader went deaf.
  * @param {CollectionObject} object
- * @returns {import("./say.mjs").Light[]}
+ * @param {Summary} summary
  */
-function sureOfAll(object) {
-  const { margin, logs } = object;
-  if (!margin) return [];
-  const light = (/** @type {string} */ name, /** @type {boolean} */ holds) => ({ name, value: holds ? "still complete" : "others may be here",
-    look: /** @type {import("./say.mjs").Look} */ (holds ? "yes" : "no") });
-  return [{ name: "Each other tag was asked", value: `${count(margin.margin, "time")} or more`, look: "plain" }, light("If replies were hidden", !isHiding(object)),
-    light("If the reader went deaf", logs.every(({ deaf }) => deaf === null))];
-}
-
-/**
- * What a complete answer is said of; and whether what is here and missing also holds if strong replies hid weaker ones.
- * @param {CollectionObject} object
- * @param {Shelves} shelves
- */
-function conditionsOfAll(object, shelves) {
-  const { counts, logs: fields, margin } = object, numbers = [...fields.keys()], hiding = numbers.filter((at) => fields[at].hidden);
-  // what else is in fields that have to be counted again is known then
-  const hidden = hiding.filter((at) => !isOpen(fields[at])), isAgain = hiding.length > 0 && !hidden.length;
-  if (!fields.length || !margin && (isAgain || !counts.missing && !counts.unexpected)) return [];
-  const deaf = margin ? numbers.filter((at) => fields[at].deaf) : [];
-  const also = hidden.length ? `${mayBeWrong(` in the field of ${shelves.names(hidden)},`)}.` : stillHolds(margin?.margin);
-  const sure = margin ? [HOLDS, ...missed(margin, ` in the field of ${shelves.name(margin.log)}`)] : [];
-  return [el("section", { class: "holds" }, [...sure, also, ...deaf.length ? [deafIn(shelves.names(deaf))] : []].map((it) => el("p", {}, it)))];
+function conditionsOfAll({ counts, margin }, { shelves, hiding, deaf, isResting }) {
+  if (!isResting && !counts.unexpected) return [];
+  const also = hiding.length ? `${mayBeWrong(` ${shelves.fields(hiding)},`)}.`
+    : stillHolds(margin?.margin);
+  const sure = margin ? [HOLDS, ...missed(margin, ` ${shelves.fields([margin.log])}`)] : [];
+  const said = [...sure, also, ...isResting && deaf.length ? [deafIn(shelves.fields(deaf))] : []];
+  return [el("section", { class: "holds" }, said.map((it) => el("p", {}, it)))];
 }
 
 /**
@@ -302,9 +303,9 @@ function logs(title, words, list, open, object, shelves, opener) {
  * @param {ReturnType<Opener>} opens
  */
 function oneLog(log, name, names, opens) {
-  const sha256 = log.sha256 ?? log.object?.sha256, file = nameOf(log.name), isSame = [file, file.replace(/\.[^. ]*$/, "")].includes(name);
+  const sha256 = log.sha256 ?? log.object?.sha256, file = nameOf(log.was ?? log.name), isSame = [file, file.replace(/\.[^. ]*$/, "")].includes(name);
   const sum = sha256 ? [el("span", { class: "sum" }, "\u00A0· ", el("code", {}, `SHA-256 ${sha256}`))] : [];
-  const words = [el("b", { title: printable(log.name) }, name), `${isSame ? "" : ` (${file})`}: ${saidOf(log)}`, ...sum];
+  const words = [el("b", { title: printable(log.was ?? log.name) }, name), `${isSame ? "" : ` (${file})`}: ${saidOf(log)}`, ...sum];
   if (!opens) return el("p", { class: "log" }, words);
   const it = /** @type {HTMLDetailsElement} */ (el("details", { class: "log aside" }, el("summary", {}, words)));
   it.addEventListener("toggle", async () => {
@@ -343,9 +344,9 @@ function saidOf({ field, certain = 0, open = [], more }) {
 /** @param {CollectionObject} object */
 function grantedOfAll(object) {
   if (!object.logs.length) return [];
-  const end = object.ended ? "" : ", of which the last has no line end, so the file may have been cut off";
-  const catalogue = `The catalogue is complete. It has ${count(object.items.length, "row")}${end}: what isn't in it is never missed.`;
-  const all = [...granted(!isHiding(object)), CARRIED, catalogue, PROVED];
+  const rows = count(object.items.length, "row"), isHiding = summaryOf(object).hiding.length > 0;
+  const catalogue = `The catalogue is complete. It has ${rows}: what isn't in it is never missed.`;
+  const all = [...granted(!isHiding), CARRIED, catalogue, PROVED];
   return [folded(`What this takes for granted (${all.length})`, !object.status, bullets(all))];
 }
 

@@ -26,6 +26,13 @@ export function el(tag, attributes = {}, ...content) {
   return made;
 }
 
+/**
+ * A button, by what it says and what it carries.
+ * @param {string} words
+ * @param {Record<string, string>} data
+ */
+export const button = (words, data) => el("button", { type: "button", ...data }, words);
+
 /** @param {string[]} items */
 export const bullets = (items) => el("ul", {}, items.map((it) => el("li", {}, it)));
 
@@ -117,6 +124,5 @@ export function lowered(nodes) {
  * @param {boolean} open
  * @param {...Content} content
  */
-export function folded(heading, open, ...content) {
-  return el("details", open ? { open: "" } : {}, el("summary", {}, el("h2", {}, heading)), ...content);
-}
+export const folded = (heading, open, ...content) =>
+  el("details", open ? { open: "" } : {}, el("summary", {}, el("h2", {}, heading)), ...content);

@@ -70,9 +70,8 @@ export const uidIn = (frame) => numberOf(frame.slice(UID_AT, UID_AT + UID_DIGITS
  * @param {bigint} uid
  * @param {number} link
  */
-export function stayQuietOf(uid, link) {
-  return withCrc(hex(ADDRESSED | link, 2) + hex(STAY_QUIET, 2) + turnedOf(hex(uid)));
-}
+export const stayQuietOf = (uid, link) =>
+  withCrc(hex(ADDRESSED | link, 2) + hex(STAY_QUIET, 2) + turnedOf(hex(uid)));
 
 /**
  * The frame that asks for a mask.
@@ -89,9 +88,8 @@ export function requestOf(slots, { len, value }, link) {
  * @param {{mask_len: number, mask_value: string}} written
  * @returns {Mask}
  */
-export function maskOf({ mask_len, mask_value }) {
-  return { len: mask_len, value: mask_value === "-" ? 0n : BigInt(`0x${mask_value}`) };
-}
+export const maskOf = ({ mask_len, mask_value }) =>
+  ({ len: mask_len, value: mask_value === "-" ? 0n : BigInt(`0x${mask_value}`) });
 
 /**
  * Whether a UID is in a mask.
@@ -136,6 +134,5 @@ export function inventoryOf(frame) {
  * @param {number} slot
  * @returns {Mask}
  */
-export function slotMask({ slots, mask: { len, value } }, slot) {
-  return slots === 1 ? { len, value } : { len: len + SLOT_BITS, value: value | BigInt(slot) << BigInt(len) };
-}
+export const slotMask = ({ slots, mask: { len, value } }, slot) =>
+  slots === 1 ? { len, value } : { len: len + SLOT_BITS, value: value | BigInt(slot) << BigInt(len) };

@@ -1,6 +1,7 @@
 /** Objects of logs and of collections: what the library writes of them, and what only who opens them knows. */
-import { isPlaces, isSpreadsheet, kindOf, PACKED, SAVE_AS_CSV, TABLE, utf8Of } from "./files.mjs";
-import { LF } from "./log.mjs";
+import { isPlaces, isSpreadsheet, kindOf, PACKED, SAVE_AS_CSV, stemOf, TABLE, utf8Of } from "./files.mjs";
+import { hasUid, maskOf } from "./frames.mjs";
+import { LF, LISTING } from "./log.mjs";
 import { wrongTable } from "./refused.mjs";
 import { hex, madeOnce, printable } from "./words.mjs";
 
@@ -14,6 +15,8 @@ const MOST_QUOTED = 160;
 const DECODED = new TextDecoder("utf-8", { ignoreBOM: true });
 const REFUSED = /^refused at line (\d+) of ([^]*): (\w+)\n$/;
 const NOT_ONE = "these aren't the files of a collection";
+/** A line of a log's own list. */
+const LISTED = /^U (\w{16})/gm;
 const ONE_OF_EACH = ["Open one catalogue (a table with a column uid), at most one table of places (with the columns place and log), and logs."];
 
 /** Why there is no answer, and what to do. */
@@ -21,10 +24,12 @@ export class Wrong extends Error {
   /**
    * @param {string} message
    * @param {string[]} [cure]
+   * @param {string[]} [files] by the names of those that can be left out
    */
-  constructor(message, cure = []) {
+  constructor(message, cure = [], files = []) {
     super(message);
     this.cure = cure;
+    this.files = files;
   }
 }
 
@@ -53,9 +58,35 @@ export async function judgeAll(library, files) {
   const object = JSON.parse(said), tables = files.filter((file) => kindOf(file) === "table");
   const sums = new Map(await Promise.all(files.map(async ({ name, text }) => /** @type {const} */ ([name, await sumOf(text)]))));
   shareLists([...object.items, ...object.unexpected]);
+  const denied = deniedIn(object, texts);
   return { ...object, version: versionOf(library.version), file: tables.find((file) => !isPlaces(file))?.name ?? "",
     files: tables.map(({ name }) => ({ file: name, sha256: sums.get(name) ?? "" })),
-    logs: object.logs.map((/** @type {{name: string}} */ log) => ({ ...log, sha256: sums.get(log.name) ?? "" })) };
+    logs: object.logs.map((/** @type {{name: string}} */ log, /** @type {number} */ at) =>
+      ({ ...log, sha256: sums.get(log.name) ?? "", denied: denied[at] })) };
+}
+
+/**
+ * For each log the UIDs that are on its own list, and that it rules out.
+ * @param {CollectionObject} object
+ * @param {Given[]} texts
+ */
+function deniedIn({ items, unexpected, logs }, texts) {
+  const files = new Map(texts.map(({ name, text }) => [name, text]));
+  const lists = logs.map(({ name, field }) => field === "possible" ? listedIn(files.get(name)) : []);
+  const known = new Map(lists.flat().length ? [...items, ...unexpected].map((it) => [it.uid, it]) : []);
+  return lists.map((uids, at) => uids.filter((uid) => {
+    const it = known.get(uid), { open = [], more } = logs[at], number = BigInt(`0x${uid}`);
+    return it ? !it.certain_in.includes(at) && !it.possible_in.includes(at)
+      : !more && !open.some((mask) => hasUid(maskOf(mask), number));
+  }));
+}
+
+/** @param {Uint8Array} [text] of a log */
+function listedIn(text = new Uint8Array()) {
+  let from = text.indexOf(LISTING);
+  while (from > 0 && text[from - 1] !== LF) from = text.indexOf(LISTING, from + 1);
+  if (from < 0) return [];
+  return [...DECODED.decode(text.subarray(from)).matchAll(LISTED)].map(([, uid]) => uid.toUpperCase());
 }
 
 /**
@@ -78,8 +109,9 @@ function written(library, texts, files) {
     return library.run("json-collection", texts).written;
   } catch (error) {
     if (!(error instanceof RangeError)) throw error;
-    const tables = files.filter((file) => kindOf(file) === "table").map(({ name }) => printable(name));
-    throw new Wrong(`${NOT_ONE}${tables.length ? `: the tables are ${tables.join(", ")}` : ""}`, ONE_OF_EACH);
+    const tables = files.filter((file) => kindOf(file) === "table").map(({ name }) => name);
+    throw new Wrong(`${NOT_ONE}${tables.length ? `: the tables are ${tables.join(", ")}` : ""}`,
+      ONE_OF_EACH, tables);
   }
 }
 
@@ -92,9 +124,14 @@ function written(library, texts, files) {
 function wrongIn(texts, line, name, fault) {
   const text = texts.find((it) => it.name === name)?.text ?? new Uint8Array(), start = lineAt(text, line);
   const quoted = DECODED.decode(untilLine(text, line).subarray(start)).trimEnd(), { wrong, fix } = wrongTable(quoted, line, fault);
-  if (isSpreadsheet(quoted)) return new Wrong(`${name} is a ${TABLE.test(name) ? "spreadsheet" : PACKED}`, [`If it has the catalogue, ${SAVE_AS_CSV}, and open that; else leave it out.`]);
-  if (fault === "SameName") return new Wrong(`${name}: ${wrong}`, [fix]);
-  return new Wrong(`${name}, line ${line}: ${wrong}`, [fix, ...quoted ? [`Line ${line} is: ${printable(quoted)}`] : []]);
+  const same = texts.map((it) => it.name).filter((it) => stemOf(it) === stemOf(name));
+  if (fault === "SameName") return new Wrong(`${name}: ${wrong}`, [fix], same);
+  if (isSpreadsheet(quoted)) {
+    const what = TABLE.test(name) ? "spreadsheet" : PACKED, cure = `${SAVE_AS_CSV}, and open that`;
+    return new Wrong(`${name} is a ${what}`, [`If it has the catalogue, ${cure}; else leave it out.`], [name]);
+  }
+  return new Wrong(`${name}, line ${line}: ${wrong}`,
+    [fix, ...quoted ? [`Line ${line} is: ${printable(quoted)}`] : []], [name]);
 }
 
 /**
@@ -119,9 +156,8 @@ function untilLine(text, line) {
 }
 
 /** @param {number} number as the library gives it */
-function versionOf(number) {
-  return [Math.floor(number / 10000), Math.floor(number / 100) % 100, number % 100].join(".");
-}
+const versionOf = (number) =>
+  [Math.floor(number / 10000), Math.floor(number / 100) % 100, number % 100].join(".");
 
 /** @param {Uint8Array} text */
 async function sumOf(text) {

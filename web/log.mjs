@@ -15,7 +15,7 @@ const CR = 13;
 const codeOf = (letter) => letter.charCodeAt(0);
 const ASKING = codeOf("T"), CYCLED = codeOf("F");
 /** With which byte a line of the list begins. */
-const LISTING = codeOf("U");
+export const LISTING = codeOf("U");
 /** What a slot held, by the byte with which its line begins. */
 const READINGS = /** @type {(Reading | undefined)[]} */ (new Array(256).fill(undefined));
 Object.assign(READINGS, { [codeOf("S")]: "silent", [codeOf("R")]: "heard", [codeOf("H")]: "captured", [codeOf("C")]: "collision",

@@ -1,16 +1,20 @@
 /** What is to be known of the logs of a collection before its items are: what wasn't counted, and what isn't sure. */
-import { el, rest } from "./elements.mjs";
+import { button, el, rest } from "./elements.mjs";
 import { copiesAmong } from "./files.mjs";
 import { firstOf, nameOf } from "./shelves.mjs";
-import { count, printable } from "./words.mjs";
+import { count, KIND, printable } from "./words.mjs";
 
 /** @typedef {import("./collection.mjs").CollectionObject} CollectionObject */
 /** @typedef {import("./shelves.mjs").Shelves} Shelves */
-/** @typedef {{short: string, words: string, cure: string, isFirst?: boolean, ask?: [string, string]}} Doubt in a few words, in a sentence, and what
- *    to do; whether a headline says it that isn't complete; of which two logs it is asked which one counts */
+/**
+ * In a few words, in a sentence, and what to do; whether a headline says it that isn't complete; and
+ * buttons, by what they say and carry, that leave out one of some logs.
+ * @typedef {{short: string, words: string, cure: string, isFirst?: boolean,
+ *   buttons?: [string, Record<string, string>][], logs?: string[]}} Doubt
+ */
 
-/** How many logs and places are named at most. */
-const MOST_LISTED = 12;
+/** How many logs and places are named at most, and of how many logs each has a button. */
+const MOST_LISTED = 12, MOST_LEFT = 4;
 const RENAME = "The catalogue has no place of that name. Give the log the name of its place, or write it into the table of places; an old one, or one of " +
   "another collection, leave out.";
 const NO_PLACES = "If items can stand on wrong shelves, add a column 'place', and name each log after its place: then shelves that weren't counted are " +
@@ -20,6 +24,10 @@ const IS_EMPTY = "If something should be there, check the antenna, and count aga
 const OLDER = "It may be an older log of the same shelf, or a copy: then leave it out.";
 const OVERLAP = "The fields of two readers may overlap, one of the logs may be an older one, or items were carried from one to the other.";
 const WHICH = "Each log has to be of another field: press the one that counts.";
+const IS_CUT = "If it was cut off behind a row, what stood there is never missed: compare the number of " +
+  "rows with what you know, or save it again.";
+const DENIED = "Its reply may have been lost, or the list is that of another count: count this field " +
+  "again, in a new log.";
 
 /**
  * @param {CollectionObject} object
@@ -27,7 +35,10 @@ const WHICH = "Each log has to be of another field: press the one that counts.";
  * @returns {Doubt[]}
  */
 export function doubtsOf(object, shelves) {
-  return [...copies(object), ...withoutLog(object), ...leftOver(object), ...withoutAnswer(object, shelves), ...shared(object, shelves), ...notAsked(shelves)];
+  const asked = copies(object), those = asked.flatMap(({ logs = [] }) => logs);
+  return [...asked, ...withoutLog(object), ...leftOver(object, those), ...cutOff(object),
+    ...ruledOut(object, shelves), ...withoutAnswer(object, shelves), ...shared(object, shelves),
+    ...notAsked(shelves)];
 }
 
 /**
@@ -37,10 +48,15 @@ export function doubtsOf(object, shelves) {
  */
 function copies({ logs, both = [] }) {
   const placed = new Set(logs.filter(({ place }) => place !== null).map(({ name }) => name));
-  const asked = copiesAmong(logs.map(({ name }) => name)).filter((ask) => !both.includes(ask[0]) && !ask.every((name) => placed.has(name)));
-  return asked.map((ask) => {
-    const [one, other] = ask.map(nameOf);
-    return { short: `say whether ${other} or ${one} counts`, isFirst: true, words: `By its name, ${one} may be a later count than ${other}, or a copy.`, cure: WHICH, ask };
+  const asked = copiesAmong(logs.map(({ name }) => name))
+    .filter((ask) => !both.includes(ask[0]) && !ask.every((name) => placed.has(name)));
+  return asked.map(([later, first]) => {
+    const one = nameOf(later), other = nameOf(first);
+    return { short: `say whether ${other} or ${one} counts`, isFirst: true, cure: WHICH, logs: [later, first],
+      words: `By its name, ${one} may be a later count than ${other}, or a copy.`,
+      buttons: [[`Only ${one}`, { "data-leave": first, "data-kept": later }],
+        [`Only ${other}`, { "data-leave": later, "data-kept": first }],
+        ["Both: other fields", { "data-both": later }]] };
   });
 }
 
@@ -52,30 +68,72 @@ function withoutLog({ without_log: places, items, logs }) {
   if (!places.length || !logs.length) return [];
   const lost = items.filter((item) => item.state === "not counted").length, where = firstOf(places.map(printable), "and", MOST_LISTED);
   const left = lost ? `${count(lost, "item")} that ${lost === 1 ? "belongs" : "belong"} there ${lost === 1 ? "isn't" : "aren't"} counted`
-    : "what belongs there was found elsewhere, or nothing does";
+    : "what belongs there is in other logs, or nothing does";
   return [{ short: `no log of ${firstOf(places.map(printable))}`, isFirst: true, words: `No log of ${where}: ${left}.`,
     cure: places.length === 1 ? "Count it, or open its log too: it joins what is here." : "Count them, or open their logs too: these join what is here." }];
 }
 
 /**
+ * Logs of no place, but those of which it is asked whether they count.
  * @param {CollectionObject} object
+ * @param {string[]} asked
  * @returns {Doubt[]}
  */
-function leftOver({ logs }) {
-  const names = logs.filter((log) => log.left_over).map((log) => nameOf(log.name)), one = names.length === 1;
-  return names.length ? [{ short: `${firstOf(names)} ${one ? "is" : "are"} of no place`, isFirst: true, cure: RENAME,
-    words: `${count(names.length, "log")} of no place: ${firstOf(names, "and", MOST_LISTED)}.` }] : [];
+function leftOver({ logs }, asked) {
+  const all = logs.filter((log) => log.left_over).map(({ name }) => name);
+  const lost = all.filter((name) => !asked.includes(name)), names = lost.map(nameOf);
+  return lost.length ? [{ short: `${firstOf(names)} ${lost.length === 1 ? "is" : "are"} of no place`,
+    words: `${count(lost.length, "log")} of no place: ${firstOf(names, "and", MOST_LISTED)}.`,
+    isFirst: true, cure: RENAME, ...lost.length > MOST_LEFT ? {} : leaving(lost) }] : [];
 }
 
 /**
+ * Buttons that leave logs out.
+ * @param {string[]} logs
+ * @returns {Pick<Doubt, "buttons" | "logs">}
+ */
+const leaving = (logs) => ({ logs,
+  buttons: logs.map((name) => [`Leave out ${nameOf(name)}`, { "data-leave": name }]) });
+
+/**
+ * @param {CollectionObject} object
+ * @returns {Doubt[]}
+ */
+const cutOff = ({ ended, items }) => ended ? [] : [{ cure: IS_CUT,
+  short: "the catalogue may have been cut off",
+  words: `The last of the ${count(items.length, "row")} of the catalogue has no line end.` }];
+
+/**
+ * Tags that a log has on its own list, and rules out.
+ * @param {CollectionObject} object
+ * @param {Shelves} shelves
+ * @returns {Doubt[]}
+ */
+function ruledOut({ logs, items }, shelves) {
+  const denied = logs.map(({ denied, object }) => denied ?? (object?.findings ?? [])
+    .flatMap(({ kind, uid }) => kind === KIND.ABSENT && uid ? [uid] : []));
+  const titles = new Map(denied.some((uids) => uids.length) ? items.map((item) =>
+    [item.uid, shelves.said(item, 1)]) : []);
+  return denied.flatMap((uids, at) => {
+    const name = shelves.name(at), which = uids.map((uid) => titles.get(uid) || uid);
+    return uids.length ? [{ short: `the list in ${name} has what its log rules out`, cure: DENIED,
+      words: `The reader's own list in ${name} has ${count(uids.length, "tag")} that its log rules ` +
+        `out: ${firstOf(which.map(printable), "and", MOST_LISTED)}.` }] : [];
+  });
+}
+
+/**
+ * Logs in which no tag answered: a headline says it, unless they are to be counted again anyway.
  * @param {CollectionObject} object
  * @param {Shelves} shelves
  * @returns {Doubt[]}
  */
 function withoutAnswer({ logs }, shelves) {
-  const names = logs.flatMap(({ answers }, at) => answers === 0 ? [shelves.name(at)] : []);
-  return names.length ? [{ short: `nothing answered in ${firstOf(names)}`, cure: IS_EMPTY,
-    words: `Nothing answered in ${count(names.length, "log")}: ${firstOf(names, "and", MOST_LISTED)}.` }] : [];
+  const empty = [...logs.keys()].filter((at) => logs[at].answers === 0);
+  const names = empty.map((at) => shelves.name(at)), isFirst = empty.some((at) => !logs[at].open?.length);
+  return names.length ? [{ short: `nothing answered in ${firstOf(names)}`, cure: IS_EMPTY, isFirst,
+    words: `Nothing answered in ${count(names.length, "log")}: ` +
+      `${firstOf(names, "and", MOST_LISTED)}.` }] : [];
 }
 
 /**
@@ -96,7 +154,9 @@ function shared({ logs, items, unexpected }, shelves) {
     if ([...others[at]].every((other) => said.has(other))) return [];
     said.add(at);
     const which = all ? certain === 1 ? "the tag" : `all ${count(certain, "tag")}` : `${number.toLocaleString("en")} of the ${count(certain, "tag")}`;
-    return [{ short: `${shelves.names([at, ...others[at]].sort((one, other) => one - other))} prove the same tags`, cure: all && certain > 1 ? OLDER : OVERLAP,
+    const both = shelves.names([at, ...others[at]].sort((one, other) => one - other));
+    const how = all && certain > 1 ? { cure: OLDER, ...leaving([logs[at].name]) } : { cure: OVERLAP };
+    return [{ short: `${both} prove the same tags`, ...how,
       words: `${which[0].toUpperCase()}${which.slice(1)} that ${name} proves ${number === 1 ? "is" : "are"} proved by ${shelves.names([...others[at]])} too.` }];
   });
 }
@@ -118,11 +178,10 @@ function notAsked({ logs, isAsked }) {
  */
 export function doubted(doubts, canLeave) {
   if (!doubts.length) return [];
-  const button = (/** @type {string} */ words, /** @type {Record<string, string>} */ data) => el("button", { type: "button", ...data }, words);
-  const buttons = (/** @type {[string, string] | undefined} */ ask) => ask && ask.every(canLeave) ? [el("p", { class: "take" },
-    button(`Only ${nameOf(ask[0])}`, { "data-leave": ask[1] }), button(`Only ${nameOf(ask[1])}`, { "data-leave": ask[0] }),
-    button("Both: other fields", { "data-both": ask[0] }))] : [];
+  const drawn = (/** @type {Doubt} */ { buttons = [], logs = [] }) => buttons.length && logs.every(canLeave)
+    ? [el("p", { class: "take" }, buttons.map((it) => button(...it)))] : [];
   return [el("section", { class: "doubts" }, el("h2", {}, "Logs and shelves"),
-    el("ul", { class: "steps" }, doubts.slice(0, MOST_LISTED).map(({ words, cure, ask }) => el("li", {}, el("b", {}, words), ` ${cure}`, ...buttons(ask)))),
+    el("ul", { class: "steps" }, doubts.slice(0, MOST_LISTED).map((it) =>
+      el("li", {}, el("b", {}, it.words), ` ${it.cure}`, ...drawn(it)))),
     ...rest(doubts.length - MOST_LISTED))];
 }

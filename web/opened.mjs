@@ -4,10 +4,13 @@ import { STOPPED } from "./work.mjs";
 import { listing, printable } from "./words.mjs";
 
 /** @typedef {import("./files.mjs").Given} Given */
+/** @typedef {import("./collection.mjs").CollectionObject} CollectionObject */
 /** @typedef {{tables: Entry[], logs: Entry[], both: string[]}} Collection with the logs of which it was said that they are no copies */
 /**
  * A log, or a collection, with what was done to it last; or one that waits for its catalogue.
- * @typedef {Given & import("./work.mjs").Done & {given?: Collection, waits?: string, note?: string, pause?: number, words?: string}} Entry
+ * Of a file it has when that was changed, and its own name, if it took another.
+ * @typedef {Given & import("./work.mjs").Done & {given?: Collection, waits?: string, note?: string,
+ *   pause?: number, words?: string, changed?: number, was?: string}} Entry
  */
 
 /** Larger files are no logs, and no text for each browser. */
@@ -43,7 +46,8 @@ export async function read(file, signal) {
   if (file.size > MOST_BYTES) return { name, text, error: TOO_LARGE };
   try {
     const stopped = new Promise((_, no) => signal.addEventListener("abort", no));
-    return { name, text: new Uint8Array(await Promise.race([file.arrayBuffer(), stopped])) };
+    const bytes = await Promise.race([file.arrayBuffer(), stopped]);
+    return { name, text: new Uint8Array(bytes), changed: file.lastModified };
   } catch {
     return { name, text, error: signal.aborted ? STOPPED : NO_FILE };
   }
@@ -75,6 +79,25 @@ export function gathered(taken, entries) {
   const note = replaced.length ? `${names(replaced)} ${replaced.length > 1 ? "were" : "was"} replaced by what you opened under the same name.`
     : left.length && logs.length ? `${names(logs)} joined the logs that were here.` : "";
   return [collected({ tables: [...kept, ...tables], logs: all, both: here.both }, note)];
+}
+
+/**
+ * A collection without one of its files, or its logs if no table is left. One that counts in place
+ * of a log that is left out takes its place, if it has none.
+ * @param {Collection} given
+ * @param {Entry | undefined} left
+ * @param {string} [kept]
+ * @param {CollectionObject} [object]
+ * @returns {Entry[]}
+ */
+export function without({ tables, logs, both }, left, kept, object) {
+  const of = (/** @type {string | undefined} */ name) => object?.logs.find((log) => log.name === name);
+  const name = left?.name ?? "", takes = of(kept)?.left_over && of(name)?.place;
+  const others = (/** @type {Entry[]} */ list) => list.filter((it) => it !== left);
+  const rest = { tables: others(tables), both, logs: others(logs).map((log) =>
+    takes && log.name === kept ? { ...log, name, was: kept } : log) };
+  const note = `${name} was left out${takes ? `: ${kept} takes its place` : ""}.`;
+  return rest.tables.length ? [collected(rest, note)] : rest.logs;
 }
 
 /**

@@ -1,12 +1,12 @@
 /** The page that judges: what is opened or typed is judged, and one of it is shown. */
 import { at, setForReader } from "./elements.mjs";
 import { isSpreadsheet, kindOf, utf8Of } from "./files.mjs";
-import { collected, gathered, isLacking, isUnanswered, PASTED, read } from "./opened.mjs";
+import { collected, gathered, isLacking, isUnanswered, PASTED, read, without } from "./opened.mjs";
 import { bytesOf, unpacked } from "./packed.mjs";
 import { Pane } from "./pane.mjs";
 import { unfold, unfoldOnPaper } from "./printing.mjs";
 import { pageOf, save, withObjects } from "./saving.mjs";
-import { headed, overview, show, shown, titleOfEntry } from "./shown.mjs";
+import { begin, focusOnHeading, headed, overview, show, shown, titleOfEntry } from "./shown.mjs";
 import { count, EDITED, printable } from "./words.mjs";
 import { STOPPED, Work } from "./work.mjs";
 
@@ -47,6 +47,8 @@ let opening = Promise.resolve();
 /** @type {Entry | undefined} */
 let pending;
 let stopping = new AbortController();
+/** Whether a button was pressed that is gone when it is done: then the heading gets the focus. */
+let isPressed = false;
 
 /**
  * The worker's script, and compressed and in base64 the library as WebAssembly and the page that is saved. They stand within this script,
@@ -62,7 +64,10 @@ async function ask(entry) {
   wait();
   const { given, name, text } = entry;
   const done = await work.ask(given ? { files: [...given.tables, ...given.logs].map((file) => ({ name: file.name, text: file.text })) } : { name, text });
-  if (done.collection) done.collection.both = given?.both;
+  if (done.collection) {
+    done.collection.both = given?.both;
+    for (const log of done.collection.logs) log.was = given?.logs.find(({ name }) => name === log.name)?.was;
+  }
   // of one that was asked twice the first answer stays
   if (isUnanswered(entry)) Object.assign(entry, done);
   if (!pending && !entries.some(isUnanswered)) quiet();
@@ -92,6 +97,7 @@ function quiet() {
 }
 
 stop.addEventListener("click", () => {
+  isPressed = true;
   stopping.abort();
   stopping = new AbortController();
   work.stop();
@@ -111,6 +117,9 @@ function draw() {
   show(entry, entry === answered, opener, (name) => Boolean(logOf(entry, name)));
   answered = entry;
   pane.mark();
+  if (!isPressed || pending || entries.some(isUnanswered)) return;
+  isPressed = false;
+  focusOnHeading();
 }
 
 function drawList() {
@@ -138,6 +147,7 @@ at("logs").addEventListener("click", ({ target }) => {
  */
 function take(taken, which = taken.length > 1 ? -1 : 0) {
   if (work.isBusy) work.stop();
+  if (!taken.length) begin();
   entries = taken;
   current = which;
   entries.filter(isUnanswered).forEach(ask);
@@ -150,10 +160,12 @@ const keep = () => past.push({ entries: [...entries], current });
 
 back.addEventListener("click", () => {
   const before = past.pop();
+  isPressed = true;
   if (before) take(before.entries.map((entry) => entry.error === STOPPED ? { ...entry, error: undefined } : entry), before.current);
 });
 close.addEventListener("click", () => {
   keep();
+  isPressed = true;
   take([]);
 });
 
@@ -174,11 +186,13 @@ function opener(number) {
 }
 
 shown.addEventListener("click", ({ target }) => {
-  const { leave, both } = /** @type {HTMLElement} */ (target).closest("button")?.dataset ?? {}, given = entries[current]?.given;
-  if (!given || !leave && !both) return;
+  const { leave, kept, both, out } = /** @type {HTMLElement} */ (target).closest("button")?.dataset ?? {};
+  const { given, collection } = entries[current] ?? {};
+  if (!given || !leave && !both && !out) return;
   keep();
-  take([collected({ ...given, logs: given.logs.filter(({ name }) => name !== leave), both: [...given.both, ...both ? [both] : []] },
-    leave ? `${leave} was left out.` : "")]);
+  isPressed = true;
+  const left = out ? [...given.tables, ...given.logs][Number(out)] : given.logs.find((it) => it.name === leave);
+  take(both ? [collected({ ...given, both: [...given.both, both] })] : without(given, left, kept, collection));
 });
 
 /**

@@ -11,6 +11,10 @@ import { printable } from "./words.mjs";
 
 const object = JSON.parse(at("object").textContent ?? ""), shown = at("told");
 if ("items" in object) {
+  const { lists = [] } = object, listOf = (/** @type {number[] | number} */ it) => typeof it === "number" ? lists[it] : it;
+  for (const item of [...object.items, ...object.unexpected]) {
+    Object.assign(item, { certain_in: listOf(item.certain_in), possible_in: listOf(item.possible_in) });
+  }
   const opener = (/** @type {number} */ number) => object.logs[number].object ? async () => tell(object.logs[number].object) : null;
   shown.replaceChildren(...collectionView(object, opener));
   document.title = `${headlineOf(object)} ${printable(object.file)}`;

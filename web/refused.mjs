@@ -23,9 +23,14 @@ const UNPACK = "If it is a ZIP file with logs in it, unpack it, and open the log
 const IF_SPREADSHEET = "If it is a spreadsheet with tag numbers:";
 const ANOTHER = "Choose another file, or count again.";
 /** Files that aren't logs, by how their first line begins. */
-const FOREIGN = /** @type {[RegExp, "pdf" | "page" | "trace" | "surveys" | "list"][]} */ ([[/^vicinity-survey /, "surveys"], [/^%PDF/, "pdf"], [/^\s*<(?:!doctype html|html)/i, "page"],
+const FOREIGN = /** @type {[RegExp, "pdf" | "page" | "trace" | "surveys" | "turned" | "list"][]} */ ([[/^vicinity-survey /, "surveys"], [/^%PDF/, "pdf"], [/^\s*<(?:!doctype html|html)/i, "page"],
   [/^\s*(?:\[[+=!#?|-]\] |\[(?:usb|bt|fpc)|pm3 |proxmark|Recorded activity|Start \| +End \| Src)/i, "trace"],
-  [/^\W{0,3}(?:uid|E0(?:[ :.-]?[0-9A-F]{2}){7}|(?:[0-9A-F]{2}[ :.-]?){7}E0)\W{0,3}$/i, "list"]]);
+  [/^\W{0,3}(?!E0)(?:[0-9A-F]{2}[ :.-]?){7}E0\W{0,3}$/i, "turned"],
+  [/^\W{0,3}(?:uid|E0(?:[ :.-]?[0-9A-F]{2}){7})\W{0,3}$/i, "list"]]);
+/** A cell with a UID, low byte first. */
+const TURNED = /(?:^|[,;\t"])(?:[0-9A-F]{2}[ :.-]?){7}E0(?:$|[,;\t"])/i;
+/** Those that may stand in a table. */
+const IN_TABLES = new Set(["surveys", "turned", "list"]);
 /** How a text begins that somebody meant as a log: with a header, or with a line of it. */
 const OF_A_LOG = /^(vicinity-(?!survey )|[TRHU] [0-9A-F]|[SCDNF]$|#)/i;
 /** What an editor adds to it, or a coding makes of it. */
@@ -71,10 +76,11 @@ export function refused(told) {
  * @param {string} fault
  */
 export function wrongTable(text, line, fault) {
-  const known = line === 1 && FOREIGN.find(([begins, what]) => begins.test(text) && !["surveys", "list"].includes(what));
-  if (!known) return /** @type {Record<string, Advice>} */ (SENTENCES.tables)[fault] ?? SENTENCES.faults[""];
-  const { wrong, fix } = SENTENCES.files[known[1]];
-  return { wrong: `this is ${wrong}`, fix: fix.join(" ") };
+  const known = line === 1 && FOREIGN.find(([begins, what]) => begins.test(text) && !IN_TABLES.has(what));
+  const { wrong, fix } = SENTENCES.files[known ? known[1] : "turnedUid"];
+  if (known) return { wrong: `this is ${wrong}`, fix: fix.join(" ") };
+  if (fault === "Uid" && TURNED.test(text)) return { wrong, fix: fix.join(" ") };
+  return /** @type {Record<string, Advice>} */ (SENTENCES.tables)[fault] ?? SENTENCES.faults[""];
 }
 
 /**

@@ -170,9 +170,7 @@ function cell(round, slot, named, name) {
  * What a ring says, for who doesn't see it.
  * @param {boolean} named
  */
-function marked(named) {
-  return named ? [unseen(" (the answer rests on it)")] : [];
-}
+const marked = (named) => named ? [unseen(" (the answer rests on it)")] : [];
 
 /** @param {number} slot */
 const slotName = (slot) => hex(slot, 1);

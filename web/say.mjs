@@ -3,7 +3,7 @@ import { contradiction, HIDDEN } from "./contradiction.mjs";
 import { MOST_NOTES } from "./notes.mjs";
 import { refused } from "./refused.mjs";
 import { SENTENCES } from "./sentences.mjs";
-import { isShaken } from "./sure.mjs";
+import { howSure, isShaken } from "./sure.mjs";
 import { count, KIND, listing, numbered } from "./words.mjs";
 import { mainly, whyOpen } from "./why.mjs";
 
@@ -26,7 +26,7 @@ import { mainly, whyOpen } from "./why.mjs";
  * @property {string[]} ask lines that send it
  */
 
-const NOT_KNOWN = "not known";
+const NOT_KNOWN = "not known", NO_LIST = { value: "none given", look: /** @type {const} */ ("plain") };
 const AGAIN = "Run the inventory again, to its end.";
 const NEW_LOG = "Count again, in a new log: with less interference, tags that lie still and not on top of each other, and no " +
   "second reader nearby.";
@@ -116,24 +116,12 @@ function possible(told, isAlone) {
  * @returns {Light[]}
  */
 function lightsOf(told, isAlone, finished, list) {
-  const { counts } = told, shown = counts.listed && isAlone ? [list] : isAlone ? [{ value: "none given", look: /** @type {const} */ ("plain") }] : [];
-  return [{ name: "Search finished", ...finished }, ...shown.map((it) => ({ name: "List", ...it })), ...isAlone ? howSure(told) : []];
-}
-
-/**
- * How sure a complete list is: how often each other tag was asked, and what else could be here. Of another answer that leaves nothing to ask
- * only what may be wrong.
- * @param {Told} told
- * @returns {Light[]}
- */
-function howSure(told) {
-  const { object: { kind, count: number, margin, captured, deaf } } = told, isComplete = kind === KIND.COMPLETE;
-  const still = number ? "still complete" : "still empty", other = isComplete || !told.counts.listed ? "others may be here" : "the answer may be wrong";
-  const light = (/** @type {string} */ name, /** @type {import("./told.mjs").Captured | undefined} */ reading) => !reading ? []
-    : isComplete && reading.holds ? [{ name, value: still, look: /** @type {const} */ ("yes") }]
-      : isShaken(told, reading) ? [{ name, value: other, look: /** @type {const} */ ("no") }] : [];
-  return [...isComplete && margin ? [{ name: "Each other tag was asked", value: `${count(margin, "time")} or more`, look: /** @type {const} */ ("plain") }] : [],
-    ...light("If replies were hidden", captured), ...light("If the reader went deaf", deaf)];
+  const { object: { kind, count: number, margin, captured, deaf }, counts: { listed } } = told;
+  const shown = !isAlone ? [] : [{ name: "List", ...listed ? list : NO_LIST }];
+  const other = kind === KIND.COMPLETE || !listed ? "others may be here" : "the answer may be wrong";
+  return [{ name: "Search finished", ...finished }, ...shown,
+    ...howSure(kind === KIND.COMPLETE && deaf ? margin : 0, number ? "still complete" : "still empty", other,
+      isShaken(told, captured), isShaken(told, deaf))];
 }
 
 /**
@@ -160,9 +148,8 @@ function steps({ object: { kind, found, open, captured, deaf }, counts, quiet, n
 }
 
 /** @param {number} number of tags that the reader silenced and never heard */
-function silencedBefore(number) {
-  return `The reader silenced ${count(number, "tag")} that it hadn't heard, so ${number === 1 ? "a reply" : "replies"} ${LOST}`;
-}
+const silencedBefore = (number) =>
+  `The reader silenced ${count(number, "tag")} that it hadn't heard, so ${number === 1 ? "a reply" : "replies"} ${LOST}`;
 
 /** @param {number} number of listed tags that didn't answer */
 const lookFor = (number) => number === 1 ? `look on this shelf for the item below. If it ${IS_BROKEN}`
@@ -173,18 +160,23 @@ const lookFor = (number) => number === 1 ? `look on this shelf for the item belo
  * @param {Told} told
  * @param {boolean} isAlone
  */
-function headline({ object: { kind, count: number = 0, found, certain, open, captured }, counts, silenced, quiet, isMore }, isAlone) {
-  const { listed } = counts, only = open.count > 0 && quiet === open.count, without = listed || !isAlone ? "" : ANSWERS.noList;
+function headline(told, isAlone) {
+  const { object: { kind, count: number = 0, found, certain, open, captured, deaf }, silenced, quiet,
+    isMore, counts: { listed } } = told;
+  const noMore = noOthers(certain.count, isShaken(told, captured), isShaken(told, deaf));
+  const tagsHere = numbered(ANSWERS.tagsHere, certain.count);
+  const only = open.count > 0 && quiet === open.count, without = listed || !isAlone ? "" : ANSWERS.noList;
   const others = only ? unproved(silenced.length, found.doubtful) : isMore ? ANSWERS.othersAre : ANSWERS.othersMayBe;
   // what else a catalogue says of it stands above
-  if (kind === KIND.COMPLETE && !isAlone) return number ? tagsHere(number, captured?.holds === false) : ANSWERS.emptyField;
-  if (kind === KIND.COMPLETE) return whole(number, captured?.holds === false);
-  if (!open.count && !listed) return `${tagsHere(certain.count, captured?.settled === false)}${without}`;
+  if (kind === KIND.COMPLETE && !isAlone) return number ? tagsHere + noMore : ANSWERS.emptyField;
+  if (kind === KIND.COMPLETE) return number ? allListed(number) + noMore : ANSWERS.empty;
+  if (!open.count && !listed) return tagsHere + noMore + without;
   if (!open.count && !certain.count) return numbered(ANSWERS.noneAnswered, listed);
   const left = open.count ? ANSWERS.notFinished : "";
   if (!listed) {
-    const here = certain.count ? `${numbered(ANSWERS.tagsHere, certain.count)}; ${others}` : only ? others : isMore ? ANSWERS.noneRead : ANSWERS.noneProved;
-    return `${left}${here}.${without}`;
+    const some = certain.count ? `${tagsHere}; ${others}` : only ? others
+      : isMore ? ANSWERS.noneRead : ANSWERS.noneProved;
+    return `${left}${some}.${without}`;
   }
   if (!found.absent && !found.unlisted && !found.doubtful) return `${left}${inside(allListed(listed))}; ${others}.`;
   const parts = [...found.absent ? [numbered(ANSWERS.absent, found.absent)] : [], ...found.unlisted ? [numbered(ANSWERS.unlisted, found.unlisted)] : [],
@@ -210,15 +202,10 @@ const inside = (sentence) => sentence[0].toLowerCase() + sentence.slice(1);
  * What is said behind tags that are here, where nothing is left to ask.
  * @param {number} number
  * @param {boolean} isHiding whether others may be there if their replies were hidden
+ * @param {boolean} isDeaf whether others may be there if the reader went deaf
  */
-export const noOthers = (number, isHiding) => isHiding ? ANSWERS.ifHidden : numbered(ANSWERS.noOthers, number);
-
-/**
- * The tags of a log without a list in which nothing is left to ask.
- * @param {number} number
- * @param {boolean} isHiding
- */
-const tagsHere = (number, isHiding) => numbered(ANSWERS.tagsHere, number) + noOthers(number, isHiding);
+export const noOthers = (number, isHiding, isDeaf) => isHiding ? ANSWERS.ifHidden
+  : numbered(isDeaf ? ANSWERS.noOthersHeard : ANSWERS.noOthers, number);
 
 /**
  * Of tags that are open only since they were silenced before they were heard.
@@ -226,14 +213,6 @@ const tagsHere = (number, isHiding) => numbered(ANSWERS.tagsHere, number) + noOt
  * @param {number} listed
  */
 const unproved = (number, listed) => numbered(number > listed ? ANSWERS.silenced : ANSWERS.silencedListed, number);
-
-/**
- * @param {number} number
- * @param {boolean} isHiding
- */
-function whole(number, isHiding) {
-  return number ? allListed(number) + noOthers(number, isHiding) : ANSWERS.empty;
-}
 
 /** @param {number} number */
 const allListed = (number) => numbered(ANSWERS.allListed, number);

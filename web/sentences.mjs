@@ -60,6 +60,8 @@ export const SENTENCES = {
     "page": { "wrong": "a web page", "fix": ["If it was saved here as an answer, open it in the browser itself, as by a double click.", "Else open the log itself: a text file, which the reader's software writes; its first line begins with 'vicinity-log'."] },
     "trace": { "wrong": "a trace of a Proxmark", "fix": ["A trace has what was sent on the air, but not the slots in which no tag answered: it can't show whether a tag was missed.", "Count with a reader whose software writes a log. docs/READERS.md of vicinity says which readers can, and how."] },
     "surveys": { "wrong": "a text of surveys, which says what logs say of their fields", "fix": ["Open it together with a catalogue (CSV)."] },
+    "turned": { "wrong": "a list of tag numbers whose bytes are in the opposite order, with E0 last", "fix": ["A list says which tags were read, not what was asked: it can't show whether a tag was missed.", "To compare it with logs: turn the bytes of each number round, so that E0 comes first (A1000000000104E0 is E0040100000000A1), let the first line be uid, save it as CSV, and open it here together with the logs.", "A log is a file that the reader's software writes; its first line begins with 'vicinity-log'."] },
+    "turnedUid": { "wrong": "the bytes of the UID are in the opposite order, with E0 last", "fix": ["Turn the bytes of each UID round, so that E0 comes first: A1000000000104E0 is E0040100000000A1."] },
     "list": { "wrong": "a list of tag numbers", "fix": ["A list says which tags were read, not what was asked: it can't show whether a tag was missed.", "To compare it with logs: let its first line be uid, save it as CSV, and open it here together with the logs.", "A log is a file that the reader's software writes; its first line begins with 'vicinity-log'."] }
   },
   "failures": {
@@ -95,6 +97,7 @@ export const SENTENCES = {
     "allListed": ["The one listed tag is here", "All {} listed tags are here"],
     "tagsHere": ["{} tag is here", "{} tags are here"],
     "noOthers": [", and no other.", ", and no others."],
+    "noOthersHeard": [", and no other answered.", ", and no others answered."],
     "ifHidden": "; others may be, if stronger replies hid them.",
     "othersAre": "others are too",
     "othersMayBe": "others may be too",

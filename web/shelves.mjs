@@ -50,6 +50,9 @@ export class Shelves {
    */
   names(logs, last) { return firstOf(logs.map((at) => this.name(at)), last); }
 
+  /** @param {number[]} logs */
+  fields(logs) { return `in the field${logs.length > 1 ? "s" : ""} of ${this.names(logs)}`; }
+
   /**
    * Whether an item that no log proves is not on its own shelf: the logs of that rule it out.
    * @param {Item} item
@@ -66,17 +69,37 @@ export class Shelves {
   mayBe({ possible_in: logs }) { return madeOnce(this.called, logs, () => this.names(logs, "or")); }
 
   /**
+   * Whether an item was heard only in logs of which nobody knows where their fields are.
+   * @param {Item} item
+   */
+  isStray({ state, certain_in: logs }) {
+    return state === "misplaced" && logs.every((at) => this.logs[at].left_over);
+  }
+
+  /**
+   * The logs that prove an item, those of a place first.
+   * @param {Item} item
+   */
+  #provedIn({ certain_in: logs }) {
+    const isLost = (/** @type {number} */ at) => this.logs[at].left_over;
+    return [...logs.filter((at) => !isLost(at)), ...logs.filter(isLost)];
+  }
+
+  /**
    * On which shelf there is something to do with an item.
    * @param {Item} item
    */
-  at({ state, place, certain_in: [at] }) { return state === "missing" ? printable(place ?? "") : this.name(at); }
+  at(item) {
+    return item.state === "missing" ? printable(item.place ?? "") : this.name(this.#provedIn(item)[0]);
+  }
 
   /** @param {Item} item */
-  toDo({ state, place, certain_in: [, ...others] }) {
-    const also = others.length ? `; also in ${this.names(others)}` : "";
+  toDo(item) {
+    const { state, place } = item, home = printable(place ?? ""), others = this.#provedIn(item).slice(1);
     if (state === "missing") return "missing: look for it";
-    if (state === "returned") return `is back: record it${also}`;
-    return (state === "misplaced" ? `take to ${printable(place ?? "")}` : "not in the catalogue") + also;
+    const what = state === "returned" ? "is back: record it" : state === "unexpected" ? "not in the catalogue"
+      : this.isStray(item) ? `heard in a log of no place; belongs to ${home}` : `take to ${home}`;
+    return what + (others.length ? `; also in ${this.names(others)}` : "");
   }
 
   /**

@@ -1,6 +1,7 @@
 /** Shows what is here: several logs, each with what it says, and what is told of one. */
 import { collectionView, headlineOf } from "./collection.mjs";
-import { at, el } from "./elements.mjs";
+import { at, button, el } from "./elements.mjs";
+import { kindOf } from "./files.mjs";
 import { isLacking, isUnanswered } from "./opened.mjs";
 import { nameOnPaper } from "./printing.mjs";
 import { nameOfText } from "./refused.mjs";
@@ -17,6 +18,8 @@ const OPEN_AGAIN = "Open all files again, together: the logs and the catalogue."
 
 const several = at("several"), each = at("each"), list = at("logs");
 export const shown = at("told");
+/** What stands there before anything is opened. */
+const START = document.body.classList.contains("empty") ? [...shown.childNodes] : [], TITLE = document.title;
 
 /**
  * Shows what is told of a log or a collection. Until it is judged, what is shown is that to its text before it was changed.
@@ -32,6 +35,20 @@ export function show(entry, isShown, opener, canLeave) {
   if (!entry || isOld && isShown) return;
   shown.replaceChildren(...nodesOf(entry, opener, canLeave));
   headed(titleOfEntry(entry));
+  if (entry.note) at("said").prepend(`${printable(entry.note)} `);
+}
+
+/** Shows what stands there before anything is opened. */
+export function begin() {
+  shown.replaceChildren(...START);
+  headed(TITLE);
+}
+
+/** Leads the keyboard to what has changed, and whoever doesn't see it. */
+export function focusOnHeading() {
+  const heading = /** @type {HTMLElement | null} */ (document.querySelector("#each h1, #told h1"));
+  if (heading) heading.tabIndex = -1;
+  heading?.focus();
 }
 
 /**
@@ -40,12 +57,28 @@ export function show(entry, isShown, opener, canLeave) {
  * @param {(name: string) => boolean} canLeave
  * @returns {Node[]}
  */
-function nodesOf({ told, collection, error, cure, waits, given, name, note }, opener, canLeave) {
-  const said = [...cure ?? [], ...given && (waits || error) ? kept(given.logs) : []].map((it) => el("p", {}, it));
+function nodesOf({ told, collection, error, cure, waits, given, name, note, files }, opener, canLeave) {
+  const logs = given && (waits || error) ? given.logs.filter((it) => kindOf(it) !== "other") : [];
+  // beside a log that can't stay, the next catalogue wouldn't help
+  const words = [...cure ?? [], ...logs.some((it) => files?.includes(it.name)) ? [] : kept(logs)];
+  const said = [...words.map((it) => el("p", {}, it)), ...given && files ? leavingOut(given, files) : []];
   if (error) return [el("h1", { class: "error" }, unanswered(name, error)), ...said];
   if (waits) return [el("h1", {}, waits), ...said];
   if (!collection) return told ? view(told) : [];
-  return [...note ? [el("p", { class: "note", role: "status" }, printable(note))] : [], ...collectionView(collection, opener, canLeave)];
+  return [...note ? [el("p", { class: "note" }, printable(note))] : [], ...collectionView(collection, opener, canLeave)];
+}
+
+/**
+ * Buttons that leave files out; of two that are called alike, with when each was changed.
+ * @param {import("./opened.mjs").Collection} given
+ * @param {string[]} files
+ */
+function leavingOut({ tables, logs }, files) {
+  const all = [...tables, ...logs], alike = all.filter(({ name }) => files.includes(name));
+  const when = (/** @type {Entry} */ { changed }) => alike.length < 2 || !changed ? ""
+    : ` of ${new Date(changed).toLocaleString("en-GB", { dateStyle: "medium", timeStyle: "short" })}`;
+  return alike.length ? [el("p", { class: "take" }, alike.map((it) =>
+    button(`Leave out ${printable(it.name)}${when(it)}`, { "data-out": String(all.indexOf(it)) })))] : [];
 }
 
 /** @param {Entry} entry */

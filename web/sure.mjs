@@ -4,6 +4,7 @@ import { count, ending, KIND } from "./words.mjs";
 
 /** @typedef {import("./told.mjs").Told} Told */
 /** @typedef {import("./told.mjs").Margin} Margin */
+/** @typedef {import("./say.mjs").Look} Look */
 
 /** What a complete answer speaks of. */
 export const HOLDS = "This is said of tags that had power, heard the reader, and were heard when they answered.";
@@ -12,8 +13,8 @@ const IF_HIDDEN = "If a strong reply hid a weaker one, the answer ";
 const IF_DEAF = "If the reader had gone deaf after the last answer of a tag, the answer ";
 const HEARS_STILL = "To know, switch its field off and on, and let it ask once more for a tag that was found.";
 /** @param {string} where */
-export const deafIn = (where) => `${IF_DEAF}may be wrong in the field of ${where}. To know, switch the field off and on there, and let the reader ask once ` +
-  "more for a tag that was found.";
+export const deafIn = (where) => `${IF_DEAF}may be wrong ${where}. To know, switch the field off ` +
+  "and on there, and let the reader ask once more for a tag that was found.";
 const DEAF = "A reader that is deaf writes the same log: only a tag at its antenna shows that it hears.";
 export const ONCE_MORE = "Asking all of them once more, when none answers, adds one.";
 export const TO_KNOW = "silence each tag that was heard, and ask all in one slot, until none answers";
@@ -65,12 +66,32 @@ export function alsoHolds({ object: { kind, captured, margin, answer }, counts, 
 }
 
 /**
- * Whether an answer that leaves nothing to ask may be another one if a log is read more cautiously; without a list, whether others may be there.
+ * Whether an answer that leaves nothing to ask, or says that a tag didn't answer, may be another
+ * one if a log is read more cautiously; without a list, whether others may be there.
  * @param {Told} told
- * @param {import("./told.mjs").Captured} reading
+ * @param {import("./told.mjs").Captured} [reading] without one nothing is shaken
  */
-export const isShaken = ({ object: { status, open }, counts }, { holds, settled }) =>
-  status < 2 && !open.count && (counts.listed || !status ? !holds : settled === false);
+export const isShaken = ({ object: { status, open, found }, counts }, reading) =>
+  reading !== undefined && status < 2 && (!open.count || found.absent > 0) &&
+  (counts.listed || !status ? !reading.holds : reading.settled === false);
+
+/**
+ * How sure an answer is, as lights: of a complete one how often each other tag was asked, and that
+ * it still holds; of any that it may not.
+ * @param {number | undefined} margin of a complete one
+ * @param {string} still
+ * @param {string} other
+ * @param {boolean} isHiding
+ * @param {boolean} isDeaf
+ * @returns {import("./say.mjs").Light[]}
+ */
+export function howSure(margin, still, other, isHiding, isDeaf) {
+  const light = (/** @type {string} */ name, /** @type {boolean} */ isWrong) =>
+    ({ name, value: isWrong ? other : still, look: /** @type {Look} */ (isWrong ? "no" : "yes") });
+  const both = [light("If replies were hidden", isHiding), light("If the reader went deaf", isDeaf)];
+  if (!margin) return both.filter(({ look }) => look === "no");
+  return [{ name: "Each other tag was asked", value: `${count(margin, "time")} or more`, look: "plain" }, ...both];
+}
 
 /**
  * Whether an answer also holds if the reader went deaf before its last, silent rounds, and if not, what shows whether it did.
@@ -138,6 +159,4 @@ export function notSure(margin, wanted) {
  * How sure it is that a tag isn't here.
  * @param {number} slots
  */
-export function silentIn(slots) {
-  return `would have been missed in ${count(slots, "slot")}`;
-}
+export const silentIn = (slots) => `would have been missed in ${count(slots, "slot")}`;

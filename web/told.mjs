@@ -151,9 +151,8 @@ function hasMore(causes, { certain: { count, uids } }) {
  * @param {LogObject} object
  * @param {string} kind
  */
-function linesOf(object, kind) {
-  return object.findings.filter((it) => it.kind === kind).map((it) => it.line ?? 0);
-}
+const linesOf = (object, kind) =>
+  object.findings.filter((it) => it.kind === kind).map((it) => it.line ?? 0);
 
 /**
  * The lines that are marked: those of a conflict, first those that it is told by; those that findings name, the first few and the

@@ -26,15 +26,13 @@ export function view(told, names = new Map(), isAlone = true) {
   const said = say(told, isAlone), file = printable(told.object.file), { answer, kind } = told.object;
   // without a list, its first tag isn't more than the others
   const what = kind === KIND.UNLISTED && !told.counts.listed ? [file] : [file, el("span", { class: "paper" }, " · ", el("code", {}, answer))];
-  return [banner(said, what), ...shelf(said), ...conditions(told, isAlone), ...findings(told, names), ...tags(told, names),
+  return [banner(said, what), ...shelf(said), ...conditions(told), ...findings(told, names), ...tags(told, names),
     ...maintainer(told, said, [...rounds(told, names), ...notes(told), ...conflict(told)]), ...takenForGranted(told),
     record(told, isAlone, said.headline)];
 }
 
 /** @param {Told} told */
-export function titleOf(told) {
-  return `${say(told).headline} ${printable(told.object.file)}`;
-}
+export const titleOf = (told) => `${say(told).headline} ${printable(told.object.file)}`;
 
 /**
  * The answer: a sentence, what was judged, and lights.
@@ -51,10 +49,9 @@ export function banner(said, what) {
 /**
  * What the answer rests on, in a line each.
  * @param {Told} told
- * @param {boolean} isAlone
  */
-function conditions(told, isAlone) {
-  const { object: { kind, open, status }, counts } = told, also = alsoHolds(told)?.words, deaf = isAlone ? ifDeaf(told)?.words : "";
+function conditions(told) {
+  const { object: { kind, open, status }, counts } = told, also = alsoHolds(told)?.words, deaf = ifDeaf(told)?.words;
   const isOfAll = kind === KIND.COMPLETE || status === 1 && !open.count && !counts.listed, sure = missed(told.object).map((it) => `${it} ${ONCE_MORE}`);
   const parts = [...isOfAll ? [HOLDS, ...sure] : [], ...also ? [also] : [], ...deaf ? [deaf] : []].map((it) => el("p", {}, it));
   return parts.length ? [el("section", { class: "holds" }, parts)] : [];

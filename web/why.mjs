@@ -77,9 +77,8 @@ const HELD = { collision: "two or more tags answered", garbled: "something answe
  * What slots held in which a tag was read, and others may have answered.
  * @param {bigint[]} uids
  */
-function readIn(uids) {
-  return uids.length === 1 ? `${short(uids[0])} was read, perhaps over others` : "one tag was read, perhaps over others";
-}
+const readIn = (uids) =>
+  uids.length === 1 ? `${short(uids[0])} was read, perhaps over others` : "one tag was read, perhaps over others";
 
 /**
  * 0, 3 to 6 and F.

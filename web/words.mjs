@@ -27,9 +27,8 @@ export const FAILED = "this browser doesn't run what judges it";
  * @param {string} one
  * @param {string} [many]
  */
-export function count(number, one, many = `${one}s`) {
-  return `${number.toLocaleString("en")} ${number === 1 ? one : many}`;
-}
+export const count = (number, one, many = `${one}s`) =>
+  `${number.toLocaleString("en")} ${number === 1 ? one : many}`;
 
 /**
  * A sentence with a number in it.
@@ -46,9 +45,8 @@ export function numbered(sentence, number) {
  * @param {string[]} items
  * @param {string} [last]
  */
-export function listing(items, last = "and") {
-  return items.length < 2 ? items.join("") : `${items.slice(0, -1).join(", ")} ${last} ${items[items.length - 1]}`;
-}
+export const listing = (items, last = "and") =>
+  items.length < 2 ? items.join("") : `${items.slice(0, -1).join(", ")} ${last} ${items[items.length - 1]}`;
 
 /**
  * What was made of a key before, or is made of it now.
@@ -79,9 +77,7 @@ export function grouped(items, keyOf) {
  * @param {bigint | number} value
  * @param {number} [digits]
  */
-export function hex(value, digits = 16) {
-  return value.toString(16).toUpperCase().padStart(digits, "0");
-}
+export const hex = (value, digits = 16) => value.toString(16).toUpperCase().padStart(digits, "0");
 
 /**
  * The last digits of a UID: four, or as many as tell it from others.
@@ -137,17 +133,15 @@ const UNSEEN = { "\0": "NUL", "\t": "TAB", "\r": "CR", "\uFEFF": "BOM", " ": "sp
  * A line with a sign for what isn't seen of it.
  * @param {string} line
  */
-export function visible(line) {
-  return line.replace(/[\0\t\r\uFEFF]| +$/g, (it) => [...it].map((one) => `‹${UNSEEN[one]}›`).join(""));
-}
+export const visible = (line) =>
+  line.replace(/[\0\t\r\uFEFF]| +$/g, (it) => [...it].map((one) => `‹${UNSEEN[one]}›`).join(""));
 
 /**
  * A name or a cell without what isn't shown, or changes how the rest is shown.
  * @param {string} text
  */
-export function printable(text) {
-  return text.replace(/[\p{C}\u2028\u2029]/gu, (it) => `‹${hex(it.codePointAt(0) ?? 0, 4)}›`);
-}
+export const printable = (text) =>
+  text.replace(/[\p{C}\u2028\u2029]/gu, (it) => `‹${hex(it.codePointAt(0) ?? 0, 4)}›`);
 
 /**
  * line 4; lines 3, 6 and 8; 600 lines from 5 to 900.

@@ -3,7 +3,8 @@ import { FAILED } from "./words.mjs";
 
 /** @typedef {import("./told.mjs").Told} Told */
 /** @typedef {import("./collection.mjs").CollectionObject} CollectionObject */
-/** @typedef {{told?: Told, collection?: CollectionObject, error?: string, cure?: string[]}} Done */
+/** @typedef {{told?: Told, collection?: CollectionObject, error?: string, cure?: string[], files?: string[]}} Done
+ *   why there is no answer, what to do, and which files can be left out */
 
 /** Why there is no answer to what was ended. */
 export const STOPPED = "stopped";

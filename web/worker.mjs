@@ -18,7 +18,7 @@ const load = () => unpacked(module).then(Library.of).catch(() => { throw new Wro
  * @param {unknown} error
  */
 function why(error) {
-  if (error instanceof Wrong) return { error: error.message, cure: error.cure };
+  if (error instanceof Wrong) return { error: error.message, cure: error.cure, files: error.files };
   if (error instanceof OutOfMemory) return { error: SENTENCES.failures.memory };
   loading = load();
   loading.catch(() => {});
