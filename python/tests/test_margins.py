@@ -111,7 +111,7 @@ class Said(Command):
                  "line 3: absent E0040100000000A1 would have been missed in 1 slot")):
             said = within("show", self.write("one.log", log(lines)))[0].decode()
             self.assertIn(wanted, " ".join(said.split()))
-            self.assertEqual(ASKED in said.replace("\n", " "), said.startswith("complete"))
+            self.assertEqual(ASKED in said.replace("\n", " "), "Answer: complete" in said)
 
     def test_on_a_page(self):
         told = drawn_in(vicinity.page(log(TWICE + LIST_A)))[0]

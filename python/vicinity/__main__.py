@@ -8,10 +8,10 @@ import sys
 from contextlib import suppress
 from importlib import import_module
 from itertools import takewhile
-from typing import Any, Callable, Mapping
+from typing import Any, Callable, Mapping, NoReturn, Optional, Sequence
 
 from . import __version__
-from ._process import NoAnswer, Words, run
+from ._process import NoAnswer, run, shown, write
 
 ABOUT = """\
 Judges logs of inventories of ISO/IEC 15693 tags. Without a command, a LOG is checked:
@@ -29,6 +29,43 @@ COMPARED = """\
 The exit status: 0 nothing has changed, 1 something has, 3 a file is no such
 answer, 4 no answer."""
 WRITTEN = "The exit status: 0 it is written, 3 what is given is refused, 4 no answer."
+
+
+class Once(argparse.Action):
+    """An option that may be given once: of two values, one would be ignored."""
+
+    def __call__(self, parser: argparse.ArgumentParser, asked: argparse.Namespace, value: Any,
+                 option: Optional[str] = None) -> None:
+        if option in vars(asked).setdefault("once", []):
+            raise argparse.ArgumentError(self, "it is given twice")
+        asked.once += [option] * (option is not None)
+        setattr(asked, self.dest, value)
+
+
+class Words(argparse.ArgumentParser):
+    """The arguments of a command. Its options may be anywhere before `--`;
+    what comes after is names."""
+
+    def __init__(self, **given: Any):
+        super().__init__(**given)
+        self.register("action", None, Once)
+
+    def parse(self, words: Sequence[str]) -> argparse.Namespace:
+        at = words.index("--") if "--" in words else len(words)
+        asked = self.parse_intermixed_args(words[:at])
+        asked.names = [*asked.names, *words[at + 1:]]
+        least, most = asked.number
+        if not least <= len(asked.names) <= most:
+            self.error("a word is missing" if len(asked.names) < least
+                       else f"a word too many: {asked.names[most]}")
+        return asked
+
+    def error(self, message: str) -> NoReturn:
+        raise NoAnswer(f"{shown(message)}\n{self.format_usage().rstrip()}")
+
+    def _print_message(self, message: str, file: Any = None) -> None:
+        """Help and version, which argparse would write to sys.stdout."""
+        write([message])
 
 
 class Help(argparse.RawDescriptionHelpFormatter):

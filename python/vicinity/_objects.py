@@ -42,7 +42,7 @@ def mask_of(said: Fields) -> Mask:
     return Mask(said["mask_len"], 0 if value == "-" else int(value, 16))
 
 
-def small(said: Optional[Fields], wanted: int, where: str = "") -> str:
+def too_small(said: Optional[Fields], wanted: int, where: str = "") -> str:
     """The line of what is complete with a smaller margin than was asked for, by the object that
     has that. It hasn't the words of a complete answer anywhere."""
     if said is None:

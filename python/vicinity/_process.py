@@ -1,8 +1,8 @@
-"""What every command shares: its arguments, how it reads and writes, and how it ends.
+"""What every command shares: how it reads and writes, and how it ends.
 
-A command is a function that returns its status, and `run` runs it.
-Its arguments are those of `Words`, it reads with `read`, writes with `write`, and shows the name
-of a file with `shown`. If it has no answer it raises NoAnswer, MemoryError or OSError:
+A command is a function of its arguments that returns its status, and `run` runs it.
+It reads with `read`, writes with `write`, and shows the name of a file with `shown`.
+If it has no answer it raises NoAnswer, MemoryError or OSError:
 then a line is written to standard error, and the status is 4. Nothing goes through sys.stdout
 or sys.stderr, so a closed or full stream is noticed at once, and no traceback is written.
 """
@@ -15,7 +15,7 @@ import locale
 import os
 import signal
 import sys
-from typing import Any, Callable, Generator, Iterable, NoReturn, Optional, Sequence, TypeVar, Union
+from typing import Callable, Generator, Iterable, TypeVar, Union
 
 # Within these bytes, a longer log has a line that is too long, or too many lines:
 # 1,000,000 lines of 130 bytes, plus one.
@@ -66,7 +66,8 @@ def _hold_closed() -> None:
 
 
 def complain(why: str) -> int:
-    """Writes to standard error why there is no answer, if it can, and returns the status."""
+    """Writes a line to standard error, if it can: why there is no answer, with whose status it
+    returns, or what may be wrong."""
     _note("vicinity: ", why, "\n")
     return NO_ANSWER
 
@@ -160,7 +161,7 @@ def shown(name: Union[str, bytes]) -> str:
                    "".join(f"\\x{byte:02x}" for byte in it.encode()) for it in text)
 
 
-def counted(things: Iterable[T], total: int) -> Generator[T, None, None]:
+def with_progress(things: Iterable[T], total: int) -> Generator[T, None, None]:
     """The same things, one for each of many logs.
     Their number is shown if standard error is a terminal."""
     is_shown = total > MOST_UNCOUNTED and os.isatty(2)
@@ -200,40 +201,3 @@ def has_unicode() -> bool:
     if sys.platform == "win32":
         return sys.stdout is not None and sys.stdout.encoding.upper() in ("UTF-8", "UTF8")
     return locale.nl_langinfo(locale.CODESET).upper() in ("UTF-8", "UTF8")
-
-
-class Once(argparse.Action):
-    """An option that may be given once: of two values, one would be ignored."""
-
-    def __call__(self, parser: argparse.ArgumentParser, asked: argparse.Namespace, value: Any,
-                 option: Optional[str] = None) -> None:
-        if option in vars(asked).setdefault("once", []):
-            raise argparse.ArgumentError(self, "it is given twice")
-        asked.once += [option] * (option is not None)
-        setattr(asked, self.dest, value)
-
-
-class Words(argparse.ArgumentParser):
-    """The arguments of a command. Its options may be anywhere before `--`;
-    what comes after is names."""
-
-    def __init__(self, **given: Any):
-        super().__init__(**given)
-        self.register("action", None, Once)
-
-    def parse(self, words: Sequence[str]) -> argparse.Namespace:
-        at = words.index("--") if "--" in words else len(words)
-        asked = self.parse_intermixed_args(words[:at])
-        asked.names = [*asked.names, *words[at + 1:]]
-        least, most = asked.number
-        if not least <= len(asked.names) <= most:
-            self.error("a word is missing" if len(asked.names) < least
-                       else f"a word too many: {asked.names[most]}")
-        return asked
-
-    def error(self, message: str) -> NoReturn:
-        raise NoAnswer(f"{shown(message)}\n{self.format_usage().rstrip()}")
-
-    def _print_message(self, message: str, file: Any = None) -> None:
-        """Help and version, which argparse would write to sys.stdout."""
-        write([message])

@@ -7,7 +7,7 @@ from typing import Any, Mapping
 
 from .._calls import check
 from .._native import library
-from .._objects import NOT_COMPLETE, OF_CHECK, SMALL, object_of, of_file, small
+from .._objects import NOT_COMPLETE, OF_CHECK, SMALL, object_of, of_file, too_small
 from .._process import NO_ANSWER, complain, names_of, shown, tried, write
 
 
@@ -22,7 +22,7 @@ def _judge(text: bytes, wanted: int, form: str) -> tuple[int, str, Mapping[str, 
     if said["status"] or said["margin"] >= wanted:
         return said["status"], told["answer"], said
     said.update(status=NOT_COMPLETE, kind=SMALL, wanted=wanted)
-    return NOT_COMPLETE, small(said, wanted), said
+    return NOT_COMPLETE, too_small(said, wanted), said
 
 
 def check_all(asked: argparse.Namespace) -> int:

@@ -11,9 +11,9 @@ from hashlib import sha256
 from typing import Any, Iterator, Sequence
 
 from .._native import library
-from .._objects import NOT_COMPLETE, Object, small
-from .._process import (NoAnswer, complain, counted, names_of, read, read_log, shown, tell_terminal,
-                        write)
+from .._objects import NOT_COMPLETE, Object, too_small
+from .._process import (NoAnswer, complain, names_of, read, read_log, shown, tell_terminal,
+                        with_progress, write)
 from .._run import Written, run
 from .._sentences import advice
 from ..pages.document import document, version
@@ -73,7 +73,7 @@ def _read(names: Sequence[str], jobs: int) -> Files:
     """The texts of files, of logs their surveys. The library's calls run side by side."""
     with ThreadPoolExecutor(jobs) as pool:
         each = pool.map(_text, names) if jobs > 1 else map(_text, names)
-        return list(zip(names, counted(each, len(names))))
+        return list(zip(names, with_progress(each, len(names))))
 
 
 def _text(name: str) -> bytes:
@@ -109,7 +109,7 @@ def _less(told: Object, wanted: int) -> str:
     if least is not None and least["margin"] >= wanted:
         return ""
     where = f" in {shown(told['logs'][least['log']]['name'])}" if least else ""
-    return small(least, wanted, where)
+    return too_small(least, wanted, where)
 
 
 def _page(files: Files, told: Object) -> Iterator[str]:

@@ -58,9 +58,8 @@ class Told:
     def is_shaken(self, reading: str) -> bool:
         """Whether an answer that leaves nothing to ask may be another one by this reading; without
         a list, whether others may be there."""
-        of_list = self.session.listed or self.answer.is_complete
         return self.answer.status < 2 and not self.said["open"]["count"] and not (
-            self.holds(reading) if of_list else self.settles(reading))
+            self.holds(reading) if self.session.listed else self.settles(reading))
 
     @cached_property
     def quiet(self) -> set[Mask]:

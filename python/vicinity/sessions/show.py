@@ -113,8 +113,9 @@ def _picture(told: Told, look: Look, most: int) -> Iterator[str]:
         if row.request is None:
             yield f"{head}field off and on"
         elif row.request.slots:
-            yield from lines(f"{head}{row.request.mask} ",
-                             [_cell(row, slot, named, look) for slot in row.slots])
+            yield from lines(f"{head}{row.request.mask} ", [
+                look.painted(_cell(row, slot, named), READINGS[slot.letter][1]
+                             + f";{NAMED}" * (slot.line in named)) for slot in row.slots])
         else:
             yield f"{head}Stay Quiet {uid_text(row.request.uid)}"
     if session.listed:
@@ -136,36 +137,26 @@ def _chosen(session: Session, named: set[int], most: int) -> list[int]:
     return sorted(chosen)
 
 
-def _sign(row: Row, slot: Slot) -> str:
-    """What was read in a slot: of a UID, where the round has others, two digits behind those of the
-    asked mask."""
-    if slot.uid is None or row.request is None:
-        return READINGS[slot.letter][0]
-    if row.request.slots == 1:
-        return uid_text(slot.uid)
-    return f"{slot.uid >> row.request.mask.length // 4 * 4 & 0xFF:02X}"
-
-
-def _mark(row: Row, slot: Slot, named: set[int]) -> str:
-    """What the answer rests on, or what became of the tag that was read."""
-    return ("!" if slot.line in named else "q" if slot.uid in row.quiets
-            else "+" if slot.letter == "H" else " ")
-
-
-def _cell(row: Row, slot: Slot, named: set[int], look: Look) -> str:
-    colour = READINGS[slot.letter][1] + f";{NAMED}" * (slot.line in named)
-    return look.painted(f"{_sign(row, slot):>2}{_mark(row, slot, named)}", colour)
+def _cell(row: Row, slot: Slot, named: set[int]) -> str:
+    """What was read in a slot, of a UID two digits behind those of the asked mask where the round
+    has other slots; and a mark: what the answer rests on, or what became of the tag."""
+    sign = READINGS[slot.letter][0]
+    if slot.uid is not None and row.request:
+        behind = row.request.mask.length // 4 * 4
+        sign = f"{slot.uid >> behind & 0xFF:02X}" if row.request.slots > 1 else uid_text(slot.uid)
+    return f"{sign:>2}" + ("!" if slot.line in named else "q" if slot.uid in row.quiets
+                           else "+" if slot.letter == "H" else " ")
 
 
 def _legend(rows: Iterable[Row], named: set[int]) -> Iterator[str]:
     """What the signs and marks mean that are drawn, and the two digits of a UID."""
-    slots = [(row, slot) for row in rows for slot in row.slots]
-    drawn = {sign for row, slot in slots for sign in (_sign(row, slot), _mark(row, slot, named))}
+    cells = [(row, slot, _cell(row, slot, named)) for row in rows for slot in row.slots]
+    drawn = "".join(cell for *_, cell in cells)
     yield from (f"{sign} {words}" for sign, words in LEGEND.items() if sign in drawn)
-    for row, slot in reversed(slots):
+    for row, slot, cell in reversed(cells):
         if row.request and row.request.slots > 1 and slot.uid is not None:
             last = str(Mask(row.request.mask.length // 4 * 4 + 8, slot.uid))[2:]
-            yield f"{_sign(row, slot)} in row {row.request.mask}: a UID that ends in {last}"
+            yield f"{cell[:2]} in row {row.request.mask}: a UID that ends in {last}"
             break
 
 
@@ -203,9 +194,10 @@ def _sent(told: Told, look: Look) -> Iterator[str]:
     elif not told.settles("captured"):
         yield from [*look.wrapped(REQUESTS["hidden"]), session.ask(Mask(0, 0))]
     elif told.is_shaken("deaf") and certain["count"]:
-        lines = ["F", session.ask(Mask(UID_BITS, int(certain["uids"][0][2:], 16)))]
         why = "" if session.has_cycles else f" {REQUESTS['noCycles']}"
-        yield from [*look.wrapped(REQUESTS["heard"] + why), *lines * session.has_cycles]
+        yield from look.wrapped(REQUESTS["heard"] + why)
+        heard = Mask(UID_BITS, int(certain["uids"][0][2:], 16))
+        yield from ["F", session.ask(heard)] if session.has_cycles else ()
 
 
 def _asking(lines: Iterable[str], look: Look) -> Iterator[str]:
