@@ -183,6 +183,15 @@ class Asked(Command):
         self.assertIn(b"has no UID of 16 hex digits that begin with E0", told)
         self.assertIn(b"Write none where an item has no tag.", told)
 
+    def test_of_two_faults_that_of_the_first_file_is_told(self):
+        catalogue = self.catalogue("uid\nE0040100000000A1\n")
+        surveys = self.write("surveys.txt", b"vicinity-survey 1 a\n")
+        places = self.write("places.csv", b"place,log\nA\n")
+        line = f"refused at line 2 of {surveys}: Survey\n".encode()
+        for form in FORMS:
+            said = within("collection", *form, catalogue, surveys, places)
+            self.assertEqual(said, (line, b"", 3))
+
     def test_files_that_are_no_collection(self):
         other = self.write("other.csv", b"uid\nnone\n")
         catalogue = self.catalogue("uid\nnone\n")

@@ -91,12 +91,13 @@ def _survey(name: str, text: bytes) -> bytes:
 
 
 def _written(command: str, files: Files) -> Written:
-    """What the program writes of files. Of one that begins otherwise it reads a list, so a table
-    is the first for `reconcile`."""
+    """What the program writes of files. `reconcile` takes a catalogue that comes first, so the
+    first table does; what else there is stays in its order, by which the first fault is told."""
     if command == "reconcile":
-        files = sorted(files, key=lambda file: file[1].startswith(SURVEYS))
-        if files[0][1].startswith(SURVEYS):
+        tables = _tables(files)
+        if not tables:
             raise NoAnswer(WANTED)
+        files = [tables[0], *(file for file in files if file is not tables[0])]
     try:
         return run(command, *(text for _, text in files), names=[name for name, _ in files])
     except ValueError:
@@ -136,7 +137,7 @@ def _page(files: Files, told: Object) -> Iterator[str]:
 
 
 def _tables(files: Files) -> Files:
-    return [(name, text) for name, text in files if not text.startswith(SURVEYS)]
+    return [file for file in files if not file[1].startswith(SURVEYS)]
 
 
 def _notes(said: Written, told: Object, is_shown: bool) -> Iterator[str]:
