@@ -49,7 +49,7 @@ def collection(asked: argparse.Namespace) -> int:
     files = _read(names_of(asked), asked.jobs)
     said, told = _written(WRITES[asked.form], files), dict[str, Any]()
     is_measured, is_shown = said.status == 0 < asked.margin, asked.form == "lines" and os.isatty(2)
-    if OBJECT == WRITES[asked.form] or is_measured or is_shown:
+    if asked.form == "page" or is_measured or is_shown:
         written = said.text if OBJECT == WRITES[asked.form] else _written(OBJECT, files).text
         told = json.loads(written) if written.startswith(b"{") else told
     less = _less(told, asked.margin) if is_measured else ""
