@@ -30,4 +30,4 @@ __all__ = ["Answer", "Collection", "CollectionRefused", "Explanation", "Fault", 
            "margin_listed", "page", "parse_uid", "read_request", "read_response", "report", "run",
            "simulate", "simulate_into", "slot_mask", "survey", "uid_text", "write_inventory",
            "write_line", "write_response", "write_stay_quiet"]
-__version__ = "2.0.0"
+__version__ = "2.0.1"

@@ -41,9 +41,9 @@ pub extern "C" fn vicinity_interface() -> u32
 /// The version of this library: 10,000 times its first number, 100 times its second, and its third.
 #[unsafe(no_mangle)]
 pub extern "C" fn vicinity_version() -> u32
-    ensures { result ≡ 20000 }
+    ensures { result ≡ 20001 }
 {
-    20_000
+    20_001
 }
 
 /// Judges the log that a text spells, and writes the answer in numbers. The result is its status:
