@@ -374,7 +374,8 @@ def test_page_of_a_collection(reconciled):
     page = reconciled(*SHELVES)
     assert page.texts("h1") == [
         "1 item missing, 1 in the wrong place and 1 not known yet; count C again."]
-    assert page.texts(".lights dd") == ["2 of 3 logs", "9 of 12 items"]
+    assert page.texts(".lights dd") == ["2 of 3 logs", "9 of 12 items",
+                                        *["the answer may be wrong"] * 2]
     groups = ["Count again (1 log)", "At the shelves (2)", "Not known yet (1)",
               "Nothing left to ask (2 logs)", "What this takes for granted (10)"]
     assert page.texts("details > summary h2") == groups
@@ -388,7 +389,7 @@ def test_page_of_a_collection(reconciled):
 def test_page_of_a_collection_that_is_not_sure_enough(run, browser, tmp_path):
     """Shelf A alone, of which more misses were wanted than its log bears. It isn't green."""
     uids = [line[2:] for line in SHELVES[0].read_bytes().splitlines() if line[:1] == b"U"]
-    (tmp_path / "expected.csv").write_bytes(b"\n".join([b"uid", *uids]))
+    (tmp_path / "expected.csv").write_bytes(b"\n".join([b"uid", *uids, b""]))
     words = "collection", "--page", tmp_path / "expected.csv", SHELVES[0]
     missed = "a tag would have had to be missed in 2 slots"
     page = Screen(browser)
