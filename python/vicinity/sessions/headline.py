@@ -33,7 +33,9 @@ def headline(told: Told) -> str:
 
 def _others(told: Told, number: int) -> str:
     """What is said of other tags behind those that are here, where nothing is left to ask."""
-    return numbered("noOthers", number) if told.settles("captured") else str(ANSWERS["ifHidden"])
+    if told.is_shaken("captured"):
+        return str(ANSWERS["ifHidden"])
+    return numbered("noOthersHeard" if told.is_shaken("deaf") else "noOthers", number)
 
 
 def _unfinished(told: Told) -> str:
