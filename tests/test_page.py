@@ -466,6 +466,17 @@ def test_replies_that_may_have_hidden_others_come_last(page):
     assert "most of these UIDs were asked in lines 2, 19, 21 and 23." in page.said()
     assert ["two or more" in it["title"] for it in page.run(RINGED)] == [True]
     assert page.texts(".copy") == [biglog.ask((4, 2), 16), f"{QUIET_A}\n{ALL}"]
+    assert page.said().count("If a slot has a collision, ask its mask in sixteen slots too.") == 2
+
+
+@pytest.mark.parametrize(("listed", "where"), [("", "at the end."), ("UA", "before the U lines.")])
+def test_what_may_be_hidden_may_collide(page, listed, where):
+    """Two that were hidden collide as often as they are asked together: so it is said that their
+    mask is asked in sixteen slots then."""
+    page.drop(log=log_of(f"V3 I16 S HA S14 {listed}"))
+    page.until(".reader", "where a reply may have hidden others, when the tags that were read "
+               "there are silent. If a slot has a collision, ask its mask in sixteen slots too. "
+               f"In the log, the new lines go {where}")
 
 
 def test_a_table_is_compared_with_the_logs_that_are_here(page):

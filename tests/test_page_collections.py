@@ -468,15 +468,84 @@ def test_it_is_asked_which_of_two_counts(page, press, headline):
     assert ("A (A (1).log): " in drawn) == (press == 0)
 
 
+PASTE = """
+const data = new DataTransfer();
+data.setData("text/plain", arguments[0]);
+const how = { clipboardData: data, bubbles: true, cancelable: true };
+document.querySelector("h1").dispatchEvent(new ClipboardEvent("paste", how));
+"""
+
+
+@pytest.mark.parametrize("how", ["dropped", "pasted"])
+def test_a_catalogue_is_not_replaced_without_a_word(page, how):
+    """A smaller one may be complete where the one before wasn't."""
+    drop(page, {**COMPLETE, "B.log": field()})
+    page.until("h1", "1 item missing")
+    smaller = books((UID_A, ",A"))
+    if how == "pasted":
+        page.run(PASTE, smaller.decode())
+    else:
+        drop(page, {"week 2.csv": smaller})
+    name = {"dropped": "week 2.csv", "pasted": "pasted text"}[how]
+    said = f"books.csv (2 items) was replaced by {name} (1 item)."
+    page.until(".note", said)
+    assert page.texts(".note") == [said]
+    assert page.run(TOLD) == f"{said} {page.texts('h1')[0]}"
+    drop(page, {"B.log": field(UID_B)})
+    assert page.texts(".note") == ["B.log was replaced by what you opened under the same name."]
+
+
+def test_a_table_of_places_is_not_replaced_without_a_word(page):
+    drop(page, {**COMPLETE, "places.csv": b"place,log\nA,A.log\nB,B.log\n"})
+    drop(page, {"new.csv": b"place,log\nA,B.log\nB,A.log\n"})
+    assert page.texts(".note") == ["places.csv was replaced by new.csv."] and look(page) == "no"
+
+
+def test_a_pasted_table_joins_what_is_here(page):
+    """Which is said."""
+    drop(page, {"A.log": field(UID_A), "B.log": field(UID_B)})
+    page.run(PASTE, BOTH.decode())
+    page.until(".banner.yes", "pasted text · 2 logs")
+    assert page.texts(".note") == ["pasted text joined the logs that were here."]
+
+
+@pytest.mark.parametrize("is_edited", [False, True])
+def test_no_catalogue_takes_a_pasted_log_in(page, is_edited):
+    """Not even if it was edited."""
+    page.run(PASTE, field(UID_A).decode())
+    page.until("h1", "1 tag is here")
+    if is_edited:
+        page.driver.find_element("id", "text").send_keys("#")
+        page.until(".banner", "pasted text (edited)")
+    drop(page, {"books.csv": books((UID_A, ""), head="uid,title")})
+    assert page.texts("h1") == ["The catalogue has 1 item. Now open the logs."]
+    edited = " (edited)" if is_edited else ""
+    assert page.texts(".note") == [
+        f"pasted text{edited} was left out: what is pasted has no name."]
+
+
+@pytest.mark.parametrize("files", [
+    COMPLETE, {"A.log": log_of("I1 RA QA I1 S UA")},
+    {"A.log": field(UID_A, listed=[UID_A]), "B.log": field(UID_B, listed=[UID_B])}])
+def test_nothing_is_said_any_more_when_all_is_closed(page, files):
+    """Neither in the banner nor in the title, to whoever doesn't see it, nor on paper."""
+    drop(page, files)
+    page.wait(lambda: look(page) == "yes" or "Complete: 2 of 2." in page.run(TOLD))
+    page.press("#close")
+    wanted = "Did the RFID reader find every tag?"
+    page.until("h1", wanted)
+    assert page.texts("h1") == [wanted] and not look(page) and page.run(TOLD) == wanted
+    assert page.driver.title == f"vicinity: {wanted[0].lower()}{wanted[1:]}"
+    page.media("print")
+    assert not page.texts(".banner") and "here" not in page.said().partition("\n")[0]
+    rules = page.run("return [...document.styleSheets[0].cssRules].map((it) => it.cssText)")
+    assert f'@top-left {{ content: "{page.driver.title}"' in rules[-1]
+
+
 def test_one_goes_back_after_a_paste(page):
-    """What is pasted has no name, so it is of no place: it is judged by itself."""
+    """A log that is pasted has no name, so it is of no place: it is judged by itself."""
     drop(page, COMPLETE)
-    page.run("""
-      const data = new DataTransfer();
-      data.setData("text/plain", arguments[0]);
-      const how = { clipboardData: data, bubbles: true, cancelable: true };
-      document.querySelector("h1").dispatchEvent(new ClipboardEvent("paste", how));
-    """, log_of("I1 S").decode())
+    page.run(PASTE, log_of("I1 S").decode())
     page.until("h1", "No tag answered, and nothing is listed.")
     page.press("#back")
     page.until(".banner.yes h1", "All 2 expected items are here")
@@ -557,6 +626,22 @@ def test_a_table_with_the_mark_of_its_coding(page, coding):
     drop(page, {**COMPLETE, "books.csv": table})
     assert look(page) == "yes"
     assert sha256(table).hexdigest() in page.run("return document.body.textContent")
+
+
+@pytest.mark.parametrize("coding", ["utf-16-le", "utf-16-be"])
+def test_a_log_in_utf_16_is_refused(page, program, tmp_path, coding):
+    """As by the program, and as when it is opened alone."""
+    files = {**COMPLETE, "A.log": ("\ufeff" + field(UID_A).decode()).encode(coding)}
+    for name, text in files.items():
+        (tmp_path / name).write_bytes(text)
+    said = program.run("json-collection", "--", *files, cwd=tmp_path)
+    assert said.out == b"refused at line 1 of A.log: Utf8\n"
+    drop(page, files)
+    assert "A.log, line 1: the line isn't UTF-8" in page.texts(".error")[0] and not look(page)
+    assert "The file seems to be UTF-16: save it as ASCII or UTF-8." in page.said()
+    page.press("#close")
+    drop(page, {"A.log": files["A.log"]})
+    page.until("li", "The file seems to be UTF-16")
 
 
 def test_a_text_of_surveys_stands_in_place_of_its_logs(page, program, tmp_path):

@@ -52,7 +52,7 @@ export async function judge(library, text, name) {
  * @returns {Promise<CollectionObject>}
  */
 export async function judgeAll(library, files) {
-  const texts = files.map(({ name, text }) => ({ name, text: utf8Of(text) }));
+  const texts = files.map((file) => ({ name: file.name, text: kindOf(file) === "table" ? utf8Of(file.text) : file.text }));
   const said = DECODED.decode(written(library, texts, files)), refused = said.match(REFUSED);
   if (refused) throw wrongIn(texts, Number(refused[1]), refused[2], refused[3]);
   const object = JSON.parse(said), tables = files.filter((file) => kindOf(file) === "table");

@@ -6,7 +6,7 @@ import { count, UID_BITS, visible } from "./words.mjs";
 /** @typedef {import("./told.mjs").Told} Told */
 
 const MOST_SHOWN = 160, MOST_ON_PAPER = 400;
-const INSERT = "If a slot has a collision, ask its mask in sixteen slots too. In the log, the new lines go ";
+const SPLIT = "If a slot has a collision, ask its mask in sixteen slots too.", INSERT = `${SPLIT} In the log, the new lines go `;
 const ASK_UNDER = ", to ask again where a reply may have hidden others, when the tags that were read there are silent.";
 const SILENCED = "tags that were silenced before they were heard: only then do they answer";
 const HEARD = "To know whether the reader still heard at the end, switch the field off and on, write F, and ask for a tag that was found: it has to answer.";
@@ -47,7 +47,7 @@ function left(told) {
   const last = told.notes.last && !hidden.length ? ` At last, ${TO_KNOW}.` : "", { count: masks, uids } = told.object.open;
   if (masks > told.quiet) parts.push(el("p", {}, `Of all possible UIDs ${settled(Number(uids) / 2 ** UID_BITS)} are settled.`));
   if (open.length) parts.push(el("p", {}, `${how} ${INSERT}${end}${last}`), ...copied(open));
-  if (hidden.length) parts.push(el("p", {}, `${open.length ? "Then " : ""}${requests(hidden.length)} left${ASK_UNDER}`), ...copied(hidden));
+  if (hidden.length) parts.push(el("p", {}, `${open.length ? "Then " : ""}${requests(hidden.length)} left${ASK_UNDER} ${open.length ? SPLIT : INSERT + end}`), ...copied(hidden));
   if (silenced.length && !told.cycles) parts.push(el("p", {}, NEW_VERSION));
   else if (silenced.length) {
     const then = open.length || hidden.length ? "Then switch" : "Switch", number = count(silenced.length, "request");

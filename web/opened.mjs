@@ -1,15 +1,15 @@
 /** What is opened: files as logs, each with its text, or together a collection, which has none of its own. */
 import { isPlaces, kindOf, stemOf } from "./files.mjs";
 import { STOPPED } from "./work.mjs";
-import { listing, printable } from "./words.mjs";
+import { count, EDITED, listing, printable } from "./words.mjs";
 
 /** @typedef {import("./files.mjs").Given} Given */
 /** @typedef {import("./collection.mjs").CollectionObject} CollectionObject */
 /** @typedef {{tables: Entry[], logs: Entry[], both: string[]}} Collection with the logs of which it was said that they are no copies */
 /**
  * A log, or a collection, with what was done to it last; or one that waits for its catalogue.
- * Of a file it has when that was changed, and its own name, if it took another.
- * @typedef {Given & import("./work.mjs").Done & {given?: Collection, waits?: string, note?: string,
+ * Of a file it has when that was changed, and its own name, if it took another; of a catalogue which it replaced.
+ * @typedef {Given & import("./work.mjs").Done & {given?: Collection, waits?: string, note?: string, replaced?: string,
  *   pause?: number, words?: string, changed?: number, was?: string}} Entry
  */
 
@@ -58,11 +58,13 @@ const isATable = (entry) => kindOf(entry) === "table";
 /** @param {Entry} entry */
 const isCatalogue = (entry) => isATable(entry) && !isPlaces(entry);
 /** @param {Entry} entry */
-const joins = (entry) => kindOf(entry) !== "other" && (isATable(entry) || entry.name !== PASTED);
+const isPasted = ({ name }) => name.replace(EDITED, "") === PASTED;
+/** @param {Entry} entry */
+const joins = (entry) => kindOf(entry) !== "other" && (isATable(entry) || !isPasted(entry));
 
 /**
  * What was opened, as it is judged. Tables, or logs beside a collection that is here, belong to what is here; a catalogue
- * with its logs is a collection of its own.
+ * with its logs is a collection of its own. A log that was pasted belongs to none.
  * @param {Entry[]} taken
  * @param {Entry[]} entries those that are here
  * @returns {Entry[]}
@@ -71,14 +73,19 @@ export function gathered(taken, entries) {
   const tables = taken.filter(isATable), logs = taken.filter((entry) => !isATable(entry)), earlier = entries[0]?.given;
   const isWhole = taken.some(isCatalogue) && logs.length > 0, isJoining = !isWhole && taken.every(joins) && (earlier || !logs.length);
   if (!tables.length && !(isJoining && earlier)) return taken;
-  const here = !isJoining ? { tables: [], logs: [], both: [] } : earlier ?? { tables: [], logs: entries, both: [] };
+  const here = !isJoining ? { tables: [], logs: [], both: [] } : earlier ?? { tables: [], logs: entries.filter((it) => !isPasted(it)), both: [] };
   const stems = new Set(logs.map(({ name }) => stemOf(name))), replaced = here.logs.filter(({ name }) => stems.has(stemOf(name)));
   const left = here.logs.filter((log) => !replaced.includes(log)), all = [...left, ...logs];
   const kept = here.tables.filter((table) => !tables.some((other) => isPlaces(other) === isPlaces(table)));
   const names = (/** @type {Entry[]} */ list) => listing(list.map(({ name }) => printable(name)));
-  const note = replaced.length ? `${names(replaced)} ${replaced.length > 1 ? "were" : "was"} replaced by what you opened under the same name.`
-    : left.length && logs.length ? `${names(logs)} joined the logs that were here.` : "";
-  return [collected({ tables: [...kept, ...tables], logs: all, both: here.both }, note)];
+  const was = (/** @type {Entry[]} */ list, /** @type {string} */ how) => list.length ? `${names(list)} ${list.length > 1 ? "were" : "was"} ${how}. ` : "";
+  const gone = here.tables.filter((table) => !kept.includes(table)), [old] = gone.filter(isCatalogue), items = entries[0]?.collection?.items.length;
+  const joined = left.length ? [...logs, ...gone.length ? [] : tables.filter(isPasted)] : [];
+  const note = was(gone.filter(isPlaces), `replaced by ${names(tables.filter(isPlaces))}`) +
+    was(isJoining && !earlier ? entries.filter(isPasted) : [], "left out: what is pasted has no name") +
+    (was(replaced, "replaced by what you opened under the same name") || (joined.length ? `${names(joined)} joined the logs that were here.` : ""));
+  return [{ ...collected({ tables: [...kept, ...tables], logs: all, both: here.both }, note),
+    replaced: old && `${names([old])}${items === undefined ? "" : ` (${count(items, "item")})`} was replaced by ${names(tables.filter(isCatalogue))}` }];
 }
 
 /**

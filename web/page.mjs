@@ -1,6 +1,6 @@
 /** The page that judges: what is opened or typed is judged, and one of it is shown. */
 import { at, setForReader } from "./elements.mjs";
-import { isSpreadsheet, kindOf, utf8Of } from "./files.mjs";
+import { isSpreadsheet, kindOf } from "./files.mjs";
 import { collected, gathered, isLacking, isUnanswered, PASTED, read, without } from "./opened.mjs";
 import { bytesOf, unpacked } from "./packed.mjs";
 import { Pane } from "./pane.mjs";
@@ -182,7 +182,7 @@ const logOf = ({ given }, name) => given?.logs.find((log) => log.name === name &
  */
 function opener(number) {
   const entry = entries[current], log = logOf(entry, entry.collection?.logs[number].name);
-  return log ? async () => (await work.ask({ name: log.name, text: utf8Of(log.text) })).told : null;
+  return log ? async () => (await work.ask({ name: log.name, text: log.text })).told : null;
 }
 
 shown.addEventListener("click", ({ target }) => {

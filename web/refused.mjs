@@ -21,6 +21,7 @@ const NAME = "In its first row, name the column of tag numbers (16 characters, 0
 const NAMED = [`${NAME}.`, ...BOTH], SAVED = [`${NAME}, and save it as CSV.`, ...BOTH];
 const UNPACK = "If it is a ZIP file with logs in it, unpack it, and open the logs.";
 const IF_SPREADSHEET = "If it is a spreadsheet with tag numbers:";
+const IS_UTF_16 = "The file seems to be UTF-16: save it as ASCII or UTF-8.";
 const ANOTHER = "Choose another file, or count again.";
 /** Files that aren't logs, by how their first line begins. */
 const FOREIGN = /** @type {[RegExp, "pdf" | "page" | "trace" | "surveys" | "turned" | "list"][]} */ ([[/^vicinity-survey /, "surveys"], [/^%PDF/, "pdf"], [/^\s*<(?:!doctype html|html)/i, "page"],
@@ -79,6 +80,7 @@ export function wrongTable(text, line, fault) {
   const known = line === 1 && FOREIGN.find(([begins, what]) => begins.test(text) && !IN_TABLES.has(what));
   const { wrong, fix } = SENTENCES.files[known ? known[1] : "turnedUid"];
   if (known) return { wrong: `this is ${wrong}`, fix: fix.join(" ") };
+  if (fault === "Utf8" && text.includes("\0")) return { ...SENTENCES.tables[fault], fix: IS_UTF_16 };
   if (fault === "Uid" && TURNED.test(text)) return { wrong, fix: fix.join(" ") };
   return /** @type {Record<string, Advice>} */ (SENTENCES.tables)[fault] ?? SENTENCES.faults[""];
 }
@@ -116,7 +118,7 @@ const isTable = (text) => /[,;\t|]/.test(text);
 function ofFirst(text) {
   const causes = [];
   if (text.startsWith("\uFEFF")) causes.push("The file begins with a byte order mark: save it as UTF-8 without one.");
-  if (text.includes("\0")) causes.push("The file seems to be UTF-16: save it as ASCII or UTF-8.");
+  if (text.includes("\0")) causes.push(IS_UTF_16);
   if (text.includes("\r")) causes.push("The lines end with CR alone: write LF, or CR LF.");
   return causes;
 }

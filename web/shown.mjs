@@ -35,11 +35,12 @@ export function show(entry, isShown, opener, canLeave) {
   if (!entry || isOld && isShown) return;
   shown.replaceChildren(...nodesOf(entry, opener, canLeave));
   headed(titleOfEntry(entry));
-  if (entry.note) at("said").prepend(`${printable(entry.note)} `);
+  if (noteOf(entry)) at("said").prepend(`${noteOf(entry)} `);
 }
 
 /** Shows what stands there before anything is opened. */
 export function begin() {
+  each.replaceChildren();
   shown.replaceChildren(...START);
   headed(TITLE);
 }
@@ -57,7 +58,8 @@ export function focusOnHeading() {
  * @param {(name: string) => boolean} canLeave
  * @returns {Node[]}
  */
-function nodesOf({ told, collection, error, cure, waits, given, name, note, files }, opener, canLeave) {
+function nodesOf(entry, opener, canLeave) {
+  const { told, collection, error, cure, waits, given, name, files } = entry, note = noteOf(entry);
   const logs = given && (waits || error) ? given.logs.filter((it) => kindOf(it) !== "other") : [];
   // beside a log that can't stay, the next catalogue wouldn't help
   const words = [...cure ?? [], ...logs.some((it) => files?.includes(it.name)) ? [] : kept(logs)];
@@ -65,8 +67,15 @@ function nodesOf({ told, collection, error, cure, waits, given, name, note, file
   if (error) return [el("h1", { class: "error" }, unanswered(name, error)), ...said];
   if (waits) return [el("h1", {}, waits), ...said];
   if (!collection) return told ? view(told) : [];
-  return [...note ? [el("p", { class: "note" }, printable(note))] : [], ...collectionView(collection, opener, canLeave)];
+  return [...note ? [el("p", { class: "note" }, note)] : [], ...collectionView(collection, opener, canLeave)];
 }
+
+/**
+ * What became of what was here. Of a catalogue that was replaced it is told when it is known how many items the next one has.
+ * @param {Entry} entry
+ */
+const noteOf = ({ note = "", replaced, collection }) =>
+  printable(replaced && collection ? `${replaced} (${count(collection.items.length, "item")}). ${note}` : note).trimEnd();
 
 /**
  * Buttons that leave files out; of two that are called alike, with when each was changed.

@@ -56,9 +56,10 @@ class Told:
                 self.said.get(reading, {}).get("settled") is not False)
 
     def is_shaken(self, reading: str) -> bool:
-        """Whether an answer that leaves nothing to ask may be another one by this reading; without
-        a list, whether others may be there."""
-        return self.answer.status < 2 and not self.said["open"]["count"] and not (
+        """Whether an answer that leaves nothing to ask, or by which a tag is missing, may be
+        another one by this reading; without a list, whether others may be there."""
+        is_read = not self.said["open"]["count"] or self.said["found"]["absent"] > 0
+        return self.answer.status < 2 and is_read and not (
             self.holds(reading) if self.session.listed else self.settles(reading))
 
     @cached_property
