@@ -24,6 +24,7 @@ class Log:
         # whether others may be there if replies were hidden
         key = "holds" if self.is_complete and listed else "settled"
         self.is_hiding = told["captured"].get(key) is False
+        self.is_deaf = told["deaf"].get(key) is False
         # the words that must be there, by what they say; where there is no list, all are unlisted
         self.must = {"didn't answer|but .* listed": self.found["absent"],
                      "listed": self.found["unlisted"] if listed else 0,
@@ -42,8 +43,10 @@ class Log:
             r"others are too|others may be too": lambda: self.is_open,
             rf"all {NUMBER} listed tags are here": lambda n: n == self.listed == proved,
             r"the one listed tag is here": lambda: self.listed == proved == 1,
-            r"and no others?": lambda: (self.is_complete or not self.listed) and not (
+            r"and no others? answered": lambda: (self.is_complete or not self.listed) and not (
                 self.is_open or self.is_hiding or found["absent"]),
+            r"and no others?": lambda: (self.is_complete or not self.listed) and not (
+                self.is_open or self.is_hiding or self.is_deaf or found["absent"]),
             rf"others may be, {HIDDEN}": lambda: not self.is_open and (
                 self.is_complete or not self.listed),
             r"No tag answered, and nothing is listed": lambda: (
@@ -103,9 +106,9 @@ def light_says_too_much(said, log):
 # Collections.
 
 KINDS = {"missing": "missing", "not heard on": "not provable", "not known yet": "not provable",
-         "in the wrong place": "misplaced", "not in the catalogue": "unexpected",
-         "back that should be away": "returned", "not counted": "not counted",
-         "without a tag": "no tag"}
+         "in the wrong place": "misplaced", "heard in a log of no place": "misplaced",
+         "not in the catalogue": "unexpected", "back that should be away": "returned",
+         "not counted": "not counted", "without a tag": "no tag"}
 ALL_HERE = re.compile(rf"All {NUMBER} expected items are here|The one expected item is here"
                       r"|Nothing is expected here, and no tag answered")
 
@@ -122,6 +125,8 @@ def collection_says_too_much(said):
             return is_all[0]
         if "no other" in headline and (not is_complete or any(log["hidden"] for log in logs)):
             return "no others"
+        if re.search(r"no other(?!s? answered)", headline) and any(log["deaf"] for log in logs):
+            return "no others, though a reader may have gone deaf"
         if is_complete and any(log["hidden"] for log in logs) and HIDDEN not in headline:
             return f"it lacks {HIDDEN!r}"
     if is_complete:
