@@ -186,18 +186,18 @@ def foreign(page, words):
     """Of a text that is no log, told from one."""
     page.until("h1", "isn't a log")
     page.until("#told", words)
-    is_table = "isn't a log, but a" in page.said()
-    assert ("whoever maintains the reader" in page.said()) != is_table
+    is_file = "This file isn't a log" in page.said()
+    assert ("whoever maintains the reader" in page.said()) != is_file
     assert "SHA-256 of the file" in page.texts(".record")[0]
     assert page.texts("h2")[0] == "What to do"
-    if is_table:
+    if is_file:
         assert page.texts("label[for=text]") == ["The file"]
 
 
-def unusable(page, words):
+def unusable(page, words, never=None):
     """Of a log."""
     page.until("h1", "This log can't be used. Line ")
-    page.until("#told", words)
+    says(page, words, never)
     page.media("print")
     assert "Counted on" not in page.said()
 
@@ -242,7 +242,7 @@ def test_a_text_that_is_typed_stays_in_its_field(page, file):
     page.open(file, "")
     assert page.run(SEEN, "#text")
     type_in(page, "Dear reader")
-    page.until("h1", "This text isn't a log")
+    page.until("h1", "This file isn't a log.")
     assert page.run(SEEN, "#text")
 
 
@@ -266,7 +266,8 @@ def test_a_keyboard_has_few_stops(page, file, part):
 
 def test_who_has_no_log_yet_is_told_what_one_is(page):
     for words in ("A log says what a reader asked, and what came back each time",
-                  "The reader's software writes it", "isn't a log: it can't show whether a tag"):
+                  "The reader's software writes it", "isn't a log: it can't show whether a tag",
+                  "write uid as its first line, and open it with the logs."):
         assert words in page.said()
 
 
@@ -332,6 +333,15 @@ def test_print_is_a_record(page):
     for words in "E0040100000000A1", "Each tag has power", "SHA-256 of the log", "Counted on":
         assert words in said
     assert "Open logs" not in said and not page.driver.find_element("id", "text").is_displayed()
+
+
+def test_each_sheet_names_the_file(page):
+    """However long the headline is."""
+    page.drop(**{"shelf 1.log": log_of("I1 RA I1 RB")})
+    page.until("h1", "This count can't be used.")
+    rules = page.run("return [...document.styleSheets[0].cssRules].map((it) => it.cssText)")
+    assert '"shelf 1.log: This count can\'t be used. The log contradicts itself' in rules[-1]
+    assert page.driver.title.endswith(" shelf 1.log") and ' …"' in rules[-1]
 
 
 def test_no_word_stands_on_a_line_number_on_paper(page):
@@ -725,7 +735,15 @@ def test_several_logs(page):
     page.press("#logs button", 1)
     page.until("h1", "No tag answered")
     assert len(page.texts("h1")) == 1 and said in page.texts("#each")[0]
+    assert page.texts("#logs button [aria-hidden=true]") == ["i", "!", "?"]
     assert page.run("return document.activeElement.textContent").startswith("two ")
+
+
+def test_what_is_no_log_is_not_counted_as_one(page):
+    page.drop(one=log_of("I1 RA UA"), two=log_of("I1 S UA"), uids=b"E0040100000000A1\n")
+    page.until("h1", "2 logs, each with its own answer. Complete: 1 of 2. 1 file isn't a log.")
+    page.drop(uids=b"E0040100000000A1\n", prose=b"Dear reader\n")
+    page.until("h1", "0 logs. 2 files aren't logs.")
 
 
 def test_a_session_of_a_million_lines_does_not_freeze_the_page(page, million):
@@ -768,6 +786,13 @@ def test_an_empty_field_is_not_green_without_a_tag_that_is_expected(page):
     page.press("#close")
     page.drop(**{"A.log": log_of("I1 S")})
     page.until(".banner.read h1", "No tag answered, and nothing is listed.")
+
+
+def test_one_item_that_is_here_beside_a_log_of_no_place(page):
+    page.drop(**{"books.csv": OF_A, "A.log": log_of("I1 RA QA I1 S"), "cart.log": log_of("I1 RB")})
+    page.until("h1", "cart.log is of no place")
+    page.drop(**{"cart.log": log_of("I1 S")})
+    page.until("h1", "The one expected item is here; cart.log is of no place; nothing answered")
 
 
 def test_items_without_a_place_are_not_called_in_place(page):
@@ -1005,10 +1030,28 @@ def test_a_file_that_is_read_slowly_does_not_replace_a_later_one(page, is_exampl
     if is_example:
         page.press("#example")
     else:
-        page.drop(**{"example.log": UNFINISHED})
+        page.drop(later=UNFINISHED)
     page.wait(lambda: page.run("return 'go' in window"))
     page.run("window.go()")
-    page.until(".banner", "example.log")
+    page.until(".banner", "the example" if is_example else "later")
+    page.wait(lambda: not page.run(SEEN, "#example"))
+
+
+@pytest.mark.parametrize("is_edited", [False, True])
+def test_the_example_leaves_with_the_first_file(page, is_edited):
+    page.press("#example")
+    page.until("#told .banner", "the example")
+    assert page.run("return document.activeElement.tagName") == "H1"
+    if is_edited:
+        type_in(page, log_of("I1 RA").decode())
+        page.until(".banner", "the example (edited)")
+    page.drop(**{"books.csv": OF_A})
+    page.until("h1", "The catalogue has 1 item on 1 place. Now open the logs.")
+    page.drop(**{"A.log": log_of("I1 RA QA I1 S")})
+    page.until("h1", "The one expected item is here, and no other answered.")
+    page.press("#example")
+    page.until(".banner", "the example")
+    assert "books.csv" not in page.said()
 
 
 @pytest.mark.parametrize("is_stopped", [False, True])
@@ -1379,7 +1422,7 @@ def test_what_is_shown_of_a_log_stays_while_another_is_judged(page):
 
 
 @pytest.mark.parametrize(("files", "words"), [
-    ({"disk": bytes(40_000_000)}, "Line 1: a line has at most 128 bytes."),
+    ({"disk": bytes(40_000_000)}, "This file isn't a log: it isn't text in UTF-8."),
     ({"books.csv": bytes(5_000_000), "A.log": log_of("I1 S")}, "books.csv, line 1: "),
     ({"books.csv": b"x" * 130_000, "A.log": log_of("I1 S")}, "books.csv, line 1: a line has at"),
     ({"books.csv": b"uid\n" + b"x" * 5_000_000, "A.log": log_of("I1 S")}, "books.csv, line 2: a"),

@@ -715,9 +715,9 @@ def test_the_sheets_say_of_what_they_are(page):
     """From the second one on: the first has it as its headline."""
     drop(page, COMPLETE)
     rules = page.run("return [...document.styleSheets[0].cssRules].map((it) => it.cssText)")
-    title = page.driver.title
-    assert title == "All 2 expected items are here, and no others. books.csv"
-    assert f'@top-left {{ content: "{title}"' in rules[-1]
+    said = "All 2 expected items are here, and no others."
+    assert page.driver.title == f"{said} books.csv"
+    assert f'@top-left {{ content: "books.csv: {said}"' in rules[-1]
     page.press("#close")
     drop(page, {'a "b".log': log_of("I1 S")})
     rules = page.run("return [...document.styleSheets[0].cssRules].map((it) => it.cssText)")

@@ -235,7 +235,8 @@ function lacking(object, { shelves, of, doubts, elsewhere: { length: elsewhere }
     : `${count(number, "item")} ${words}`);
   const isNamed = again.length <= MOST_NAMES && again.every((at) => shelves.isPlaced(at));
   const number = isNamed ? shelves.names(again) : again.length < fields.length || again.length === 1 ? count(again.length, "log") : "all logs";
-  const here = said.length || again.length ? listing(said) : `all ${count(found(object), "expected item")} are here`;
+  const here = said.length || again.length ? listing(said)
+    : found(object) === 1 ? "the one expected item is here" : `all ${count(found(object), "expected item")} are here`;
   const text = [here, ...again.length ? [`count ${number} again`] : [], ...doubts.flatMap(({ short, isFirst }) => isFirst ? [short] : [])]
     .filter((it) => it).join("; ");
   return `${text[0].toUpperCase()}${text.slice(1)}.`;

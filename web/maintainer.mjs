@@ -7,6 +7,8 @@ import { count, UID_BITS, visible } from "./words.mjs";
 
 const MOST_SHOWN = 160, MOST_ON_PAPER = 400;
 const SPLIT = "If a slot has a collision, ask its mask in sixteen slots too.", INSERT = `${SPLIT} In the log, the new lines go `;
+/** Tags stay silent only while they have power. */
+const IF_OFF = "If the field has been off since, write F first.", IF_ON = "Only if the field has been on since; else begin a new log.";
 const ASK_UNDER = ", to ask again where a reply may have hidden others, when the tags that were read there are silent.";
 const SILENCED = "tags that were silenced before they were heard: only then do they answer";
 const HEARD = "To know whether the reader still heard at the end, switch the field off and on, write F, and ask for a tag that was found: it has to answer.";
@@ -40,7 +42,7 @@ export function maintainer(told, said, more) {
  */
 function left(told) {
   const { open, by, silenced, hidden } = told.requests, parts = [];
-  const end = told.counts.listed ? "before the U lines." : "at the end.";
+  const end = `${told.counts.listed ? "before the U lines." : "at the end."} ${told.cycles ? IF_OFF : IF_ON}`;
   const isAll = told.open.length === told.object.open.count, each = `${open.length > 1 ? "one for each" : "for the"} ${by}`;
   const how = isAll ? `${requests(open.length)} left${hidden.length ? "" : `, ${each}`}.`
     : `What is left to ask first, ${each}: send ${open.length > 1 ? "these" : "it"}, and judge the log again.`;

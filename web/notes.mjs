@@ -1,5 +1,5 @@
 /** What is worth a look in a log, and isn't part of its answer. */
-import { count, KIND } from "./words.mjs";
+import { count, KIND, UID_BITS } from "./words.mjs";
 
 /** @typedef {import("./log.mjs").Log} Log */
 /** @typedef {{line: number, uid: string, at: number}} Lost a listed tag that the reader silenced, and that a line before rules out */
@@ -21,10 +21,15 @@ export function notesOf(log, object) {
     const found = absent.get(uid);
     return found && found.line < line ? [{ line, uid: found.uid, at: found.line }] : [];
   });
+  // behind the last field cycle it may only be asked whether the reader still hears
+  let end = log.rowCount;
+  while (end > 0 && log.isRound(end - 1) && log.shape(end - 1).len >= UID_BITS) end--;
+  if (end < 2 || log.isRound(end - 1) || log.isQuiet(end - 1)) end = log.rowCount;
   for (let at = 0; at < log.rowCount; at++) {
     if (!log.isRound(at)) continue;
     const { slots, len } = log.shape(at), logged = log.outcomes(at), isKnown = logged.every((line) => log.reading(line) !== "unknown");
     if (logged.length < slots) cut.push({ line: log.lineOf(at), slots: logged.length, of: slots });
+    if (at >= end) continue;
     hasAsked = logged.length === slots && len === 0;
     if (hasAsked && isKnown) hasAskedAll = true;
     last = hasAsked && isKnown ? -1 : at;

@@ -24,6 +24,8 @@ const CONTROL = /[\0-\x1F\x7F]/g;
 const NO_CATALOGUE = "Now open the catalogue: a table (CSV) with a column uid.";
 /** What is pasted has no name by which it could be of a place. */
 export const PASTED = "pasted text";
+/** It leaves with the first file that is opened, and joins none. */
+export const EXAMPLE = "the example";
 
 /** @param {Entry} entry */
 export const isUnanswered = ({ told, collection, error, waits }) => !told && !collection && !error && !waits;
@@ -58,7 +60,7 @@ const isATable = (entry) => kindOf(entry) === "table";
 /** @param {Entry} entry */
 const isCatalogue = (entry) => isATable(entry) && !isPlaces(entry);
 /** @param {Entry} entry */
-const isPasted = ({ name }) => name.replace(EDITED, "") === PASTED;
+const isPasted = ({ name }) => [PASTED, EXAMPLE].includes(name.replace(EDITED, ""));
 /** @param {Entry} entry */
 const joins = (entry) => kindOf(entry) !== "other" && (isATable(entry) || !isPasted(entry));
 

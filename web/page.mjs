@@ -1,7 +1,7 @@
 /** The page that judges: what is opened or typed is judged, and one of it is shown. */
 import { at, setForReader } from "./elements.mjs";
 import { isSpreadsheet, kindOf } from "./files.mjs";
-import { collected, gathered, isLacking, isUnanswered, PASTED, read, without } from "./opened.mjs";
+import { collected, EXAMPLE, gathered, isLacking, isUnanswered, PASTED, read, without } from "./opened.mjs";
 import { bytesOf, unpacked } from "./packed.mjs";
 import { Pane } from "./pane.mjs";
 import { unfold, unfoldOnPaper } from "./printing.mjs";
@@ -213,7 +213,7 @@ function open(chosen) {
       pending = undefined;
       quiet();
     }
-    const made = gathered(taken, entries);
+    const made = gathered(taken, entries.filter((it) => it.name !== EXAMPLE));
     if (entries.length) keep();
     take(made);
   }).catch(({ message }) => take([{ ...mine, error: message }]));
@@ -263,7 +263,8 @@ files.addEventListener("change", () => {
   files.value = "";
 });
 at("example").addEventListener("click", () => {
-  open([new File([at("sample").textContent ?? ""], "example.log")]);
+  isPressed = true;
+  open([new File([at("sample").textContent ?? ""], EXAMPLE)]);
 });
 /**
  * Whether a text gets into the field, where it is typed.

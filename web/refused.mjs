@@ -15,13 +15,14 @@ const PARTS = /** @type {Record<string, string>} */ (SENTENCES.parts);
 const COUNT = "Count again, in a new log. If that is refused too, no count will help: send the log and this page (printed as PDF) " +
   "to whoever maintains the software that writes it.";
 const COPY = "The file may have been cut off, by a full disk or because it was copied while it was written: copy it again.";
-const BOTH = ["To compare this table with what the logs show, open both at once in vicinity.html: choose or drop the table and the logs together.",
-  "A log is a file that the reader's software writes; its first line begins with 'vicinity-log'."];
+const LOG_IS = "A log is text from the reader's software; its first line begins with 'vicinity-log'.";
+const BOTH = ["To compare this table with what the logs show, open both at once in vicinity.html: choose or drop the table and the logs together.", LOG_IS];
 const NAME = "In its first row, name the column of tag numbers (16 characters, 0 to 9 and A to F) 'uid'";
-const NAMED = [`${NAME}.`, ...BOTH], SAVED = [`${NAME}, and save it as CSV.`, ...BOTH];
+const IF_TABLE = { when: "If it is a table with tag numbers:", steps: [`${NAME}.`, BOTH[0]] }, SAVED = [`${NAME}, and save it as CSV.`, ...BOTH];
 const UNPACK = "If it is a ZIP file with logs in it, unpack it, and open the logs.";
 const IF_SPREADSHEET = "If it is a spreadsheet with tag numbers:";
 const IS_UTF_16 = "The file seems to be UTF-16: save it as ASCII or UTF-8.";
+const IF_TEXT = "If it is text, in UTF-16 for example, save it as ASCII or UTF-8.";
 const ANOTHER = "Choose another file, or count again.";
 /** Files that aren't logs, by how their first line begins. */
 const FOREIGN = /** @type {[RegExp, "pdf" | "page" | "trace" | "surveys" | "turned" | "list"][]} */ ([[/^vicinity-survey /, "surveys"], [/^%PDF/, "pdf"], [/^\s*<(?:!doctype html|html)/i, "page"],
@@ -36,6 +37,8 @@ const IN_TABLES = new Set(["surveys", "turned", "list"]);
 const OF_A_LOG = /^(vicinity-(?!survey )|[TRHU] [0-9A-F]|[SCDNF]$|#)/i;
 /** What an editor adds to it, or a coding makes of it. */
 const CODING = /[\0\uFEFF\uFFFD]/g;
+/** What a picture has, or a text in another coding. */
+const NO_TEXT = /[\0\uFFFD]/;
 
 /**
  * @param {string} fault
@@ -50,7 +53,7 @@ function advice(fault, line) {
 /** @param {Told} told */
 export function refused(told) {
   const { line = 0, fault = "", ended } = told.object, { wrong, fix } = advice(fault, told.faulty);
-  const last = line === told.counts.lines && line > 1;
+  const isCut = line === told.counts.lines && line > 1 && !ended;
   if (told.counts.lines === 0) return { headline: "The text is empty.", shelf: [ANOTHER], causes: [] };
   if (isSpreadsheet(told.faulty)) {
     const [what, shelf] = TABLE.test(told.object.file) ? [`spreadsheet: ${SAVE_AS_CSV}`, SAVED] : [PACKED, [UNPACK, { when: IF_SPREADSHEET, steps: SAVED }]];
@@ -61,12 +64,13 @@ export function refused(told) {
     const { wrong, fix } = SENTENCES.files[known[1]];
     return { headline: `This file isn't a log, but ${wrong}.`, shelf: fix, causes: [] };
   }
-  if (foreign && isTable(told.faulty)) {
-    return { headline: "This file isn't a log, but a table.", shelf: NAMED, causes: [] };
+  if (foreign) {
+    if (NO_TEXT.test(told.faulty)) return { headline: "This file isn't a log: it isn't text in UTF-8.", shelf: [LOG_IS, IF_TEXT], causes: [] };
+    return { headline: "This file isn't a log.", shelf: [LOG_IS, isTable(told.faulty) ? IF_TABLE : ANOTHER], causes: [] };
   }
   return { headline: `${line > 1 ? SENTENCES.answers.cannotBeUsed : SENTENCES.answers.noLog}. Line ${line}: ${wrong}.`,
-    shelf: foreign ? [ANOTHER] : last ? [COPY, COUNT] : [COUNT],
-    causes: [...last && !ended ? ["The file may end in the middle of this line: it was cut off, or the software was still writing."] : [],
+    shelf: isCut ? [COPY, COUNT] : [COUNT],
+    causes: [...isCut ? ["The file may end in the middle of this line: it was cut off, or the software was still writing."] : [],
       ...line === 1 ? ofFirst(told.faulty) : [], ...fault === "Crc" ? [rightCrc(told.faulty)] : [], fix] };
 }
 
@@ -89,7 +93,7 @@ export function wrongTable(text, line, fault) {
  * Whether nobody meant a text as a log.
  * @param {Told} told
  */
-const isForeign = ({ object: { line }, faulty }) => line === 1 && !OF_A_LOG.test(faulty.replace(CODING, ""));
+export const isForeign = ({ object: { line }, faulty }) => line === 1 && !OF_A_LOG.test(faulty.replace(CODING, ""));
 
 /**
  * What a text is called beside its rounds; a page that is kept has it only to the line that is refused.

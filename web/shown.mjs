@@ -4,7 +4,7 @@ import { at, button, el } from "./elements.mjs";
 import { kindOf } from "./files.mjs";
 import { isLacking, isUnanswered } from "./opened.mjs";
 import { nameOnPaper } from "./printing.mjs";
-import { nameOfText } from "./refused.mjs";
+import { isForeign, nameOfText } from "./refused.mjs";
 import { say } from "./say.mjs";
 import { titleOf, view } from "./view.mjs";
 import { count, KIND, printable } from "./words.mjs";
@@ -109,8 +109,9 @@ export function overview(entries, current) {
   if (isOne) return;
   list.querySelectorAll("button").forEach((button, index) => label(button, entries[index], index === current));
   const whole = entries.filter(({ told }) => told?.object.kind === KIND.COMPLETE).length;
-  const how = entries.some(isUnanswered) ? "" : ` Complete: ${whole.toLocaleString("en")} of ${many.toLocaleString("en")}.`;
-  const words = `${count(many, "log")}, each with its own answer.${how}`;
+  const foreign = entries.filter(({ told }) => told && isForeign(told)).length, logs = many - foreign;
+  const how = entries.some(isUnanswered) || !logs ? "" : ` Complete: ${whole.toLocaleString("en")} of ${logs.toLocaleString("en")}.`;
+  const words = `${count(logs, "log")}${logs > 1 ? ", each with its own answer" : ""}.${how}${foreign ? ` ${count(foreign, "file isn't a log", "files aren't logs")}.` : ""}`;
   each.append(el(current < 0 ? "h1" : "p", {}, words), el("p", { class: "hint" }, TOGETHER));
   if (current >= 0) return;
   shown.replaceChildren();
@@ -127,7 +128,8 @@ function label(button, entry, isPressed) {
   const { told, error = "..", words = told ? saidBy(told) : error } = entry, name = printable(entry.name);
   if (told) entry.words = words;
   button.setAttribute("aria-pressed", String(isPressed));
-  if (button.textContent !== `${name} ${words}`) button.replaceChildren(el("b", {}, name), ` ${words}`);
+  const said = told ? [el("span", { "aria-hidden": "true" }, words[0]), words.slice(1)] : [words];
+  if (button.textContent !== `${name} ${words}`) button.replaceChildren(el("b", {}, name), " ", ...said);
 }
 
 /** @param {import("./told.mjs").Told} told */

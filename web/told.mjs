@@ -122,7 +122,7 @@ function explain(log, told) {
   told.named = named(told);
   const cut = new Set(causes.flatMap(({ reading, round }) => reading === "unreached" ? round : []));
   told.notes.cut = told.notes.cut.filter(({ line }) => !cut.has(line));
-  if (told.conflict || object.kind === KIND.COMPLETE && object.captured?.holds) told.notes.last = null;
+  if (told.conflict || object.captured?.settled || object.kind === KIND.COMPLETE && object.captured?.holds) told.notes.last = null;
   // what may have been hidden is marked where nothing else is left
   const marking = causes.filter(({ reading }) => reading !== "captured" || causes[0].reading === reading);
   told.ringed = marking.flatMap((cause) => cause.slots.map((number) => `${cause.round}:${number}`));
