@@ -146,7 +146,7 @@ def compare(page, told):
     if not told["logs"]:
         assert headline.endswith("Now open the logs.") and look(page) == "read"
         return {"waiting"}
-    is_all = re.match("(All|The one|Nothing is expected)", headline)
+    is_all = re.match("(All|The one|Nothing is expected|Say whether)", headline)
     assert bool(is_all) >= is_complete and (
         not is_all or is_complete or told["answer"].startswith(("no log of", "left over")))
     for place in told["without_log"]:
@@ -201,7 +201,8 @@ NOT_SURE = {
     "others may be hidden": ("B.log", log_of("I1 RB"), "others may be, if stronger replies hid"),
     "places aren't asked for": ("books.csv", books((UID_A, ""), (UID_B, ""), head="uid,title"),
                                 "But where each belongs wasn't asked."),
-    "two prove the same": ("A.log", field(UID_A, UID_B), "But A and B prove the same tags."),
+    "two prove the same": ("A.log", field(UID_A, UID_B),
+                           "All 2 expected items are in some log; but A and B prove the same"),
     "an item has no tag": ("books.csv", BOTH + b"none,Kim,A\n", "But 1 item has no tag."),
     "it may be cut off": ("books.csv", BOTH[:-1], "But the catalogue may have been cut off."),
     "its own list says more": ("B.log", field(UID_B, listed=[UID_B, UID_C]),
@@ -356,6 +357,81 @@ def test_an_older_log_of_a_shelf(page, uids, words):
     assert "an older" in page.texts(".doubts")[0] and look(page) == "no"
 
 
+ALL = (UID_A, UID_B, UID_C)
+NO_PLACES = books(*[(uid, "") for uid in ALL], head="uid,title")
+ON_B = books(*[(uid, ",B") for uid in ALL])
+# Tables, and a later count in which an item is lost, and the earlier one, by their names.
+LATER = {
+    "without places": ({"books.csv": NO_PLACES}, "today.log", "monday.log"),
+    "by their dates": ({"books.csv": NO_PLACES}, "s1-2026-11-29.log", "s1-2026-11-28.log"),
+    "of one place": ({"books.csv": ON_B, "p.csv": b"place,log\nB,B-today\nB,B-monday\n"},
+                     "B-today.log", "B-monday.log"),
+    "of no place": ({"books.csv": ON_B}, "B-2026-11-29.log", "B.log")}
+
+
+@pytest.mark.parametrize("how", LATER)
+def test_it_is_asked_which_of_two_is_the_older(page, how, tmp_path):
+    """The later count proves fewer, as an item is lost. Where the earlier one is left out, that is
+    missing; where the later one is, the page says on what its green rests, as does one saved."""
+    tables, later, earlier = LATER[how]
+    drop(page, {**tables, later: field(UID_A, UID_B), earlier: field(*ALL)})
+    doubt = next(it for it in page.texts(".doubts li") if "proved by" in it)
+    assert "One of the two may be an older log of the same shelf: leave out the older." in doubt
+    assert look(page) != "yes" and not page.texts(".light.yes")
+    buttons = page.texts(".doubts button")[-2:]
+    dated = [re.sub(r" of \d+ \w+ \d{4}, \d\d:\d\d$", "", it) for it in buttons]
+    assert set(dated) == {f"Leave out {later}", f"Leave out {earlier}"}
+    assert dated != buttons
+    page.press(".doubts button", dated.index(f"Leave out {later}") - 2)
+    page.until(".banner.yes h1", "All 3 expected items are here, and no others.")
+    assert page.texts(".note, .banner h1")[0] == f"{later} was left out."
+    made = saved(page, tmp_path / "saved")
+    page.press("#back")
+    page.until("h1", "prove the same" if how != "of no place" else "is of no place")
+    page.press(".doubts button", dated.index(f"Leave out {earlier}") - 2)
+    page.until("h1", "1 item missing" if how != "of no place" else "no log of B")
+    assert look(page) == "no" and page.texts(".note") == [f"{earlier} was left out."]
+    page.open(made)
+    assert page.texts(".note, .banner h1")[0] == f"{later} was left out."
+
+
+def test_what_was_left_out_is_said_until_it_is_back(page):
+    drop(page, {"books.csv": ON_B, "B.log": field(*ALL), "old.log": field()})
+    page.press(".doubts button")
+    page.until(".banner.yes h1", "All 3 expected items are here")
+    drop(page, {"B.log": field(UID_A, UID_B)})
+    page.until("h1", "1 item missing")
+    assert page.texts(".note")[-1] == "old.log was left out."
+    drop(page, {"old.log": field()})
+    page.until("h1", "old.log is of no place")
+    assert page.texts(".note") == ["old.log joined the logs that were here."]
+
+
+def test_two_logs_of_one_place_are_called_by_their_files(page):
+    drop(page, {"books.csv": books((UID_A, ",B"), (UID_B, ",B")), "B.log": field(UID_A, UID_B),
+                "p.csv": b"place,log\nB,B\nB,B_old\n", "B_old.log": field(UID_A, UID_B)})
+    assert page.texts("#told h1") == ["All 2 expected items are in some log; but B.log and "
+                                      "B_old.log prove the same tags."]
+    assert "All 2 tags that B_old.log proves are proved by B.log too." in page.texts(".doubts b")
+
+
+def test_until_it_is_said_which_of_two_counts_nothing_is_sure(page):
+    drop(page, {**COMPLETE, "B (1).log": field(UID_B, asks=2)})
+    assert page.texts("#told h1") == ["Say whether B.log or B (1).log counts. Together the logs "
+                                      "have all 2 expected items."]
+    assert page.texts(".lights dd")[:2] == ["3 of 3 logs", "2 of 2 items"]
+    assert not page.texts(".light.yes")
+
+
+@pytest.mark.parametrize("names", [["z.pdf"], ["z.pdf", "list.txt"]])
+def test_what_is_no_log_takes_no_collection_away(page, names):
+    drop(page, COMPLETE)
+    drop(page, {name: b"%PDF-1.7\n" if "pdf" in name else b"E0040100000000A1\n"
+                for name in names})
+    page.until(".note", "the collection is still here.")
+    assert page.texts(".note")[0].startswith(" and ".join(names)) and look(page) == "yes"
+
+
 def test_items_by_their_states(page):
     """What there is to do at each shelf; what is away and stayed so is only counted."""
     rows = [(UID_A, ",A,"), (UID_B, ",A,"), (UID_C, ",B,away")]
@@ -458,7 +534,7 @@ def test_it_is_asked_which_of_two_counts(page, press, headline):
     drop(page, {"A (1).log": more})
     assert look(page) == "no"
     assert page.texts(".doubts button") == ["Only A (1).log", "Only A.log", "Both: other fields"]
-    assert "say whether A.log or A (1).log counts" in page.texts("h1")[0]
+    assert re.search(r"[Ss]ay whether A.log or A \(1\).log counts", page.texts("h1")[0])
     page.press(".doubts button", press)
     page.until("h1", headline)
     assert page.run(FOCUS) == headline and headline in page.run(TOLD)

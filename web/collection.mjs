@@ -18,8 +18,8 @@ import { count, EDITED, endings, grouped, KIND, listing, madeOnce, printable } f
 /** @typedef {Omit<Item, "state" | "place" | "cells"> & {line: number}} Unexpected */
 /** @typedef {{name: string, place: string | null, left_over: boolean, field: string, answers?: number, certain?: number, shared?: number, open?: MaskFields[],
  *   more?: boolean, margin?: number, hidden?: MaskFields | null, deaf?: MaskFields | null, sha256?: string, object?: LogObject,
- *   denied?: string[], was?: string}} OneLog of which `denied` are the UIDs on its own list that it rules out, and `was` is the name of
- *   its file, if it took the place of another */
+ *   denied?: string[], was?: string, changed?: number}} OneLog of which `denied` are the UIDs on its own list that it rules out, and `was` is
+ *   the name of its file, if it took the place of another; `changed` is when the file was */
 /**
  * The object of a collection, as docs/answers.schema.json has it.
  * @typedef {Object} CollectionObject
@@ -39,12 +39,13 @@ import { count, EDITED, endings, grouped, KIND, listing, madeOnce, printable } f
  * @property {OneLog[]} logs
  * @property {{file: string, sha256: string}[]} files what was given beside the logs
  * @property {string[]} [both] logs that are called like copies and are none, as was said
+ * @property {string[]} [left] what is said of logs that were left out by hand, on which the answer rests
  */
 /**
  * What is worked out of an object once: the logs to count again, the items by their states, and of
  * those that aren't known which the logs of their own places rule out; whether tags could be in
- * some field if replies were hidden, and if the reader went deaf; and whether anything rests on it.
- * @typedef {{shelves: Shelves, doubts: import("./logs.mjs").Doubt[], open: number[],
+ * some field if replies were hidden, and if the reader went deaf; whether anything rests on it, some log may not count, and that is asked.
+ * @typedef {{shelves: Shelves, doubts: import("./logs.mjs").Doubt[], open: number[], isUnsettled: boolean, isAsked: boolean,
  *   of: (...states: State[]) => Item[], elsewhere: Item[], others: Item[],
  *   hiding: number[], deaf: number[], isResting: boolean}} Summary
  */
@@ -114,7 +115,8 @@ export function collectionView(object, opener = () => null, canLeave = () => fal
   }
   const drawn = (/** @type {string} */ title, /** @type {string} */ words, /** @type {number[]} */ list, /** @type {boolean} */ isFirst) =>
     logs(title, words, list, isFirst, object, shelves, opener);
-  return [banner(said, `${printable(object.file)} · ${count(object.logs.length, "log")}${changes}`), ...doubted(doubts, canLeave), ...isKnown ? rests : [],
+  return [...(object.left ?? []).map((it) => el("p", { class: "note" }, it)),
+    banner(said, `${printable(object.file)} · ${count(object.logs.length, "log")}${changes}`), ...doubted(doubts, canLeave), ...isKnown ? rests : [],
     ...drawn("Count again", countAgain(open.length) + (open.some((at) => object.logs[at].field.startsWith(KIND.IMPOSSIBLE)) ? AGAIN_BROKEN : ""), open, true),
     ...part("At the shelves", todo, true, howTo(object), shelved(todo, shelves, (item) => shelves.at(item), {}, (item) => shelves.toDo(item))),
     ...part("Not heard on their shelves", elsewhere, true, ELSEWHERE, shelved(elsewhere, shelves, home, mayBe)),
@@ -192,7 +194,9 @@ const summaryOf = (object) => madeOnce(SUMMARIES, object, () => {
   const unknown = of("not provable"), elsewhere = unknown.filter((item) => shelves.isElsewhere(item));
   const found = new Set(elsewhere), others = unknown.filter((item) => !found.has(item));
   const those = (/** @type {(log: OneLog) => unknown} */ is) => [...logs.keys()].filter((at) => is(logs[at]));
-  return { shelves, of, elsewhere, others, doubts: doubtsOf(object, shelves), open: those(isOpen),
+  const doubts = doubtsOf(object, shelves), unsettled = doubts.filter(({ mayNotCount }) => mayNotCount);
+  return { shelves, of, elsewhere, others, doubts, open: those(isOpen),
+    isUnsettled: unsettled.length > 0, isAsked: unsettled.some(({ isFirst }) => isFirst),
     hiding: those(({ hidden }) => hidden), deaf: those(({ deaf }) => deaf),
     isResting: margin !== undefined || counts.missing > 0 || elsewhere.length > 0 };
 });
@@ -202,12 +206,13 @@ export function headlineOf(object) {
   const summary = summaryOf(object), { hiding, deaf } = summary;
   if (!object.logs.length) return waiting(object);
   if (object.wanted) return notSure(object.margin?.margin, object.wanted);
-  if (!isComplete(object)) return lacking(object, summary);
+  if (!isComplete(object) || summary.isAsked) return lacking(object, summary);
   const doubts = summary.doubts.map(({ short }) => short), more = doubts.length - MOST_DOUBTS;
   const number = found(object), without = object.counts["no tag"];
   const untagged = without ? [`${count(without, "item")} ${without === 1 ? "has" : "have"} no tag`] : [];
   const but = [...untagged, ...doubts.slice(0, MOST_DOUBTS), ...more > 0 ? [`${more} more`] : []];
   const all = number === 1 ? "The one expected item is" : `All ${count(number, "expected item")} are`;
+  if (summary.isUnsettled) return `${all} in some log; but ${listing(but)}.`;
   const here = number ? `${all} here${noOthers(number, hiding.length > 0, deaf.length > 0)}`
     : "Nothing is expected here, and no tag answered.";
   return but.length ? `${here} But ${listing(but)}.` : here;
@@ -224,7 +229,7 @@ function waiting({ items, without_log: places }) {
  * @param {CollectionObject} object
  * @param {Summary} summary
  */
-function lacking(object, { shelves, of, doubts, elsewhere: { length: elsewhere }, others, open }) {
+function lacking(object, { shelves, of, doubts, elsewhere: { length: elsewhere }, others, open, isAsked, isUnsettled }) {
   const strays = of("misplaced").filter((item) => shelves.isStray(item)).length;
   const { counts, logs: fields } = object, again = [...open].sort((one, other) => inOrder(shelves.name(one), shelves.name(other)));
   const parts = /** @type {[number, string][]} */ ([[counts.missing, "missing"], [elsewhere, `not heard on ${elsewhere === 1 ? "its shelf" : "their shelves"}`],
@@ -235,11 +240,11 @@ function lacking(object, { shelves, of, doubts, elsewhere: { length: elsewhere }
     : `${count(number, "item")} ${words}`);
   const isNamed = again.length <= MOST_NAMES && again.every((at) => shelves.isPlaced(at));
   const number = isNamed ? shelves.names(again) : again.length < fields.length || again.length === 1 ? count(again.length, "log") : "all logs";
-  const here = said.length || again.length ? listing(said)
-    : found(object) === 1 ? "the one expected item is here" : `all ${count(found(object), "expected item")} are here`;
+  const one = found(object) === 1, all = said.length || again.length ? "" : one ? "the one expected item" : `all ${count(found(object), "expected item")}`;
+  const here = !all ? listing(said) : isAsked ? "" : `${all} ${one ? "is" : "are"} ${isUnsettled ? "in some log" : "here"}`;
   const text = [here, ...again.length ? [`count ${number} again`] : [], ...doubts.flatMap(({ short, isFirst }) => isFirst ? [short] : [])]
     .filter((it) => it).join("; ");
-  return `${text[0].toUpperCase()}${text.slice(1)}.`;
+  return `${text[0].toUpperCase()}${text.slice(1)}.${all && isAsked ? ` Together the logs have ${all}.` : ""}`;
 }
 
 /**
@@ -259,8 +264,10 @@ function lights(object, summary) {
   const value = `${here.toLocaleString("en")} of ${count(items.length, "item")}${more(counts.away, "away")}${more(counts["no tag"], "without a tag")}` +
     more(isPlaced ? counts.there : 0, "without a place");
   const lost = places.length ? `, no log of ${count(places.length, "place")}` : "";
-  return [{ name: "Search finished", value: `${done.toLocaleString("en")} of ${count(logs.length, "log")}${lost}`, look: done === logs.length && !lost ? "yes" : "no" },
-    { name: isPlaced ? "In place" : "Here", value, look: here + counts.away === items.length ? "yes" : differs ? "no" : "plain" }, ...isResting ? sure : []];
+  const all = /** @type {import("./say.mjs").Light[]} */ ([
+    { name: "Search finished", value: `${done.toLocaleString("en")} of ${count(logs.length, "log")}${lost}`, look: done === logs.length && !lost ? "yes" : "no" },
+    { name: isPlaced ? "In place" : "Here", value, look: here + counts.away === items.length ? "yes" : differs ? "no" : "plain" }, ...isResting ? sure : []]);
+  return all.map((it) => summary.isUnsettled && it.look === "yes" ? { ...it, look: "plain" } : it);
 }
 
 /**

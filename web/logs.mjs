@@ -7,9 +7,9 @@ import { count, KIND, printable } from "./words.mjs";
 /** @typedef {import("./collection.mjs").CollectionObject} CollectionObject */
 /** @typedef {import("./shelves.mjs").Shelves} Shelves */
 /**
- * In a few words, in a sentence, and what to do; whether a headline says it that isn't complete; and
- * buttons, by what they say and carry, that leave out one of some logs.
- * @typedef {{short: string, words: string, cure: string, isFirst?: boolean,
+ * In a few words, in a sentence, and what to do; whether a headline says it that isn't complete, and
+ * whether one of the logs may not count; and buttons, by what they say and carry, that leave out one of some logs.
+ * @typedef {{short: string, words: string, cure: string, isFirst?: boolean, mayNotCount?: boolean,
  *   buttons?: [string, Record<string, string>][], logs?: string[]}} Doubt
  */
 
@@ -21,13 +21,11 @@ const NO_PLACES = "If items can stand on wrong shelves, add a column 'place', an
   "noticed, too.";
 const IS_EMPTY = "If something should be there, check the antenna, and count again. If not, lay an item with a tag there and count again, to see " +
   "that the antenna works.";
-const OLDER = "It may be an older log of the same shelf, or a copy: then leave it out.";
+const OLDER = "may be an older log of the same shelf: leave out the older.";
 const OVERLAP = "The fields of two readers may overlap, one of the logs may be an older one, or items were carried from one to the other.";
 const WHICH = "Each log has to be of another field: press the one that counts.";
-const IS_CUT = "If it was cut off behind a row, what stood there is never missed: compare the number of " +
-  "rows with what you know, or save it again.";
-const DENIED = "Its reply may have been lost, or the list is that of another count: count this field " +
-  "again, in a new log.";
+const IS_CUT = "If it was cut off behind a row, what stood there is never missed: compare the number of rows with what you know, or save it again.";
+const DENIED = "Its reply may have been lost, or the list is that of another count: count this field again, in a new log.";
 
 /**
  * @param {CollectionObject} object
@@ -48,11 +46,10 @@ export function doubtsOf(object, shelves) {
  */
 function copies({ logs, both = [] }) {
   const placed = new Set(logs.filter(({ place }) => place !== null).map(({ name }) => name));
-  const asked = copiesAmong(logs.map(({ name }) => name))
-    .filter((ask) => !both.includes(ask[0]) && !ask.every((name) => placed.has(name)));
+  const asked = copiesAmong(logs.map(({ name }) => name)).filter((ask) => !both.includes(ask[0]) && !ask.every((name) => placed.has(name)));
   return asked.map(([later, first]) => {
     const one = nameOf(later), other = nameOf(first);
-    return { short: `say whether ${other} or ${one} counts`, isFirst: true, cure: WHICH, logs: [later, first],
+    return { short: `say whether ${other} or ${one} counts`, isFirst: true, mayNotCount: true, cure: WHICH, logs: [later, first],
       words: `By its name, ${one} may be a later count than ${other}, or a copy.`,
       buttons: [[`Only ${one}`, { "data-leave": first, "data-kept": later }],
         [`Only ${other}`, { "data-leave": later, "data-kept": first }],
@@ -80,20 +77,25 @@ function withoutLog({ without_log: places, items, logs }) {
  * @returns {Doubt[]}
  */
 function leftOver({ logs }, asked) {
-  const all = logs.filter((log) => log.left_over).map(({ name }) => name);
-  const lost = all.filter((name) => !asked.includes(name)), names = lost.map(nameOf);
+  const lost = logs.filter((log) => log.left_over && !asked.includes(log.name)), names = lost.map(({ name }) => nameOf(name));
   return lost.length ? [{ short: `${firstOf(names)} ${lost.length === 1 ? "is" : "are"} of no place`,
     words: `${count(lost.length, "log")} of no place: ${firstOf(names, "and", MOST_LISTED)}.`,
-    isFirst: true, cure: RENAME, ...lost.length > MOST_LEFT ? {} : leaving(lost) }] : [];
+    isFirst: true, cure: RENAME, ...leaving(lost) }] : [];
 }
 
 /**
- * Buttons that leave logs out.
- * @param {string[]} logs
+ * What buttons say that leave files out; of several, with when each was changed, where that is known.
+ * @param {{name: string, changed?: number}[]} files
+ */
+export const leaveOut = (files) => files.map(({ name, changed }) => `Leave out ${nameOf(name)}` + (files.length < 2 || !changed ? ""
+  : ` of ${new Date(changed).toLocaleString("en-GB", { dateStyle: "medium", timeStyle: "short" })}`));
+
+/**
+ * @param {CollectionObject["logs"]} logs
  * @returns {Pick<Doubt, "buttons" | "logs">}
  */
-const leaving = (logs) => ({ logs,
-  buttons: logs.map((name) => [`Leave out ${nameOf(name)}`, { "data-leave": name }]) });
+const leaving = (logs) => logs.length > MOST_LEFT ? {} : { logs: logs.map(({ name }) => name),
+  buttons: leaveOut(logs).map((words, at) => [words, { "data-leave": logs[at].name }]) };
 
 /**
  * @param {CollectionObject} object
@@ -112,13 +114,11 @@ const cutOff = ({ ended, items }) => ended ? [] : [{ cure: IS_CUT,
 function ruledOut({ logs, items }, shelves) {
   const denied = logs.map(({ denied, object }) => denied ?? (object?.findings ?? [])
     .flatMap(({ kind, uid }) => kind === KIND.ABSENT && uid ? [uid] : []));
-  const titles = new Map(denied.some((uids) => uids.length) ? items.map((item) =>
-    [item.uid, shelves.said(item, 1)]) : []);
+  const titles = new Map(denied.some((uids) => uids.length) ? items.map((item) => [item.uid, shelves.said(item, 1)]) : []);
   return denied.flatMap((uids, at) => {
     const name = shelves.name(at), which = uids.map((uid) => titles.get(uid) || uid);
-    return uids.length ? [{ short: `the list in ${name} has what its log rules out`, cure: DENIED,
-      words: `The reader's own list in ${name} has ${count(uids.length, "tag")} that its log rules ` +
-        `out: ${firstOf(which.map(printable), "and", MOST_LISTED)}.` }] : [];
+    return uids.length ? [{ short: `the list in ${name} has what its log rules out`, cure: DENIED, words: `The reader's own list in ${name} has ` +
+      `${count(uids.length, "tag")} that its log rules out: ${firstOf(which.map(printable), "and", MOST_LISTED)}.` }] : [];
   });
 }
 
@@ -132,8 +132,7 @@ function withoutAnswer({ logs }, shelves) {
   const empty = [...logs.keys()].filter((at) => logs[at].answers === 0);
   const names = empty.map((at) => shelves.name(at)), isFirst = empty.some((at) => !logs[at].open?.length);
   return names.length ? [{ short: `nothing answered in ${firstOf(names)}`, cure: IS_EMPTY, isFirst,
-    words: `Nothing answered in ${count(names.length, "log")}: ` +
-      `${firstOf(names, "and", MOST_LISTED)}.` }] : [];
+    words: `Nothing answered in ${count(names.length, "log")}: ${firstOf(names, "and", MOST_LISTED)}.` }] : [];
 }
 
 /**
@@ -150,14 +149,16 @@ function shared({ logs, items, unexpected }, shelves) {
   const share = (/** @type {number} */ at) => (logs[at].shared ?? 0) / (logs[at].certain || 1), said = new Set();
   const ordered = [...logs.keys()].filter((at) => logs[at].shared).sort((one, other) => share(other) - share(one) || other - one);
   return ordered.flatMap((at) => {
-    const { shared: number = 0, certain = 0 } = logs[at], name = shelves.name(at), all = number === certain;
+    const { shared: number = 0, certain = 0 } = logs[at], all = number === certain;
     if ([...others[at]].every((other) => said.has(other))) return [];
     said.add(at);
     const which = all ? certain === 1 ? "the tag" : `all ${count(certain, "tag")}` : `${number.toLocaleString("en")} of the ${count(certain, "tag")}`;
-    const both = shelves.names([at, ...others[at]].sort((one, other) => one - other));
-    const how = all && certain > 1 ? { cure: OLDER, ...leaving([logs[at].name]) } : { cure: OVERLAP };
-    return [{ short: `${both} prove the same tags`, ...how,
-      words: `${which[0].toUpperCase()}${which.slice(1)} that ${name} proves ${number === 1 ? "is" : "are"} proved by ${shelves.names([...others[at]])} too.` }];
+    const those = [at, ...others[at]].sort((one, other) => one - other), names = shelves.apart(those);
+    const name = names[those.indexOf(at)], rest = firstOf(names.filter((it) => it !== name));
+    // of one shelf that which proves fewer may be the newer one, after a loss
+    const cure = all && certain > 1 ? `One of ${those.length === 2 ? "the two" : "these"} ${OLDER}` : OVERLAP;
+    return [{ short: `${firstOf(names)} prove the same tags`, mayNotCount: true, cure, ...cure === OVERLAP ? {} : leaving(those.map((it) => logs[it])),
+      words: `${which[0].toUpperCase()}${which.slice(1)} that ${name} proves ${number === 1 ? "is" : "are"} proved by ${rest} too.` }];
   });
 }
 

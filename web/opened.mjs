@@ -5,7 +5,8 @@ import { count, EDITED, listing, printable } from "./words.mjs";
 
 /** @typedef {import("./files.mjs").Given} Given */
 /** @typedef {import("./collection.mjs").CollectionObject} CollectionObject */
-/** @typedef {{tables: Entry[], logs: Entry[], both: string[]}} Collection with the logs of which it was said that they are no copies */
+/** @typedef {{tables: Entry[], logs: Entry[], both: string[], left: [string, string][]}} Collection with the logs of which it was said
+ *   that they are no copies, and those that were left out by hand, each with what is said of it */
 /**
  * A log, or a collection, with what was done to it last; or one that waits for its catalogue.
  * Of a file it has when that was changed, and its own name, if it took another; of a catalogue which it replaced.
@@ -74,19 +75,22 @@ const joins = (entry) => kindOf(entry) !== "other" && (isATable(entry) || !isPas
 export function gathered(taken, entries) {
   const tables = taken.filter(isATable), logs = taken.filter((entry) => !isATable(entry)), earlier = entries[0]?.given;
   const isWhole = taken.some(isCatalogue) && logs.length > 0, isJoining = !isWhole && taken.every(joins) && (earlier || !logs.length);
+  const names = (/** @type {Entry[]} */ list) => listing(list.map(({ name }) => printable(name)));
+  const isOther = taken.every((it) => kindOf(it) === "other" && !isPasted(it)), no = taken.length > 1 ? "aren't logs" : "isn't a log";
+  if (isOther && entries[0]?.collection) return [{ ...entries[0], note: `${names(taken)} ${no}; the collection is still here.` }];
   if (!tables.length && !(isJoining && earlier)) return taken;
-  const here = !isJoining ? { tables: [], logs: [], both: [] } : earlier ?? { tables: [], logs: entries.filter((it) => !isPasted(it)), both: [] };
+  const here = isJoining && earlier || { tables: [], logs: isJoining ? entries.filter((it) => !isPasted(it)) : [], both: [], left: [] };
   const stems = new Set(logs.map(({ name }) => stemOf(name))), replaced = here.logs.filter(({ name }) => stems.has(stemOf(name)));
   const left = here.logs.filter((log) => !replaced.includes(log)), all = [...left, ...logs];
   const kept = here.tables.filter((table) => !tables.some((other) => isPlaces(other) === isPlaces(table)));
-  const names = (/** @type {Entry[]} */ list) => listing(list.map(({ name }) => printable(name)));
   const was = (/** @type {Entry[]} */ list, /** @type {string} */ how) => list.length ? `${names(list)} ${list.length > 1 ? "were" : "was"} ${how}. ` : "";
   const gone = here.tables.filter((table) => !kept.includes(table)), [old] = gone.filter(isCatalogue), items = entries[0]?.collection?.items.length;
   const joined = left.length ? [...logs, ...gone.length ? [] : tables.filter(isPasted)] : [];
   const note = was(gone.filter(isPlaces), `replaced by ${names(tables.filter(isPlaces))}`) +
     was(isJoining && !earlier ? entries.filter(isPasted) : [], "left out: what is pasted has no name") +
     (was(replaced, "replaced by what you opened under the same name") || (joined.length ? `${names(joined)} joined the logs that were here.` : ""));
-  return [{ ...collected({ tables: [...kept, ...tables], logs: all, both: here.both }, note),
+  const given = { tables: [...kept, ...tables], logs: all, both: here.both, left: here.left.filter(([name]) => !stems.has(stemOf(name))) };
+  return [{ ...collected(given, note),
     replaced: old && `${names([old])}${items === undefined ? "" : ` (${count(items, "item")})`} was replaced by ${names(tables.filter(isCatalogue))}` }];
 }
 
@@ -99,13 +103,13 @@ export function gathered(taken, entries) {
  * @param {CollectionObject} [object]
  * @returns {Entry[]}
  */
-export function without({ tables, logs, both }, left, kept, object) {
+export function without({ tables, logs, both, left: out }, left, kept, object) {
   const of = (/** @type {string | undefined} */ name) => object?.logs.find((log) => log.name === name);
   const name = left?.name ?? "", takes = of(kept)?.left_over && of(name)?.place;
   const others = (/** @type {Entry[]} */ list) => list.filter((it) => it !== left);
-  const rest = { tables: others(tables), both, logs: others(logs).map((log) =>
-    takes && log.name === kept ? { ...log, name, was: kept } : log) };
   const note = `${name} was left out${takes ? `: ${kept} takes its place` : ""}.`;
+  const rest = { tables: others(tables), both, left: tables.some((it) => it === left) ? out : /** @type {typeof out} */ ([...out, [name, note]]),
+    logs: others(logs).map((log) => takes && log.name === kept ? { ...log, name, was: kept } : log) };
   return rest.tables.length ? [collected(rest, note)] : rest.logs;
 }
 

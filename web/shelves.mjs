@@ -50,6 +50,12 @@ export class Shelves {
    */
   names(logs, last) { return firstOf(logs.map((at) => this.name(at)), last); }
 
+  /** @param {number[]} logs named so that they differ: those of one place by their files */
+  apart(logs) {
+    const names = logs.map((at) => this.name(at));
+    return names.map((name, at) => names.indexOf(name) === names.lastIndexOf(name) ? name : printable(this.logs[logs[at]].name));
+  }
+
   /** @param {number[]} logs */
   fields(logs) { return `in the field${logs.length > 1 ? "s" : ""} of ${this.names(logs)}`; }
 

@@ -2,6 +2,7 @@
 import { collectionView, headlineOf } from "./collection.mjs";
 import { at, button, el } from "./elements.mjs";
 import { kindOf } from "./files.mjs";
+import { leaveOut } from "./logs.mjs";
 import { isLacking, isUnanswered } from "./opened.mjs";
 import { nameOnPaper } from "./printing.mjs";
 import { isForeign, nameOfText } from "./refused.mjs";
@@ -33,6 +34,8 @@ export function show(entry, isShown, opener, canLeave) {
   shown.setAttribute("aria-busy", String(isOld));
   at("named").textContent = entry?.told ? nameOfText(entry.told, false) : "The log";
   if (!entry || isOld && isShown) return;
+  if (entry.collection) entry.collection.left = entry.given?.left.map(([, said]) => printable(said));
+  for (const log of entry.collection?.logs ?? []) log.changed = entry.given?.logs.find(({ name }) => name === log.name)?.changed;
   shown.replaceChildren(...nodesOf(entry, opener, canLeave));
   headed(titleOfEntry(entry));
   if (noteOf(entry)) at("said").prepend(`${noteOf(entry)} `);
@@ -67,7 +70,7 @@ function nodesOf(entry, opener, canLeave) {
   if (error) return [el("h1", { class: "error" }, unanswered(name, error)), ...said];
   if (waits) return [el("h1", {}, waits), ...said];
   if (!collection) return told ? view(told) : [];
-  return [...note ? [el("p", { class: "note" }, note)] : [], ...collectionView(collection, opener, canLeave)];
+  return [...note && !collection.left?.includes(note) ? [el("p", { class: "note" }, note)] : [], ...collectionView(collection, opener, canLeave)];
 }
 
 /**
@@ -84,10 +87,8 @@ const noteOf = ({ note = "", replaced, collection }) =>
  */
 function leavingOut({ tables, logs }, files) {
   const all = [...tables, ...logs], alike = all.filter(({ name }) => files.includes(name));
-  const when = (/** @type {Entry} */ { changed }) => alike.length < 2 || !changed ? ""
-    : ` of ${new Date(changed).toLocaleString("en-GB", { dateStyle: "medium", timeStyle: "short" })}`;
-  return alike.length ? [el("p", { class: "take" }, alike.map((it) =>
-    button(`Leave out ${printable(it.name)}${when(it)}`, { "data-out": String(all.indexOf(it)) })))] : [];
+  return alike.length ? [el("p", { class: "take" }, leaveOut(alike).map((words, at) =>
+    button(words, { "data-out": String(all.indexOf(alike[at])) })))] : [];
 }
 
 /** @param {Entry} entry */
