@@ -109,7 +109,8 @@ KINDS = {"missing": "missing", "not heard on": "not provable", "not known yet": 
          "in the wrong place": "misplaced", "heard in a log of no place": "misplaced",
          "not in the catalogue": "unexpected", "back that should be away": "returned",
          "not counted": "not counted", "without a tag": "no tag"}
-ALL_HERE = re.compile(rf"All {NUMBER} expected items are here|The one expected item is here"
+ALL_HERE = re.compile(rf"All {NUMBER} expected items are (?:here|in some log)"
+                      r"|The one expected item is (?:here|in some log)"
                       r"|Nothing is expected here, and no tag answered")
 
 
