@@ -81,8 +81,8 @@ def head(line):
     else:
         raise Fault("Columns")
     kind, names = columns_of(cells), [word(name) for name in cells]
-    version_1 = {"state", "certain in", "may be in"} <= set(names)
-    if version_1 or any(name.startswith("vicinity ") for name in names):
+    written = {"certain in", "may be in"}
+    if any(name in written or name.startswith("vicinity ") for name in names):
         raise Fault("Result")
     if kind == "catalogue" and any(told(cell) for cell, name in zip(cells, names) if name != "uid"):
         raise Fault("UidElsewhere")

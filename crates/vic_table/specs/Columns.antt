@@ -1,5 +1,5 @@
 -- The columns of a table, by its first line.
-use Rattle.std.specs.Prelude.{ℕ, ◌==◌, Bool, ◌&&◌, ◌||◌, false, nat_le, if◌then◌else◌, Option, Some, None, is_some, is_none, unwrap_or, List, length, take, count_by, position, codes}
+use Rattle.std.specs.Prelude.{ℕ, ◌==◌, Bool, ◌&&◌, ◌||◌, false, nat_le, if◌then◌else◌, Option, Some, None, is_none, unwrap_or, List, length, take, count_by, position, codes}
 use Rattle.std.specs.List.{list_any, remove}
 use Rattle.std.specs.Option.{option_and_then, option_or}
 use Rattle.std.specs.Str.{byte, bytes_eq}
@@ -82,20 +82,20 @@ is_misquoted line =
     && is_none (cells_of (separator_byte Semicolon) line)
     && is_none (cells_of (separator_byte Tab) line)
 
+-- the name of a column that the program writes behind those of a catalogue
+abbrev pub is_of_this_version : List ℕ → Bool
+is_of_this_version cell = bytes_eq (take 9 (folded cell)) (codes "vicinity ")
+
+-- and of one that its version 1 wrote there. Its column `state` doesn't count: catalogues have one
+abbrev pub is_of_version_1 : List ℕ → Bool
+is_of_version_1 cell = is_word (codes "certain in") cell || is_word (codes "may be in") cell
+
 -- the name of a column of a table that was written about a catalogue
 abbrev pub is_of_result : List ℕ → Bool
-is_of_result cell = bytes_eq (take 9 (folded cell)) (codes "vicinity ")
+is_of_result cell = is_of_this_version cell || is_of_version_1 cell
 
--- the names of the columns that version 1 of the program wrote about a catalogue, among others
-abbrev pub are_of_version_1 : List (List ℕ) → Bool
-are_of_version_1 cells =
-    is_some (place_of (codes "state") cells)
-    && is_some (place_of (codes "certain in") cells)
-    && is_some (place_of (codes "may be in") cells)
-
--- the names of the columns of a table that was written about a catalogue
 abbrev pub are_of_result : List (List ℕ) → Bool
-are_of_result cells = list_any is_of_result cells || are_of_version_1 cells
+are_of_result cells = list_any is_of_result cells
 
 abbrev pub separator_of : Columns → Separator
 separator_of (Catalogue c) = c.separator

@@ -3,7 +3,7 @@
 ghost use Rattle.std.specs.Prelude.{◌≡◌, ◌≤◌, length, map, slice_range, Some, None, IfOk, MatchResult};
 ghost use Rattle.std.specs.Char.{to_ascii_lowercase};
 ghost use Rattle.std.specs.List.{list_any};
-ghost use Rattle.vic_table.specs.Columns.{separator_byte, count_of, place_of, named_columns, columns_of, names_fault, tells_elsewhere, is_of_result, are_of_version_1, first_line_fault};
+ghost use Rattle.vic_table.specs.Columns.{separator_byte, count_of, place_of, named_columns, columns_of, names_fault, tells_elsewhere, is_of_this_version, is_of_version_1, is_of_result, first_line_fault};
 ghost use Rattle.vic_table.specs.Contents.{tells_uid};
 ghost use Rattle.vic_table.specs.inner.Faults.{RefusesAt};
 ghost use Rattle.vic_table.specs.inner.Under.{IsUnder, is_misquoted_under};
@@ -163,12 +163,27 @@ pub(crate) fn tells_elsewhere(columns: &CatalogueColumns, cells: &LineCells) -> 
     any_tells_uid(cells, 0, columns.uid) || any_tells_uid(cells, columns.uid + 1, len)
 }
 
+/// Whether a cell names a column that the program writes behind those of a catalogue.
+fn is_of_this_version(cell: &[u8]) -> bool
+    ensures { result ≡ is_of_this_version cell.now }
+{
+    let name = trimmed(cell);
+    name.len() >= RESULT.len() && name[..RESULT.len()].eq_ignore_ascii_case(RESULT.as_slice())
+}
+
+/// Whether a cell names a column that version 1 of the program wrote behind those of a catalogue.
+/// Its column `state` doesn't count: catalogues have one too.
+fn is_of_version_1(cell: &[u8]) -> bool
+    ensures { result ≡ is_of_version_1 cell.now }
+{
+    is_word(cell, b"certain in") || is_word(cell, b"may be in")
+}
+
 /// Whether a cell names a column of a table that was written about a catalogue.
 fn is_of_result(cell: &[u8]) -> bool
     ensures { result ≡ is_of_result cell.now }
 {
-    let name = trimmed(cell);
-    name.len() >= RESULT.len() && name[..RESULT.len()].eq_ignore_ascii_case(RESULT.as_slice())
+    is_of_this_version(cell) || is_of_version_1(cell)
 }
 
 /// Whether one of the cells names such a column.
@@ -183,20 +198,11 @@ fn any_is_of_result(cells: &LineCells) -> bool
     false
 }
 
-/// Whether the cells name the columns that version 1 of the program wrote about a catalogue.
-fn are_of_version_1(cells: &LineCells) -> bool
-    ensures { result ≡ are_of_version_1 cells.now }
-{
-    place_of(cells, b"state").is_some()
-        && place_of(cells, b"certain in").is_some()
-        && place_of(cells, b"may be in").is_some()
-}
-
 /// The first fault of the cells of a first line that name columns.
 fn names_fault(columns: &Columns, cells: &LineCells) -> Option<TableLineFault>
     ensures { result ≡ names_fault columns.now cells.now }
 {
-    if any_is_of_result(cells) || are_of_version_1(cells) {
+    if any_is_of_result(cells) {
         return Some(TableLineFault::Result);
     }
     match columns {
