@@ -13,7 +13,7 @@ use Rattle.vic_walk.specs.Steps.{IsSpanAt}
 use Rattle.vic_walk.proofs.Ending.{open_earlier}
 use Rattle.vic_walk.proofs.OpenAnswers.{open_by_parts}
 use Rattle.vic_walk.proofs.Ruling.{marked_at, marked_else}
-use Rattle.vic_walk.proofs.Words.{◌-◌, inl, inr, cases_Bool, cases_eq, cases_lt, false≢true, get_or-replicate, length-replicate, replicate, sym, slice_set, ◌≡◌, ℕ, ◌+◌, ◌<◌, ◌≤◌, ◌∷◌, ◌∙◌, ◌&&◌, ◌||◌, not, Bool, true, false, Option, Some, None, List, [], length, refl, ap, and_parts, and_from, arith, nat_tests, nat_lt, nat_eq, slice_get, Entry, Collision, Garbled, IsPartOf, AreStatesAt, IsUid, IsUid-from, has, is_marked, is_open, mirror, part_count, slots_before}
+use Rattle.vic_walk.proofs.Words.{inl, inr, cases_Bool, cases_eq, cases_lt, false≢true, get_or-replicate, length-replicate, replicate, sym, slice_set, ◌≡◌, ℕ, ◌+◌, ◌<◌, ◌≤◌, ◌∷◌, ◌∙◌, ◌&&◌, ◌||◌, not, Bool, true, false, Option, Some, None, List, [], length, refl, ap, and_parts, and_from, arith, nat_tests, nat_lt, nat_eq, slice_get, Entry, Collision, Garbled, IsPartOf, AreStatesAt, IsUid, IsUid-from, has, is_marked, is_open, mirror, part_count, slots_before}
 
 -- ---- which slots are met
 
@@ -49,6 +49,20 @@ met_up_to_max es a b m is met_a met_b = elim (cases_lt a b) [
   | inl less ↦ let same : m ≡ b = omega (arith, is, less) in rw same met_b
   | inr more ↦ let same : m ≡ a = omega (arith, is, more) in rw same met_a
 ]
+
+-- up to three UIDs tell whether it is met
+pub met_by : (es : List Entry) (n j : ℕ) (us : List ℕ) → UpToThree (answers_open es n j) us → needs_at es j ≤ length us → IsMetAt es n j
+met_by es n j us three le = record { uids = us; different = three.different; answer = three.members; enough = le }
+
+pub met_only_by : (es : List Entry) (n j : ℕ) (us : List ℕ) → UpToThree (answers_open es n j) us → IsMetAt es n j → needs_at es j ≤ length us
+met_only_by es n j us three h = enough (answers_open es n j) us h.uids (needs_at es j) (needs_of_few (slice_get es j)) three h.different h.answer h.enough
+
+-- these are the UIDs of the parts of the span that are marked
+pub uids_at : (bs : List ℕ) (es : List Entry) (n i : ℕ) (s : Span) (w : PartStates) → IsSpanAt bs es i s → AreStatesAt bs es (is_open (slots_before es n)) i w → AreUidsOf bs w.ready s (answers_open es n i)
+uids_at bs es n i s w span h = record {
+  uids = λ u it. IsUid-from u (and_parts _ _ (and_parts (is_open (slots_before es n) u) _ it).0).0;
+  marked = open_by_parts bs es (is_open (slots_before es n)) i s w span h;
+}
 
 -- ---- which candidates lack tags
 
@@ -89,24 +103,6 @@ lacking_put es slots lacking n k within room marked lacks h = record {
   ];
 }
 
--- a slot that needs no tags is met
-pub met_free : (es : List Entry) (n j : ℕ) → needs_at es j ≡ 0 → IsMetAt es n j
-met_free es n j none = record { uids = []; different = tt; answer = λ u it. absurd (cc); enough = omega (arith, none) }
-
--- up to three UIDs tell whether it is met
-pub met_by : (es : List Entry) (n j : ℕ) (us : List ℕ) → UpToThree (answers_open es n j) us → needs_at es j ≤ length us → IsMetAt es n j
-met_by es n j us three le = record { uids = us; different = three.different; answer = three.members; enough = le }
-
-pub met_only_by : (es : List Entry) (n j : ℕ) (us : List ℕ) → UpToThree (answers_open es n j) us → IsMetAt es n j → needs_at es j ≤ length us
-met_only_by es n j us three h = enough (answers_open es n j) us h.uids (needs_at es j) (needs_of_few (slice_get es j)) three h.different h.answer h.enough
-
--- these are the UIDs of the parts of the span that are marked
-pub uids_at : (bs : List ℕ) (es : List Entry) (n i : ℕ) (s : Span) (w : PartStates) → IsSpanAt bs es i s → AreStatesAt bs es (is_open (slots_before es n)) i w → AreUidsOf bs w.ready s (answers_open es n i)
-uids_at bs es n i s w span h = record {
-  uids = λ u it. IsUid-from u (and_parts _ _ (and_parts (is_open (slots_before es n) u) _ it).0).0;
-  marked = open_by_parts bs es (is_open (slots_before es n)) i s w span h;
-}
-
 -- ---- before the first entry
 
 -- what a test says of one part more
@@ -119,12 +115,6 @@ more_parts test k p old new before after = elim (cases_eq p k) [
 -- where it fails for that part, nothing is added
 pub no_part : (p k : ℕ) (old b : Bool) → b ≡ false → old ≡ (old || (nat_eq p k && b))
 no_part p k old b fails = grind (arith, nat_tests)
-
-pub put_part : (marks : List Bool) (k p : ℕ) (b : Bool) → b ≡ true → k < length marks → is_marked (slice_set marks k true) p ≡ (is_marked marks p || (nat_eq p k && b))
-put_part marks k p b passes room = elim (cases_eq p k) [
-  | inl here ↦ rw (here, marked_at marks k true room) (grind (arith, nat_tests))
-  | inr other ↦ rw (marked_else marks k p true other) (grind (arith, nat_tests))
-]
 
 first_marks : (b : Bool) → b ≡ (b && not false)
 first_marks true = refl

@@ -1,7 +1,6 @@
-use Rattle.vic_walk.proofs.Words.{◌≡◌, ◌+◌, ◌-◌, ◌<◌, ◌≤◌, ◌∙◌, ℕ, false, true, ap, arith, false_from_ne_true, false≢true, get_or-replicate, is_marked, length, length-replicate, refl, sym}
-use Rattle.std.proofs.Common.{◌/◌}
+use Rattle.vic_walk.proofs.Words.{◌≡◌, ◌+◌, ◌-◌, ◌<◌, ◌∙◌, ℕ, false, true, ap, arith, false_from_ne_true, false≢true, get_or-replicate, is_marked, length, length-replicate, sym}
 use Rattle.vic_log.specs.Order.{entries}
-use Rattle.vic_walk.specs.Met.{AreMetBefore, IsMetAt}
+use Rattle.vic_walk.specs.Met.{IsMetAt}
 use Rattle.vic_walk.proofs.Meeting.{met_earlier, met_else, met_up_to_max, ready_first}
 use Rattle.vic_walk.proofs.lacking.first_lack.Goals as goal
 use Rattle.vic_walk.proofs.lacking.first_lack.Goals.{in-Some, in-None}

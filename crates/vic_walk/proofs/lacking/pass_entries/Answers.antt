@@ -1,6 +1,5 @@
-use Rattle.vic_walk.proofs.Words.{◌≡◌, ◌∙◌, ◌<◌, ◌≤◌, arith, length}
+use Rattle.vic_walk.proofs.Words.{◌≡◌, ◌∙◌, ◌<◌, arith, length}
 use Rattle.vic_log.specs.Order.{entries}
-use Rattle.vic_walk.specs.Steps.{IsEntryAt}
 use Rattle.vic_walk.proofs.CutLaws.{place_at}
 use Rattle.vic_walk.proofs.lacking.pass_entries.Goals as goal
 

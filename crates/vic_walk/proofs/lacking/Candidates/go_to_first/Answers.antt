@@ -1,4 +1,4 @@
-use Rattle.vic_walk.proofs.Words.{◌≤◌, arith, cases_lt, inl, inr}
+use Rattle.vic_walk.proofs.Words.{arith, cases_lt, inl, inr}
 use Rattle.vic_walk.proofs.lacking.Candidates.go_to_first.Goals as goal
 
 pub pass_entries-requires : goal.pass_entries-requires

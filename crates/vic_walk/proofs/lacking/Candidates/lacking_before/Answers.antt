@@ -1,6 +1,5 @@
-use Rattle.vic_walk.proofs.Words.{◌≡◌, ◌∙◌, ◌+◌, ◌<◌, ap, arith, nat_tests, cases_lt, false≢true, inl, inr, is_marked, is_open, length, length-replicate, length-set, slots_before, sym, true, false, List, Bool}
+use Rattle.vic_walk.proofs.Words.{◌≡◌, ◌∙◌, ◌+◌, ap, arith, nat_tests, cases_lt, false≢true, inl, inr, length, length-replicate, length-set, sym, true, false}
 use Rattle.vic_log.specs.Order.{entries}
-use Rattle.vic_walk.specs.Steps.{IsEntryAt}
 use Rattle.vic_walk.specs.inner.Unmet.{AreLacking}
 use Rattle.vic_walk.proofs.CutLaws.{place_at}
 use Rattle.vic_walk.proofs.ListLaws.{met_past}
