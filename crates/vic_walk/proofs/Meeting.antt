@@ -1,5 +1,6 @@
 -- Which slots are met by the UIDs that are open before a position.
 use Rattle.std.specs.Prelude.{max}
+use Rattle.std.proofs.lemmas.List.{get_or_past}
 use Rattle.vic_frame.specs.Uids.{AreDifferent}
 use Rattle.vic_tree.specs.OpenSet.{UpToThree}
 use Rattle.vic_walk.specs.Met.{AreMetBefore, IsMetAt, answers_open}
@@ -7,12 +8,12 @@ use Rattle.vic_walk.specs.Needs.{needs, needs_at, needs_of}
 use Rattle.vic_walk.specs.declared.steps.Span.{Span}
 use Rattle.vic_walk.specs.declared.part_states.PartStates.{PartStates}
 use Rattle.vic_walk.specs.inner.PartUids.{AreUidsOf}
-use Rattle.vic_walk.specs.inner.Unmet.{IsFirstUnmet}
+use Rattle.vic_walk.specs.inner.Unmet.{AreLacking}
 use Rattle.vic_walk.specs.Steps.{IsSpanAt}
 use Rattle.vic_walk.proofs.Ending.{open_earlier}
 use Rattle.vic_walk.proofs.OpenAnswers.{open_by_parts}
 use Rattle.vic_walk.proofs.Ruling.{marked_at, marked_else}
-use Rattle.vic_walk.proofs.Words.{◌-◌, inl, inr, cases_eq, cases_lt, slice_set, ◌≡◌, ℕ, ◌+◌, ◌<◌, ◌≤◌, ◌∷◌, ◌∙◌, ◌&&◌, ◌||◌, not, Bool, true, false, Option, Some, None, List, [], length, refl, ap, and_parts, and_from, arith, nat_tests, nat_lt, nat_eq, slice_get, Entry, Collision, Garbled, IsPartOf, AreStatesAt, IsUid, IsUid-from, has, is_marked, is_open, mirror, part_count, slots_before}
+use Rattle.vic_walk.proofs.Words.{inl, inr, cases_Bool, cases_eq, cases_lt, false≢true, get_or-replicate, length-replicate, replicate, sym, slice_set, ◌≡◌, ℕ, ◌+◌, ◌<◌, ◌≤◌, ◌∷◌, ◌∙◌, ◌&&◌, ◌||◌, not, Bool, true, false, Option, Some, None, List, [], length, refl, ap, and_parts, and_from, arith, nat_tests, nat_lt, nat_eq, slice_get, Entry, Collision, Garbled, IsPartOf, AreStatesAt, IsUid, IsUid-from, has, is_marked, is_open, mirror, part_count, slots_before}
 
 -- ---- which slots are met
 
@@ -43,19 +44,11 @@ met_earlier es m n j le h = record {
   enough = h.enough;
 }
 
--- all slots before the first one that isn't met are met
-pub met_up_to : (es : List Entry) (n j : ℕ) → IsFirstUnmet es n (Some j) → AreMetBefore es j
-met_up_to es n j h k below = met_earlier es j n k (let lt = h.0 in omega (arith, lt)) (h.2 k below)
-
 pub met_up_to_max : (es : List Entry) (a b m : ℕ) → m ≡ max a b → AreMetBefore es a → AreMetBefore es b → AreMetBefore es m
 met_up_to_max es a b m is met_a met_b = elim (cases_lt a b) [
   | inl less ↦ let same : m ≡ b = omega (arith, is, less) in rw same met_b
   | inr more ↦ let same : m ≡ a = omega (arith, is, more) in rw same met_a
 ]
-
--- a slot that needs no tags is met
-pub met_free : (es : List Entry) (n j : ℕ) → needs_at es j ≡ 0 → IsMetAt es n j
-met_free es n j none = record { uids = []; different = tt; answer = λ u it. absurd (cc); enough = omega (arith, none) }
 
 -- up to three UIDs tell whether it is met
 pub met_by : (es : List Entry) (n j : ℕ) (us : List ℕ) → UpToThree (answers_open es n j) us → needs_at es j ≤ length us → IsMetAt es n j
@@ -71,6 +64,45 @@ uids_at bs es n i s w span h = record {
   marked = open_by_parts bs es (is_open (slots_before es n)) i s w span h;
 }
 
+-- ---- which candidates lack tags
+
+-- none of no marks
+pub none_marked : (n k : ℕ) → is_marked (replicate n false) k ≡ false
+none_marked n k = elim (cases_lt k n) [
+  | inl below ↦ get_or-replicate n k false false below
+  | inr past ↦ get_or_past (replicate n false) k false (omega (arith, past, length-replicate n false))
+]
+
+-- all else is met, where the candidates are all that lack tags at a later position
+pub met_else : (es : List Entry) (slots lacking : List Bool) (n m k : ℕ) → AreLacking es slots n n lacking → n ≤ m → k < n → (is_marked slots k ≡ false → IsMetAt es m k) → is_marked lacking k ≡ false → IsMetAt es n k
+met_else es slots lacking n m k h le below others enough = elim (cases_Bool (is_marked slots k)) [
+  | inl marked ↦ h.met k below marked enough
+  | inr other ↦ met_earlier es n m k le (others other)
+]
+
+-- up to a later one, between which candidates are met
+pub lacking_more : (es : List Entry) (slots lacking : List Bool) (n m to : ℕ) → ((k : ℕ) → m ≤ k → k < to → is_marked slots k ≡ true → IsMetAt es n k) → AreLacking es slots n m lacking → AreLacking es slots n to lacking
+lacking_more es slots lacking n m to between h = record {
+  unmet = h.unmet;
+  met = λ k below marked enough. elim (cases_lt k m) [
+    | inl before ↦ h.met k before marked enough
+    | inr past ↦ between k past below marked
+  ];
+}
+
+-- and one that isn't met
+pub lacking_put : (es : List Entry) (slots lacking : List Bool) (n k : ℕ) → k < n → length lacking ≡ n → is_marked slots k ≡ true → (IsMetAt es n k → ⊥) → AreLacking es slots n k lacking → AreLacking es slots n (k + 1) (slice_set lacking k true)
+lacking_put es slots lacking n k within room marked lacks h = record {
+  unmet = λ p it. elim (cases_eq p k) [
+    | inl here ↦ rw here (within, marked, lacks)
+    | inr other ↦ h.unmet p (sym (marked_else lacking k p true other) ∙ it)
+  ];
+  met = λ p below candidate enough. elim (cases_eq p k) [
+    | inl here ↦ absurd (false≢true (sym enough ∙ rw here (marked_at lacking k true (omega (arith, room, within)))))
+    | inr other ↦ h.met p (omega (arith, below, other)) candidate (sym (marked_else lacking k p true other) ∙ enough)
+  ];
+}
+
 -- ---- before the first entry
 
 -- what a test says of one part more
@@ -83,12 +115,6 @@ more_parts test k p old new before after = elim (cases_eq p k) [
 -- where it fails for that part, nothing is added
 pub no_part : (p k : ℕ) (old b : Bool) → b ≡ false → old ≡ (old || (nat_eq p k && b))
 no_part p k old b fails = grind (arith, nat_tests)
-
-pub put_part : (marks : List Bool) (k p : ℕ) (b : Bool) → b ≡ true → k < length marks → is_marked (slice_set marks k true) p ≡ (is_marked marks p || (nat_eq p k && b))
-put_part marks k p b passes room = elim (cases_eq p k) [
-  | inl here ↦ rw (here, marked_at marks k true room) (grind (arith, nat_tests))
-  | inr other ↦ rw (marked_else marks k p true other) (grind (arith, nat_tests))
-]
 
 first_marks : (b : Bool) → b ≡ (b && not false)
 first_marks true = refl

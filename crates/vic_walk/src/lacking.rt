@@ -1,13 +1,12 @@
 //! The first position at which an unread slot lacks tags.
 
-ghost use Rattle.std.specs.Prelude.{◌≡◌, ◌↔◌, ◌+◌, ◌<◌, ◌≤◌, ◌&&◌, ℕ, true, List, IfOk, length, nat_lt, slice_index};
+ghost use Rattle.std.specs.Prelude.{◌≡◌, ◌↔◌, ◌+◌, ◌<◌, ◌≤◌, ℕ, Bool, true, List, IfOk, OnOk, length};
 ghost use Rattle.vic_log.specs.declared.entry.Entry.{Entry as EntryValue};
 ghost use Rattle.vic_log.specs.Order.{entries};
 ghost use Rattle.vic_log.specs.Slots.{slots_before, is_open};
 ghost use Rattle.vic_walk.specs.Borders.{part_count};
-ghost use Rattle.vic_walk.specs.Marked.{is_marked};
 ghost use Rattle.vic_walk.specs.Met.{AreEndsPast, AreMetBefore, IsMetAt};
-ghost use Rattle.vic_walk.specs.inner.Unmet.{IsFirstUnmet, is_open_before};
+ghost use Rattle.vic_walk.specs.inner.Unmet.{AreCandidates, AreLacking, is_open_before};
 ghost use Rattle.vic_walk.specs.Steps.{AreLogParts, IsEntryAt, IsStepBelow};
 ghost use Rattle.vic_walk.specs.Walk.{AreStatesAt};
 
@@ -20,6 +19,7 @@ use crate::parts::Parts;
 use crate::steps::Step;
 use crate::three::up_to_three;
 use std::alloc::{AllocError, Global};
+use std::mem::drop;
 use vic_log::Entry;
 
 /// The greatest position up to `upto` such that all unread slots before it are met by the UIDs that
@@ -39,48 +39,120 @@ pub fn first_lack(
     ensures met { IfOk result (λ m. AreMetBefore (entries lines.now) m) }
     ensures lack { IfOk result (λ m. m < upto → AreMetBefore (entries lines.now) (m + 1) → ⊥) }
 {
-    let Some(at) = first_unmet(alloc, lines, log_parts, ends, upto)? else {
-        return Ok(upto);
+    let mut candidates = Candidates {
+        slots: Marks::all(alloc, upto)?,
+        from: 0,
+        states: PartStates::all_ready(alloc, Marks::all(alloc, ends.len())?),
     };
+    let mut met = 0;
+    let mut most = upto;
+    let mut middle = upto;
     // found by halving: what is met before a position is met before each earlier one
-    let mut met = at;
-    let mut unmet = upto;
-    while met + 1 < unmet {
-        let middle = met + (unmet - met) / 2;
-        match first_unmet(alloc, lines, log_parts, ends, middle)? {
-            Some(at) => {
-                unmet = middle;
-                met = met.max(at);
+    while met < most {
+        candidates.go_to_first(lines, log_parts, middle)?;
+        let lacking = candidates.lacking_before(alloc, lines, log_parts, ends, middle)?;
+        match lacking.first(0, middle) {
+            Some(first) => {
+                candidates.slots = lacking;
+                met = met.max(first);
+                most = middle - 1;
             }
-            None => met = middle,
+            None => {
+                drop(lacking);
+                met = middle;
+            }
         }
+        middle = most - (most - met) / 2;
     }
     Ok(met)
 }
 
-/// The position of the first slot before a position that isn't met by the UIDs that are open before
-/// that position, if there is one. `ends` as for `first_lack`.
-fn first_unmet(
-    alloc: Global,
+/// The slots that may lack tags, of which none comes before a position, and the states of all parts
+/// there.
+#[derive(Drop)]
+struct Candidates {
+    slots: Marks,
+    from: usize,
+    states: PartStates,
+}
+
+impl Candidates {
+    /// Goes to the first candidate, if one comes before a position.
+    fn go_to_first(
+        &mut self,
+        lines: &LogLines,
+        log_parts: &LogParts,
+        position: usize,
+    ) -> Result<(), AllocError>
+        requires parts { AreLogParts (entries lines.now) log_parts.now }
+        requires candidates { AreCandidates log_parts.now.parts (entries lines.now) self.old }
+        ensures slots { OnOk result (self.new.slots ≡ self.old.slots) }
+        ensures candidates { OnOk result
+            (AreCandidates log_parts.now.parts (entries lines.now) self.new) }
+    {
+        let end = position.min(log_parts.steps.len());
+        let Some(first) = self.slots.first(self.from, end) else {
+            return Ok(());
+        };
+        pass_entries(&mut self.states, lines, log_parts, self.from, first)?;
+        self.from = first;
+        Ok(())
+    }
+
+    /// The candidates before a position that aren't met by the UIDs that are open before that
+    /// position. `ends` as for `first_lack`.
+    fn lacking_before(
+        &self,
+        alloc: Global,
+        lines: &LogLines,
+        log_parts: &LogParts,
+        ends: &[u32],
+        position: usize,
+    ) -> Result<Marks, AllocError>
+        requires parts { AreLogParts (entries lines.now) log_parts.now }
+        requires ends { AreEndsPast log_parts.now.parts (entries lines.now) position ends.now }
+        requires candidates { AreCandidates log_parts.now.parts (entries lines.now) self.now }
+        ensures { IfOk result (AreLacking (entries lines.now) self.now.slots position position) }
+    {
+        let mut open = open_before(alloc, &self.states, ends, position)?;
+        let mut lacking = Marks::none(alloc, position)?;
+        let end = position.min(log_parts.steps.len());
+        let mut at = self.from;
+        while let Some(slot) = self.slots.first(at, end) {
+            pass_entries(&mut open, lines, log_parts, at, slot)?;
+            let step = log_parts.steps[slot];
+            let entry = lines.entry(slot);
+            if !is_met(&log_parts.parts, &open, step, &entry) {
+                lacking.put(slot);
+            }
+            open.pass(step, &entry)?;
+            at = slot + 1;
+        }
+        Ok(lacking)
+    }
+}
+
+/// Goes past the entries from a position on and before another.
+fn pass_entries(
+    states: &mut PartStates,
     lines: &LogLines,
     log_parts: &LogParts,
-    ends: &[u32],
-    position: usize,
-) -> Result<Option<usize>, AllocError>
+    from: usize,
+    to: usize,
+) -> Result<(), AllocError>
     requires parts { AreLogParts (entries lines.now) log_parts.now }
-    requires ends { AreEndsPast log_parts.now.parts (entries lines.now) position ends.now }
-    ensures { IfOk result (IsFirstUnmet (entries lines.now) position) }
+    requires room { length states.old.ready ≡ part_count log_parts.now.parts }
+    requires from { from ≤ to }
+    requires to { to ≤ length log_parts.now.steps.items }
+    ensures { OnOk result ((set : ℕ → Bool)
+        → AreStatesAt log_parts.now.parts (entries lines.now) set from states.old
+        → AreStatesAt log_parts.now.parts (entries lines.now) set to states.new) }
 {
-    let mut open = PartStates::all_ready(alloc, open_before(alloc, ends, position)?);
-    for index in 0..position.min(log_parts.steps.len()) {
-        let step = log_parts.steps[index];
+    for index in from..to {
         let entry = lines.entry(index);
-        if !is_met(&log_parts.parts, &open, step, &entry) {
-            return Ok(Some(index));
-        }
-        open.pass(step, &entry)?;
+        states.pass(log_parts.steps[index], &entry)?;
     }
-    Ok(None)
+    Ok(())
 }
 
 /// Whether as many of the open UIDs answer at an entry as it requires.
@@ -95,16 +167,21 @@ fn is_met(parts: &Parts, open: &PartStates, step: Step, entry: &Entry) -> bool
     need == 0 || need <= up_to_three(parts, &open.ready, step.span()).len()
 }
 
-/// The parts that are open before a position, by the ends of all parts.
-fn open_before(alloc: Global, ends: &[u32], position: usize) -> Result<Marks, AllocError>
-    ensures room { IfOk result (λ marks. length marks ≡ length ends.now) }
-    ensures open { IfOk result (λ marks. (p : ℕ) → is_marked marks p
-        ≡ (nat_lt p (length ends.now) && is_open_before position (slice_index ends.now p))) }
+/// Of all parts, in some states, those that are open before a position, by the ends of all.
+fn open_before(
+    alloc: Global,
+    states: &PartStates,
+    ends: &[u32],
+    position: usize,
+) -> Result<PartStates, AllocError>
+    ensures { IfOk result (λ new. (bs : List ℕ) (es : List EntryValue) (i : ℕ)
+        → AreEndsPast bs es position ends.now → AreStatesAt bs es (λ u. true) i states.now
+        → AreStatesAt bs es (is_open (slots_before es position)) i new) }
 {
-    let mut open = Marks::none(alloc, ends.len())?;
+    let mut open = PartStates::all_ready(alloc, Marks::none(alloc, ends.len())?);
     for part in 0..ends.len() {
         if is_open_before(position, ends[part]) {
-            open.put(part);
+            open.add(part, states.ready.has(part))?;
         }
     }
     Ok(open)

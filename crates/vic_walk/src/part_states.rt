@@ -36,6 +36,23 @@ impl PartStates {
         }
     }
 
+    /// Adds a part of UIDs that are Ready, or Quiet.
+    pub(crate) fn add(&mut self, part: usize, ready: bool) -> Result<(), AllocError>
+        requires { part < length self.old.ready }
+        ensures ready { OnOk result ((p : ℕ) → is_marked self.new.ready p
+            ≡ (is_marked self.old.ready p || (p == part && ready))) }
+        ensures room { length self.new.ready ≡ length self.old.ready }
+        ensures quiet { OnOk result ((p : ℕ) → has self.new.quiet.items p
+            ≡ (has self.old.quiet.items p || (p == part && not ready))) }
+    {
+        if ready {
+            self.ready.put(part);
+        } else {
+            self.quiet.push(part)?;
+        }
+        Ok(())
+    }
+
     /// Makes a part Quiet, if it is Ready.
     fn silence(&mut self, part: usize) -> Result<(), AllocError>
         requires { part < length self.old.ready }
