@@ -1,6 +1,6 @@
 use Rattle.vic_margin.proofs.Words.{◌≡◌, ◌∙◌, ℕ, List, length, slice_index, ap, subst, sym, Entry}
 use Rattle.vic_log.proofs.Cautious.{deaf_same}
-use Rattle.vic_log.specs.Deaf.{deaf_entries, hidden_entries}
+use Rattle.vic_log.specs.Deaf.{hidden_entries}
 use Rattle.vic_log.specs.Order.{entries}
 use Rattle.vic_verdict.specs.Possible.{IsPossible}
 use Rattle.vic_walk.specs.Walk.{AreEndsAt}

@@ -1,5 +1,4 @@
 use Rattle.vic_margin.proofs.Words.{◌≡◌, ◌∙◌, ℕ, ap, has}
-use Rattle.vic_log.specs.Order.{entries}
 use Rattle.vic_tree.specs.Ranges.{in_ranges}
 use Rattle.vic_margin.proofs.Opened.{complete_open}
 use Rattle.vic_margin.proofs.cautious.readings_of_complete.Goals as goal
