@@ -3,13 +3,15 @@
 ghost use Rattle.std.specs.Prelude.{◌≡◌, ℕ, IfOk, List, false, length, slice_index};
 ghost use Rattle.vic_frame.specs.Uids.{has};
 ghost use Rattle.vic_log.specs.declared.entry.Entry.{Entry as EntryValue};
-ghost use Rattle.vic_log.specs.Order.{entries, listed};
+ghost use Rattle.vic_log.specs.Deaf.{hidden_entries};
+ghost use Rattle.vic_log.specs.Order.{entries, listed, numbers};
 ghost use Rattle.vic_log.specs.Slots.{is_open, slots_before, slots_of};
 ghost use Rattle.vic_tree.specs.Keys.{AreKeysOf};
 ghost use Rattle.vic_tree.specs.OpenSet.{SameUids};
 ghost use Rattle.vic_tree.specs.Ranges.{in_ranges, is_open_in};
 ghost use Rattle.vic_verdict.specs.Possible.{IsPossible};
 ghost use Rattle.vic_verdict.specs.Verdict.{IsVerdict};
+ghost use Rattle.vic_verdict.specs.declared.judging.Verdict.TheVariants.{Complete};
 ghost use Rattle.vic_walk.specs.Borders.{part_count};
 ghost use Rattle.vic_walk.specs.Walk.{AreEndsAt};
 ghost use Rattle.vic_margin.specs.Readings.{AreReadings, AreReadingsIfComplete};
@@ -31,13 +33,30 @@ pub fn readings(alloc: Global, log: Log, ranges: &[KeyRange]) -> Result<Readings
     requires open { SameUids (is_open_in ranges.now) (is_open (slots_of (entries log.lines))) }
     ensures { IfOk result (AreReadings (entries log.lines)) }
 {
+    let (_hidden, readings) = readings_and_hidden(alloc, log, ranges)?;
+    Ok(readings)
+}
+
+/// The same, with the hidden log.
+fn readings_and_hidden(
+    alloc: Global,
+    log: Log,
+    ranges: &[KeyRange],
+) -> Result<(Log, Readings), AllocError>
+    requires possible { IsPossible (entries log.lines) }
+    requires open { SameUids (is_open_in ranges.now) (is_open (slots_of (entries log.lines))) }
+    ensures entries { IfOk result (λ r. entries r.0.lines ≡ hidden_entries (entries log.lines)) }
+    ensures numbers { IfOk result (λ r. numbers r.0.lines ≡ numbers log.lines) }
+    ensures readings { IfOk result (λ r. AreReadings (entries log.lines) r.1) }
+{
     let hides = log.has_heard();
     let falls_silent = log.ends_silent();
     if !hides && !falls_silent {
-        return Ok(Readings {
+        let readings = Readings {
             hidden: None,
             deaf: None,
-        });
+        };
+        return Ok((log.into_hidden(), readings));
     }
     let answered = behind_answers(&LogLines::of(&log));
     let hidden_log = log.into_hidden();
@@ -49,12 +68,12 @@ pub fn readings(alloc: Global, log: Log, ranges: &[KeyRange]) -> Result<Readings
     let hidden = opened_if(alloc, hides, &log_parts.parts, &ends, ranges)?;
     if !falls_silent {
         let deaf = hidden;
-        return Ok(Readings { hidden, deaf });
+        return Ok((hidden_log, Readings { hidden, deaf }));
     }
     // what the deaf reading leaves open is what was open behind the last answer
     reopen(&mut ends, answered);
     let deaf = opened(alloc, &log_parts.parts, &ends, ranges)?;
-    Ok(Readings { hidden, deaf })
+    Ok((hidden_log, Readings { hidden, deaf }))
 }
 
 /// The position behind the last answer; 0 if there is none.
@@ -134,8 +153,8 @@ pub(crate) fn readings_if_complete(
 {
     match *verdict {
         Verdict::Complete { .. } => {
-            let ranges = ranges_of(alloc, keys)?;
-            Ok(Some(readings(alloc, log, &ranges)?))
+            let (_hidden, readings) = readings_of_complete(alloc, log, keys)?;
+            Ok(Some(readings))
         }
         Verdict::Impossible { .. }
         | Verdict::Absent(_)
@@ -143,6 +162,23 @@ pub(crate) fn readings_if_complete(
         | Verdict::Unsettled(_)
         | Verdict::Doubtful(_) => Ok(None),
     }
+}
+
+/// The hidden log of one whose list is complete, and what the readings leave open beside the UIDs
+/// with these keys, which are those that it lists. It fails only if memory is refused.
+pub fn readings_of_complete(
+    alloc: Global,
+    log: Log,
+    keys: &SortedKeys,
+) -> Result<(Log, Readings), AllocError>
+    requires verdict { (count : ℕ) × IsVerdict log.lines (Complete count) }
+    requires keys { AreKeysOf keys.now (listed (entries log.lines)) }
+    ensures entries { IfOk result (λ r. entries r.0.lines ≡ hidden_entries (entries log.lines)) }
+    ensures numbers { IfOk result (λ r. numbers r.0.lines ≡ numbers log.lines) }
+    ensures readings { IfOk result (λ r. AreReadings (entries log.lines) r.1) }
+{
+    let ranges = ranges_of(alloc, keys)?;
+    readings_and_hidden(alloc, log, &ranges)
 }
 
 /// A range for each key.

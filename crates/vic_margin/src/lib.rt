@@ -18,6 +18,6 @@ mod tally;
 mod weakest;
 
 pub use answer::{Margin, Readings, Weakest};
-pub use cautious::readings;
+pub use cautious::{readings, readings_of_complete};
 pub use margins::overlooked;
 pub use weakest::{margin, weakest_besides};

@@ -33,7 +33,7 @@ pub struct Conflict {
 }
 
 /// The conflict of an impossible log, `line` being the number of the first impossible line.
-pub(crate) fn find_conflict(alloc: Global, log: &Log, line: u32) -> Result<Conflict, AllocError>
+pub fn find_conflict(alloc: Global, log: &Log, line: u32) -> Result<Conflict, AllocError>
     requires { IsVerdict log.now.lines (Impossible line) }
     ensures { IfOk result (IsConflict log.now.lines) }
 {

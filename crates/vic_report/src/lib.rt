@@ -20,7 +20,7 @@ mod shown;
 mod silencer;
 
 pub use certain_lines::lines_of_certain;
-pub use conflict::Conflict;
+pub use conflict::{Conflict, find_conflict};
 pub use findings::{Findings, Unsettled};
-pub use reporting::{LogReport, report};
+pub use reporting::{LogReport, report, report_of_facts};
 pub use shown::ShownUid;

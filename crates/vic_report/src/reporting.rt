@@ -45,13 +45,17 @@ pub fn report(alloc: Global, log: &Log) -> Result<LogReport, AllocError>
     ensures { IfOk result (IsReport log.now.lines) }
 {
     match facts_of::<RangeSet>(alloc, log)? {
-        Ok(facts) => report_facts(alloc, facts, log),
+        Ok(facts) => report_of_facts(alloc, facts, log),
         Err(line) => Ok(LogReport::Impossible(find_conflict(alloc, log, line)?)),
     }
 }
 
 /// The report on a possible log, from its facts.
-fn report_facts(alloc: Global, facts: Facts<RangeSet>, log: &Log) -> Result<LogReport, AllocError>
+pub fn report_of_facts(
+    alloc: Global,
+    facts: Facts<RangeSet>,
+    log: &Log,
+) -> Result<LogReport, AllocError>
     requires { AreFactsOf (entries log.now.lines) (is_open_in facts.«open») facts.met
         facts.certain }
     ensures { IfOk result (IsReport log.now.lines) }

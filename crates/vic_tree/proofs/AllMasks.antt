@@ -1,5 +1,5 @@
 -- Lists that have all masks of a kind: in any order, then in order.
-use Rattle.vic_tree.proofs.Words.{◌≡◌, ◌⊎◌, ◌↔◌, Bool, List, [], ◌∷◌, Less, sym, refl, subst, arith, AllPairs, Contains, IsPermutation, IsSorted, BitMask, IsTotalOrder, dedup, eq_by_cmp, eq_by_cmp_equiv, nat_cmp_total, on_total, then_total, All-from_recursion, All-weaker, Contains-get_or, All-dedup, AllPairs-cons, Contains-dedup, IsStrictlySortedBy-dedup, All-permutation, Contains-permutation, Adds, AreAll, ComesBefore}
+use Rattle.vic_tree.proofs.Words.{◌≡◌, ◌⊎◌, ◌↔◌, inl, inr, Bool, List, [], ◌∷◌, Less, sym, refl, subst, arith, AllPairs, Contains, IsPermutation, IsSorted, BitMask, IsTotalOrder, dedup, eq_by_cmp, eq_by_cmp_equiv, nat_cmp_total, on_total, then_total, All-from_recursion, All-weaker, Contains-get_or, All-dedup, AllPairs-cons, Contains-dedup, IsStrictlySortedBy-dedup, All-permutation, Contains-permutation, Adds, AreAll, ComesBefore}
 use Rattle.std.specs.List.Sorted.{IsStrictlySortedBy}
 use Rattle.vic_tree.proofs.FirstMasks.{less_before, mask_cmp, or_both, equal_same}
 
@@ -10,6 +10,13 @@ members_both P Q R ys zs like own adds m = grind (arith, like m, own m, adds m)
 -- one after another, said as one
 pub adds_both : (P Q R : BitMask → Type 0) (xs ys zs : List BitMask) → ((m : BitMask) → P m ⊎ Q m ↔ R m) → Adds P xs ys → Adds Q ys zs → Adds R xs zs
 adds_both P Q R xs ys zs like = members_both (λ m. Contains xs m ⊎ P m) Q (λ m. Contains xs m ⊎ R m) ys zs (λ m. or_both (Contains xs m) (P m) (Q m) (R m) (like m))
+
+-- a condition more on each side
+pub short_both : (P Q R S : Type 0) → P ⊎ Q ↔ R → (P × S) ⊎ (Q × S) ↔ R × S
+short_both P Q R S like = (
+  λ w. elim w [ inl a ↦ (like.0 (inl a.0), a.1) | inr a ↦ (like.0 (inr a.0), a.1) ],
+  λ w. elim (like.1 w.0) [ inl p ↦ inl (p, w.1) | inr q ↦ inr (q, w.1) ],
+)
 
 -- what a sort leaves is in order, each mask once
 rising : (ms : List BitMask) → IsStrictlySortedBy mask_cmp ms → AllPairs ComesBefore ms

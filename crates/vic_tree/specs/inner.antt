@@ -2,3 +2,4 @@
 pub mod Ranges
 pub mod KeptMasks
 pub mod Stretches
+pub mod Tallies

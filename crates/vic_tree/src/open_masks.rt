@@ -103,10 +103,25 @@ pub(crate) fn all_open_masks_left(
     ensures { IfOk result (λ masks. AreAll
         (IsOpenMask (without_keys (is_open_in ranges.now) removed.now)) masks.items) }
 {
+    open_masks_up_to(alloc, ranges, removed, UID_BITS)
+}
+
+/// Those of at most `most` bits.
+pub(crate) fn open_masks_up_to(
+    alloc: Global,
+    ranges: &Ranges<'_>,
+    removed: &SortedKeys,
+    most: u8,
+) -> Result<Vec<Mask>, AllocError>
+    requires { most ≤ UID_BITS }
+    ensures { IfOk result (λ masks. AreAll (λ m.
+        IsOpenMask (without_keys (is_open_in ranges.now) removed.now) m × (m.len ≤ most))
+        masks.items) }
+{
     let mut masks = Vec::new(alloc);
     let mut left = Runs::new(0, ranges, removed.ahead());
     while let Some(run) = left.next_run() {
-        push_in_run(&mut masks, run)?;
+        push_in_run(&mut masks, run, most)?;
     }
     masks.sort_unstable();
     // no mask is found twice: this only spares the proof of that
@@ -114,11 +129,13 @@ pub(crate) fn all_open_masks_left(
     Ok(masks)
 }
 
-/// Appends the open masks of a run.
-fn push_in_run(masks: &mut Vec<Mask>, run: KeyRange) -> Result<(), AllocError>
-    ensures { OnOk result (Adds (IsMaximalIn run.0 run.1) masks.old.items masks.new.items) }
+/// Appends the open masks of a run of at most `most` bits.
+fn push_in_run(masks: &mut Vec<Mask>, run: KeyRange, most: u8) -> Result<(), AllocError>
+    requires { most ≤ UID_BITS }
+    ensures { OnOk result (Adds (λ m. IsMaximalIn run.0 run.1 m × (m.len ≤ most))
+        masks.old.items masks.new.items) }
 {
-    for len in least_len(run)..UID_BITS + 1 {
+    for len in least_len(run)..most + 1 {
         push_found(masks, maximal_at_start(run, len))?;
         push_found(masks, maximal_at_end(run, len))?;
     }
@@ -127,7 +144,7 @@ fn push_in_run(masks: &mut Vec<Mask>, run: KeyRange) -> Result<(), AllocError>
 
 /// The first mask of `len` bits in a run, if it is the upper half of one that begins before the
 /// run.
-fn maximal_at_start(run: KeyRange, len: u8) -> Option<Mask>
+pub(crate) fn maximal_at_start(run: KeyRange, len: u8) -> Option<Mask>
     requires short { len ≤ UID_BITS }
     ensures found { IfSome result (IsMaximalAt run.0 run.1 len 1) }
     ensures only { (m : BitMask) → IsMaximalAt run.0 run.1 len 1 m → result ≡ Some m }
@@ -142,7 +159,7 @@ fn maximal_at_start(run: KeyRange, len: u8) -> Option<Mask>
 
 /// The last mask of `len` bits in a run, if it is the mask of no bits, or the lower half of one
 /// that ends after the run.
-fn maximal_at_end(run: KeyRange, len: u8) -> Option<Mask>
+pub(crate) fn maximal_at_end(run: KeyRange, len: u8) -> Option<Mask>
     requires short { len ≤ UID_BITS }
     ensures found { IfSome result (IsMaximalAt run.0 run.1 len 0) }
     ensures only { (m : BitMask) → IsMaximalAt run.0 run.1 len 0 m → result ≡ Some m }

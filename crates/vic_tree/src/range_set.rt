@@ -5,11 +5,13 @@ ghost use Rattle.std.specs.List.{Contains};
 ghost use Rattle.vic_frame.specs.Uids.{has};
 ghost use Rattle.vic_frame.specs.Masks.{BitMask};
 ghost use Rattle.vic_frame.specs.LowBitsFirst.{mirror};
+ghost use Rattle.vic_tree.specs.Counted.{IsCounted};
 ghost use Rattle.vic_tree.specs.OpenSet.{SameUids, without_keys};
 ghost use Rattle.vic_tree.specs.OpenMasks.{AreAll, AreFirst, IsOpenMask};
 ghost use Rattle.vic_tree.specs.Ranges.{AreRanges, is_between, is_open_in};
 
 use crate::besides::{gather_left, push_left, widest_left};
+use crate::counted::{CountedMasks, counted_left};
 use crate::key_range::KeyRange;
 use crate::open_masks::{MAX_OPEN_MASKS, OpenMasks, all_open_masks_left, open_masks_left};
 use crate::open_set::OpenSet;
@@ -153,6 +155,20 @@ impl RangeSet {
             × (¬ (Contains result.masks.items m)) }
     {
         open_masks_between(&self.in_order(), keys)
+    }
+
+    /// The first open masks of the set without the UIDs with some keys, `most` at most, and how many
+    /// there are, found without a list of all.
+    pub fn counted_masks_besides(
+        &self,
+        alloc: Global,
+        keys: &SortedKeys,
+        most: usize,
+    ) -> Result<CountedMasks, AllocError>
+        ensures { IfOk result (IsCounted most
+            (IsOpenMask (without_keys (is_open_in self.now) keys.now))) }
+    {
+        counted_left(alloc, &self.in_order(), keys, most)
     }
 
     /// All open masks of the set without the UIDs with some keys, by length, then by value.

@@ -13,7 +13,7 @@ loop-len-init c = record {
     ],
     λ old. inl old,
   );
-  most = omega (arith, c.least_len-len.ensures.short);
+  most = inr (λ m g lt. c.least_len-len.ensures.none m.len (mirror_bits m.len m.value) lt (mask_block c.args.run.0 c.args.run.1 m g.inside.0 g.inside.1 g.inside.2));
 }
 
 pub loop-len-preserved : goal.loop-len-preserved
@@ -27,11 +27,15 @@ loop-len-preserved c =
     let told = maximal_of_len first last len a.result b.result a.ensures.found a.ensures.only b.ensures.found b.ensures.only in
     record {
       adds = adds_both (λ m. (IsMaximalIn first last m × (m.len < len)) ⊎ (a.result ≡ Some m)) (λ m. b.result ≡ Some m) (λ m. IsMaximalIn first last m × (m.len < len + 1)) _ _ _ told one c.in_ok-push_found-2.ensures;
-      most = omega (arith, c.loop-len-test.true);
+      most = inl (omega (arith, c.loop-len-test.true));
     }
 
 pub returns : goal.returns
-returns c m = (
-  λ w. (c.loop-len.invariant.adds m).0 (elim w [ inl old ↦ inl old | inr g ↦ inr (g, omega (arith, g.inside.1, c.loop-len-test.false)) ]),
-  λ h. elim ((c.loop-len.invariant.adds m).1 h) [ inl old ↦ inl old | inr g ↦ inr g.0 ],
-)
+returns c m =
+    let inv = c.loop-len.invariant in (
+      λ w. (inv.adds m).0 (elim w [ inl old ↦ inl old | inr g ↦ inr (g.0, omega (arith, g.1, c.loop-len-test.false)) ]),
+      λ h. elim ((inv.adds m).1 h) [
+        | inl old ↦ inl old
+        | inr g ↦ inr (g.0, elim inv.most [ inl le ↦ omega (arith, g.1, le) | inr none ↦ absurd (none m g.0 g.1) ])
+      ],
+    )

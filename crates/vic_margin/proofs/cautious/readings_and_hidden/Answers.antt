@@ -1,6 +1,6 @@
 use Rattle.vic_margin.proofs.Words.{◌≡◌, ◌∙◌, ℕ, List, length, slice_index, ap, subst, sym, Entry}
 use Rattle.vic_log.proofs.Cautious.{deaf_same}
-use Rattle.vic_log.specs.Deaf.{deaf_entries, hidden_entries}
+use Rattle.vic_log.specs.Deaf.{hidden_entries}
 use Rattle.vic_log.specs.Order.{entries}
 use Rattle.vic_verdict.specs.Possible.{IsPossible}
 use Rattle.vic_walk.specs.Walk.{AreEndsAt}
@@ -8,13 +8,13 @@ use Rattle.vic_margin.specs.Readings.{IsFirstOpened}
 use Rattle.vic_margin.specs.inner.Opened.{IsBehindAnswers, end_before}
 use Rattle.vic_margin.proofs.Opened.{ends_all, possible_hidden}
 use Rattle.vic_margin.proofs.Reopened.{read_deaf, read_hidden, read_none}
-use Rattle.vic_margin.proofs.cautious.readings.Goals as goal
+use Rattle.vic_margin.proofs.cautious.readings_and_hidden.Goals as goal
 
-pub returns-then-not-falls_silent : goal.returns-then-not-falls_silent
-returns-then-not-falls_silent c = read_none (entries c.args.log.lines) (sym c.has_heard-hides.ensures ∙ c.if-not-hides.true) (sym c.ends_silent-falls_silent.ensures ∙ c.if-not-falls_silent.true)
+pub returns-then-not-falls_silent-clause-readings : goal.returns-then-not-falls_silent-clause-readings
+returns-then-not-falls_silent-clause-readings c = read_none (entries c.args.log.lines) (sym c.has_heard-hides.ensures ∙ c.if-not-hides.true) (sym c.ends_silent-falls_silent.ensures ∙ c.if-not-falls_silent.true)
 
-pub returns-then-not-falls_silent-2 : goal.returns-then-not-falls_silent-2
-returns-then-not-falls_silent-2 c =
+pub returns-then-not-falls_silent-2-clause-readings : goal.returns-then-not-falls_silent-2-clause-readings
+returns-then-not-falls_silent-2-clause-readings c =
     let es : List Entry = entries c.args.log.lines in
     let hs : List Entry = entries c.into_hidden-hidden_log.result.lines in
     let w = c.in_ok-log_parts.field-0 in
@@ -26,8 +26,8 @@ returns-then-not-falls_silent-2 c =
     let loud = sym c.ends_silent-falls_silent.ensures ∙ c.if-not-falls_silent-2.true in
     record { hidden = hidden; deaf = subst (λ ds. IsFirstOpened ds es c.in_ok-hidden.hidden) (sym (deaf_same es loud)) hidden }
 
-pub returns : goal.returns
-returns c =
+pub returns-clause-readings : goal.returns-clause-readings
+returns-clause-readings c =
     let es : List Entry = entries c.args.log.lines in
     let hs : List Entry = entries c.into_hidden-hidden_log.result.lines in
     let w = c.in_ok-log_parts.field-0 in

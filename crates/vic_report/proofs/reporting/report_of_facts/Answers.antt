@@ -1,6 +1,6 @@
 use Rattle.vic_report.proofs.Words.{ap, subst, MatchOption, entries, uids_of, IsLeftOpen, MayBeMissing, IsLeftToAsk, IsListOf, IsAbsent, IsUnlisted, NoSuch}
 use Rattle.vic_report.proofs.AllFindings.{none_is_complete}
-use Rattle.vic_report.proofs.reporting.report_facts.Goals as goal
+use Rattle.vic_report.proofs.reporting.report_of_facts.Goals as goal
 
 pub returns : goal.returns
 returns c =
