@@ -1,5 +1,14 @@
--- What is spelled in hex digits is read back.
-use Rattle.vic_survey.proofs.ValueWords.{Some, ap, arith, refl, sym, subst, take, drop, take-append-drop, replicate, length, zero, suc, ℕ, ◌++◌, ◌+◌, ◌-◌, ◌/◌, ◌^◌, ◌<◌, ◌∙◌, ◌∷◌, ◌≡◌, ◌≤◌, Ok, pow-le-pow_right, bytes_eq-Decides, bytes_high_first, byte_at, from_be_bytes, to_be_bytes, w64, from_be_bytes-to_be_bytes_8, length-drop, get_or-drop, decode_of-encode_upper, decode_sized-twice, length-encode_with, IsBytes, decode_sized, encode_upper, upper_digits, hex_bytes, number_ending, hex_number_in}
+-- What is written in hex digits is read back.
+use Rattle.std.proofs.Common.{Some, ap, arith, refl, sym, subst, take, drop, take-append-drop, replicate, length, zero, suc, ℕ, ◌++◌, ◌+◌, ◌-◌, ◌/◌, ◌^◌, ◌<◌, ◌∙◌, ◌∷◌, ◌≡◌, ◌≤◌, Ok}
+use Rattle.std.proofs.Math.Nat.{pow-le-pow_right}
+use Rattle.std.proofs.lemmas.List.{get_or-drop, length-drop}
+use Rattle.std.proofs.lemmas.Nat.{from_be_bytes-to_be_bytes_8}
+use Rattle.std.proofs.lemmas.Slice.Eq.{bytes_eq-Decides}
+use Rattle.std.specs.Int.{byte_at, bytes_high_first, from_be_bytes, to_be_bytes, w64}
+use Rattle.hex.proofs.HexLemmas.{decode_of-encode_upper, decode_sized-twice, length-encode_with}
+use Rattle.hex.specs.Hex.{IsBytes, decode_sized, encode_upper, upper_digits}
+use Rattle.vic_text.specs.Digits.{hex_bytes}
+use Rattle.vic_text.specs.Values.{number_ending, hex_number_in}
 
 quotient_zero : (n d : ℕ) → n < d → n / d ≡ 0
 quotient_zero n d h = grind arith

@@ -1,6 +1,9 @@
-use Rattle.vic_survey.proofs.Words.{◌∙◌, ◌+◌, ap, sym, arith, flat_map, drop, ◌++◌, joined, survey_lines}
+use Rattle.std.proofs.Common.{◌∙◌, ◌+◌, ap, sym, arith, drop, ◌++◌}
+use Rattle.std.specs.List.{flat_map}
+use Rattle.vic_log.specs.Writing.{joined}
+use Rattle.vic_survey.specs.SurveyText.{survey_lines}
 use Rattle.vic_survey.proofs.Joined.{lines_next, no_more_left}
-use Rattle.vic_survey.proofs.write.surveys_text.Goals as goal
+use Rattle.uses.proofs.survey.surveys_text.Goals as goal
 
 pub loop-survey-preserved : goal.loop-survey-preserved
 loop-survey-preserved c =
