@@ -1,5 +1,5 @@
 use Rattle.vic_program.proofs.InTurn.{part_read}
-use Rattle.vic_program.proofs.each.text_of.Goals as goal
+use Rattle.vic_program.proofs.texts.text_of.Goals as goal
 
 pub returns-in_err-extend_from_slice-clause-part : goal.returns-in_err-extend_from_slice-clause-part
 returns-in_err-extend_from_slice-clause-part g c =

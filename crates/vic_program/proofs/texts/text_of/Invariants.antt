@@ -1,5 +1,5 @@
 use Rattle.std.proofs.Common.{◌≡◌, ◌++◌, false}
-use Rattle.vic_program.proofs.each.text_of.Given as goal
+use Rattle.vic_program.proofs.texts.text_of.Given as goal
 
 abbrev pub invariant-loop-turn : goal.invariant-loop-turn
 invariant-loop-turn g l = record {

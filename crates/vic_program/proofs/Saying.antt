@@ -3,13 +3,13 @@ use Rattle.std.proofs.Common.{◌≡◌, ◌∙◌, ◌≤◌, ◌+◌, ℕ, Boo
 use Rattle.std.specs.Prelude.{is_err, is_ok}
 use Rattle.std.proofs.Math.Seq.{take-append-add}
 use Rattle.std.proofs.lemmas.List.{length-append, take-append-le}
-use Rattle.vic_program.specs.Lines.{Tells, Told}
+use Rattle.vic_program.specs.Lines.{SaysLine, SaysPart}
 
-pub told_more : {W : Type 0} (written : W → List ℕ) (has_failed : W → Bool) (a b c : W) (t u : List ℕ) → Told written has_failed a b t → Told written has_failed b c u
-    → Told written has_failed a c (t ++ u)
-told_more {W} written has_failed a b c t u h k = go (has_failed b) refl
+pub said_more : {W : Type 0} (written : W → List ℕ) (has_failed : W → Bool) (a b c : W) (t u : List ℕ) → SaysPart written has_failed a b t → SaysPart written has_failed b c u
+    → SaysPart written has_failed a c (t ++ u)
+said_more {W} written has_failed a b c t u h k = go (has_failed b) refl
   where
-    go : (f : Bool) → has_failed b ≡ f → Told written has_failed a c (t ++ u)
+    go : (f : Bool) → has_failed b ≡ f → SaysPart written has_failed a c (t ++ u)
     go true e =
         let same : c ≡ b = k.untouched e in
         let within : h.part.0 ≤ length t = h.part.1 in
@@ -29,19 +29,19 @@ told_more {W} written has_failed a b c t u h k = go (has_failed b) refl
     }
 
 -- a line in three parts
-pub told_three : {W : Type 0} (written : W → List ℕ) (has_failed : W → Bool) (a b c d : W) (t u v line : List ℕ) → Told written has_failed a b t → Told written has_failed b c u
-    → Told written has_failed c d v → t ++ u ≡ line → Told written has_failed a d (line ++ v)
-told_three written has_failed a b c d t u v line h k l is =
-    told_more written has_failed a c d line v (subst (λ x. Told written has_failed a c x) is (told_more written has_failed a b c t u h k)) l
+pub said_three : {W : Type 0} (written : W → List ℕ) (has_failed : W → Bool) (a b c d : W) (t u v line : List ℕ) → SaysPart written has_failed a b t → SaysPart written has_failed b c u
+    → SaysPart written has_failed c d v → t ++ u ≡ line → SaysPart written has_failed a d (line ++ v)
+said_three written has_failed a b c d t u v line h k l is =
+    said_more written has_failed a c d line v (subst (λ x. SaysPart written has_failed a c x) is (said_more written has_failed a b c t u h k)) l
 
 ok_where_no_err : {X E : Type 0} (r : Result X E) → is_err r ≡ false → is_ok r ≡ true
 ok_where_no_err (Ok x) e = refl
 ok_where_no_err (Err x) e = absurd (true≢false e)
 
 -- what was told is flushed
-pub told_flushed : {W X E : Type 0} (written : W → List ℕ) (is_flushed has_failed : W → Bool) (a b c : W) (t : List ℕ) (r : Result X E) → Told written has_failed a b t → has_failed b ≡ false
-    → written c ≡ written b → has_failed c ≡ is_err r → is_flushed c ≡ is_ok r → Tells written is_flushed has_failed a c t
-told_flushed written is_flushed has_failed a b c t r told works same failed flushed = record {
+pub said_flushed : {W X E : Type 0} (written : W → List ℕ) (is_flushed has_failed : W → Bool) (a b c : W) (t : List ℕ) (r : Result X E) → SaysPart written has_failed a b t → has_failed b ≡ false
+    → written c ≡ written b → has_failed c ≡ is_err r → is_flushed c ≡ is_ok r → SaysLine written is_flushed has_failed a c t
+said_flushed written is_flushed has_failed a b c t r told works same failed flushed = record {
   told = record {
     all = λ f. same ∙ told.all works;
     part = (told.part.0, told.part.1, same ∙ told.part.2);
@@ -50,6 +50,6 @@ told_flushed written is_flushed has_failed a b c t r told works same failed flus
   flushed = λ f. flushed ∙ ok_where_no_err r (sym failed ∙ f);
 }
 
-pub told_failed : {W : Type 0} (written : W → List ℕ) (is_flushed has_failed : W → Bool) (a b : W) (t : List ℕ) → Told written has_failed a b t → has_failed b ≡ true
-    → Tells written is_flushed has_failed a b t
-told_failed written is_flushed has_failed a b t told failed = record { told = told; flushed = λ f. absurd (true≢false (sym failed ∙ f)) }
+pub said_failed : {W : Type 0} (written : W → List ℕ) (is_flushed has_failed : W → Bool) (a b : W) (t : List ℕ) → SaysPart written has_failed a b t → has_failed b ≡ true
+    → SaysLine written is_flushed has_failed a b t
+said_failed written is_flushed has_failed a b t told failed = record { told = told; flushed = λ f. absurd (true≢false (sym failed ∙ f)) }

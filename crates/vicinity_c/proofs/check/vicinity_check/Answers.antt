@@ -1,6 +1,6 @@
 use Rattle.vicinity_c.proofs.Words.{ℕ, ap, ◌∙◌, sym, arith, subst, VicinityAnswer, HasCompleteList}
-use Rattle.vicinity_c.proofs.vicinity_check.Goals as goal
-use Rattle.vicinity_c.proofs.vicinity_check.Goals.{in-Ok, in-Err}
+use Rattle.vicinity_c.proofs.check.vicinity_check.Goals as goal
+use Rattle.vicinity_c.proofs.check.vicinity_check.Goals.{in-Ok, in-Err}
 
 pub returns-clause-whole : goal.returns-clause-whole
 returns-clause-whole c is_1 =

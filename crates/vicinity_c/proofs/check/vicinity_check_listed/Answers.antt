@@ -1,6 +1,6 @@
 use Rattle.vicinity_c.proofs.Words.{ℕ, List, subst, ◌∙◌, arith, HasCompleteList}
 use Rattle.vicinity_c.proofs.Beside.{lists_beside}
-use Rattle.vicinity_c.proofs.vicinity_check_listed.Goals as goal
+use Rattle.vicinity_c.proofs.check.vicinity_check_listed.Goals as goal
 
 pub returns-in-Ok-clause-list : goal.returns-in-Ok-clause-list
 returns-in-Ok-clause-list c e =
