@@ -1,10 +1,10 @@
 -- From what reading returns to what a run answers.
-use Rattle.vic_answer.proofs.Words.{◌≡◌, ℕ, List, Option, Result, Ok, Err, IfOk, IfErr, subst, sym, Accepts, RunFault, Status, Reads, RunsWhere, Answered, LogValue, Write, Bool, IsReading, IsAnswered, IsAnswerText, LogLine, Verdict, answer_of, answer_status, refl, ap, ◌∙◌, Grows, GivesNoEarlyFault, Read}
-use Rattle.vic_answer.specs.inner.Readings.{GivesOver}
+use Rattle.vic_answer.proofs.Words.{◌≡◌, ℕ, List, Option, Result, Ok, Err, IfOk, IfErr, subst, sym, Accepts, RunFault, Status, Reads, RunsWhere, Answered, LogValue, Write, Bool, IsReadAs, IsAnswered, IsAnswerText, LogLine, Verdict, answer_of, answer_status, refl, ap, ◌∙◌, Grows, GivesNoEarlyFault, Read}
+use Rattle.vic_answer.specs.inner.ReadBytes.{GivesOver}
 
 -- a run that ends with the writing of its answer
 pub ends_written : {HasRead : List ℕ → Type 0} {IsOver : Type 0} {taken taken' : Option (List ℕ)} {answer : List ℕ}
-    → (IsAnswerTo : List ℕ → List ℕ → Status → Type 0) (HasHandedOut : List ℕ → Type 0) (status : Status) (reading : Answered LogValue) → Reads HasRead IsOver (λ text. IsReading text reading) → ((text : List ℕ) → IsReading text reading → IsAnswerTo text answer status)
+    → (IsAnswerTo : List ℕ → List ℕ → Status → Type 0) (HasHandedOut : List ℕ → Type 0) (status : Status) (reading : Answered LogValue) → Reads HasRead IsOver (λ text. IsReadAs text reading) → ((text : List ℕ) → IsReadAs text reading → IsAnswerTo text answer status)
     → (r : Result Status RunFault) → IfOk r (λ s. s ≡ status) → Accepts taken taken' answer r → IfErr r (λ e. e ≡ Write) → RunsWhere IsAnswerTo HasRead HasHandedOut IsOver taken taken' r
 ends_written {answer = answer} IsAnswerTo HasHandedOut status reading given right (Ok s) is h fault = record {
   text = given.text;

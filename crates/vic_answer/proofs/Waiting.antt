@@ -1,5 +1,5 @@
--- What was put behind bytes that wait, in turn.
-use Rattle.vic_answer.proofs.Words.{arith, OnOk, IfErr, Write, Accepts, ◌≢◌, ◌≡◌, ◌+◌, ℕ, List, [], ◌++◌, length, take, None, Some, Option, Bool, Result, Ok, Err, refl, sym, ◌∙◌, ap, append_assoc, append-nil, subst, IsErr, IsErrAnd, take-append-le, Appends, HasTakenBut, HasTakenPrefix, RunFault, Writes, ⊤, Appends-trans, Appends-nil, take-append-add, PutsBehind, Puts}
+-- What was added to bytes that wait, in turn.
+use Rattle.vic_answer.proofs.Words.{arith, OnOk, IfErr, Write, Accepts, ◌≢◌, ◌≡◌, ◌+◌, ℕ, List, [], ◌++◌, length, take, None, Some, Option, Bool, Result, Ok, Err, refl, sym, ◌∙◌, ap, append_assoc, append-nil, subst, IsErr, IsErrAnd, take-append-le, Appends, HasTakenBut, HasTakenPrefix, RunFault, Writes, ⊤, Appends-trans, Appends-nil, take-append-add, PushesBehind, Pushes}
 use Rattle.std.proofs.Common.{length-append}
 
 -- a text behind a text
@@ -28,15 +28,15 @@ HasTakenPrefix-behind (Some us) (Some vs) (Some ws) w text more h k =
 HasTakenPrefix-behind (Some us) None c w text more h k = absurd h.1
 HasTakenPrefix-behind _ b _ w text more h k = tt
 
-PutsBehind-then : (a b c : Option (List ℕ)) (w w' w'' xs ys : List ℕ) (r : Result ⊤ RunFault) → PutsBehind a b w w' xs (Ok tt) → PutsBehind b c w' w'' ys r → PutsBehind a c w w'' (xs ++ ys) r
-PutsBehind-then a b c w w' w'' xs ys (Ok y) h k = record { all = more_waits a b c w w' w'' xs ys h.all k.all; part = tt }
-PutsBehind-then a b c w w' w'' xs ys (Err e) h k = record { all = tt; part = subst (HasTakenPrefix a c) (append_assoc w xs ys) (HasTakenPrefix-behind a b c w' (w ++ xs) ys h.all k.part) }
+PushesBehind-then : (a b c : Option (List ℕ)) (w w' w'' xs ys : List ℕ) (r : Result ⊤ RunFault) → PushesBehind a b w w' xs (Ok tt) → PushesBehind b c w' w'' ys r → PushesBehind a c w w'' (xs ++ ys) r
+PushesBehind-then a b c w w' w'' xs ys (Ok y) h k = record { all = more_waits a b c w w' w'' xs ys h.all k.all; part = tt }
+PushesBehind-then a b c w w' w'' xs ys (Err e) h k = record { all = tt; part = subst (HasTakenPrefix a c) (append_assoc w xs ys) (HasTakenPrefix-behind a b c w' (w ++ xs) ys h.all k.part) }
 
-PutsBehind-fails : (a b : Option (List ℕ)) (w w' w'' xs ys : List ℕ) (e : RunFault) → PutsBehind a b w w' xs (Err e) → PutsBehind a b w w'' (xs ++ ys) (Err e)
-PutsBehind-fails a b w w' w'' xs ys e h = record { all = tt; part = subst (HasTakenPrefix a b) (append_assoc w xs ys) (HasTakenPrefix-longer a b (w ++ xs) ys h.part) }
+PushesBehind-fails : (a b : Option (List ℕ)) (w w' w'' xs ys : List ℕ) (e : RunFault) → PushesBehind a b w w' xs (Err e) → PushesBehind a b w w'' (xs ++ ys) (Err e)
+PushesBehind-fails a b w w' w'' xs ys e h = record { all = tt; part = subst (HasTakenPrefix a b) (append_assoc w xs ys) (HasTakenPrefix-longer a b (w ++ xs) ys h.part) }
 
-PutsBehind-nil : (a : Option (List ℕ)) (w : List ℕ) → PutsBehind a a w w [] (Ok tt)
-PutsBehind-nil a w = record { all = ([], Appends-nil a, sym (append-nil w)); part = tt }
+PushesBehind-nil : (a : Option (List ℕ)) (w : List ℕ) → PushesBehind a a w w [] (Ok tt)
+PushesBehind-nil a w = record { all = ([], Appends-nil a, sym (append-nil w)); part = tt }
 
 -- what waited was taken, behind what was taken before
 all_behind : (a b c : Option (List ℕ)) (w text : List ℕ) (r : Result ⊤ RunFault) → HasTakenBut a b w text → OnOk r (Appends b c w) → OnOk r (Appends a c text)
@@ -47,7 +47,7 @@ part_behind : (a b c : Option (List ℕ)) (w text : List ℕ) → HasTakenBut a 
 part_behind a b c w text h k = subst (HasTakenPrefix a c) (append-nil text) (HasTakenPrefix-behind a b c w text [] h (subst (HasTakenPrefix b c) (sym (append-nil w)) k))
 
 -- at first nothing waited, and what waits is accepted
-accepts_behind : {a b c : Option (List ℕ)} {none w text : List ℕ} (r : Result ⊤ RunFault) → none ≡ [] → PutsBehind a b none w text (Ok tt) → Accepts b c w r → Accepts a c text r
+accepts_behind : {a b c : Option (List ℕ)} {none w text : List ℕ} (r : Result ⊤ RunFault) → none ≡ [] → PushesBehind a b none w text (Ok tt) → Accepts b c w r → Accepts a c text r
 accepts_behind {a} {b} {c} {none} {w} {text} r start h k =
     let sent : HasTakenBut a b w text = subst (λ ws. HasTakenBut a b w (ws ++ text)) start h.all in
     record { all = all_behind a b c w text r sent k.all; part = part_behind a b c w text sent k.part }
@@ -63,44 +63,44 @@ err_is (Err d) e h = ap Err (sym h.1)
 
 module _ {W : Type 0} {written : W → List ℕ} {taken : W → Option (List ℕ)} {has_failed : W → Bool} where
   -- one text behind another
-  pub Puts-then : {a b c : W} {w w' w'' xs ys : List ℕ} {r : Result ⊤ RunFault}
-      → Puts written taken has_failed a b w w' xs (Ok tt) → Puts written taken has_failed b c w' w'' ys r
-      → Puts written taken has_failed a c w w'' (xs ++ ys) r
-  Puts-then {w = w} {w' = w'} {w'' = w''} {xs = xs} {ys = ys} {r = r} h k = record {
-    puts = PutsBehind-then _ _ _ w w' w'' xs ys r h.puts k.puts;
-    puts_revealed = PutsBehind-then _ _ _ w w' w'' xs ys r h.puts_revealed k.puts_revealed;
+  pub Pushes-then : {a b c : W} {w w' w'' xs ys : List ℕ} {r : Result ⊤ RunFault}
+      → Pushes written taken has_failed a b w w' xs (Ok tt) → Pushes written taken has_failed b c w' w'' ys r
+      → Pushes written taken has_failed a c w w'' (xs ++ ys) r
+  Pushes-then {w = w} {w' = w'} {w'' = w''} {xs = xs} {ys = ys} {r = r} h k = record {
+    puts = PushesBehind-then _ _ _ w w' w'' xs ys r h.puts k.puts;
+    puts_revealed = PushesBehind-then _ _ _ w w' w'' xs ys r h.puts_revealed k.puts_revealed;
     fault = k.fault;
     failed = k.failed;
     untouched = λ e. let same = h.untouched e in k.untouched (ap has_failed same ∙ e) ∙ same;
   }
 
-  -- a text that can't be put can't be put with another behind it
-  pub Puts-longer : (ys : List ℕ) {a b : W} {w w' xs : List ℕ} (r : Result ⊤ RunFault) → IsErr r
-      → Puts written taken has_failed a b w w' xs r → Puts written taken has_failed a b w w' (xs ++ ys) r
-  Puts-longer ys (Ok x) is h = cc
-  Puts-longer ys {w = w} {w' = w'} {xs = xs} (Err e) is h = record {
-    puts = PutsBehind-fails _ _ w w' w' xs ys e h.puts;
-    puts_revealed = PutsBehind-fails _ _ w w' w' xs ys e h.puts_revealed;
+  -- a text that can't be added can't be with another behind it
+  pub Pushes-longer : (ys : List ℕ) {a b : W} {w w' xs : List ℕ} (r : Result ⊤ RunFault) → IsErr r
+      → Pushes written taken has_failed a b w w' xs r → Pushes written taken has_failed a b w w' (xs ++ ys) r
+  Pushes-longer ys (Ok x) is h = cc
+  Pushes-longer ys {w = w} {w' = w'} {xs = xs} (Err e) is h = record {
+    puts = PushesBehind-fails _ _ w w' w' xs ys e h.puts;
+    puts_revealed = PushesBehind-fails _ _ w w' w' xs ys e h.puts_revealed;
     fault = h.fault;
     failed = h.failed;
     untouched = h.untouched;
   }
 
   -- an error that is handed on
-  pub Puts-handed : {a b : W} {w w' xs : List ℕ} {e : RunFault} (r : Result ⊤ RunFault) → IsErr r × IsErrAnd r (λ d. d ≡ e)
-      → Puts written taken has_failed a b w w' xs (Err e) → Puts written taken has_failed a b w w' xs r
-  Puts-handed {a} {b} {w} {w'} {xs} {e} r is h = subst (Puts written taken has_failed a b w w' xs) (err_is r e is) h
+  pub Pushes-handed : {a b : W} {w w' xs : List ℕ} {e : RunFault} (r : Result ⊤ RunFault) → IsErr r × IsErrAnd r (λ d. d ≡ e)
+      → Pushes written taken has_failed a b w w' xs (Err e) → Pushes written taken has_failed a b w w' xs r
+  Pushes-handed {a} {b} {w} {w'} {xs} {e} r is h = subst (Pushes written taken has_failed a b w w' xs) (err_is r e is) h
 
   -- the same text
-  pub Puts-same : {a b : W} {w w' xs ys : List ℕ} {r : Result ⊤ RunFault}
-      → Puts written taken has_failed a b w w' xs r → xs ≡ ys → Puts written taken has_failed a b w w' ys r
-  Puts-same {a} {b} {w} {w'} {xs} {ys} {r} h same = subst (λ zs. Puts written taken has_failed a b w w' zs r) same h
+  pub Pushes-same : {a b : W} {w w' xs ys : List ℕ} {r : Result ⊤ RunFault}
+      → Pushes written taken has_failed a b w w' xs r → xs ≡ ys → Pushes written taken has_failed a b w w' ys r
+  Pushes-same {a} {b} {w} {w'} {xs} {ys} {r} h same = subst (λ zs. Pushes written taken has_failed a b w w' zs r) same h
 
   -- no text
-  pub Puts-nil : (a : W) (w : List ℕ) → Puts written taken has_failed a a w w [] (Ok tt)
-  Puts-nil a w = record {
-    puts = PutsBehind-nil (Some (written a)) w;
-    puts_revealed = PutsBehind-nil (taken a) w;
+  pub Pushes-nil : (a : W) (w : List ℕ) → Pushes written taken has_failed a a w w [] (Ok tt)
+  Pushes-nil a w = record {
+    puts = PushesBehind-nil (Some (written a)) w;
+    puts_revealed = PushesBehind-nil (taken a) w;
     fault = tt;
     failed = tt;
     untouched = λ e. refl;
@@ -108,7 +108,7 @@ module _ {W : Type 0} {written : W → List ℕ} {taken : W → Option (List ℕ
 
   -- the last piece is written, where at first nothing waited
   pub Writes-behind : {is_flushed : W → Bool} {a b c : W} {none w text : List ℕ} {r : Result ⊤ RunFault}
-      → none ≡ [] → Puts written taken has_failed a b none w text (Ok tt) → Writes written taken is_flushed has_failed b c w r
+      → none ≡ [] → Pushes written taken has_failed a b none w text (Ok tt) → Writes written taken is_flushed has_failed b c w r
       → Writes written taken is_flushed has_failed a c text r
   Writes-behind {r = r} start h k = record {
     accepts = accepts_behind r start h.puts k.accepts;

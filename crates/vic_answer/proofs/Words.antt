@@ -16,7 +16,7 @@ pub use Rattle.std.proofs.lemmas.Slice.Zip.{AllZip-long, all_zipped_more}
 pub use Rattle.std.specs.Int.{byte_at, bytes_high_first, from_be_bytes, to_be_bytes}
 pub use Rattle.std.specs.Io.KnownBytes.{Appends, Consumes}
 pub use Rattle.std.specs.List.{AllZip, range_with_len}
-pub use Rattle.std.specs.Prelude.{⊤, ◌↔◌, ◌≢◌}
+pub use Rattle.std.specs.Prelude.{⊤, ◌↔◌, ◌≢◌, nat_le, ok_or}
 pub use Rattle.std.specs.Str.Parse.{ParsesUnsigned, digits_value}
 pub use Rattle.hex.proofs.HexLemmas.{decode_of-encode_upper, decode_of-ok, decode_sized-ok, decode_sized-twice, length-encode_with}
 pub use Rattle.hex.specs.Hex.{IsBytes, decode_sized, encode_upper, upper_digits}
@@ -59,9 +59,10 @@ pub use Rattle.vic_report.specs.Findings.{uids_of}
 pub use Rattle.vic_report.specs.Reports.{IsReport, verdict_by, verdict_of}
 pub use Rattle.vic_report.specs.declared.reporting.LogReport.{LogReport}
 pub use Rattle.vic_report.specs.declared.shown.ShownUid.{ShownUid}
-pub use Rattle.vic_answer.specs.Answered.{answer_of, HasLog, IsAnswered, IsReading}
+pub use Rattle.vic_answer.specs.Answered.{answer_of, HasLog, IsAnswered, IsReadAs}
 pub use Rattle.vic_answer.specs.CheckText.{BeginsAsCheck, IsAnswer, IsAnswerText, IsCheckOf, HasCompleteList, answer_line, answer_status, verdict_line}
 pub use Rattle.vic_text.specs.Digits.{hex_bytes, value_text}
+pub use Rattle.vic_text.specs.Values.{hex_number_in, number_in, value_in}
 pub use Rattle.vic_answer.specs.ExplainText.{IsExplanationOf, explained_text, population_line, population_of}
 pub use Rattle.vic_answer.specs.FrameText.{reply_words, request_words}
 pub use Rattle.vic_answer.specs.Findings.{report_findings}
@@ -69,14 +70,13 @@ pub use Rattle.vic_answer.specs.ReportText.{IsReportOf, finding_text, reported_t
 pub use Rattle.vic_answer.specs.inner.FindingsLeft.{findings_left}
 pub use Rattle.vic_answer.specs.Runs.{Accepts, GivesNoEarlyFault, IsEnough, IsReadWithin, LeavesSource, Reads, RunsOver, RunsOverRevealed, RunsWhere, Writes}
 pub use Rattle.vic_answer.specs.SimulateText.{IsSimulationOf, simulated_status, simulated_text}
-pub use Rattle.vic_answer.specs.SpellText.{and_then, hex_decoded, hex_number_in, inventory_in, longest_mask, mask_in, number_ending, number_in, number_up_to, reply_in, says_inventory, says_reply, says_stay_quiet, sixteen_in, spelled_text, stay_quiet_in, value_in, word, words_of, words_reading}
+pub use Rattle.vic_answer.specs.SpellText.{and_then, hex_word, inventory_in, longest_mask, mask_in, number_up_to, reply_in, says_inventory, says_reply, says_stay_quiet, sixteen_in, spelled_text, stay_quiet_in, word, words_of, words_reading}
 pub use Rattle.vic_answer.specs.declared.answered.Answered.{Answered}
 pub use Rattle.vic_answer.specs.declared.answered.Answered.TheVariants.{Found, RefusedAt}
 pub use Rattle.vic_answer.specs.declared.findings.Finding.{Finding}
-pub use Rattle.vic_answer.specs.declared.spell.Said.TheVariants.{Asked, Replied}
 pub use Rattle.vic_answer.specs.declared.spell.SpellFault.{SpellFault}
-pub use Rattle.vic_answer.specs.declared.spell.SpellFault.TheVariants.{Words}
+pub use Rattle.vic_answer.specs.declared.spell.SpellFault.TheVariants.{Range, Words}
 pub use Rattle.vic_answer.specs.declared.status.RunFault.{RunFault}
 pub use Rattle.vic_answer.specs.declared.status.RunFault.TheVariants.{Memory, Read, Write}
 pub use Rattle.vic_answer.specs.declared.status.Status.{Status}
-pub use Rattle.vic_answer.specs.inner.Pieces.{Puts, PutsBehind}
+pub use Rattle.vic_answer.specs.inner.Pieces.{Pushes, PushesBehind}

@@ -29,6 +29,6 @@ answer_of verdict_of (Found found) = Found (verdict_of found)
 answer_of verdict_of (RefusedAt n fault) = RefusedAt n fault
 
 -- the log of a text, or its first fault
-abbrev pub IsReading : List ℕ → Answered LogValue → Type 0
-IsReading text (Found log) = HasLog text log
-IsReading text (RefusedAt n fault) = IsRefusedAt text n fault
+abbrev pub IsReadAs : List ℕ → Answered LogValue → Type 0
+IsReadAs text (Found log) = HasLog text log
+IsReadAs text (RefusedAt n fault) = IsRefusedAt text n fault

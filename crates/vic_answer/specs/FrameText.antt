@@ -48,23 +48,23 @@ response_line (Ok r) = line_of (reply_words r)
 response_line (Err fault) = codes "response refused " ++ fault_name fault ++ codes "\n"
 
 -- the lines of the bytes that a word's digits spell
-abbrev pub readings_text : Result (List ℕ) FromHexError → List ℕ
-readings_text (Ok bytes) =
+abbrev pub bytes_text : Result (List ℕ) FromHexError → List ℕ
+bytes_text (Ok bytes) =
     request_line (request_reading bytes) ++ response_line (reply_reading bytes)
-readings_text (Err e) = refused_word (codes "Hex")
+bytes_text (Err e) = refused_word (codes "Hex")
 
 -- the text for a word
 abbrev pub frame_text : List ℕ → List ℕ
 frame_text word =
     if nat_lt MAX_LINE_LEN (length word) then refused_word (codes "LineTooLong")
-    else readings_text (decode_of word)
+    else bytes_text (decode_of word)
 
 -- a word is refused if its bytes have no reading
-abbrev pub readings_status : Result (List ℕ) FromHexError → Status
-readings_status (Ok bytes) =
+abbrev pub bytes_status : Result (List ℕ) FromHexError → Status
+bytes_status (Ok bytes) =
     if is_ok (request_reading bytes) || is_ok (reply_reading bytes) then Whole else Refused
-readings_status (Err e) = Refused
+bytes_status (Err e) = Refused
 
 abbrev pub frame_status : List ℕ → Status
 frame_status word =
-    if nat_lt MAX_LINE_LEN (length word) then Refused else readings_status (decode_of word)
+    if nat_lt MAX_LINE_LEN (length word) then Refused else bytes_status (decode_of word)

@@ -1,4 +1,4 @@
 -- Definitions that private contracts alone cite.
-pub mod Readings
+pub mod ReadBytes
 pub mod Pieces
 pub mod FindingsLeft

@@ -24,9 +24,6 @@ pub enum Answered<T> {
 /// The answer of `check`.
 pub type Answer = Answered<Verdict>;
 
-/// The log of a text, or its first fault.
-pub type Reading = Answered<Log>;
-
 /// What has the verdict on a log.
 pub trait HasVerdict {
     ghost verdict_of: { Self → VerdictValue };
@@ -64,8 +61,8 @@ pub fn answer_of<T: HasVerdict>(answered: &Answered<T>) -> Answer
 }
 
 /// Reads a text in memory. It fails only if memory is refused.
-pub fn read_text(alloc: Global, text: &[u8]) -> Result<Reading, AllocError>
-    ensures { IfOk result (spec.IsReading text.now) }
+pub fn read_text(alloc: Global, text: &[u8]) -> Result<Answered<Log>, AllocError>
+    ensures { IfOk result (spec.IsReadAs text.now) }
 {
     match read_log(alloc, text) {
         Ok(log) => Ok(Answered::Found(log)),
@@ -76,14 +73,14 @@ pub fn read_text(alloc: Global, text: &[u8]) -> Result<Reading, AllocError>
 }
 
 /// The answer to a text, by its log or first fault.
-pub(crate) fn answer_reading<T: Judgement>(
+pub(crate) fn answer_read<T: Judgement>(
     alloc: Global,
-    reading: Reading,
+    read: Answered<Log>,
 ) -> Result<Answered<T>, AllocError>
     ensures { IfOk result (λ a. (text : List ℕ)
-        → spec.IsReading text reading → spec.IsAnswered T.IsOf text a) }
+        → spec.IsReadAs text read → spec.IsAnswered T.IsOf text a) }
 {
-    match reading {
+    match read {
         Answered::Found(log) => Ok(Answered::Found(T::found_in(alloc, log)?)),
         Answered::RefusedAt { line, fault } => Ok(Answered::RefusedAt { line, fault }),
     }
@@ -100,6 +97,6 @@ pub fn answer_text<T: Judgement>(alloc: Global, text: &[u8]) -> Result<Answered<
         → spec.answer_of T.verdict_of a ≡ Answered.Found (Complete count)
         → HasCompleteList text.now count) }
 {
-    let reading = read_text(alloc, text)?;
-    answer_reading(alloc, reading)
+    let read = read_text(alloc, text)?;
+    answer_read(alloc, read)
 }

@@ -11,7 +11,7 @@ ghost use Rattle.vic_answer.specs.declared.answered.Answered.TheVariants.{Found}
 use crate::answered::{Answer, HasVerdict, Judgement, answer_text};
 use crate::lines::answer_line;
 use crate::output::write_and_flush;
-use crate::run::{Written, run_judged};
+use crate::run::{LogCommand, run_judged};
 use crate::status::{RunFault, Status};
 use std::alloc::{AllocError, Global};
 use vic_log::{Log, Sink, Source};
@@ -47,7 +47,7 @@ impl Judgement for Verdict {
 }
 
 /// What `check` writes.
-impl Written for Verdict {
+impl LogCommand for Verdict {
     ghost text_of = { answer_line };
 
     fn write<W: Sink>(answered: &Answer, sink: &mut W) -> Result<(), RunFault> {

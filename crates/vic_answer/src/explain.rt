@@ -10,9 +10,9 @@ ghost use Rattle.vic_answer.specs.Runs.{LeavesSink, LeavesSource, RunsOver, Runs
 
 use crate::answered::{Answered, HasVerdict, Judgement, answer_of};
 use crate::lines::answer_line;
-use crate::run::{Written, run_judged};
+use crate::run::{LogCommand, run_judged};
 use crate::status::{RunFault, Status};
-use crate::text::{ANSWER_ROOM, Text, put};
+use crate::text::{ANSWER_ROOM, Text, push_str};
 use itoa::Buffer;
 use std::alloc::{AllocError, Global};
 use vic_frame::Uid;
@@ -39,7 +39,7 @@ impl Judgement for Explanation {
 }
 
 /// What `explain` writes.
-impl Written for Explanation {
+impl LogCommand for Explanation {
     ghost text_of = { explained_text };
 
     fn write<W: Sink>(answered: &Answered<Explanation>, sink: &mut W) -> Result<(), RunFault> {
@@ -96,18 +96,18 @@ fn opening(explained: &Answered<Explanation>) -> Text
 {
     let mut text = answer_line(&answer_of(explained));
     if let Some(uids) = population_of(explained) {
-        put_size(&mut text, uids.len());
+        push_size(&mut text, uids.len());
     }
     text
 }
 
 /// Appends the line of a population's size.
-fn put_size(text: &mut Text, count: usize)
+fn push_size(text: &mut Text, count: usize)
     requires { array_vec_len text.old < ANSWER_ROOM }
     ensures { text.new.items ≡ text.old.items ++ population_line count }
 {
-    put(text, "population ");
+    push_str(text, "population ");
     let mut buffer = Buffer::new();
-    put(text, buffer.format(count));
-    put(text, "\n");
+    push_str(text, buffer.format(count));
+    push_str(text, "\n");
 }

@@ -31,7 +31,7 @@ pub enum Finding {
     SilencedBy(u32),
 }
 
-/// The findings of a report that are left, in the order of its lines.
+/// The findings of a report that are left: its fields are in the order in which they come.
 #[derive(Drop)]
 pub(crate) struct FindingsLeft<'a> {
     conflict: &'a [u32],

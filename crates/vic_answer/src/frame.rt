@@ -3,13 +3,13 @@
 ghost use Rattle.std.specs.Prelude.{◌≡◌, ◌*◌, ◌≤◌, length, take, IfOk, Ok, Some, None, MatchResult};
 ghost use Rattle.arrayvec.specs.ArrayVec.{array_vec_len};
 ghost use Rattle.hex.specs.Hex.{decode_of};
-ghost use Rattle.vic_answer.specs.FrameText.{frame_status, frame_text, readings_status, readings_text, request_line, response_line};
+ghost use Rattle.vic_answer.specs.FrameText.{frame_status, frame_text, bytes_status, bytes_text, request_line, response_line};
 ghost use Rattle.vic_answer.specs.Runs.{Writes};
 
 use crate::lines::refused_word;
 use crate::output::write_and_flush;
 use crate::status::{RunFault, Status};
-use crate::text::{TEXT_ROOM, Text, put, put_bytes, put_decimal, put_mask, put_uid};
+use crate::text::{TEXT_ROOM, Text, push_bytes, push_decimal, push_mask, push_str, push_uid};
 use arrayvec::ArrayVec;
 use vic_frame::{FrameFault, Request, Response, read_request, read_response};
 use vic_log::{MAX_LINE_LEN, Sink};
@@ -42,17 +42,17 @@ fn text_and_status(word: &[u8]) -> (Text, Status)
 /// The text and the status for a word that is short enough.
 fn decoded(word: &[u8]) -> (Text, Status)
     requires { length word.now ≤ MAX_LINE_LEN }
-    ensures text { result.0.items ≡ readings_text (decode_of word.now) }
-    ensures status { result.1 ≡ readings_status (decode_of word.now) }
+    ensures text { result.0.items ≡ bytes_text (decode_of word.now) }
+    ensures status { result.1 ≡ bytes_status (decode_of word.now) }
 {
     let mut room = [0; MAX_LINE_LEN / 2];
     let Some(count) = decode(word, &mut room) else {
         return (refused_word("Hex"), Status::Refused);
     };
-    readings(&room[..count])
+    of_bytes(&room[..count])
 }
 
-/// Puts the bytes that hex digits spell at the start of a buffer, and returns how many there are.
+/// Pushes the bytes that hex digits spell at the start of a buffer, and returns how many there are.
 fn decode(digits: &[u8], room: &mut [u8]) -> Option<usize>
     requires { length digits.now ≤ 2 * length room.old }
     ensures { MatchResult (decode_of digits.now)
@@ -66,10 +66,10 @@ fn decode(digits: &[u8], room: &mut [u8]) -> Option<usize>
     }
 }
 
-/// The two readings of some bytes, and the status: `Whole` if one is a frame.
-fn readings(bytes: &[u8]) -> (Text, Status)
-    ensures text { result.0.items ≡ readings_text (Ok bytes.now) }
-    ensures status { result.1 ≡ readings_status (Ok bytes.now) }
+/// The text and the status for some bytes: `Whole` if they are a request or a reply.
+fn of_bytes(bytes: &[u8]) -> (Text, Status)
+    ensures text { result.0.items ≡ bytes_text (Ok bytes.now) }
+    ensures status { result.1 ≡ bytes_status (Ok bytes.now) }
 {
     let request = read_request(bytes);
     let response = read_response(bytes);
@@ -95,26 +95,26 @@ fn request_line(reading: &Result<Request, FrameFault>) -> Text
     match reading {
         Ok(request) => match *request {
             Request::Inventory { link, mask, .. } => {
-                put(&mut text, "request inventory link ");
-                put_decimal(&mut text, u32::from(link));
-                put(&mut text, " slots ");
-                put_decimal(&mut text, u32::from(request.slots()));
-                put(&mut text, " mask ");
-                put_mask(&mut text, &mask);
+                push_str(&mut text, "request inventory link ");
+                push_decimal(&mut text, u32::from(link));
+                push_str(&mut text, " slots ");
+                push_decimal(&mut text, u32::from(request.slots()));
+                push_str(&mut text, " mask ");
+                push_mask(&mut text, &mask);
             }
             Request::StayQuiet { link, uid } => {
-                put(&mut text, "request stay-quiet link ");
-                put_decimal(&mut text, u32::from(link));
-                put(&mut text, " uid ");
-                put_uid(&mut text, uid);
+                push_str(&mut text, "request stay-quiet link ");
+                push_decimal(&mut text, u32::from(link));
+                push_str(&mut text, " uid ");
+                push_uid(&mut text, uid);
             }
         },
         Err(fault) => {
-            put(&mut text, "request refused ");
-            put(&mut text, fault.name());
+            push_str(&mut text, "request refused ");
+            push_str(&mut text, fault.name());
         }
     }
-    put(&mut text, "\n");
+    push_str(&mut text, "\n");
     text
 }
 
@@ -126,18 +126,18 @@ fn response_line(reading: &Result<Response, FrameFault>) -> Text
     let mut text = ArrayVec::new();
     match reading {
         Ok(response) => {
-            put(&mut text, "response flags ");
-            put_bytes(&mut text, 1, u64::from(response.flags()));
-            put(&mut text, " dsfid ");
-            put_bytes(&mut text, 1, u64::from(response.dsfid()));
-            put(&mut text, " uid ");
-            put_uid(&mut text, response.uid().number());
+            push_str(&mut text, "response flags ");
+            push_bytes(&mut text, 1, u64::from(response.flags()));
+            push_str(&mut text, " dsfid ");
+            push_bytes(&mut text, 1, u64::from(response.dsfid()));
+            push_str(&mut text, " uid ");
+            push_uid(&mut text, response.uid().number());
         }
         Err(fault) => {
-            put(&mut text, "response refused ");
-            put(&mut text, fault.name());
+            push_str(&mut text, "response refused ");
+            push_str(&mut text, fault.name());
         }
     }
-    put(&mut text, "\n");
+    push_str(&mut text, "\n");
     text
 }

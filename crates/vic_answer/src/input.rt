@@ -1,25 +1,28 @@
 //! How a log is read.
 
-ghost use Rattle.vic_answer.specs.Answered.{IsReading};
-ghost use Rattle.vic_answer.specs.inner.Readings.{GivesOver, GivesOverRevealed};
+ghost use Rattle.vic_answer.specs.Answered.{IsReadAs};
+ghost use Rattle.vic_answer.specs.inner.ReadBytes.{GivesOver, GivesOverRevealed};
 ghost use Rattle.vic_answer.specs.Runs.{LeavesSource};
 
-use crate::answered::Reading;
+use crate::answered::Answered;
 use crate::status::RunFault;
 use std::alloc::Global;
-use vic_log::{LogFault, LogReader, Source};
+use vic_log::{Log, LogFault, LogReader, Source};
 
 /// Reads the log from a source, to its end or an early fault.
-pub(crate) fn read_source<R: Source>(alloc: Global, source: &mut R) -> Result<Reading, RunFault>
-    ensures reading { GivesOver IsReading (R.returned source.old) (R.returned source.new)
+pub(crate) fn read_source<R: Source>(
+    alloc: Global,
+    source: &mut R,
+) -> Result<Answered<Log>, RunFault>
+    ensures reading { GivesOver IsReadAs (R.returned source.old) (R.returned source.new)
         (R.ended source.new) result }
-    ensures reading_revealed { GivesOverRevealed IsReading (R.left source.old) (R.left source.new)
+    ensures reading_revealed { GivesOverRevealed IsReadAs (R.left source.old) (R.left source.new)
         result }
     ensures leaves_source { LeavesSource R.reads R.has_failed source.old source.new result }
 {
     match LogReader::new(alloc).read_all(source) {
-        Ok(log) => Ok(Reading::Found(log)),
-        Err(LogFault::Line { line, fault }) => Ok(Reading::RefusedAt { line, fault }),
+        Ok(log) => Ok(Answered::Found(log)),
+        Err(LogFault::Line { line, fault }) => Ok(Answered::RefusedAt { line, fault }),
         Err(LogFault::Read) => Err(RunFault::Read),
         Err(LogFault::Memory) => Err(RunFault::Memory),
         Err(LogFault::Spent) => unreachable!(),

@@ -6,7 +6,7 @@ ghost use Rattle.vic_frame.specs.declared.request.Request.{Request};
 ghost use Rattle.vic_frame.specs.Bytes.{AreBytes};
 ghost use Rattle.vic_frame.specs.Reading.{request_reading, reply_reading};
 ghost use Rattle.vic_frame.specs.Replies.{Reply};
-ghost use Rattle.vic_answer.specs.declared.spell.Said.{Said};
+ghost use Rattle.vic_answer.specs.declared.spell.Frame.{Frame};
 ghost use Rattle.vic_answer.specs.Answered.{HasLog};
 ghost use Rattle.vic_answer.specs.CheckText.{BeginsAsCheck};
 ghost use Rattle.vic_answer.specs.ExplainText.{IsExplanationOf};
@@ -29,7 +29,7 @@ pub fn spell_undoes_frame()
         → spell_text (request_words q) ≡ encode_upper f ++ codes "\n" }
     ensures reply { (f : List ℕ) (r : Reply) → AreBytes f → reply_reading f ≡ Ok r
         → spell_text (reply_words r) ≡ encode_upper f ++ codes "\n" }
-    ensures only { (words : List (List ℕ)) (what : Said)
+    ensures only { (words : List (List ℕ)) (what : Frame)
         → words_reading words ≡ Ok what → words ≡ words_of what }
 {}
 

@@ -22,9 +22,7 @@ mod status;
 mod task;
 mod text;
 
-pub use answered::{
-    Answer, Answered, HasVerdict, Judgement, Reading, answer_of, answer_text, read_text,
-};
+pub use answered::{Answer, Answered, HasVerdict, Judgement, answer_of, answer_text, read_text};
 pub use check::{judge_text, run_check};
 pub use explain::{run_explain, uids_of};
 pub use findings::{Finding, findings_of};
@@ -32,9 +30,9 @@ pub use frame::run_frame;
 pub use lines::{answer_line, answer_status};
 pub use margin::run_margin;
 pub use report::run_report;
-pub use run::{Written, WrittenText, written_text};
+pub use run::{LogCommand, WrittenText, written_text};
 pub use simulate::{run_simulate, simulate_text};
-pub use spell::run_spell;
+pub use spell::{MAX_LINK, run_spell};
 pub use status::{RunFault, Status, fault_text};
 pub use task::{Task, do_task};
 pub use text::ANSWER_ROOM;

@@ -7,7 +7,7 @@ ghost use Rattle.vic_answer.specs.Refusals as refusals;
 
 use crate::answered::Answer;
 use crate::status::Status;
-use crate::text::{ANSWER_ROOM, Text, put, put_decimal, put_mask, put_uid};
+use crate::text::{ANSWER_ROOM, Text, push_decimal, push_mask, push_str, push_uid};
 use arrayvec::ArrayVec;
 use vic_log::LineFault;
 use vic_verdict::Verdict;
@@ -56,31 +56,31 @@ pub(crate) fn verdict_line(verdict: &Verdict) -> Text
     let mut text = ArrayVec::new();
     match *verdict {
         Verdict::Complete { count } => {
-            put(&mut text, "complete ");
-            put_decimal(&mut text, count);
+            push_str(&mut text, "complete ");
+            push_decimal(&mut text, count);
         }
         Verdict::Absent(uid) => {
-            put(&mut text, "absent ");
-            put_uid(&mut text, uid.number());
+            push_str(&mut text, "absent ");
+            push_uid(&mut text, uid.number());
         }
         Verdict::Unlisted(uid) => {
-            put(&mut text, "unlisted ");
-            put_uid(&mut text, uid.number());
+            push_str(&mut text, "unlisted ");
+            push_uid(&mut text, uid.number());
         }
         Verdict::Unsettled(mask) => {
-            put(&mut text, "unsettled ");
-            put_mask(&mut text, &mask);
+            push_str(&mut text, "unsettled ");
+            push_mask(&mut text, &mask);
         }
         Verdict::Doubtful(uid) => {
-            put(&mut text, "doubtful ");
-            put_uid(&mut text, uid.number());
+            push_str(&mut text, "doubtful ");
+            push_uid(&mut text, uid.number());
         }
         Verdict::Impossible { line } => {
-            put(&mut text, "impossible at line ");
-            put_decimal(&mut text, line);
+            push_str(&mut text, "impossible at line ");
+            push_decimal(&mut text, line);
         }
     }
-    put(&mut text, "\n");
+    push_str(&mut text, "\n");
     text
 }
 
@@ -91,11 +91,11 @@ pub(crate) fn refused_at(line: u32, name: &str) -> Text
     ensures len { array_vec_len result < ANSWER_ROOM }
 {
     let mut text = ArrayVec::new();
-    put(&mut text, "refused at line ");
-    put_decimal(&mut text, line);
-    put(&mut text, ": ");
-    put(&mut text, name);
-    put(&mut text, "\n");
+    push_str(&mut text, "refused at line ");
+    push_decimal(&mut text, line);
+    push_str(&mut text, ": ");
+    push_str(&mut text, name);
+    push_str(&mut text, "\n");
     text
 }
 
@@ -113,8 +113,8 @@ pub(crate) fn refused_word(name: &str) -> Text
     ensures { result.items ≡ refusals.refused_word name.now }
 {
     let mut text = ArrayVec::new();
-    put(&mut text, "refused ");
-    put(&mut text, name);
-    put(&mut text, "\n");
+    push_str(&mut text, "refused ");
+    push_str(&mut text, name);
+    push_str(&mut text, "\n");
     text
 }

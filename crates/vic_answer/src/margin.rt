@@ -9,9 +9,9 @@ ghost use Rattle.vic_answer.specs.Runs.{LeavesSink, LeavesSource, RunsOver, Runs
 use crate::answered::{Answered, HasVerdict, Judgement, answer_of};
 use crate::lines::answer_line;
 use crate::output::write_and_flush;
-use crate::run::{Written, run_judged};
+use crate::run::{LogCommand, run_judged};
 use crate::status::{RunFault, Status};
-use crate::text::{ANSWER_ROOM, MASK_LEN, TEXT_ROOM, Text, put, put_decimal, put_mask};
+use crate::text::{ANSWER_ROOM, MASK_LEN, TEXT_ROOM, Text, push_decimal, push_mask, push_str};
 use std::alloc::{AllocError, Global};
 use vic_frame::Mask;
 use vic_log::{Log, Sink, Source};
@@ -38,7 +38,7 @@ impl Judgement for Margin {
 }
 
 /// What `margin` writes.
-impl Written for Margin {
+impl LogCommand for Margin {
     ghost text_of = { measured_text };
 
     fn write<W: Sink>(answered: &Answered<Margin>, sink: &mut W) -> Result<(), RunFault> {
@@ -78,50 +78,50 @@ fn measured_text(measured: &Answered<Margin>) -> Text
     let mut text = answer_line(&answer_of(measured));
     if let Answered::Found(margin) = measured {
         if let Verdict::Complete { .. } = margin.verdict {
-            put_weakest(&mut text, &margin.weakest);
-            put_readings(&mut text, &margin.readings);
+            push_weakest(&mut text, &margin.weakest);
+            push_readings(&mut text, &margin.readings);
         }
     }
     text
 }
 
 /// Appends the lines of the margin of a log and of its weakest mask, if it has them.
-fn put_weakest(text: &mut Text, weakest: &Option<Weakest>)
+fn push_weakest(text: &mut Text, weakest: &Option<Weakest>)
     requires { array_vec_len text.old < ANSWER_ROOM }
     ensures items { text.new.items ≡ text.old.items ++ weakest_text weakest.now }
     ensures len { array_vec_len text.new < 2 * ANSWER_ROOM }
 {
     if let Some(Weakest { margin, mask }) = weakest {
-        put(text, "margin ");
-        put_decimal(text, *margin);
-        put(text, "\nweakest ");
-        put_mask(text, mask);
-        put(text, "\n");
+        push_str(text, "margin ");
+        push_decimal(text, *margin);
+        push_str(text, "\nweakest ");
+        push_mask(text, mask);
+        push_str(text, "\n");
     }
 }
 
 /// Appends the lines of the hidden and of the deaf reading of a log, if it has them.
-fn put_readings(text: &mut Text, readings: &Option<Readings>)
+fn push_readings(text: &mut Text, readings: &Option<Readings>)
     requires { array_vec_len text.old < 2 * ANSWER_ROOM }
     ensures { text.new.items ≡ text.old.items ++ readings_text readings.now }
 {
     if let Some(Readings { hidden, deaf }) = readings {
-        put(text, "hidden ");
-        put_mask_or_none(text, hidden);
-        put(text, "\ndeaf ");
-        put_mask_or_none(text, deaf);
-        put(text, "\n");
+        push_str(text, "hidden ");
+        push_mask_or_none(text, hidden);
+        push_str(text, "\ndeaf ");
+        push_mask_or_none(text, deaf);
+        push_str(text, "\n");
     }
 }
 
 /// Appends a mask, or `-` if there is none.
-fn put_mask_or_none(text: &mut Text, mask: &Option<Mask>)
+fn push_mask_or_none(text: &mut Text, mask: &Option<Mask>)
     requires { array_vec_len text.old + MASK_LEN ≤ TEXT_ROOM }
     ensures items { text.new.items ≡ text.old.items ++ mask_or_none mask.now }
     ensures len { array_vec_len text.new ≤ array_vec_len text.old + MASK_LEN }
 {
     match mask {
-        Some(mask) => put_mask(text, mask),
-        None => put(text, "-"),
+        Some(mask) => push_mask(text, mask),
+        None => push_str(text, "-"),
     }
 }

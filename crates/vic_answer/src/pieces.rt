@@ -1,6 +1,6 @@
 //! How a long text is written: in pieces, which wait until there is enough for a write.
 
-ghost use Rattle.vic_answer.specs.inner.Pieces.{Puts};
+ghost use Rattle.vic_answer.specs.inner.Pieces.{Pushes};
 
 use crate::status::RunFault;
 use crate::text::Text;
@@ -11,12 +11,12 @@ use vic_log::{Sink, WRITTEN_AT_ONCE, write_whole};
 pub(crate) type Piece = ArrayVec<u8, WRITTEN_AT_ONCE>;
 
 /// Adds a text; the bytes kept are written first if it doesn't fit.
-pub(crate) fn put_text<W: Sink>(
+pub(crate) fn push_text<W: Sink>(
     piece: &mut Piece,
     sink: &mut W,
     text: &Text,
 ) -> Result<(), RunFault>
-    ensures { Puts W.written W.taken W.has_failed sink.old sink.new
+    ensures { Pushes W.written W.taken W.has_failed sink.old sink.new
         piece.old.items piece.new.items text.now.items result }
 {
     if piece.len() + text.len() > WRITTEN_AT_ONCE {

@@ -2,7 +2,7 @@
 
 ghost use Rattle.vic_report.proofs.AllFindings.{report_begins};
 ghost use Rattle.vic_report.specs.Reports.{IsReport, verdict_of};
-ghost use Rattle.vic_answer.specs.inner.Pieces.{Puts};
+ghost use Rattle.vic_answer.specs.inner.Pieces.{Pushes};
 ghost use Rattle.vic_answer.specs.CompleteRun.{IsCompleteWhereWritten};
 ghost use Rattle.vic_answer.specs.ReportText.{IsReportOf, reported_text};
 ghost use Rattle.vic_answer.specs.Runs.{LeavesSink, LeavesSource, RunsOver, RunsOverRevealed};
@@ -10,9 +10,9 @@ ghost use Rattle.vic_answer.specs.Runs.{LeavesSink, LeavesSource, RunsOver, Runs
 use crate::answered::{Answered, HasVerdict, Judgement};
 use crate::lines::refusal_line;
 use crate::output::write_and_flush;
-use crate::pieces::{Piece, put_text};
-use crate::report_lines::put_report;
-use crate::run::{Written, run_judged};
+use crate::pieces::{Piece, push_text};
+use crate::report_lines::push_report;
+use crate::run::{LogCommand, run_judged};
 use crate::status::{RunFault, Status};
 use arrayvec::ArrayVec;
 use std::alloc::{AllocError, Global};
@@ -40,12 +40,12 @@ impl Judgement for LogReport {
 }
 
 /// What `report` writes.
-impl Written for LogReport {
+impl LogCommand for LogReport {
     ghost text_of = { reported_text };
 
     fn write<W: Sink>(answered: &Answered<LogReport>, sink: &mut W) -> Result<(), RunFault> {
         let mut piece = ArrayVec::new();
-        put_reported(&mut piece, sink, answered)?;
+        push_reported(&mut piece, sink, answered)?;
         write_and_flush(sink, piece.as_slice())
     }
 }
@@ -73,16 +73,16 @@ pub fn run_report<R: Source, W: Sink>(
 }
 
 /// Adds the text of an answer.
-fn put_reported<W: Sink>(
+fn push_reported<W: Sink>(
     piece: &mut Piece,
     sink: &mut W,
     reported: &Answered<LogReport>,
 ) -> Result<(), RunFault>
-    ensures { Puts W.written W.taken W.has_failed sink.old sink.new
+    ensures { Pushes W.written W.taken W.has_failed sink.old sink.new
         piece.old.items piece.new.items (reported_text reported.now) result }
 {
     match reported {
-        Answered::Found(report) => put_report(piece, sink, report),
-        Answered::RefusedAt { line, fault } => put_text(piece, sink, &refusal_line(*line, fault)),
+        Answered::Found(report) => push_report(piece, sink, report),
+        Answered::RefusedAt { line, fault } => push_text(piece, sink, &refusal_line(*line, fault)),
     }
 }

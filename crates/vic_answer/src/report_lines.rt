@@ -4,30 +4,30 @@ ghost use Rattle.std.specs.Prelude.{◌≡◌, ◌<◌, ◌++◌};
 ghost use Rattle.std.specs.List.{flat_map};
 ghost use Rattle.arrayvec.specs.ArrayVec.{array_vec_len};
 ghost use Rattle.vic_answer.specs.Findings.{report_findings};
-ghost use Rattle.vic_answer.specs.inner.Pieces.{Puts};
+ghost use Rattle.vic_answer.specs.inner.Pieces.{Pushes};
 ghost use Rattle.vic_answer.specs.ReportText as spec;
 
 use crate::findings::{Finding, findings_in};
 use crate::lines::verdict_line;
-use crate::pieces::{Piece, put_text};
+use crate::pieces::{Piece, push_text};
 use crate::status::RunFault;
-use crate::text::{ANSWER_ROOM, Text, put, put_decimal, put_mask};
+use crate::text::{ANSWER_ROOM, Text, push_decimal, push_mask, push_str};
 use arrayvec::ArrayVec;
 use vic_log::Sink;
 use vic_report::LogReport;
 use vic_verdict::Verdict;
 
 /// Adds the lines of a report.
-pub(crate) fn put_report<W: Sink>(
+pub(crate) fn push_report<W: Sink>(
     piece: &mut Piece,
     sink: &mut W,
     report: &LogReport,
 ) -> Result<(), RunFault>
-    ensures { Puts W.written W.taken W.has_failed sink.old sink.new
+    ensures { Pushes W.written W.taken W.has_failed sink.old sink.new
         piece.old.items piece.new.items (spec.report_text report.now) result }
 {
-    put_text(piece, sink, &heading(report))?;
-    put_findings(piece, sink, report)
+    push_text(piece, sink, &heading(report))?;
+    push_findings(piece, sink, report)
 }
 
 /// What stands before the findings: the verdict, unless it is the first of them.
@@ -45,17 +45,17 @@ fn heading(report: &LogReport) -> Text
 }
 
 /// Adds the findings of a report, in their order.
-fn put_findings<W: Sink>(
+fn push_findings<W: Sink>(
     piece: &mut Piece,
     sink: &mut W,
     report: &LogReport,
 ) -> Result<(), RunFault>
-    ensures { Puts W.written W.taken W.has_failed sink.old sink.new
+    ensures { Pushes W.written W.taken W.has_failed sink.old sink.new
         piece.old.items piece.new.items
         (flat_map spec.finding_text (report_findings report.now)) result }
 {
     for finding in findings_in(report) {
-        put_text(piece, sink, &finding_text(&finding))?;
+        push_text(piece, sink, &finding_text(&finding))?;
     }
     Ok(())
 }
@@ -68,35 +68,35 @@ fn finding_text(finding: &Finding) -> Text
     match *finding {
         Finding::Absent(shown) => {
             text = verdict_line(&Verdict::Absent(shown.uid));
-            put_by_line(&mut text, shown.line);
+            push_by_line(&mut text, shown.line);
         }
         Finding::Unlisted(shown) => {
             text = verdict_line(&Verdict::Unlisted(shown.uid));
-            put_by_line(&mut text, shown.line);
+            push_by_line(&mut text, shown.line);
         }
         Finding::Unsettled(mask) => text = verdict_line(&Verdict::Unsettled(mask)),
         Finding::Doubtful(uid) => text = verdict_line(&Verdict::Doubtful(uid)),
         Finding::OpenMask(mask) => {
-            put(&mut text, "open ");
-            put_mask(&mut text, &mask);
-            put(&mut text, "\n");
+            push_str(&mut text, "open ");
+            push_mask(&mut text, &mask);
+            push_str(&mut text, "\n");
         }
-        Finding::MoreOpenMasks => put(&mut text, "more open\n"),
-        Finding::ConflictLine(line) => put_by_line(&mut text, line),
+        Finding::MoreOpenMasks => push_str(&mut text, "more open\n"),
+        Finding::ConflictLine(line) => push_by_line(&mut text, line),
         Finding::SilencedBy(line) => {
-            put(&mut text, "silenced ");
-            put_by_line(&mut text, line);
+            push_str(&mut text, "silenced ");
+            push_by_line(&mut text, line);
         }
     }
     text
 }
 
 /// Appends the line that names a line of the log.
-fn put_by_line(text: &mut Text, line: u32)
+fn push_by_line(text: &mut Text, line: u32)
     requires { array_vec_len text.old < ANSWER_ROOM }
     ensures { text.new.items ≡ text.old.items ++ spec.by_line line }
 {
-    put(text, "by line ");
-    put_decimal(text, line);
-    put(text, "\n");
+    push_str(text, "by line ");
+    push_decimal(text, line);
+    push_str(text, "\n");
 }

@@ -6,15 +6,15 @@ ghost use Rattle.vic_answer.specs.CheckText.{IsAnswerText, answer_status};
 ghost use Rattle.vic_answer.specs.Runs.{LeavesSink, LeavesSource, RunsOver, RunsOverRevealed, Writes};
 ghost use Rattle.vic_answer.specs.declared.answered.Answered.{Answered as AnsweredValue};
 
-use crate::answered::{Answered, Judgement, answer_of, answer_reading, answer_text};
+use crate::answered::{Answered, Judgement, answer_of, answer_read, answer_text};
 use crate::input::read_source;
 use crate::lines::answer_status;
 use crate::status::{RunFault, Status};
 use std::alloc::{AllocError, Global};
 use vic_log::{Sink, Source, ToWrite};
 
-/// What a command finds in a log, and how it writes an answer.
-pub trait Written: Judgement + Drop {
+/// A command that judges a log: what it finds, and how it writes an answer.
+pub trait LogCommand: Judgement + Drop {
     // the text of an answer
     ghost text_of: { AnsweredValue Self → List ℕ };
 
@@ -26,7 +26,7 @@ pub trait Written: Judgement + Drop {
 
 /// Judges the log that is read from a source, writes the answer and flushes it. The status is that
 /// of `check`. It reads to the end or an early fault.
-pub(crate) fn run_judged<J: Written, R: Source, W: Sink>(
+pub(crate) fn run_judged<J: LogCommand, R: Source, W: Sink>(
     alloc: Global,
     source: &mut R,
     sink: &mut W,
@@ -39,13 +39,13 @@ pub(crate) fn run_judged<J: Written, R: Source, W: Sink>(
     ensures leaves_source { LeavesSource R.reads R.has_failed source.old source.new result }
     ensures leaves_sink { LeavesSink W.is_flushed W.has_failed sink.old sink.new result }
 {
-    let reading = read_source(alloc, source)?;
-    let answered = answer_reading::<J>(alloc, reading)?;
+    let read = read_source(alloc, source)?;
+    let answered = answer_read::<J>(alloc, read)?;
     write_answered(&answered, sink)
 }
 
 /// Writes the text of an answer, and flushes; returns its status.
-fn write_answered<J: Written, W: Sink>(
+fn write_answered<J: LogCommand, W: Sink>(
     answered: &Answered<J>,
     sink: &mut W,
 ) -> Result<Status, RunFault>
@@ -66,7 +66,7 @@ pub struct WrittenText {
 }
 
 /// What a command writes for a text in memory. It fails only if memory is refused.
-pub fn written_text<J: Written>(alloc: Global, text: &[u8]) -> Result<WrittenText, AllocError>
+pub fn written_text<J: LogCommand>(alloc: Global, text: &[u8]) -> Result<WrittenText, AllocError>
     ensures { IfOk result (λ w. IsAnswerText J.IsOf J.verdict_of J.text_of
         text.now w.text.items w.status) }
 {

@@ -2,10 +2,10 @@
 
 ghost use Rattle.std.specs.Prelude.{◌≡◌, ℕ, List, IfOk};
 ghost use Rattle.vic_answer.specs.SimulateText.{IsSimulated, IsSimulatedText, IsSimulationOf, simulated_text, simulated_status};
-ghost use Rattle.vic_answer.specs.Answered.{IsReading};
+ghost use Rattle.vic_answer.specs.Answered.{IsReadAs};
 ghost use Rattle.vic_answer.specs.Runs.{RunsOver, RunsOverRevealed, LeavesSource, LeavesSink, Writes};
 
-use crate::answered::{Answered, Reading, read_text};
+use crate::answered::{Answered, read_text};
 use crate::input::read_source;
 use crate::lines::{refusal_line, refused_at};
 use crate::output::write_and_flush;
@@ -35,8 +35,8 @@ pub(crate) enum Simulated {
 pub fn simulate_text(alloc: Global, text: &[u8]) -> Result<WrittenText, AllocError>
     ensures { IfOk result (λ s. IsSimulationOf text.now s.text.items s.status) }
 {
-    let reading = read_text(alloc, text)?;
-    let simulated = simulate_reading(alloc, reading)?;
+    let read = read_text(alloc, text)?;
+    let simulated = simulate_read(alloc, read)?;
     let mut sink = ToWrite::new(Vec::new(alloc));
     match write_simulated(simulated, &mut sink) {
         Ok(status) => Ok(WrittenText {
@@ -65,17 +65,17 @@ pub fn run_simulate<R: Source, W: Sink>(
     ensures leaves_source { LeavesSource R.reads R.has_failed source.old source.new result }
     ensures leaves_sink { LeavesSink W.is_flushed W.has_failed sink.old sink.new result }
 {
-    let reading = read_source(alloc, source)?;
-    let simulated = simulate_reading(alloc, reading)?;
+    let read = read_source(alloc, source)?;
+    let simulated = simulate_read(alloc, read)?;
     write_simulated(simulated, sink)
 }
 
 /// What becomes of a text, by its log or first fault.
-fn simulate_reading(alloc: Global, reading: Reading) -> Result<Answered<Simulated>, AllocError>
+fn simulate_read(alloc: Global, read: Answered<Log>) -> Result<Answered<Simulated>, AllocError>
     ensures { IfOk result (λ s. (text : List ℕ)
-        → IsReading text reading → IsSimulatedText text s) }
+        → IsReadAs text read → IsSimulatedText text s) }
 {
-    match reading {
+    match read {
         Answered::Found(log) => Ok(Answered::Found(simulate_log(alloc, &log)?)),
         Answered::RefusedAt { line, fault } => Ok(Answered::RefusedAt { line, fault }),
     }

@@ -9,17 +9,17 @@ ghost use Rattle.vic_answer.specs.Runs.{Writes};
 use crate::lines::refused_word;
 use crate::output::write_and_flush;
 use crate::status::{RunFault, Status};
-use crate::text::{Text, put, put_bytes};
+use crate::text::{Text, push_str};
 use arrayvec::ArrayVec;
-use itoa::Buffer;
 use vic_frame::{
     MAX_MASK_LEN, MAX_MASK_LEN_OF_SIXTEEN, Mask, Request, Response, Uid, write_request,
     write_response,
 };
 use vic_log::{Sink, push_hex};
+use vic_text::{hex_number_in, number_in, value_in};
 
-/// The greatest link.
-const MAX_LINK: u8 = 3;
+/// The greatest logical link of a request.
+pub const MAX_LINK: u8 = 3;
 
 /// Why words don't spell a frame.
 #[derive(Clone, Copy, Debug, Drop, PartialEq, Eq)]
@@ -45,11 +45,11 @@ impl SpellFault {
     }
 }
 
-/// What words say.
+/// The frame that words describe.
 #[derive(Clone, Copy)]
-enum Said {
-    Asked(Request),
-    Replied(Response),
+enum Frame {
+    Request(Request),
+    Response(Response),
 }
 
 /// Writes, in hex digits, the frame that `frame` describes by these words, or why there is none,
@@ -76,21 +76,21 @@ fn text_and_status(words: &[String]) -> (Text, Status)
 }
 
 /// The line of a frame, in hex digits.
-fn frame_line(what: &Said) -> Text
+fn frame_line(what: &Frame) -> Text
     requires { spec.IsSendable what.now }
     ensures { result.items ≡ encode_upper (spec.frame_of what.now) ++ codes "\n" }
 {
     let mut text = ArrayVec::new();
     match what {
-        Said::Asked(request) => push_hex(&mut text, write_request(request).as_slice()),
-        Said::Replied(reply) => push_hex(&mut text, &write_response(reply)),
+        Frame::Request(request) => push_hex(&mut text, write_request(request).as_slice()),
+        Frame::Response(reply) => push_hex(&mut text, &write_response(reply)),
     }
-    put(&mut text, "\n");
+    push_str(&mut text, "\n");
     text
 }
 
 /// What words say, or why they aren't a frame.
-fn words_reading(words: &[String]) -> Result<Said, SpellFault>
+fn words_reading(words: &[String]) -> Result<Frame, SpellFault>
     ensures said { result ≡ spec.words_reading (map string_bytes words.now) }
     ensures valid { IfOk result spec.IsSendable }
 {
@@ -101,13 +101,13 @@ fn words_reading(words: &[String]) -> Result<Said, SpellFault>
             word(words, 7),
             word(words, 8),
         )?;
-        Ok(Said::Asked(request))
+        Ok(Frame::Request(request))
     } else if says_stay_quiet(words) {
         let request = stay_quiet(word(words, 3), word(words, 5))?;
-        Ok(Said::Asked(request))
+        Ok(Frame::Request(request))
     } else if says_reply(words) {
         let reply = reply(word(words, 2), word(words, 4), word(words, 6))?;
-        Ok(Said::Replied(reply))
+        Ok(Frame::Response(reply))
     } else {
         Err(SpellFault::Words)
     }
@@ -182,7 +182,7 @@ fn stay_quiet(link: &str, uid: &str) -> Result<Request, SpellFault>
     ensures valid { IfOk result IsValid }
 {
     let link = number_up_to(MAX_LINK, link)?;
-    let uid = hex_number_in(8, uid)?;
+    let uid = hex_word(8, uid)?;
     Ok(Request::StayQuiet { link, uid })
 }
 
@@ -192,7 +192,7 @@ fn reply(flags: &str, dsfid: &str, uid: &str) -> Result<Response, SpellFault>
 {
     let flags = byte_in(flags)?;
     let dsfid = byte_in(dsfid)?;
-    let number = hex_number_in(8, uid)?;
+    let number = hex_word(8, uid)?;
     let uid = Uid::new(number).ok_or(SpellFault::Words)?;
     Response::new(flags, dsfid, uid).ok_or(SpellFault::Words)
 }
@@ -215,22 +215,8 @@ fn mask_in(len: u8, word: &str) -> Result<Mask, SpellFault>
     requires { len ≤ MAX_MASK_LEN }
     ensures { result ≡ spec.mask_in len word.now }
 {
-    let value = value_in(len, word)?;
+    let value = value_in(len, word.as_bytes()).ok_or(SpellFault::Words)?;
     Mask::new(len, value).ok_or(SpellFault::Range)
-}
-
-/// The value of a mask of `len` bits, `-` if it has none.
-fn value_in(len: u8, word: &str) -> Result<u64, SpellFault>
-    requires { len ≤ MAX_MASK_LEN }
-    ensures { result ≡ spec.value_in len word.now }
-{
-    if len > 0 {
-        hex_number_in(usize::from((len + 7) / 8), word)
-    } else if word == "-" {
-        Ok(0)
-    } else {
-        Err(SpellFault::Words)
-    }
 }
 
 /// The number that a word spells in decimal, up to a maximum.
@@ -238,7 +224,7 @@ fn number_up_to(most: u8, word: &str) -> Result<u8, SpellFault>
     ensures said { result ≡ spec.number_up_to most word.now }
     ensures most { IfOk result (λ n. n ≤ most) }
 {
-    let number = number_in(word)?;
+    let number = number_in(word.as_bytes()).ok_or(SpellFault::Words)?;
     if number <= u64::from(most) {
         Ok(number as u8)
     } else {
@@ -246,45 +232,18 @@ fn number_up_to(most: u8, word: &str) -> Result<u8, SpellFault>
     }
 }
 
-/// The number that a word spells in decimal, without a sign or leading zeros.
-fn number_in(word: &str) -> Result<u64, SpellFault>
-    ensures { result ≡ spec.number_in word.now }
-{
-    let Ok(number) = word.parse::<u64>() else {
-        return Err(SpellFault::Words);
-    };
-    let mut buffer = Buffer::new();
-    if buffer.format(number) == word {
-        Ok(number)
-    } else {
-        Err(SpellFault::Words)
-    }
-}
-
 /// The byte that a word spells in upper-case hex digits.
 fn byte_in(word: &str) -> Result<u8, SpellFault>
-    ensures { result ≡ spec.hex_number_in 1 word.now }
+    ensures { result ≡ spec.hex_word 1 word.now }
 {
-    let number = hex_number_in(1, word)?;
+    let number = hex_word(1, word)?;
     Ok(number as u8)
 }
 
-/// The number that a word spells as `count` bytes in upper-case hex digits. What `hex` reads of it
-/// is spelled again, so that lower case is refused.
-fn hex_number_in(count: usize, word: &str) -> Result<u64, SpellFault>
+/// The number that a word spells as `count` bytes in upper-case hex digits.
+fn hex_word(count: usize, word: &str) -> Result<u64, SpellFault>
     requires { count ≤ 8 }
-    ensures { result ≡ spec.hex_number_in count word.now }
+    ensures { result ≡ spec.hex_word count word.now }
 {
-    let mut bytes = [0; 8];
-    if hex::decode_to_slice(word, &mut bytes[8 - count..]).is_err() {
-        return Err(SpellFault::Words);
-    }
-    let number = u64::from_be_bytes(bytes);
-    let mut text = ArrayVec::new();
-    put_bytes(&mut text, count, number);
-    if text.as_slice() == word.as_bytes() {
-        Ok(number)
-    } else {
-        Err(SpellFault::Words)
-    }
+    hex_number_in(count, word.as_bytes()).ok_or(SpellFault::Words)
 }

@@ -14,11 +14,11 @@ use Rattle.vic_operands.specs.Files.{File}
 use Rattle.vic_operands.specs.declared.gathered.Gathered.{Gathered}
 use Rattle.vic_operands.specs.declared.gathered.Gathered.TheVariants as gathered
 use Rattle.vic_commands.specs.Collected.{AreFiles, IsCollected, IsWrittenBy}
-use Rattle.vic_commands.specs.Commands.{IsToldBy}
+use Rattle.vic_commands.specs.Commands.{IsOutputBy}
 use Rattle.vic_commands.specs.declared.collected.Form.{Form}
-use Rattle.vic_commands.specs.declared.commands.Told.{Told}
-use Rattle.vic_commands.specs.declared.commands.Told.TheVariants.{Answer, Usage}
-use Rattle.vic_commands.specs.inner.Told.{IsToldOf}
+use Rattle.vic_commands.specs.declared.commands.Output.{Output}
+use Rattle.vic_commands.specs.declared.commands.Output.TheVariants.{Answer, Usage}
+use Rattle.vic_commands.specs.inner.Output.{IsOutputOf}
 
 -- names and texts are those of one list of files
 same_file : (f g : File) → f.name ≡ g.name → f.text ≡ g.text → f ≡ g
@@ -42,7 +42,7 @@ more_files names texts name text files h = record {
   have = map-append (λ (f : File). f.text) files (record { name = name; text = text } ∷ []) ∙ ap (λ ts. ts ++ text ∷ []) h.have;
 }
 
--- what is told of files is what is written of them, and nothing is where they are no operands
+-- the output for files is what is written of them, and nothing is where they are no operands
 module _ (Are : List File → Gathered → Type 0) (alone : (files : List File) (g : Gathered) → Are files gathered.Usage → Are files g → g ≡ gathered.Usage) where
   none_collected : (form : Form) (names texts : List (List ℕ)) (files : List File) → AreFiles names texts files → Are files gathered.Usage
       → (text : List ℕ) (status : Status) → IsCollected Are form names texts text status → ⊥
@@ -51,10 +51,10 @@ module _ (Are : List File → Gathered → Type 0) (alone : (files : List File) 
       let right : Are files h.gathered = subst (λ fs. Are fs h.gathered) same h.right in
       subst (λ g. IsWrittenBy form g text status) (alone files h.gathered usage right) h.written
 
-  pub collected-told : (form : Form) (names texts : List (List ℕ)) (files : List File) (g : Gathered) (told : Told) → AreFiles names texts files → Are files g → IsToldOf form g told
-      → IsToldBy (IsCollected Are form names texts) told
-  collected-told form names texts files g (Answer w) are right h = record { files = files; are = are; gathered = g; right = right; written = h }
-  collected-told form names texts files g Usage are right h = λ text status. none_collected form names texts files are (subst (Are files) h right) text status
+  pub collected-output : (form : Form) (names texts : List (List ℕ)) (files : List File) (g : Gathered) (output : Output) → AreFiles names texts files → Are files g → IsOutputOf form g output
+      → IsOutputBy (IsCollected Are form names texts) output
+  collected-output form names texts files g (Answer w) are right h = record { files = files; are = are; gathered = g; right = right; written = h }
+  collected-output form names texts files g Usage are right h = λ text status. none_collected form names texts files are (subst (Are files) h right) text status
 
 -- ---- the status of an answer
 

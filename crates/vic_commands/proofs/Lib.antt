@@ -1,5 +1,5 @@
 mod SurveyLaws
-mod Tellings
+mod Outputs
 mod TextsSoFar
 mod CollectedLaws
 mod CompleteLaws

@@ -13,7 +13,7 @@ use Rattle.vic_survey.specs.Names.{IsName}
 use Rattle.vic_survey.specs.SurveyText.{survey_lines, text_of}
 use Rattle.vic_survey.specs.Surveys.{IsSurvey, SurveyValue}
 use Rattle.vic_answer.specs.declared.status.Status.{Status}
-use Rattle.vic_commands.specs.Surveyed.{AreSurveyed, AreWrittenAs, IsSurveying, status_of}
+use Rattle.vic_commands.specs.Surveyed.{AreSurveyed, AreWrittenAs, IsSurveyRun, status_of}
 
 -- the text of one survey more
 text_of-more : (ss : List SurveyValue) (s : SurveyValue) → text_of (ss ++ s ∷ []) ≡ text_of ss ++ joined (survey_lines s)
@@ -52,7 +52,7 @@ not_empty : (s : SurveyValue) (ss : List SurveyValue) → 0 < length (text_of (s
 not_empty s ss = omega arith
 
 pub none_surveyed : (names texts : List (List ℕ)) (answer : List ℕ) (before : Status) → AreSurveyed names texts answer before → length answer ≡ 0
-    → (other : List ℕ) (status : Status) → IsSurveying names texts other status → ⊥
+    → (other : List ℕ) (status : Status) → IsSurveyRun names texts other status → ⊥
 none_surveyed names texts answer before h empty other status is = at texts h.surveys h.are.say is.some (ap length (sym h.written.text) ∙ empty)
   where
     at : (texts : List (List ℕ)) (ss : List SurveyValue) → AllZip (λ text (s : SurveyValue). IsFieldOf text s.field) texts ss → 0 < length texts → length (text_of ss) ≡ 0 → ⊥
@@ -61,7 +61,7 @@ none_surveyed names texts answer before h empty other status is = at texts h.sur
     at (text ∷ texts) (s ∷ ss) say some is = omega (arith, not_empty s ss, is)
 
 -- and where it isn't, there is a text
-pub some_surveyed : (names texts : List (List ℕ)) (answer : List ℕ) (before : Status) → AreSurveyed names texts answer before → 0 < length answer → IsSurveying names texts answer before
+pub some_surveyed : (names texts : List (List ℕ)) (answer : List ℕ) (before : Status) → AreSurveyed names texts answer before → 0 < length answer → IsSurveyRun names texts answer before
 some_surveyed names texts answer before h full = record { some = at texts h.surveys h.are.say (subst (λ t. 0 < length t) h.written.text full); surveyed = h }
   where
     at : (texts : List (List ℕ)) (ss : List SurveyValue) → AllZip (λ text (s : SurveyValue). IsFieldOf text s.field) texts ss → 0 < length (text_of ss) → 0 < length texts

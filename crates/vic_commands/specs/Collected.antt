@@ -59,12 +59,13 @@ pub record IsCollected (Are : List File → Gathered → Type 0) (form : Form)
   pub written : IsWrittenBy form gathered text status
 
 -- what `collection` writes, `json-collection`, and `reconcile`
-abbrev pub IsTabling : List (List ℕ) → List (List ℕ) → List ℕ → Status → Type 0
-IsTabling names texts text status = IsCollected IsGathered form.Table names texts text status
+abbrev pub IsCollectionRun : List (List ℕ) → List (List ℕ) → List ℕ → Status → Type 0
+IsCollectionRun names texts text status = IsCollected IsGathered form.Table names texts text status
 
-abbrev pub IsListing : List (List ℕ) → List (List ℕ) → List ℕ → Status → Type 0
-IsListing names texts text status = IsCollected IsGathered form.Object names texts text status
+abbrev pub IsJsonCollectionRun : List (List ℕ) → List (List ℕ) → List ℕ → Status → Type 0
+IsJsonCollectionRun names texts text status =
+    IsCollected IsGathered form.Object names texts text status
 
-abbrev pub IsReconciling : List (List ℕ) → List (List ℕ) → List ℕ → Status → Type 0
-IsReconciling names texts text status =
+abbrev pub IsReconcileRun : List (List ℕ) → List (List ℕ) → List ℕ → Status → Type 0
+IsReconcileRun names texts text status =
     IsCollected IsGatheredToReconcile form.Lines names texts text status

@@ -11,12 +11,12 @@ use Rattle.vic_answer.specs.SimulateText.{IsSimulationOf}
 use Rattle.vic_answer.specs.SpellText.{spell_text, spell_status}
 use Rattle.vic_answer.specs.declared.status.Status.{Status}
 use Rattle.vic_object.specs.Object.{IsObjectOf}
-use Rattle.vic_commands.specs.Collected.{IsListing, IsReconciling, IsTabling}
-use Rattle.vic_commands.specs.Surveyed.{IsSurveying}
+use Rattle.vic_commands.specs.Collected.{IsJsonCollectionRun, IsReconcileRun, IsCollectionRun}
+use Rattle.vic_commands.specs.Surveyed.{IsSurveyRun}
 use Rattle.vic_commands.specs.declared.commands.Command.{Command}
 use Rattle.vic_commands.specs.declared.commands.Command.TheVariants.{Check, Explain, Report, Margin, Simulate, Reconcile, Frame, Spell, Survey, Collection, Json, JsonCollection}
-use Rattle.vic_commands.specs.declared.commands.Told.{Told}
-use Rattle.vic_commands.specs.declared.commands.Told.TheVariants.{Answer, Usage}
+use Rattle.vic_commands.specs.declared.commands.Output.{Output}
+use Rattle.vic_commands.specs.declared.commands.Output.TheVariants.{Answer, Usage}
 
 -- ---- what is written, for one text
 
@@ -56,15 +56,15 @@ Writes Explain names texts = OfOnly IsExplanationOf texts
 Writes Report names texts = OfOnly IsReportOf texts
 Writes Margin names texts = OfOnly IsMarginOf texts
 Writes Simulate names texts = OfOnly IsSimulationOf texts
-Writes Reconcile names texts = OfNamed IsReconciling names texts
+Writes Reconcile names texts = OfNamed IsReconcileRun names texts
 Writes Frame names texts = OfOnly IsFrameOf texts
 Writes Spell names texts = IsSpellingOf texts
-Writes Survey names texts = OfNamed IsSurveying names texts
-Writes Collection names texts = OfNamed IsTabling names texts
+Writes Survey names texts = OfNamed IsSurveyRun names texts
+Writes Collection names texts = OfNamed IsCollectionRun names texts
 Writes Json names texts = OfOnly IsObjectOf texts
-Writes JsonCollection names texts = OfNamed IsListing names texts
+Writes JsonCollection names texts = OfNamed IsJsonCollectionRun names texts
 
 -- an answer is one that W allows; where there is none, W allows none
-abbrev pub IsToldBy : (List ℕ → Status → Type 0) → Told → Type 0
-IsToldBy W (Answer w) = W w.text.items w.status
-IsToldBy W Usage = (answer : List ℕ) (status : Status) → W answer status → ⊥
+abbrev pub IsOutputBy : (List ℕ → Status → Type 0) → Output → Type 0
+IsOutputBy W (Answer w) = W w.text.items w.status
+IsOutputBy W Usage = (answer : List ℕ) (status : Status) → W answer status → ⊥

@@ -13,7 +13,7 @@ use Rattle.vic_operands.specs.declared.kind.Kind.{Kind}
 use Rattle.vic_operands.specs.declared.kind.Kind.TheVariants.{Surveys, Log, Table}
 use Rattle.vic_answer.specs.declared.status.Status.{Status}
 use Rattle.vic_commands.specs.Collected.{AreFiles, IsFormOf}
-use Rattle.vic_commands.specs.Surveyed.{IsSurveying}
+use Rattle.vic_commands.specs.Surveyed.{IsSurveyRun}
 use Rattle.vic_commands.specs.declared.collected.Form.{Form}
 use Rattle.vic_commands.specs.declared.collected.Form.TheVariants.{Lines}
 
@@ -36,7 +36,7 @@ HaveNoSurveys kind files = All (λ f. kind f.text ≢ Surveys) files
 abbrev pub AreLogsBy : Kind → List ℕ → List (List ℕ) → Type 0
 AreLogsBy Log text logs = logs ≡ text ∷ []
 AreLogsBy Surveys text logs =
-    (names : List (List ℕ)) × (status : Status) × IsSurveying names logs text status
+    (names : List (List ℕ)) × (status : Status) × IsSurveyRun names logs text status
 AreLogsBy Table text logs = logs ≡ []
 
 -- the logs of files, in the order of the files

@@ -48,7 +48,7 @@ pub record AreSurveyed (names texts : List (List ℕ)) (answer : List ℕ) (stat
   pub written : AreWrittenAs surveys answer status
 
 -- what `survey` writes for texts with these names, of which there is at least one
-pub record IsSurveying (names texts : List (List ℕ)) (answer : List ℕ) (status : Status)
+pub record IsSurveyRun (names texts : List (List ℕ)) (answer : List ℕ) (status : Status)
     : Type 0 where
   pub some : 0 < length texts
   pub surveyed : AreSurveyed names texts answer status

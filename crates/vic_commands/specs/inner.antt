@@ -1,2 +1,2 @@
 -- Definitions that private contracts alone cite.
-pub mod Told
+pub mod Output

@@ -5,11 +5,11 @@ ghost use Rattle.vic_operands.specs.Gathered.{IsGathered};
 ghost use Rattle.vic_answer.specs.Status.{status_code};
 ghost use Rattle.vic_result.specs.Answered.{answer_status};
 ghost use Rattle.vic_commands.specs.Collected as spec;
-ghost use Rattle.vic_commands.specs.Commands.{IsToldBy};
+ghost use Rattle.vic_commands.specs.Commands.{IsOutputBy};
 ghost use Rattle.vic_commands.specs.Taken.{HasTakenFiles, HasTakenForLines, HasTakenForObject, HasTakenForTable};
-ghost use Rattle.vic_commands.specs.inner.Told.{IsToldOf};
+ghost use Rattle.vic_commands.specs.inner.Output.{IsOutputOf};
 
-use crate::commands::Told;
+use crate::commands::Output;
 use crate::gathering::Gather;
 use std::alloc::{AllocError, Global};
 use vic_answer::{Status, WrittenText};
@@ -45,7 +45,7 @@ pub struct ForLines {
 }
 
 impl Gather for ForTable {
-    ghost Writes = { spec.IsTabling };
+    ghost Writes = { spec.IsCollectionRun };
 
     ghost HasTaken = { HasTakenForTable };
 
@@ -59,13 +59,13 @@ impl Gather for ForTable {
         Ok(ForTable { operands })
     }
 
-    fn finish(self, alloc: Global) -> Result<Told, AllocError> {
-        told_of_files(alloc, self.operands, Form::Table)
+    fn finish(self, alloc: Global) -> Result<Output, AllocError> {
+        output_of_files(alloc, self.operands, Form::Table)
     }
 }
 
 impl Gather for ForObject {
-    ghost Writes = { spec.IsListing };
+    ghost Writes = { spec.IsJsonCollectionRun };
 
     ghost HasTaken = { HasTakenForObject };
 
@@ -79,13 +79,13 @@ impl Gather for ForObject {
         Ok(ForObject { operands })
     }
 
-    fn finish(self, alloc: Global) -> Result<Told, AllocError> {
-        told_of_files(alloc, self.operands, Form::Object)
+    fn finish(self, alloc: Global) -> Result<Output, AllocError> {
+        output_of_files(alloc, self.operands, Form::Object)
     }
 }
 
 impl Gather for ForLines {
-    ghost Writes = { spec.IsReconciling };
+    ghost Writes = { spec.IsReconcileRun };
 
     ghost HasTaken = { HasTakenForLines };
 
@@ -100,9 +100,9 @@ impl Gather for ForLines {
         Ok(ForLines { operands })
     }
 
-    fn finish(self, alloc: Global) -> Result<Told, AllocError> {
+    fn finish(self, alloc: Global) -> Result<Output, AllocError> {
         let gathered = self.operands.finish(alloc)?;
-        told_of_gathered(alloc, gathered, Form::Lines)
+        output_of_gathered(alloc, gathered, Form::Lines)
     }
 }
 
@@ -121,27 +121,27 @@ fn with_file(
     operands.add(alloc, name, text)
 }
 
-/// What is told of files.
-fn told_of_files(alloc: Global, operands: Operands, form: Form) -> Result<Told, AllocError>
-    ensures { IfOk result (λ told. (names texts : List (List ℕ))
+/// What is written for files.
+fn output_of_files(alloc: Global, operands: Operands, form: Form) -> Result<Output, AllocError>
+    ensures { IfOk result (λ output. (names texts : List (List ℕ))
         → HasTakenFiles names texts operands
-        → IsToldBy (spec.IsCollected IsGathered form names texts) told) }
+        → IsOutputBy (spec.IsCollected IsGathered form names texts) output) }
 {
     let gathered = operands.finish(alloc)?;
-    told_of_gathered(alloc, gathered, form)
+    output_of_gathered(alloc, gathered, form)
 }
 
-/// The same, by what they are together.
-fn told_of_gathered(alloc: Global, gathered: Gathered, form: Form) -> Result<Told, AllocError>
-    ensures { IfOk result (IsToldOf form gathered) }
+/// What is written for files, by what they are together.
+fn output_of_gathered(alloc: Global, gathered: Gathered, form: Form) -> Result<Output, AllocError>
+    ensures { IfOk result (IsOutputOf form gathered) }
 {
     match gathered {
-        Gathered::Usage => Ok(Told::Usage),
-        Gathered::Refused(refusal) => Ok(Told::Answer(WrittenText {
+        Gathered::Usage => Ok(Output::Usage),
+        Gathered::Refused(refusal) => Ok(Output::Answer(WrittenText {
             text: refusal_line(alloc, &refusal)?,
             status: Status::Refused,
         })),
-        Gathered::Collection(collection) => Ok(Told::Answer(WrittenText {
+        Gathered::Collection(collection) => Ok(Output::Answer(WrittenText {
             text: collection_text(alloc, &collection, form)?,
             status: collection_status(alloc, &collection)?,
         })),

@@ -26,11 +26,11 @@ pub enum Command {
     JsonCollection,
 }
 
-/// What is told of a command and texts.
+/// What a command writes for texts.
 #[derive(Drop)]
-pub enum Told {
-    /// What it writes for them, and its status.
+pub enum Output {
+    /// This, with this status.
     Answer(WrittenText),
-    /// They aren't operands of it.
+    /// Nothing: they aren't operands of it.
     Usage,
 }

@@ -2,9 +2,9 @@
 
 ghost use Rattle.std.specs.Prelude.{[], ◌∷◌, ◌++◌, ℕ, List, IfOk};
 ghost use Rattle.vic_answer.specs.declared.status.Status.{Status as StatusValue};
-ghost use Rattle.vic_commands.specs.Commands.{IsToldBy};
+ghost use Rattle.vic_commands.specs.Commands.{IsOutputBy};
 
-use crate::commands::Told;
+use crate::commands::Output;
 use std::alloc::{AllocError, Global};
 
 /// What a command over many files has to know of those that it has taken, one after the other.
@@ -24,8 +24,8 @@ pub trait Gather: Drop {
         ensures { IfOk result (λ more. (names texts : List (List ℕ)) → HasTaken names texts self
             → HasTaken (names ++ name.now ∷ []) (texts ++ text.items ∷ []) more) };
 
-    /// What the command tells of all that were taken. It fails only if memory is refused.
-    fn finish(self, alloc: Global) -> Result<Told, AllocError>
-        ensures { IfOk result (λ told. (names texts : List (List ℕ))
-            → HasTaken names texts self → IsToldBy (Writes names texts) told) };
+    /// What the command writes for all that were taken. It fails only if memory is refused.
+    fn finish(self, alloc: Global) -> Result<Output, AllocError>
+        ensures { IfOk result (λ output. (names texts : List (List ℕ))
+            → HasTaken names texts self → IsOutputBy (Writes names texts) output) };
 }

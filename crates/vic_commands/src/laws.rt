@@ -2,7 +2,7 @@
 
 ghost use Rattle.std.specs.Prelude.{ℕ, List};
 ghost use Rattle.vic_answer.specs.declared.status.Status.TheVariants.{Whole};
-ghost use Rattle.vic_commands.specs.Collected.{IsListing, IsReconciling, IsTabling};
+ghost use Rattle.vic_commands.specs.Collected.{IsJsonCollectionRun, IsReconcileRun, IsCollectionRun};
 ghost use Rattle.vic_commands.specs.CompleteFiles.{AreComplete, AreCompleteToReconcile, OfFiles};
 ghost use Rattle.vic_commands.specs.declared.collected.Form.TheVariants as form;
 
@@ -13,13 +13,13 @@ use vic_survey::laws::one_text_says_one_thing;
 /// promises is true of the catalogue and the logs in the texts.
 pub fn complete_is_true_of_files()
     ensures collection { (names texts : List (List ℕ)) (text : List ℕ)
-        → IsTabling names texts text Whole
+        → IsCollectionRun names texts text Whole
         → OfFiles (AreComplete form.Table text) names texts }
     ensures json_collection { (names texts : List (List ℕ)) (text : List ℕ)
-        → IsListing names texts text Whole
+        → IsJsonCollectionRun names texts text Whole
         → OfFiles (AreComplete form.Object text) names texts }
     ensures reconcile { (names texts : List (List ℕ)) (text : List ℕ)
-        → IsReconciling names texts text Whole
+        → IsReconcileRun names texts text Whole
         → OfFiles (AreCompleteToReconcile text) names texts }
 {
     complete_is_true();

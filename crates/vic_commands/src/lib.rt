@@ -11,7 +11,7 @@ mod surveyed;
 mod texts;
 
 pub use collected::{ForLines, ForObject, ForTable, Form};
-pub use commands::{Command, Told};
+pub use commands::{Command, Output};
 pub use gathering::Gather;
 pub use surveyed::TakenLogs;
-pub use texts::told_of;
+pub use texts::output_of;

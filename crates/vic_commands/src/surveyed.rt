@@ -5,7 +5,7 @@ ghost use Rattle.vic_survey.specs.Surveys.{SurveyValue};
 ghost use Rattle.vic_commands.specs.Surveyed as spec;
 ghost use Rattle.vic_commands.specs.Taken.{HasTakenLogs};
 
-use crate::commands::Told;
+use crate::commands::Output;
 use crate::gathering::Gather;
 use std::alloc::{AllocError, Global};
 use vic_answer::{Status, WrittenText};
@@ -16,12 +16,12 @@ use vic_survey::{Field, Name, Survey, push_survey};
 pub enum TakenLogs {
     /// The text of their surveys, and its status.
     Surveyed(WrittenText),
-    /// The name of one of them is none.
+    /// One has a name that no log could have.
     Unnamed,
 }
 
 impl Gather for TakenLogs {
-    ghost Writes = { spec.IsSurveying };
+    ghost Writes = { spec.IsSurveyRun };
 
     ghost HasTaken = { HasTakenLogs };
 
@@ -45,16 +45,16 @@ impl Gather for TakenLogs {
         }
     }
 
-    fn finish(self, _alloc: Global) -> Result<Told, AllocError> {
+    fn finish(self, _alloc: Global) -> Result<Output, AllocError> {
         match self {
             TakenLogs::Surveyed(written) => {
                 if written.text.as_slice().is_empty() {
-                    Ok(Told::Usage)
+                    Ok(Output::Usage)
                 } else {
-                    Ok(Told::Answer(written))
+                    Ok(Output::Answer(written))
                 }
             }
-            TakenLogs::Unnamed => Ok(Told::Usage),
+            TakenLogs::Unnamed => Ok(Output::Usage),
         }
     }
 }

@@ -9,12 +9,12 @@ ghost use Rattle.vic_object.specs.Object.{IsObjectOf};
 ghost use Rattle.vic_commands.specs.Commands as spec;
 
 use crate::collected::{ForLines, ForObject, ForTable};
-use crate::commands::{Command, Told};
+use crate::commands::{Command, Output};
 use crate::gathering::Gather;
 use crate::surveyed::TakenLogs;
 use std::alloc::{AllocError, Global};
 use vic_answer::{
-    RunFault, Status, Written, WrittenText, run_frame, run_spell, simulate_text, written_text,
+    LogCommand, RunFault, Status, WrittenText, run_frame, run_spell, simulate_text, written_text,
 };
 use vic_log::ToWrite;
 use vic_margin::Margin;
@@ -24,13 +24,13 @@ use vic_verdict::{Explanation, Verdict};
 
 /// What the program writes for texts in memory, which have these names: the bytes of its standard
 /// output, and its status. It fails only if memory is refused.
-pub fn told_of(
+pub fn output_of(
     alloc: Global,
     command: Command,
     names: &[String],
     texts: &[&[u8]],
-) -> Result<Told, AllocError>
-    ensures { IfOk result (spec.IsToldBy (spec.Writes command
+) -> Result<Output, AllocError>
+    ensures { IfOk result (spec.IsOutputBy (spec.Writes command
         (map string_bytes names.now) (map (λ t. t.now) texts.now))) }
 {
     match command {
@@ -49,83 +49,87 @@ pub fn told_of(
     }
 }
 
-/// What a command that judges a log tells of texts.
-fn judged<J: Written>(alloc: Global, texts: &[&[u8]]) -> Result<Told, AllocError>
-    ensures { IfOk result (spec.IsToldBy (spec.OfOnly
+/// What a command that judges a log writes for texts.
+fn judged<J: LogCommand>(alloc: Global, texts: &[&[u8]]) -> Result<Output, AllocError>
+    ensures { IfOk result (spec.IsOutputBy (spec.OfOnly
         (IsAnswerText J.IsOf J.verdict_of J.text_of) (map (λ t. t.now) texts.now))) }
 {
     match only(texts) {
-        Some(text) => Ok(Told::Answer(written_text::<J>(alloc, text)?)),
-        None => Ok(Told::Usage),
+        Some(text) => Ok(Output::Answer(written_text::<J>(alloc, text)?)),
+        None => Ok(Output::Usage),
     }
 }
 
-/// What `simulate` tells of texts.
-fn simulated(alloc: Global, texts: &[&[u8]]) -> Result<Told, AllocError>
-    ensures { IfOk result (spec.IsToldBy (spec.OfOnly IsSimulationOf
+/// What `simulate` writes for texts.
+fn simulated(alloc: Global, texts: &[&[u8]]) -> Result<Output, AllocError>
+    ensures { IfOk result (spec.IsOutputBy (spec.OfOnly IsSimulationOf
         (map (λ t. t.now) texts.now))) }
 {
     match only(texts) {
-        Some(text) => Ok(Told::Answer(simulate_text(alloc, text)?)),
-        None => Ok(Told::Usage),
+        Some(text) => Ok(Output::Answer(simulate_text(alloc, text)?)),
+        None => Ok(Output::Usage),
     }
 }
 
-/// What `json` tells of texts.
-fn objected(alloc: Global, texts: &[&[u8]]) -> Result<Told, AllocError>
-    ensures { IfOk result (spec.IsToldBy (spec.OfOnly IsObjectOf
+/// What `json` writes for texts.
+fn objected(alloc: Global, texts: &[&[u8]]) -> Result<Output, AllocError>
+    ensures { IfOk result (spec.IsOutputBy (spec.OfOnly IsObjectOf
         (map (λ t. t.now) texts.now))) }
 {
     match only(texts) {
-        Some(text) => Ok(Told::Answer(object_of(alloc, text)?)),
-        None => Ok(Told::Usage),
+        Some(text) => Ok(Output::Answer(object_of(alloc, text)?)),
+        None => Ok(Output::Usage),
     }
 }
 
-/// What `frame` tells of texts.
-fn framed(alloc: Global, texts: &[&[u8]]) -> Result<Told, AllocError>
-    ensures { IfOk result (spec.IsToldBy (spec.OfOnly spec.IsFrameOf
+/// What `frame` writes for texts.
+fn framed(alloc: Global, texts: &[&[u8]]) -> Result<Output, AllocError>
+    ensures { IfOk result (spec.IsOutputBy (spec.OfOnly spec.IsFrameOf
         (map (λ t. t.now) texts.now))) }
 {
     let Some(word) = only(texts) else {
-        return Ok(Told::Usage);
+        return Ok(Output::Usage);
     };
     if str::from_utf8(word).is_err() {
-        return Ok(Told::Usage);
+        return Ok(Output::Usage);
     }
     let mut sink = ToWrite::new(Vec::new(alloc));
     let status = in_memory(run_frame(word, &mut sink))?;
-    Ok(Told::Answer(WrittenText {
+    Ok(Output::Answer(WrittenText {
         text: sink.into_inner(),
         status,
     }))
 }
 
-/// What `spell` tells of texts.
-fn spelled(alloc: Global, texts: &[&[u8]]) -> Result<Told, AllocError>
-    ensures { IfOk result (spec.IsToldBy (spec.IsSpellingOf (map (λ t. t.now) texts.now))) }
+/// What `spell` writes for texts.
+fn spelled(alloc: Global, texts: &[&[u8]]) -> Result<Output, AllocError>
+    ensures { IfOk result (spec.IsOutputBy (spec.IsSpellingOf (map (λ t. t.now) texts.now))) }
 {
     let Some(words) = words_of(alloc, texts)? else {
-        return Ok(Told::Usage);
+        return Ok(Output::Usage);
     };
     if words.is_empty() {
-        return Ok(Told::Usage);
+        return Ok(Output::Usage);
     }
     let mut sink = ToWrite::new(Vec::new(alloc));
     let status = in_memory(run_spell(&words, &mut sink))?;
-    Ok(Told::Answer(WrittenText {
+    Ok(Output::Answer(WrittenText {
         text: sink.into_inner(),
         status,
     }))
 }
 
-/// What a command over many files tells of texts with these names.
-fn gathered<G: Gather>(alloc: Global, names: &[String], texts: &[&[u8]]) -> Result<Told, AllocError>
-    ensures { IfOk result (spec.IsToldBy (spec.OfNamed G.Writes
+/// What a command over many files writes for texts with these names.
+fn gathered<G: Gather>(
+    alloc: Global,
+    names: &[String],
+    texts: &[&[u8]],
+) -> Result<Output, AllocError>
+    ensures { IfOk result (spec.IsOutputBy (spec.OfNamed G.Writes
         (map string_bytes names.now) (map (λ t. t.now) texts.now))) }
 {
     if names.len() != texts.len() {
-        return Ok(Told::Usage);
+        return Ok(Output::Usage);
     }
     let mut taken = G::begin(alloc);
     for (i, text) in texts.iter().enumerate() {

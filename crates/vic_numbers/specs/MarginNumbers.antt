@@ -35,6 +35,7 @@ abbrev pub mask_or_all : Option BitMask → BitMask
 mask_or_all (Some m) = m
 mask_or_all None = record { len = 0; value = 0 }
 
+-- no readings are as two that leave no mask unsettled
 abbrev pub readings_or_none : Option Readings → Readings
 readings_or_none (Some r) = r
 readings_or_none None = record { hidden = None; deaf = None }

@@ -17,11 +17,15 @@ pub fn copy_list<T: Copy>(list: &[T], room: &mut [T]) -> usize
 
 /// Copies the values of items, as `value_of` has them, to the start of a buffer, if they fit, and
 /// returns how many there are.
-pub fn copy_each<T: Copy, V: Copy, F: Fn(T) -> V>(items: &[T], room: &mut [V], value_of: F) -> usize
+pub(crate) fn copy_each<T: Copy, V: Copy, F: Fn(T) -> V>(
+    items: &[T],
+    room: &mut [V],
+    value_of: F,
+) -> usize
     requires { F.IsAlwaysCallable value_of }
-    // `told` is any function whose values `value_of` returns
-    ensures { (told : T → V) → ((x : T) (v : _) → F.post value_of x v → v ≡ told x)
-        → IsReturned (map told items.now) room.old room.new result }
+    // `value` is any function whose values `value_of` returns
+    ensures { (value : T → V) → ((x : T) (v : _) → F.post value_of x v → v ≡ value x)
+        → IsReturned (map value items.now) room.old room.new result }
 {
     if items.len() <= room.len() {
         for (index, item) in items.iter().enumerate() {

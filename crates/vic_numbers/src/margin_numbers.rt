@@ -78,7 +78,7 @@ fn weakest_fields(weakest: &Option<Weakest>, readings: &Readings) -> VicinityWea
     }
 }
 
-/// The readings of a log, none of which leaves a mask unsettled if the list isn't complete.
+/// The readings of a log; where it has none, two that leave no mask unsettled.
 fn readings_or_none(readings: &Option<Readings>) -> Readings
     ensures { result ≡ spec.readings_or_none readings.now }
 {

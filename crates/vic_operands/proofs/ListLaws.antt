@@ -18,8 +18,8 @@ use Rattle.vic_operands.specs.declared.fault.Refusal.{Refusal}
 use Rattle.vic_operands.specs.declared.gathered.Gathered.{Gathered}
 use Rattle.vic_operands.specs.declared.gathered.Gathered.TheVariants.{Usage, Refused, Collection}
 use Rattle.vic_operands.specs.declared.kind.Kind.TheVariants.{Surveys, Log}
-use Rattle.vic_operands.specs.declared.operand.Unread.{Unread}
-use Rattle.vic_operands.specs.declared.operand.Unread.TheVariants.{Line, Memory}
+use Rattle.vic_operands.specs.declared.operand.FileFault.{FileFault}
+use Rattle.vic_operands.specs.declared.operand.FileFault.TheVariants.{Line, Memory}
 use Rattle.vic_operands.specs.inner.Lists.{BeginsWithNoList, IsBehindList, RefusesLines, RefusesList}
 use Rattle.vic_operands.proofs.GatheringLaws.{named_more, wrong_before, wrong_here}
 use Rattle.vic_operands.proofs.KeptLaws.{one-surveys, surveys_append}
@@ -59,7 +59,7 @@ behind_log text h = go (begins text (codes "vicinity-survey ")) refl
 
 -- ---- the list
 
-pub not_listed-refused : (text : List ℕ) (log : LogValue) (why : Unread) → IsLogOf (lines_of_text text) log → RefusesLines log.lines why → RefusesList text why
+pub not_listed-refused : (text : List ℕ) (log : LogValue) (why : FileFault) → IsLogOf (lines_of_text text) log → RefusesLines log.lines why → RefusesList text why
 not_listed-refused text log (Line n f) is h = subst (λ g. IsListFault text n g) (sym h.1) (log, is, h.0)
 not_listed-refused text log Memory is h = tt
 

@@ -6,7 +6,8 @@ use vic_collection::Collection;
 /// What the files of a collection are together.
 #[derive(Drop)]
 pub enum Gathered {
-    /// They are no operands: a name is none, or there is no catalogue, or more than one of a kind.
+    /// They are no operands: no log could have one's name, or there isn't one catalogue, or more
+    /// than one table of places.
     Usage,
     /// One of them is refused, or they can't be told apart.
     Refused(Refusal),

@@ -9,14 +9,14 @@ ghost use Rattle.vic_operands.specs.Lists.{HasList, IsList, is_listed};
 ghost use Rattle.vic_operands.specs.inner.Lists.{RefusesLines, RefusesList};
 
 use crate::fault::OperandFault;
-use crate::operand::Unread;
+use crate::operand::FileFault;
 use std::alloc::{AllocError, Global};
 use vic_frame::Uid;
 use vic_log::{Entry, Log, LogFault, PackedLine, read_log};
 use vic_table::Catalogue;
 
 /// Reads a list, as the catalogue of its UIDs.
-pub(crate) fn read_list(alloc: Global, text: &[u8]) -> Result<Catalogue, Unread>
+pub(crate) fn read_list(alloc: Global, text: &[u8]) -> Result<Catalogue, FileFault>
     ensures { MatchResult result
         (λ catalogue. (uids : List ℕ) × HasList text.now uids × IsListCatalogue catalogue uids)
         (RefusesList text.now) }
@@ -27,22 +27,22 @@ pub(crate) fn read_list(alloc: Global, text: &[u8]) -> Result<Catalogue, Unread>
 }
 
 /// The log of a text.
-fn log_in(alloc: Global, text: &[u8]) -> Result<Log, Unread>
+fn log_in(alloc: Global, text: &[u8]) -> Result<Log, FileFault>
     ensures { MatchResult result (IsLogOf (lines_of_text text.now)) (RefusesList text.now) }
 {
     match read_log(alloc, text) {
         Ok(log) => Ok(log),
-        Err(LogFault::Line { line, fault }) => Err(Unread::Line {
+        Err(LogFault::Line { line, fault }) => Err(FileFault::Line {
             line: u64::from(line),
             fault: OperandFault::List(fault),
         }),
-        Err(LogFault::Memory) => Err(Unread::Memory),
+        Err(LogFault::Memory) => Err(FileFault::Memory),
         Err(LogFault::Read | LogFault::Spent) => unreachable!(),
     }
 }
 
 /// The UIDs that lines list, which say nothing else.
-fn uids_of(alloc: Global, lines: &[PackedLine]) -> Result<Vec<Uid>, Unread>
+fn uids_of(alloc: Global, lines: &[PackedLine]) -> Result<Vec<Uid>, FileFault>
     ensures { MatchResult result
         (λ uids. IsList lines.now × (uids.items ≡ listed (entries lines.now)))
         (RefusesLines lines.now) }
@@ -50,7 +50,7 @@ fn uids_of(alloc: Global, lines: &[PackedLine]) -> Result<Vec<Uid>, Unread>
     let mut uids = Vec::new(alloc);
     for line in lines {
         if !push_listed(&mut uids, &line.item())? {
-            return Err(Unread::Line {
+            return Err(FileFault::Line {
                 line: u64::from(line.number()),
                 fault: OperandFault::NotListed,
             });

@@ -32,34 +32,34 @@ pub(crate) enum Operand {
 
 /// Why a file isn't read.
 #[derive(Clone, Copy, Debug, PartialEq, Eq)]
-pub(crate) enum Unread {
+pub(crate) enum FileFault {
     /// The first line with a fault.
     Line { line: u64, fault: OperandFault },
     Memory,
 }
 
-impl From<AllocError> for Unread {
-    ghost use Rattle.vic_operands.specs.declared.operand.Unread.{Unread};
+impl From<AllocError> for FileFault {
+    ghost use Rattle.vic_operands.specs.declared.operand.FileFault.{FileFault};
 
-    ghost from_gives = { λ _ e. e ≡ Unread.Memory };
+    ghost from_gives = { λ _ e. e ≡ FileFault.Memory };
 
-    fn from(_: AllocError) -> Unread {
-        Unread::Memory
+    fn from(_: AllocError) -> FileFault {
+        FileFault::Memory
     }
 }
 
-impl<T: Drop> From<AllocFailed<T>> for Unread {
-    ghost use Rattle.vic_operands.specs.declared.operand.Unread.{Unread};
+impl<T: Drop> From<AllocFailed<T>> for FileFault {
+    ghost use Rattle.vic_operands.specs.declared.operand.FileFault.{FileFault};
 
-    ghost from_gives = { λ _ e. e ≡ Unread.Memory };
+    ghost from_gives = { λ _ e. e ≡ FileFault.Memory };
 
-    fn from(_: AllocFailed<T>) -> Unread {
-        Unread::Memory
+    fn from(_: AllocFailed<T>) -> FileFault {
+        FileFault::Memory
     }
 }
 
 /// Reads a file, which has this name.
-pub(crate) fn read_operand(alloc: Global, name: Name, text: Vec<u8>) -> Result<Operand, Unread>
+pub(crate) fn read_operand(alloc: Global, name: Name, text: Vec<u8>) -> Result<Operand, FileFault>
     ensures { let file : FileValue = record { name = name; text = text.items } in
         MatchResult result (spec.IsOperandOf file) (spec.Refuses file) }
 {
@@ -75,7 +75,7 @@ pub(crate) fn read_behind_list(
     alloc: Global,
     name: Name,
     text: &[u8],
-) -> Result<Vec<Survey>, Unread>
+) -> Result<Vec<Survey>, FileFault>
     ensures { let file : FileValue = record { name = name; text = text.now } in
         MatchResult result
         (λ surveys. IsRightBehindList file
@@ -89,7 +89,7 @@ pub(crate) fn read_behind_list(
 }
 
 /// The surveys of a text of surveys.
-fn surveys_in(alloc: Global, text: &[u8]) -> Result<Vec<Survey>, Unread>
+fn surveys_in(alloc: Global, text: &[u8]) -> Result<Vec<Survey>, FileFault>
     ensures { MatchResult result
         (λ surveys. AreSurveys surveys.items × (text_of surveys.items ≡ text.now))
         (spec.RefusesBy KindValue.Surveys text.now) }
@@ -99,11 +99,11 @@ fn surveys_in(alloc: Global, text: &[u8]) -> Result<Vec<Survey>, Unread>
             are_surveys(surveys.as_slice());
             Ok(surveys)
         }
-        Err(SurveysFault::Line { line }) => Err(Unread::Line {
+        Err(SurveysFault::Line { line }) => Err(FileFault::Line {
             line: line as u64,
             fault: OperandFault::Survey,
         }),
-        Err(SurveysFault::Memory) => Err(Unread::Memory),
+        Err(SurveysFault::Memory) => Err(FileFault::Memory),
     }
 }
 
@@ -127,7 +127,7 @@ fn survey_of(alloc: Global, name: Name, text: &[u8]) -> Result<Vec<Survey>, Allo
 }
 
 /// The catalogue or the places of a table.
-fn table_in(alloc: Global, name: &Name, text: Vec<u8>) -> Result<Operand, Unread>
+fn table_in(alloc: Global, name: &Name, text: Vec<u8>) -> Result<Operand, FileFault>
     requires { kind_of text.items ≡ KindValue.Table }
     ensures { let file : FileValue = record { name = name.now; text = text.items } in
         MatchResult result (spec.IsOperandOf file) (spec.Refuses file) }
@@ -138,10 +138,10 @@ fn table_in(alloc: Global, name: &Name, text: Vec<u8>) -> Result<Operand, Unread
             Ok(Operand::Catalogue(NamedCatalogue { name, catalogue }))
         }
         Ok(Table::Places(places)) => Ok(Operand::Places(places)),
-        Err(TableFault::Line { line, fault }) => Err(Unread::Line {
+        Err(TableFault::Line { line, fault }) => Err(FileFault::Line {
             line: u64::from(line),
             fault: OperandFault::Table(fault),
         }),
-        Err(TableFault::Memory) => Err(Unread::Memory),
+        Err(TableFault::Memory) => Err(FileFault::Memory),
     }
 }

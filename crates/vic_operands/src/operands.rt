@@ -12,7 +12,7 @@ ghost use Rattle.vic_operands.specs.inner.States.{HasTakenBy};
 
 use crate::fault::{OperandFault, Refusal};
 use crate::gathered::Gathered;
-use crate::operand::{NamedCatalogue, Operand, Unread, read_operand};
+use crate::operand::{FileFault, NamedCatalogue, Operand, read_operand};
 use std::alloc::{AllocError, Global};
 use vic_collection::Collection;
 use vic_survey::{Name, Survey};
@@ -26,7 +26,7 @@ pub struct Operands {
 
 #[derive(Drop)]
 enum State {
-    /// The name of one is none.
+    /// One has a name that no log could have.
     Unnamed,
     /// Of the first that has a fault, this is the first.
     Refused(Refusal),
@@ -104,12 +104,12 @@ fn with_file(alloc: Global, kept: Kept, name: Name, text: Vec<u8>) -> Result<Sta
     let file = String::from_str(alloc, name.as_str())?;
     match read_operand(alloc, name, text) {
         Ok(operand) => Ok(State::Kept(with_operand(kept, operand)?)),
-        Err(Unread::Line { line, fault }) => Ok(State::Refused(Refusal {
+        Err(FileFault::Line { line, fault }) => Ok(State::Refused(Refusal {
             name: file,
             line,
             fault,
         })),
-        Err(Unread::Memory) => Err(AllocError),
+        Err(FileFault::Memory) => Err(AllocError),
     }
 }
 

@@ -13,7 +13,7 @@ use crate::fault::Refusal;
 use crate::gathered::Gathered;
 use crate::kind::is_list;
 use crate::list::read_list;
-use crate::operand::{Unread, read_behind_list};
+use crate::operand::{FileFault, read_behind_list};
 use crate::operands::{Operands, with_surveys};
 use std::alloc::{AllocError, Global};
 use vic_collection::Collection;
@@ -30,7 +30,7 @@ pub struct ReconcileOperands {
 enum Expecting {
     /// None was taken.
     Nothing,
-    /// The name of one is none.
+    /// One has a name that no log could have.
     Unnamed,
     /// The list has a fault, or of the files behind it the first that has one has this one.
     Refused(Refusal),
@@ -147,12 +147,12 @@ fn first_list(alloc: Global, name: Name, text: &[u8]) -> Result<Expecting, Alloc
             catalogue,
             surveys: Vec::new(alloc),
         })),
-        Err(Unread::Line { line, fault }) => Ok(Expecting::Refused(Refusal {
+        Err(FileFault::Line { line, fault }) => Ok(Expecting::Refused(Refusal {
             name: String::from_str(alloc, name.as_str())?,
             line,
             fault,
         })),
-        Err(Unread::Memory) => Err(AllocError),
+        Err(FileFault::Memory) => Err(AllocError),
     }
 }
 
@@ -169,12 +169,12 @@ fn with_log(alloc: Global, listed: Listed, name: Name, text: &[u8]) -> Result<Ex
             let surveys = with_surveys(surveys, more)?;
             Ok(Expecting::Listed(Listed { catalogue, surveys }))
         }
-        Err(Unread::Line { line, fault }) => Ok(Expecting::Refused(Refusal {
+        Err(FileFault::Line { line, fault }) => Ok(Expecting::Refused(Refusal {
             name: file,
             line,
             fault,
         })),
-        Err(Unread::Memory) => Err(AllocError),
+        Err(FileFault::Memory) => Err(AllocError),
     }
 }
 

@@ -7,16 +7,16 @@ use Rattle.std.specs.List.{All}
 use Rattle.vic_log.specs.Device.{Grows}
 use Rattle.vic_survey.specs.Names.{IsName}
 use Rattle.vic_program.specs.Each.{IsTextOf, IsUnreadable, ReadsEach, StopsEarly}
-use Rattle.vic_program.specs.Sides.{Opening}
+use Rattle.vic_program.specs.Sides.{FilesView}
 
 -- the first of them, and one more
 pub taken_next : (names : List (List ℕ)) (i : ℕ) (name : List ℕ) → i < length names → get_or names i [] ≡ name → take (i + 1) names ≡ take i names ++ name ∷ []
 taken_next names i name lt is = take_more names i [] lt ∙ ap (λ n. take i names ++ n ∷ []) is
 
-pub reads_none : {T : Type 0} (o : Opening T) (P : List (List ℕ) → Type 0) → P [] → ReadsEach o [] P
+pub reads_none : {T : Type 0} (o : FilesView T) (P : List (List ℕ) → Type 0) → P [] → ReadsEach o [] P
 reads_none o P h = record { texts = []; each = tt; holds = h }
 
-pub reads_more : {T : Type 0} (o : Opening T) (names : List (List ℕ)) (name text : List ℕ) (P Q : List (List ℕ) → Type 0) → ReadsEach o names P → IsTextOf o name text
+pub reads_more : {T : Type 0} (o : FilesView T) (names : List (List ℕ)) (name text : List ℕ) (P Q : List (List ℕ) → Type 0) → ReadsEach o names P → IsTextOf o name text
     → ((texts : List (List ℕ)) → P texts → Q (texts ++ text ∷ [])) → ReadsEach o (names ++ name ∷ []) Q
 reads_more o names name text P Q h one more = record {
   texts = h.texts ++ text ∷ [];
@@ -24,7 +24,7 @@ reads_more o names name text P Q h one more = record {
   holds = more h.texts h.holds;
 }
 
-pub stops_at : {T : Type 0} (o : Opening T) (names : List (List ℕ)) (i : ℕ) (name line : List ℕ) (P : List (List ℕ) → Type 0) → i < length names → get_or names i [] ≡ name
+pub stops_at : {T : Type 0} (o : FilesView T) (names : List (List ℕ)) (i : ℕ) (name line : List ℕ) (P : List (List ℕ) → Type 0) → i < length names → get_or names i [] ≡ name
     → ReadsEach o (take i names) P → IsUnreadable o name line → StopsEarly o names line
 stops_at o names i name line P lt is h stopped = record {
   before = take i names;

@@ -1,4 +1,4 @@
-pub mod Told
+pub mod Saying
 pub mod Asked
 pub mod InTurn
 pub mod Written

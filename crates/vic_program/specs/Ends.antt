@@ -23,9 +23,9 @@ end_of (Ok status) = Ok status
 end_of (Err why) = Err (line_of why)
 
 -- the end of a run
-abbrev pub ended : Result Status RunFault → End
-ended (Ok status) = Ok status
-ended (Err fault) = Err (fault_text fault)
+abbrev pub run_end : Result Status RunFault → End
+run_end (Ok status) = Ok status
+run_end (Err fault) = Err (fault_text fault)
 
 -- the exit status
 abbrev pub exit_code : End → ℕ

@@ -6,7 +6,7 @@ use Rattle.vic_words.specs.Words.{Ask}
 use Rattle.vic_words.specs.declared.asked.Asked.{Asked}
 use Rattle.vic_program.specs.Ends.{End, exit_code}
 use Rattle.vic_program.specs.Runs.{RunsAsked}
-use Rattle.vic_program.specs.Sides.{Opening, Reading, Writing}
+use Rattle.vic_program.specs.Sides.{FilesView, SourceView, SinkView}
 
 -- nothing was read or written, and standard error has this line
 pub record IsSilent {I W : Type 0} (line : List ℕ) (input input' : I) (output output' : W)
@@ -16,7 +16,7 @@ pub record IsSilent {I W : Type 0} (line : List ℕ) (input input' : I) (output 
   pub ends : end ≡ Err line
 
 -- the words ask for this, and it was done
-pub record IsDone {T I W : Type 0} (o : Opening T) (ri : Reading I) (w : Writing W)
+pub record IsDone {T I W : Type 0} (o : FilesView T) (ri : SourceView I) (w : SinkView W)
     (words : List (List ℕ)) (input input' : I) (output output' : W) (end : End) : Type 0 where
   pub asked : Asked
   pub asks : Ask words asked
@@ -29,7 +29,7 @@ pub record IsUsage {I W : Type 0} (words : List (List ℕ)) (input input' : I) (
   pub silent : IsSilent (codes "vicinity: usage") input input' output output' end
 
 -- what was done for the words; or memory to read them was refused
-abbrev pub RunsWords : {T I W : Type 0} → Opening T → Reading I → Writing W
+abbrev pub RunsWords : {T I W : Type 0} → FilesView T → SourceView I → SinkView W
     → List (List ℕ) → I → I → W → W → End → Type 0
 RunsWords o ri w words input input' output output' end =
     IsDone o ri w words input input' output output' end

@@ -9,31 +9,31 @@ use Rattle.vic_words.specs.declared.asked.Asked.{Asked}
 use Rattle.vic_words.specs.declared.asked.Asked.TheVariants.{Task as OneTask, Json, Files}
 use Rattle.vic_words.specs.declared.asked.FilesCommand.{FilesCommand}
 use Rattle.vic_words.specs.declared.asked.FilesCommand.TheVariants.{Reconcile, Survey, Collection, JsonCollection}
-use Rattle.vic_commands.specs.Collected.{IsListing, IsReconciling, IsTabling}
-use Rattle.vic_commands.specs.Surveyed.{IsSurveying}
+use Rattle.vic_commands.specs.Collected.{IsJsonCollectionRun, IsReconcileRun, IsCollectionRun}
+use Rattle.vic_commands.specs.Surveyed.{IsSurveyRun}
 use Rattle.vic_object.specs.Object.{IsObjectOf}
-use Rattle.vic_program.specs.Ends.{End, ended}
+use Rattle.vic_program.specs.Ends.{End, run_end}
 use Rattle.vic_program.specs.Each.{ForTexts, IsUnopened, OverEach}
 use Rattle.vic_program.specs.Single.{IsUnanswered, OverText}
-use Rattle.vic_program.specs.Sides.{Opening, Reading, Writing}
+use Rattle.vic_program.specs.Sides.{FilesView, SourceView, SinkView}
 
 -- a task was done from a source to a sink, with this result
-pub record DoesTask {S W : Type 0} (r : Reading S) (w : Writing W) (task : Task) (from from' : S)
-    (to to' : W) (ran : Result Status RunFault) : Type 0 where
+pub record DoesTask {S W : Type 0} (r : SourceView S) (w : SinkView W) (task : Task)
+    (from from' : S) (to to' : W) (ran : Result Status RunFault) : Type 0 where
   pub does : Does task (r.returned from) (r.returned from') (r.ended from')
       (w.written to) (w.written to') ran
   pub leaves_source : LeavesSourceAfter task r.reads r.has_failed from from' ran
   pub leaves_sink : LeavesSink w.is_flushed w.has_failed to to' ran
 
 -- a task over standard input, or over none
-pub record OverInput {S W : Type 0} (r : Reading S) (w : Writing W) (task : Task)
+pub record OverInput {S W : Type 0} (r : SourceView S) (w : SinkView W) (task : Task)
     (input input' : S) (output output' : W) (end : End) : Type 0 where
   pub ran : Result Status RunFault
   pub does : DoesTask r w task input input' output output' ran
-  pub ends : end ≡ ended ran
+  pub ends : end ≡ run_end ran
 
 -- a task over a file that was opened by this name
-pub record OverOpened {T W : Type 0} (o : Opening T) (w : Writing W) (task : Task)
+pub record OverOpened {T W : Type 0} (o : FilesView T) (w : SinkView W) (task : Task)
     (name : List ℕ) (output output' : W) (end : End) : Type 0 where
   pub file : T
   pub file' : T
@@ -41,10 +41,10 @@ pub record OverOpened {T W : Type 0} (o : Opening T) (w : Writing W) (task : Tas
   pub works : o.reading.has_failed file ≡ false
   pub ran : Result Status RunFault
   pub does : DoesTask o.reading w task file file' output output' ran
-  pub ends : end ≡ ended ran
+  pub ends : end ≡ run_end ran
 
 -- a task over the file with this name: nothing was written if it couldn't be opened
-abbrev pub OverFile : {T W : Type 0} → Opening T → Writing W → Task → List ℕ → W → W → End
+abbrev pub OverFile : {T W : Type 0} → FilesView T → SinkView W → Task → List ℕ → W → W → End
     → Type 0
 OverFile o w task name output output' end =
     OverOpened o w task name output output' end
@@ -53,7 +53,7 @@ OverFile o w task name output output' end =
 -- ---- what is asked for
 
 -- a task, over the file that it names or over standard input
-abbrev pub RunsTask : {T I W : Type 0} → Opening T → Reading I → Writing W → Task
+abbrev pub RunsTask : {T I W : Type 0} → FilesView T → SourceView I → SinkView W → Task
     → Option (List ℕ) → I → I → W → W → End → Type 0
 RunsTask o ri w task (Some name) input input' output output' end =
     OverFile o w task name output output' end × (input' ≡ input)
@@ -62,12 +62,12 @@ RunsTask o ri w task None input input' output output' end =
 
 -- what a command writes that takes one file after the other
 abbrev pub writes_of : FilesCommand → ForTexts
-writes_of Reconcile = IsReconciling
-writes_of Survey = IsSurveying
-writes_of Collection = IsTabling
-writes_of JsonCollection = IsListing
+writes_of Reconcile = IsReconcileRun
+writes_of Survey = IsSurveyRun
+writes_of Collection = IsCollectionRun
+writes_of JsonCollection = IsJsonCollectionRun
 
-abbrev pub RunsAsked : {T I W : Type 0} → Opening T → Reading I → Writing W
+abbrev pub RunsAsked : {T I W : Type 0} → FilesView T → SourceView I → SinkView W
     → Asked → I → I → W → W → End → Type 0
 RunsAsked o ri w (OneTask task) input input' output output' end =
     RunsTask o ri w task (file_of task) input input' output output' end

@@ -9,6 +9,7 @@ mod no_answer;
 mod program;
 mod run;
 mod single;
+mod texts;
 
 pub use files::Files;
 pub use no_answer::NoAnswer;

@@ -1,9 +1,9 @@
 //! Why a run has no answer, and what standard error says about it.
 
 ghost use Rattle.std.specs.Prelude.{◌≡◌, ◌++◌, codes};
-ghost use Rattle.vic_program.specs.Each.{unread_line};
-ghost use Rattle.vic_program.specs.Ends.{end_of, line_of, ended};
-ghost use Rattle.vic_program.specs.Lines.{Tells, Told};
+ghost use Rattle.vic_program.specs.Each.{read_fault_line};
+ghost use Rattle.vic_program.specs.Ends.{end_of, line_of, run_end};
+ghost use Rattle.vic_program.specs.Lines.{SaysLine, SaysPart};
 
 use std::alloc::AllocError;
 use vic_answer::{RunFault, Status, fault_text};
@@ -36,8 +36,8 @@ impl<'a> From<AllocError> for NoAnswer<'a> {
 }
 
 /// How a run ends.
-pub(crate) fn ended<'a>(ran: Result<Status, RunFault>) -> Result<Status, NoAnswer<'a>>
-    ensures { end_of result ≡ ended ran }
+pub(crate) fn end_of_run<'a>(ran: Result<Status, RunFault>) -> Result<Status, NoAnswer<'a>>
+    ensures { end_of result ≡ run_end ran }
 {
     match ran {
         Ok(status) => Ok(status),
@@ -46,8 +46,8 @@ pub(crate) fn ended<'a>(ran: Result<Status, RunFault>) -> Result<Status, NoAnswe
 }
 
 /// Why there is no answer where a source wasn't read to its end.
-pub(crate) fn unread<'a>(fault: ReadFault) -> NoAnswer<'a>
-    ensures { line_of result ≡ unread_line fault }
+pub(crate) fn read_fault<'a>(fault: ReadFault) -> NoAnswer<'a>
+    ensures { line_of result ≡ read_fault_line fault }
 {
     match fault {
         ReadFault::Read => NoAnswer::Run(RunFault::Read),
@@ -68,14 +68,14 @@ impl<'a> NoAnswer<'a> {
     }
 
     /// Says it on a sink, which is flushed. A sink that has failed isn't written to again.
-    pub(crate) fn tell<W: Sink>(&self, sink: &mut W)
-        ensures { Tells W.written W.is_flushed W.has_failed sink.old sink.new
+    pub(crate) fn say<W: Sink>(&self, sink: &mut W)
+        ensures { SaysLine W.written W.is_flushed W.has_failed sink.old sink.new
             (line_of self.now ++ codes "\n") }
     {
         let (first, second) = self.parts();
-        tell_part(sink, first.as_bytes());
-        tell_part(sink, second.as_bytes());
-        tell_part(sink, b"\n");
+        say_part(sink, first.as_bytes());
+        say_part(sink, second.as_bytes());
+        say_part(sink, b"\n");
         if !sink.failed() {
             // if it fails, the status is the same
             let _ = sink.flush();
@@ -84,8 +84,8 @@ impl<'a> NoAnswer<'a> {
 }
 
 /// Writes a part of what is said. If that fails, the status is the same.
-fn tell_part<W: Sink>(sink: &mut W, part: &[u8])
-    ensures { Told W.written W.has_failed sink.old sink.new part.now }
+fn say_part<W: Sink>(sink: &mut W, part: &[u8])
+    ensures { SaysPart W.written W.has_failed sink.old sink.new part.now }
 {
     let _ = write_whole(sink, part);
 }

@@ -4,6 +4,7 @@ ghost use Rattle.std.specs.Prelude.{◌≡◌, MatchResult, map, string_bytes};
 ghost use Rattle.vic_program.specs.Ends.{end_of, exit_code, line_of, words_line};
 ghost use Rattle.vic_program.specs.Lines.{Says};
 ghost use Rattle.vic_program.specs.Program.{Ends, IsSilent, RunsWords};
+ghost use Rattle.vic_program.specs.Sides.{files_view, sink_view, source_view};
 
 use crate::files::Files;
 use crate::no_answer::{NO_ANSWER, NoAnswer};
@@ -12,67 +13,6 @@ use std::alloc::Global;
 use vic_answer::{RunFault, Status};
 use vic_log::{Sink, Source};
 use vic_words::{WordsFault, read_words};
-
-/// Why there is no answer to words that ask for nothing.
-fn no_request(fault: WordsFault) -> NoAnswer<'static>
-    ensures { line_of result ≡ words_line fault }
-{
-    match fault {
-        WordsFault::Usage => NoAnswer::Usage,
-        WordsFault::Memory => NoAnswer::Run(RunFault::Memory),
-    }
-}
-
-/// Says why there is no answer, if there is none, and returns the exit status.
-fn end<E: Sink>(ended: Result<Status, NoAnswer<'_>>, errors: &mut E) -> u8
-    ensures code { result ≡ exit_code (end_of ended.entry) }
-    ensures says { Says E.written E.is_flushed E.has_failed (end_of ended.entry)
-        errors.old errors.new }
-{
-    match ended {
-        Ok(status) => status.code(),
-        Err(why) => {
-            why.tell(errors);
-            NO_ANSWER
-        }
-    }
-}
-
-/// Does what the words ask for, and returns the exit status.
-fn run_words<F: Files, I: Source, O: Sink, E: Sink>(
-    alloc: Global,
-    words: Vec<String>,
-    files: &F,
-    input: &mut I,
-    output: &mut O,
-    errors: &mut E,
-) -> u8
-    ensures { Ends (RunsWords (record {
-      reading = record {
-        returned = F.File.returned;
-        ended = F.File.ended;
-        reads = F.File.reads;
-        has_failed = F.File.has_failed;
-      };
-      origin = F.origin files.now;
-      Refuses = F.Refuses files.now;
-    }) (record {
-      returned = I.returned;
-      ended = I.ended;
-      reads = I.reads;
-      has_failed = I.has_failed;
-    }) (record {
-      written = O.written;
-      is_flushed = O.is_flushed;
-      has_failed = O.has_failed;
-    }) (map string_bytes words.items) input.old input.new output.old output.new)
-        result (λ end. Says E.written E.is_flushed E.has_failed end errors.old errors.new) }
-{
-    match read_words(alloc, words) {
-        Ok(asked) => end(run_asked(alloc, &asked, files, input, output), errors),
-        Err(fault) => end(Err(no_request(fault)), errors),
-    }
-}
 
 /// Reads the words, of which the first is the program's name, or is told why there are none. Does
 /// what they ask for, and returns the exit status: 0 to 3 with an answer on `output`, or 4 with a
@@ -86,30 +26,65 @@ pub fn run_program<F: Files, I: Source, O: Sink, E: Sink>(
     errors: &mut E,
 ) -> u8
     ensures { Ends (λ end. MatchResult words
-        (λ w. RunsWords (record {
-          reading = record {
-            returned = F.File.returned;
-            ended = F.File.ended;
-            reads = F.File.reads;
-            has_failed = F.File.has_failed;
-          };
-          origin = F.origin files.now;
-          Refuses = F.Refuses files.now;
-        }) (record {
-          returned = I.returned;
-          ended = I.ended;
-          reads = I.reads;
-          has_failed = I.has_failed;
-        }) (record {
-          written = O.written;
-          is_flushed = O.is_flushed;
-          has_failed = O.has_failed;
-        }) (map string_bytes w.items) input.old input.new output.old output.new end)
-        (λ fault. IsSilent (words_line fault) input.old input.new output.old output.new end))
-        result (λ end. Says E.written E.is_flushed E.has_failed end errors.old errors.new) }
+        (λ w. RunsWords
+        (files_view F.File.returned F.File.ended F.File.reads F.File.has_failed
+        (F.origin files.now) (F.Refuses files.now))
+        (source_view I.returned I.ended I.reads I.has_failed)
+        (sink_view O.written O.is_flushed O.has_failed)
+        (map string_bytes w.items) input.old input.new output.old output.new end)
+        (λ fault. IsSilent (words_line fault) input.old input.new output.old output.new end)) result
+        (λ end. Says E.written E.is_flushed E.has_failed end errors.old errors.new) }
 {
     match words {
         Ok(words) => run_words(alloc, words, files, input, output, errors),
         Err(fault) => end(Err(no_request(fault)), errors),
+    }
+}
+
+/// Does what the words ask for, and returns the exit status.
+fn run_words<F: Files, I: Source, O: Sink, E: Sink>(
+    alloc: Global,
+    words: Vec<String>,
+    files: &F,
+    input: &mut I,
+    output: &mut O,
+    errors: &mut E,
+) -> u8
+    ensures { Ends (RunsWords
+        (files_view F.File.returned F.File.ended F.File.reads F.File.has_failed
+        (F.origin files.now) (F.Refuses files.now))
+        (source_view I.returned I.ended I.reads I.has_failed)
+        (sink_view O.written O.is_flushed O.has_failed)
+        (map string_bytes words.items) input.old input.new output.old output.new) result
+        (λ end. Says E.written E.is_flushed E.has_failed end errors.old errors.new) }
+{
+    match read_words(alloc, words) {
+        Ok(asked) => end(run_asked(alloc, &asked, files, input, output), errors),
+        Err(fault) => end(Err(no_request(fault)), errors),
+    }
+}
+
+/// Says why there is no answer, if there is none, and returns the exit status.
+fn end<E: Sink>(ended: Result<Status, NoAnswer<'_>>, errors: &mut E) -> u8
+    ensures code { result ≡ exit_code (end_of ended.entry) }
+    ensures says { Says E.written E.is_flushed E.has_failed (end_of ended.entry)
+        errors.old errors.new }
+{
+    match ended {
+        Ok(status) => status.code(),
+        Err(why) => {
+            why.say(errors);
+            NO_ANSWER
+        }
+    }
+}
+
+/// Why there is no answer to words that ask for nothing.
+fn no_request(fault: WordsFault) -> NoAnswer<'static>
+    ensures { line_of result ≡ words_line fault }
+{
+    match fault {
+        WordsFault::Usage => NoAnswer::Usage,
+        WordsFault::Memory => NoAnswer::Run(RunFault::Memory),
     }
 }

@@ -5,10 +5,11 @@ ghost use Rattle.vic_answer.specs.Tasks.{file_of};
 ghost use Rattle.vic_program.specs.Each.{OverEach};
 ghost use Rattle.vic_program.specs.Ends.{end_of};
 ghost use Rattle.vic_program.specs.Runs.{OverFile, RunsAsked, RunsTask, writes_of};
+ghost use Rattle.vic_program.specs.Sides.{files_view, sink_view, source_view};
 
 use crate::each::run_over_each;
 use crate::files::Files;
-use crate::no_answer::{NoAnswer, ended};
+use crate::no_answer::{NoAnswer, end_of_run};
 use crate::single::run_json;
 use std::alloc::Global;
 use vic_answer::{Status, Task, do_task};
@@ -16,32 +17,30 @@ use vic_commands::{ForLines, ForObject, ForTable, TakenLogs};
 use vic_log::{Sink, Source};
 use vic_words::{Asked, FilesCommand};
 
-/// Does a task over the file with a name.
-fn run_over_file<'a, F: Files, O: Sink>(
+/// Does what the words ask for. Nothing but the files that they name is opened.
+pub fn run_asked<'a, F: Files, I: Source, O: Sink>(
     alloc: Global,
-    task: &Task,
+    asked: &'a Asked,
     files: &F,
-    name: &'a str,
+    input: &mut I,
     output: &mut O,
 ) -> Result<Status, NoAnswer<'a>>
-    ensures { OverFile (record {
-      reading = record {
-        returned = F.File.returned;
-        ended = F.File.ended;
-        reads = F.File.reads;
-        has_failed = F.File.has_failed;
-      };
-      origin = F.origin files.now;
-      Refuses = F.Refuses files.now;
-    }) (record {
-      written = O.written;
-      is_flushed = O.is_flushed;
-      has_failed = O.has_failed;
-    }) task.now name.entry.now output.old output.new (end_of result) }
+    ensures { RunsAsked
+        (files_view F.File.returned F.File.ended F.File.reads F.File.has_failed
+        (F.origin files.now) (F.Refuses files.now))
+        (source_view I.returned I.ended I.reads I.has_failed)
+        (sink_view O.written O.is_flushed O.has_failed)
+        asked.entry.now input.old input.new output.old output.new (end_of result) }
 {
-    match files.open(name) {
-        Ok(mut file) => ended(do_task(alloc, task, &mut file, output)),
-        Err(_) => Err(NoAnswer::CannotOpen(name)),
+    match asked {
+        Asked::Task(task) => run_task(alloc, task, files, input, output),
+        Asked::Json(file) => {
+            let name = file.as_ref().map(|name| name.as_str());
+            run_json(alloc, name, files, input, output)
+        }
+        Asked::Files(command, names) => {
+            run_files_command(alloc, *command, files, names.as_slice(), output)
+        }
     }
 }
 
@@ -53,30 +52,37 @@ fn run_task<'a, F: Files, I: Source, O: Sink>(
     input: &mut I,
     output: &mut O,
 ) -> Result<Status, NoAnswer<'a>>
-    ensures { RunsTask (record {
-      reading = record {
-        returned = F.File.returned;
-        ended = F.File.ended;
-        reads = F.File.reads;
-        has_failed = F.File.has_failed;
-      };
-      origin = F.origin files.now;
-      Refuses = F.Refuses files.now;
-    }) (record {
-      returned = I.returned;
-      ended = I.ended;
-      reads = I.reads;
-      has_failed = I.has_failed;
-    }) (record {
-      written = O.written;
-      is_flushed = O.is_flushed;
-      has_failed = O.has_failed;
-    }) task.entry.now (file_of task.entry.now)
-        input.old input.new output.old output.new (end_of result) }
+    ensures { RunsTask
+        (files_view F.File.returned F.File.ended F.File.reads F.File.has_failed
+        (F.origin files.now) (F.Refuses files.now))
+        (source_view I.returned I.ended I.reads I.has_failed)
+        (sink_view O.written O.is_flushed O.has_failed)
+        task.entry.now (file_of task.entry.now) input.old input.new output.old output.new (end_of
+        result) }
 {
     match task.file() {
         Some(name) => run_over_file(alloc, task, files, name, output),
-        None => ended(do_task(alloc, task, input, output)),
+        None => end_of_run(do_task(alloc, task, input, output)),
+    }
+}
+
+/// Does a task over the file with a name.
+fn run_over_file<'a, F: Files, O: Sink>(
+    alloc: Global,
+    task: &Task,
+    files: &F,
+    name: &'a str,
+    output: &mut O,
+) -> Result<Status, NoAnswer<'a>>
+    ensures { OverFile
+        (files_view F.File.returned F.File.ended F.File.reads F.File.has_failed
+        (F.origin files.now) (F.Refuses files.now))
+        (sink_view O.written O.is_flushed O.has_failed)
+        task.now name.entry.now output.old output.new (end_of result) }
+{
+    match files.open(name) {
+        Ok(mut file) => end_of_run(do_task(alloc, task, &mut file, output)),
+        Err(_) => Err(NoAnswer::CannotOpen(name)),
     }
 }
 
@@ -88,20 +94,11 @@ fn run_files_command<'a, F: Files, O: Sink>(
     names: &'a [String],
     output: &mut O,
 ) -> Result<Status, NoAnswer<'a>>
-    ensures { OverEach (record {
-      reading = record {
-        returned = F.File.returned;
-        ended = F.File.ended;
-        reads = F.File.reads;
-        has_failed = F.File.has_failed;
-      };
-      origin = F.origin files.now;
-      Refuses = F.Refuses files.now;
-    }) (record {
-      written = O.written;
-      is_flushed = O.is_flushed;
-      has_failed = O.has_failed;
-    }) (writes_of command) (map string_bytes names.entry.now)
+    ensures { OverEach
+        (files_view F.File.returned F.File.ended F.File.reads F.File.has_failed
+        (F.origin files.now) (F.Refuses files.now))
+        (sink_view O.written O.is_flushed O.has_failed)
+        (writes_of command) (map string_bytes names.entry.now)
         output.old output.new (end_of result) }
 {
     match command {
@@ -110,46 +107,6 @@ fn run_files_command<'a, F: Files, O: Sink>(
         FilesCommand::Collection => run_over_each::<ForTable, F, O>(alloc, files, names, output),
         FilesCommand::JsonCollection => {
             run_over_each::<ForObject, F, O>(alloc, files, names, output)
-        }
-    }
-}
-
-/// Does what the words ask for. Nothing but the files that they name is opened.
-pub fn run_asked<'a, F: Files, I: Source, O: Sink>(
-    alloc: Global,
-    asked: &'a Asked,
-    files: &F,
-    input: &mut I,
-    output: &mut O,
-) -> Result<Status, NoAnswer<'a>>
-    ensures { RunsAsked (record {
-      reading = record {
-        returned = F.File.returned;
-        ended = F.File.ended;
-        reads = F.File.reads;
-        has_failed = F.File.has_failed;
-      };
-      origin = F.origin files.now;
-      Refuses = F.Refuses files.now;
-    }) (record {
-      returned = I.returned;
-      ended = I.ended;
-      reads = I.reads;
-      has_failed = I.has_failed;
-    }) (record {
-      written = O.written;
-      is_flushed = O.is_flushed;
-      has_failed = O.has_failed;
-    }) asked.entry.now input.old input.new output.old output.new (end_of result) }
-{
-    match asked {
-        Asked::Task(task) => run_task(alloc, task, files, input, output),
-        Asked::Json(file) => {
-            let name = file.as_ref().map(|name| name.as_str());
-            run_json(alloc, name, files, input, output)
-        }
-        Asked::Files(command, names) => {
-            run_files_command(alloc, *command, files, names.as_slice(), output)
         }
     }
 }

@@ -2,7 +2,6 @@ mod Words
 pub mod Joined
 mod ValueWords
 pub mod Spelled
-pub mod HexBack
 pub mod ValueLaws
 pub mod RisingLaws
 pub mod LineLaws

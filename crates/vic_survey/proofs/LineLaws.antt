@@ -3,8 +3,9 @@ use Rattle.vic_survey.proofs.ValueWords.{All-from_recursion, AllByRecursion, rec
 use Rattle.std.specs.Prelude.{IfSome}
 use Rattle.vic_log.specs.declared.fault.LineFault.TheVariants as fault
 use Rattle.vic_frame.specs.declared.fault.FrameFault.TheVariants as frame
-use Rattle.vic_survey.proofs.Spelled.{same, then_some, if_some, if_cases, parted_text}
-use Rattle.vic_survey.proofs.HexBack.{length_hex}
+use Rattle.vic_survey.proofs.Spelled.{then_some, if_cases, parted_text}
+use Rattle.vic_text.proofs.HexBack.{length_hex}
+use Rattle.vic_text.proofs.ValueLaws.{if_some, same}
 use Rattle.vic_survey.proofs.ValueLaws.{after_text, line_number_text, line_number_back, uid_text_of, uid_back, mask_text_of, mask_back, parted_back, no_digit}
 use Rattle.vic_survey.specs.inner.Steps.{line_after, field_in, certain_after}
 use Rattle.vic_survey.specs.SurveyText.{field_lines, name_line}

@@ -1,16 +1,10 @@
 -- Values that are read are spelled so.
-use Rattle.vic_survey.proofs.ValueWords.{Bool, List, None, Option, Some, [], ap, arith, eqb-true, false, if◌then◌else◌, length, nat_lt, nat_le, nat_eq, has, ltb-true, leb-true, refl, slice_index, subst, suc, sym, take, drop, drop-cons, add-one, get_or, take_all, true, zero, ℕ, ◌&&◌, ◌++◌, ◌+◌, ◌-◌, ◌^◌, ◌<◌, ◌==◌, ◌∙◌, ◌∷◌, ◌≡◌, ◌≤◌, nat_tests, decimal, line_fault_name, bytes_eq, Ok, Result, le-leb, lt-ltb, and_parts, decimal_is_IsNumeral, parse-decimal, bytes_eq-Decides, IsUtf8-from_ascii, IsAscii-decimal, IsUtf8, ParsesUnsigned, digits_value, and_then, parted, number_in, LineFault, fault_among}
-
-pub same : (v w : List ℕ) → bytes_eq v w ≡ true → v ≡ w
-same v w h = (bytes_eq-Decides v w).0 h
+use Rattle.vic_survey.proofs.ValueWords.{Bool, List, None, Option, Some, [], ap, arith, eqb-true, false, if◌then◌else◌, length, nat_le, nat_eq, has, leb-true, refl, slice_index, suc, sym, take, drop, drop-cons, add-one, get_or, take_all, true, zero, ℕ, ◌&&◌, ◌++◌, ◌+◌, ◌-◌, ◌^◌, ◌<◌, ◌==◌, ◌∙◌, ◌∷◌, ◌≡◌, ◌≤◌, nat_tests, decimal, line_fault_name, bytes_eq, le-leb, and_then, parted, number_in, number_up_to, LineFault, fault_among}
+use Rattle.vic_text.proofs.ValueLaws.{if_some, number_found as decimal_found, number_text as decimal_text}
 
 pub then_some : {A B : Type 0} (r : Option A) (f : A → Option B) (y : B) → and_then r f ≡ Some y → (x : A) × (r ≡ Some x) × (f x ≡ Some y)
 then_some (Some x) f y h = (x, refl, h)
 then_some None f y h = absurd (cc h)
-
-pub if_some : {A : Type 0} (b : Bool) (x : Option A) (y : A) → (if b then x else None) ≡ Some y → (b ≡ true) × (x ≡ Some y)
-if_some true x y h = (refl, h)
-if_some false x y h = absurd (cc h)
 
 not_so : (b : Bool) → (b ≡ true → ⊥) → b ≡ false
 not_so true h = absurd (h refl)
@@ -81,38 +75,16 @@ parted_lacks c (b ∷ bs) h = by_test (b == c) refl h (λ e. parted_lacks c bs e
 
 -- ---- numbers
 
-pub number_found : (most : ℕ) (w : List ℕ) (n : ℕ) → n < 2 ^ 32 → n ≤ most → w ≡ decimal n → number_in most w ≡ Some n
-number_found most w n small h e =
-    let value : digits_value 10 w ≡ n = ap (digits_value 10) e ∙ (decimal_is_IsNumeral n (omega (arith, small))).1 in
-    let fits : nat_lt n (2 ^ 32) ≡ true = lt-ltb n (2 ^ 32) small in
-    let within = le-leb n most h in
-    let is : bytes_eq (decimal n) w ≡ true = (bytes_eq-Decides (decimal n) w).1 (sym e) in
-    rw (value, fits, within, is) refl
+pub number_found : (most n : ℕ) → n < 2 ^ 64 → n ≤ most → number_up_to most (decimal n) ≡ Some n
+number_found most n small h = rw (decimal_found (decimal n) n small refl, le-leb n most h) refl
 
-pub number_text : (most : ℕ) (w : List ℕ) (n : ℕ) → number_in most w ≡ Some n → (w ≡ decimal n) × (n < 2 ^ 32) × (n ≤ most)
+pub number_text : (most : ℕ) (w : List ℕ) (n : ℕ) → number_up_to most w ≡ Some n → (w ≡ decimal n) × (n ≤ most)
 number_text most w n h =
-    let d = digits_value 10 w in
-    let t = if_some ((nat_lt d (2 ^ 32) && nat_le d most) && bytes_eq (decimal d) w) (Some d) n h in
-    let p = and_parts (nat_lt d (2 ^ 32) && nat_le d most) (bytes_eq (decimal d) w) t.0 in
-    let q = and_parts (nat_lt d (2 ^ 32)) (nat_le d most) p.0 in
-    let is : d ≡ n = cc (t.1) in
-    let small : d < 2 ^ 32 = ltb-true d (2 ^ 32) q.0 in
-    let within : d ≤ most = leb-true d most q.1 in
-    (sym (same (decimal d) w p.1) ∙ ap decimal is, rw (sym is) small, rw (sym is) within)
-
-pub number_missing : (most : ℕ) (w : List ℕ) → ((n : ℕ) → n < 2 ^ 32 → n ≤ most → w ≡ decimal n → ⊥) → number_in most w ≡ None
-number_missing most w none = by_reading (number_in most w) refl where
-  by_reading : (r : Option ℕ) → number_in most w ≡ r → r ≡ None
-  by_reading None e = refl
-  by_reading (Some n) e = let t = number_text most w n e in absurd (none n t.1 t.2 t.0)
-
--- digits that aren't text are no number
-pub number_not_text : (most : ℕ) (w : List ℕ) → (IsUtf8 w → ⊥) → number_in most w ≡ None
-number_not_text most w other = number_missing most w (λ n small h e. other (subst IsUtf8 (sym e) (IsUtf8-from_ascii (decimal n) (IsAscii-decimal n (omega (arith, small))))))
-
--- none, if parsing returns none, or another one
-pub number_refused : {E : Type 0} (most : ℕ) (w : List ℕ) (r : Result ℕ E) → ParsesUnsigned 32 10 w r → ((n : ℕ) → r ≡ Ok n → n ≤ most → decimal n ≡ w → ⊥) → number_in most w ≡ None
-number_refused most w r parsed none = number_missing most w (λ n small h e. none n (parse-decimal 32 n w r small (omega (arith, small)) e parsed) h (sym e))
+    let t = then_some (number_in w) _ n h in
+    let u = if_some (nat_le t.0 most) (Some t.0) n t.2 in
+    let is : t.0 ≡ n = cc (u.1) in
+    let within : t.0 ≤ most = leb-true t.0 most u.0 in
+    ((decimal_text w t.0 t.1).0 ∙ ap decimal is, rw (sym is) within)
 
 -- ---- faults
 

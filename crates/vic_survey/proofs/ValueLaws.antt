@@ -1,7 +1,8 @@
 -- Values are read back from their texts, and nothing else is read.
-use Rattle.vic_survey.proofs.ValueWords.{List, Some, [], ap, arith, append_assoc, eq-eqb, false, length, nat_lt, nat_eq, refl, subst, suc, sym, take, drop, take_at, drop_at, true, zero, ℕ, ◌++◌, ◌+◌, ◌*◌, ◌%◌, ◌^◌, ◌<◌, ◌==◌, ◌∙◌, ◌∷◌, ◌≡◌, ◌≤◌, nat_tests, codes, decimal, decimal_by_steps, BitMask, hex_bytes, mask_text, uid_text, bytes_eq, bytes_eq-Decides, Ok, Err, Result, le-leb, lt-ltb, ne_eqb, or_parts, ltb-true, take-append-drop, decode_sized, FromHexError, IsUid, is_uid, UID_BITS, value_text, byte_count, holds_bits, IsShort, IsLineNumber, byte, has, after, parted, number_in, line_number_in, number_ending, hex_decoded, hex_number_in, uid_in, value_in, mask_in}
-use Rattle.vic_survey.proofs.Spelled.{same, then_some, if_some, parted_text, number_found, number_text}
-use Rattle.vic_survey.proofs.HexBack.{hex_back}
+use Rattle.vic_survey.proofs.ValueWords.{List, Some, [], ap, arith, append_assoc, eq-eqb, false, length, nat_lt, nat_eq, refl, subst, sym, take, drop, take_at, drop_at, true, ℕ, ◌++◌, ◌+◌, ◌*◌, ◌%◌, ◌^◌, ◌<◌, ◌==◌, ◌∙◌, ◌∷◌, ◌≡◌, ◌≤◌, nat_tests, codes, decimal, decimal_by_steps, BitMask, mask_text, uid_text, bytes_eq, bytes_eq-Decides, le-leb, lt-ltb, or_parts, ltb-true, take-append-drop, IsUid, is_uid, UID_BITS, value_text, IsShort, IsLineNumber, byte, has, after, parted, number_up_to, line_number_in, hex_number_in, uid_in, value_in, mask_in}
+use Rattle.vic_text.proofs.HexBack.{hex_back}
+use Rattle.vic_text.proofs.ValueLaws.{hex_text, if_some, same, value_back, value_text_of}
+use Rattle.vic_survey.proofs.Spelled.{then_some, parted_text, number_found, number_text}
 
 -- ---- what follows words
 
@@ -21,29 +22,19 @@ after_back words rest =
 
 pub line_number_text : (w : List ℕ) (n : ℕ) → line_number_in w ≡ Some n → (w ≡ decimal n) × IsLineNumber n
 line_number_text w n h =
-    let t = then_some (number_in 1000001 w) _ n h in
+    let t = then_some (number_up_to 1000001 w) _ n h in
     let u = number_text 1000001 w t.0 t.1 in
     let v = if_some (nat_lt 0 t.0) (Some t.0) n t.2 in
     let is : t.0 ≡ n = cc (v.1) in
     let some : 0 < t.0 = ltb-true 0 t.0 v.0 in
-    (u.0 ∙ ap decimal is, (omega (arith, some, is), omega (arith, u.2, is)))
+    (u.0 ∙ ap decimal is, (omega (arith, some, is), omega (arith, u.1, is)))
 
 pub line_number_back : (n : ℕ) → IsLineNumber n → line_number_in (decimal n) ≡ Some n
 line_number_back n h =
     let some : nat_lt 0 n ≡ true = lt-ltb 0 n (omega (arith, h.0)) in
-    rw (number_found 1000001 (decimal n) n (omega (arith, h.1)) h.1 refl, some) refl
+    rw (number_found 1000001 n (omega (arith, h.1)) h.1, some) refl
 
 -- ---- UIDs
-
-decoded_text : (count : ℕ) (w : List ℕ) (n : ℕ) (r : Result (List ℕ) FromHexError) → hex_decoded count w r ≡ Some n → w ≡ hex_bytes count n
-decoded_text count w n (Ok bytes) h =
-    let t = if_some (bytes_eq (hex_bytes count (number_ending bytes)) w) (Some (number_ending bytes)) n h in
-    let is : number_ending bytes ≡ n = cc (t.1) in
-    sym (same (hex_bytes count (number_ending bytes)) w t.0) ∙ ap (hex_bytes count) is
-decoded_text count w n (Err e) h = cc
-
-hex_text : (count : ℕ) (w : List ℕ) (n : ℕ) → hex_number_in count w ≡ Some n → w ≡ hex_bytes count n
-hex_text count w n h = decoded_text count w n (decode_sized w count) h
 
 pub uid_is : (u : ℕ) → is_uid u ≡ true → IsUid u
 uid_is u h = grind (arith, nat_tests)
@@ -62,15 +53,6 @@ pub uid_back : (u : ℕ) → IsUid u → uid_in (uid_text u) ≡ Some u
 uid_back u h = rw (hex_back 8 u (omega arith) (omega (arith, h.1)), is_uid_back u h) refl
 
 -- ---- masks
-
-value_text_of : (len : ℕ) (w : List ℕ) (value : ℕ) → value_in len w ≡ Some value → w ≡ value_text (record { len = len; value = value })
-value_text_of len w value h = grind (arith, same, hex_text)
-
-value_back : (len value : ℕ) → len ≤ 56 → value < 2 ^ len → value_in len (value_text (record { len = len; value = value })) ≡ Some value
-value_back zero value h small = let none : value ≡ 0 = omega (arith, small) in rw none refl
-value_back (suc len) value h small =
-    let some : (suc len == 0) ≡ false = ne_eqb (suc len) 0 (λ e. omega (arith, e)) in
-    rw some (hex_back (byte_count (suc len)) value (omega (arith, h)) (holds_bits (suc len) value small))
 
 eq_swapped : (b c : ℕ) → (b == c) ≡ nat_eq c b
 eq_swapped b c = grind (arith, nat_tests)
@@ -95,7 +77,7 @@ parted_back c (b ∷ front) rest h =
 pub mask_text_of : (w : List ℕ) (m : BitMask) → mask_in w ≡ Some m → (w ≡ mask_text m) × IsShort m
 mask_text_of w m h =
     let p = then_some (parted (byte " ") w) _ m h in
-    let n = then_some (number_in UID_BITS p.0.0) _ m p.2 in
+    let n = then_some (number_up_to UID_BITS p.0.0) _ m p.2 in
     let v = then_some (value_in n.0 p.0.1) _ m n.2 in
     let t = if_some (nat_lt v.0 (2 ^ n.0)) _ m v.2 in
     let is : record { len = n.0; value = v.0 } ≡ m = cc (t.1) in
@@ -103,11 +85,11 @@ mask_text_of w m h =
     let value = value_text_of n.0 p.0.1 v.0 v.1 in
     let fits : v.0 < 2 ^ n.0 = ltb-true v.0 (2 ^ n.0) t.0 in
     let text : w ≡ mask_text (record { len = n.0; value = v.0 }) = parted_text (byte " ") w p.0 p.1 ∙ ap (λ xs. xs ++ byte " " ∷ p.0.1) len.0 ∙ ap (λ xs. decimal n.0 ++ byte " " ∷ xs) value ∙ sym (append_assoc (decimal n.0) (codes " ") _) in
-    (text ∙ ap mask_text is, subst IsShort is (len.2, fits))
+    (text ∙ ap mask_text is, subst IsShort is (len.1, fits))
 
 pub mask_back : (m : BitMask) → IsShort m → mask_in (mask_text m) ≡ Some m
 mask_back m h =
     let cut : parted (byte " ") (mask_text m) ≡ Some (decimal m.len, value_text m) =
     ap (parted (byte " ")) (append_assoc (decimal m.len) (codes " ") (value_text m)) ∙ parted_back (byte " ") (decimal m.len) (value_text m) (no_digit 32 (λ d lt. grind (arith, nat_tests)) m.len (omega (arith, h.0))) in
     let fits = lt-ltb m.value (2 ^ m.len) h.1 in
-    rw (cut, number_found UID_BITS (decimal m.len) m.len (omega (arith, h.0)) h.0 refl, value_back m.len m.value h.0 h.1, fits) refl
+    rw (cut, number_found UID_BITS m.len (omega (arith, h.0)) h.0, value_back m.len m.value (omega (arith, h.0)) h.1, fits) refl

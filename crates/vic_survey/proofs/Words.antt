@@ -1,7 +1,7 @@
 -- The words of proofs, from one place.
-pub use Rattle.std.proofs.Common.{rules, Bool, List, None, Option, Some, [], add-one, ap, arith, append_assoc, append-nil, eq-eqb, eqb-true, replicate, false, get_or, if◌then◌else◌, inl, inr, length, map, nat_eq, nat_lt, not, refl, slice_get, slice_index, subst, suc, sym, take, drop, drop-cons, true, zero, ℕ, ◌&&◌, ◌++◌, ◌+◌, ◌-◌, ◌*◌, ◌/◌, ◌%◌, ◌^◌, ◌<◌, ◌==◌, ◌||◌, ◌↔◌, ◌∙◌, ◌∷◌, ◌≡◌, ◌≢◌, ◌≤◌, ⊎_elim}
+pub use Rattle.std.proofs.Common.{Bool, List, None, Option, Some, [], add-one, ap, arith, append_assoc, append-nil, eq-eqb, eqb-true, false, get_or, if◌then◌else◌, length, map, nat_eq, nat_lt, not, refl, slice_get, slice_index, subst, suc, sym, take, drop, drop-cons, true, zero, ℕ, ◌&&◌, ◌++◌, ◌+◌, ◌-◌, ◌*◌, ◌/◌, ◌%◌, ◌^◌, ◌<◌, ◌==◌, ◌||◌, ◌↔◌, ◌∙◌, ◌∷◌, ◌≡◌, ◌≢◌, ◌≤◌, ⊎_elim}
 pub use Rattle.std.proofs.lemmas.Grind.{common_steps}
-pub use Rattle.std.proofs.lemmas.List.{drop_all, length-map, map-append}
+pub use Rattle.std.proofs.lemmas.List.{drop_all, map-append}
 pub use Rattle.std.specs.List.{flat_map}
 pub use Rattle.std.specs.Prelude.{codes, decimal}
 pub use Rattle.vic_log.specs.Lines.{lf}

@@ -1,7 +1,7 @@
 //! A survey that is read line by line.
 
 ghost use Rattle.std.specs.Prelude.{◌≡◌};
-ghost use Rattle.vic_survey.specs.declared.begun.Unread.{Unread};
+ghost use Rattle.vic_survey.specs.declared.begun.StepFault.{StepFault};
 
 use crate::name::Name;
 use crate::survey::{Seen, Survey};
@@ -13,9 +13,9 @@ pub(crate) enum Begun {
     /// Its name.
     Named(Name),
     /// What a possible log says, up to a part; those behind it are as if the log said nothing.
-    Telling(Name, Seen, Part),
+    UpTo(Name, Seen, Part),
     /// All but its seal.
-    Told(Survey),
+    Unsealed(Survey),
 }
 
 /// The last part of what a possible log says that was read.
@@ -32,25 +32,25 @@ pub(crate) enum Part {
 
 /// Why a line isn't read.
 #[derive(Clone, Copy, Debug, PartialEq, Eq)]
-pub(crate) enum Unread {
+pub(crate) enum StepFault {
     /// No text of surveys has it there.
     Wrong,
     /// Memory was refused.
     Memory,
 }
 
-impl From<AllocError> for Unread {
-    ghost from_gives = { λ _ e. e ≡ Unread.Memory };
+impl From<AllocError> for StepFault {
+    ghost from_gives = { λ _ e. e ≡ StepFault.Memory };
 
-    fn from(_: AllocError) -> Unread {
-        Unread::Memory
+    fn from(_: AllocError) -> StepFault {
+        StepFault::Memory
     }
 }
 
-impl<T: Drop> From<AllocFailed<T>> for Unread {
-    ghost from_gives = { λ _ e. e ≡ Unread.Memory };
+impl<T: Drop> From<AllocFailed<T>> for StepFault {
+    ghost from_gives = { λ _ e. e ≡ StepFault.Memory };
 
-    fn from(_: AllocFailed<T>) -> Unread {
-        Unread::Memory
+    fn from(_: AllocFailed<T>) -> StepFault {
+        StepFault::Memory
     }
 }

@@ -2,8 +2,8 @@
 //!
 //! A `Survey` has the name of a log and what the log says, whatever it lists: which UIDs are
 //! certain, which are open, its margin, and what more would be possible if replies had hidden
-//! others, or if the reader had gone deaf. `surveys_text` is the one text of several surveys,
-//! `read_surveys` reads it: each other text is refused at its first wrong line.
+//! others, or if the reader had gone deaf. `push_survey` writes a survey behind others, and
+//! `read_surveys` reads such a text: any other is refused at its first wrong line.
 #![tactic(auto)]
 
 mod begun;
@@ -24,4 +24,4 @@ pub use name::{MAX_NAME_LEN, Name};
 pub use read::read_surveys;
 pub use rising::{CertainUids, MAX_LINE_NUMBER, RisingMasks};
 pub use survey::{Field, MAX_COUNT, Seen, Survey};
-pub use write::{push_survey, surveys_text};
+pub use write::push_survey;

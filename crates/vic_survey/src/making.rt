@@ -93,8 +93,8 @@ fn seen_of(
     ensures seen { IfOk result (IsSeenOf log.lines) }
     ensures valid { IfOk result IsSeen }
 {
-    let told = lines_of_certain(alloc, log.lines(), &facts.met, &facts.certain)?;
-    let certain = CertainUids::of(told);
+    let shown = lines_of_certain(alloc, log.lines(), &facts.met, &facts.certain)?;
+    let certain = CertainUids::of(shown);
     let open = open_masks(alloc, &facts)?;
     let answers = log.answers();
     let Weakest { margin, mask } = weakest_besides(

@@ -8,11 +8,11 @@ ghost use Rattle.vic_text.specs.Digits.{hex_bytes};
 ghost use Rattle.vic_survey.specs.Surveys.{AreSurveys, SurveyValue};
 ghost use Rattle.vic_survey.specs.SurveyReading as texts;
 ghost use Rattle.vic_survey.specs.SurveyText.{lines_before, text_of};
-ghost use Rattle.vic_survey.specs.declared.begun.Begun.TheVariants.{Told};
+ghost use Rattle.vic_survey.specs.declared.begun.Begun.TheVariants.{Unsealed};
 ghost use Rattle.vic_survey.specs.inner.States.{GivesState, state_of};
 ghost use Rattle.vic_survey.specs.inner.Steps as spec;
 
-use crate::begun::{Begun, Unread};
+use crate::begun::{Begun, StepFault};
 use crate::fault::SurveysFault;
 use crate::steps::{after_name, next_part, read_name};
 use crate::survey::Survey;
@@ -28,7 +28,7 @@ const SEAL_ROOM: usize = 48;
 
 /// The surveys that were read, and what was read of one more.
 #[derive(Drop)]
-struct Reading {
+struct ReadSoFar {
     surveys: Vec<Survey>,
     begun: Option<Begun>,
     /// How many lines of the last one were read.
@@ -60,7 +60,12 @@ fn seal_of(count: u64, before: &[u8]) -> ArrayVec<u8, SEAL_ROOM>
 }
 
 /// Takes one more line, where the lines before it of its survey have these bytes.
-fn take_line(alloc: Global, reading: Reading, line: &[u8], before: &[u8]) -> Result<Reading, Unread>
+fn take_line(
+    alloc: Global,
+    reading: ReadSoFar,
+    line: &[u8],
+    before: &[u8],
+) -> Result<ReadSoFar, StepFault>
     requires valid { spec.IsBegun reading.begun }
     requires before { before.now ≡ joined (spec.lines_of reading.begun) }
     requires counted { reading.count ≡ length (spec.lines_of reading.begun) }
@@ -70,7 +75,7 @@ fn take_line(alloc: Global, reading: Reading, line: &[u8], before: &[u8]) -> Res
         spec.lines_of (Some b) ≡ spec.lines_of reading.begun ++ line.now ∷ [])) }
     ensures counted { IfOk result (λ r. r.count ≡ length (spec.lines_of r.begun)) }
 {
-    let Reading {
+    let ReadSoFar {
         surveys,
         begun,
         count,
@@ -78,10 +83,10 @@ fn take_line(alloc: Global, reading: Reading, line: &[u8], before: &[u8]) -> Res
     let more = match begun {
         None => Begun::Named(read_name(alloc, line)?),
         Some(Begun::Named(name)) => after_name(alloc, name, line)?,
-        Some(Begun::Telling(name, seen, part)) => next_part(name, seen, part, line)?,
-        Some(Begun::Told(survey)) => return end_survey(surveys, survey, count, line, before),
+        Some(Begun::UpTo(name, seen, part)) => next_part(name, seen, part, line)?,
+        Some(Begun::Unsealed(survey)) => return end_survey(surveys, survey, count, line, before),
     };
-    Ok(Reading {
+    Ok(ReadSoFar {
         surveys,
         begun: Some(more),
         count: count + 1,
@@ -95,21 +100,21 @@ fn end_survey(
     count: usize,
     line: &[u8],
     before: &[u8],
-) -> Result<Reading, Unread>
+) -> Result<ReadSoFar, StepFault>
     requires before { before.now ≡ joined (lines_before survey) }
     requires counted { count ≡ length (lines_before survey) }
     requires room { count + 1 < 2 ^ 64 }
     ensures taken { GivesState result
-        (spec.step_of surveys.items (Some (Told survey)) line.now) }
+        (spec.step_of surveys.items (Some (Unsealed survey)) line.now) }
     ensures none { IfOk result (λ r. r.begun ≡ None) }
     ensures counted { IfOk result (λ r. r.count ≡ 0) }
 {
     if seal_of(count as u64 + 1, before).as_slice() != line {
-        return Err(Unread::Wrong);
+        return Err(StepFault::Wrong);
     }
     let mut surveys = surveys;
     surveys.push(survey)?;
-    Ok(Reading {
+    Ok(ReadSoFar {
         surveys,
         begun: None,
         count: 0,
@@ -123,7 +128,7 @@ pub fn read_surveys(alloc: Global, text: &[u8]) -> Result<Vec<Survey>, SurveysFa
         → IfOk result (λ v. v.items ≡ ss) }
     ensures refused { IfErr result (texts.Refuses text.now) }
 {
-    let mut reading = Reading {
+    let mut reading = ReadSoFar {
         surveys: Vec::new(alloc),
         begun: None,
         count: 0,
@@ -138,8 +143,8 @@ pub fn read_surveys(alloc: Global, text: &[u8]) -> Result<Vec<Survey>, SurveysFa
         let before = &first[..first.len() - rest.len()];
         reading = match take_line(alloc, reading, line, before) {
             Ok(next) => next,
-            Err(Unread::Wrong) => return Err(SurveysFault::Line { line: number + 1 }),
-            Err(Unread::Memory) => return Err(SurveysFault::Memory),
+            Err(StepFault::Wrong) => return Err(SurveysFault::Line { line: number + 1 }),
+            Err(StepFault::Memory) => return Err(SurveysFault::Memory),
         };
         if reading.begun.is_none() {
             first = more;

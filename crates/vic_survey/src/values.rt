@@ -8,10 +8,9 @@ use crate::faults::fault_named;
 use crate::rising::MAX_LINE_NUMBER;
 use crate::survey::{Field, MAX_COUNT};
 use bstr::ByteSlice;
-use itoa::Buffer;
 use vic_frame::{Mask, UID_BITS, Uid};
 use vic_report::ShownUid;
-use vic_text::hex_digits;
+use vic_text::{hex_number_in, number_in, value_in};
 
 /// How many digits a UID has.
 const UID_LEN: usize = 16;
@@ -27,29 +26,13 @@ pub(crate) fn parted(byte: u8, bytes: &[u8]) -> Option<(&[u8], &[u8])>
     }
 }
 
-/// The number, up to a greatest one, that digits spell in decimal, without leading zeros.
-fn number_in(most: u32, digits: &[u8]) -> Option<u32>
-    ensures { result ≡ spec.number_in most digits.now }
+/// The number, up to a greatest one, that digits spell in decimal.
+fn number_up_to(most: u32, digits: &[u8]) -> Option<u32>
+    ensures { result ≡ spec.number_up_to most digits.now }
 {
-    match std::str::from_utf8(digits) {
-        Ok(text) => number_of(most, text),
-        Err(_) => None,
-    }
-}
-
-/// The same of a text.
-fn number_of(most: u32, text: &str) -> Option<u32>
-    ensures { result ≡ spec.number_in most text.now }
-{
-    let Ok(number) = text.parse::<u32>() else {
-        return None;
-    };
-    if number > most {
-        return None;
-    }
-    let mut buffer = Buffer::new();
-    if buffer.format(number) == text {
-        Some(number)
+    let number = number_in(digits)?;
+    if number <= u64::from(most) {
+        Some(number as u32)
     } else {
         None
     }
@@ -59,26 +42,8 @@ fn number_of(most: u32, text: &str) -> Option<u32>
 fn line_number_in(digits: &[u8]) -> Option<u32>
     ensures { result ≡ spec.line_number_in digits.now }
 {
-    let number = number_in(MAX_LINE_NUMBER, digits)?;
+    let number = number_up_to(MAX_LINE_NUMBER, digits)?;
     if number > 0 { Some(number) } else { None }
-}
-
-/// The number that digits spell as `count` bytes in upper-case hex digits. What `hex` reads is
-/// spelled again, so that lower case is refused.
-fn hex_number_in(count: usize, digits: &[u8]) -> Option<u64>
-    requires { count ≤ 8 }
-    ensures { result ≡ spec.hex_number_in count digits.now }
-{
-    let mut bytes = [0; 8];
-    if hex::decode_to_slice(digits, &mut bytes[8 - count..]).is_err() {
-        return None;
-    }
-    let number = u64::from_be_bytes(bytes);
-    if hex_digits(count, number).as_slice() == digits {
-        Some(number)
-    } else {
-        None
-    }
 }
 
 /// A UID.
@@ -87,20 +52,6 @@ fn uid_in(digits: &[u8]) -> Option<Uid>
 {
     let number = hex_number_in(8, digits)?;
     Uid::new(number)
-}
-
-/// The value of a mask of `len` bits, `-` if it has none.
-fn value_in(len: u8, text: &[u8]) -> Option<u64>
-    requires { len ≤ UID_BITS }
-    ensures { result ≡ spec.value_in len text.now }
-{
-    if len > 0 {
-        hex_number_in(usize::from((len + 7) / 8), text)
-    } else if text == b"-".as_slice() {
-        Some(0)
-    } else {
-        None
-    }
 }
 
 /// A mask of `len` bits.
@@ -117,7 +68,7 @@ fn mask_in(text: &[u8]) -> Option<Mask>
     ensures { result ≡ spec.mask_in text.now }
 {
     let (digits, value) = parted(b' ', text)?;
-    let len = number_in(u32::from(UID_BITS), digits)?;
+    let len = number_up_to(u32::from(UID_BITS), digits)?;
     mask_of(len as u8, value)
 }
 
@@ -177,7 +128,7 @@ fn refused_in(text: &[u8]) -> Option<Field>
 pub(crate) fn count_after(words: &[u8], line: &[u8]) -> Option<u32>
     ensures { result ≡ steps.count_after words.now line.now }
 {
-    number_in(MAX_COUNT, line.strip_prefix(words)?)
+    number_up_to(MAX_COUNT, line.strip_prefix(words)?)
 }
 
 /// The number of a line behind words.

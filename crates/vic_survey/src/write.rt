@@ -7,23 +7,12 @@ ghost use Rattle.vic_text.specs.Digits.{hex_bytes, mask_text};
 ghost use Rattle.vic_survey.specs.SurveyText as spec;
 
 use crate::survey::{Field, Seen, Survey};
-use std::alloc::{AllocError, Global};
+use std::alloc::AllocError;
 use vic_frame::{Mask, crc};
 use vic_report::ShownUid;
 use vic_text::{push_bytes, push_decimal, push_mask, push_uid};
 
-/// The text of surveys.
-pub fn surveys_text(alloc: Global, surveys: &[Survey]) -> Result<Vec<u8>, AllocError>
-    ensures { IfOk result (λ text. text.items ≡ spec.text_of surveys.now) }
-{
-    let mut text = Vec::new(alloc);
-    for survey in surveys {
-        push_survey(&mut text, survey)?;
-    }
-    Ok(text)
-}
-
-/// Appends the text of a survey.
+/// Appends the text of a survey: it may stand behind others.
 pub fn push_survey(text: &mut Vec<u8>, survey: &Survey) -> Result<(), AllocError>
     ensures { OnOk result
         (text.new.items ≡ text.old.items ++ joined (spec.survey_lines survey.now)) }

@@ -8,6 +8,60 @@ ghost use Rattle.vic_words.specs.inner.Commands as declared;
 use clap::{Arg, ArgAction, Command};
 use std::alloc::{AllocError, Global};
 
+/// The program with its commands.
+pub(crate) fn commands<'a>(alloc: Global) -> Result<Command<'a>, AllocError>
+    ensures { IfOk result (λ c. app_of c ≡ declared.commands) }
+{
+    up_to_collection(alloc)?
+        .subcommand(with_words(alloc, "json-collection")?)?
+        .subcommand(with_words(alloc, "spell")?)
+}
+
+/// The program with its commands up to `collection`.
+fn up_to_collection<'a>(alloc: Global) -> Result<Command<'a>, AllocError>
+    ensures { IfOk result (λ c. app_of c ≡ declared.up_to_collection) }
+{
+    up_to_reconcile(alloc)?
+        .subcommand(with_words(alloc, "survey")?)?
+        .subcommand(with_words(alloc, "collection")?)
+}
+
+/// The program with its commands up to `reconcile`.
+fn up_to_reconcile<'a>(alloc: Global) -> Result<Command<'a>, AllocError>
+    ensures { IfOk result (λ c. app_of c ≡ declared.up_to_reconcile) }
+{
+    up_to_json(alloc)?
+        .subcommand(with_operand(alloc, "frame", "hex", true)?)?
+        .subcommand(with_words(alloc, "reconcile")?)
+}
+
+/// The program with its commands over a file or standard input.
+fn up_to_json<'a>(alloc: Global) -> Result<Command<'a>, AllocError>
+    ensures { IfOk result (λ c. app_of c ≡ declared.up_to_json) }
+{
+    let program = Command::new(alloc, "vicinity")
+        .disable_help_flag(true)
+        .disable_help_subcommand(true);
+    let program = with_file(alloc, program, "check")?;
+    let program = with_file(alloc, program, "simulate")?;
+    let program = with_file(alloc, program, "explain")?;
+    let program = with_file(alloc, program, "report")?;
+    let program = with_file(alloc, program, "margin")?;
+    with_file(alloc, program, "json")
+}
+
+/// The program with one more command, over a file or standard input.
+fn with_file<'a>(
+    alloc: Global,
+    program: Command<'a>,
+    name: &'a str,
+) -> Result<Command<'a>, AllocError>
+    ensures shape { IfOk result (λ c.
+        app_of c ≡ declared.with_file (app_of program.entry) name.now) }
+{
+    program.subcommand(with_operand(alloc, name, "file", false)?)
+}
+
 /// A command with one operand.
 fn with_operand<'a>(
     alloc: Global,
@@ -25,6 +79,14 @@ fn with_operand<'a>(
     Command::new(alloc, name).arg(operand)
 }
 
+/// A command with one or more words.
+fn with_words<'a>(alloc: Global, name: &'a str) -> Result<Command<'a>, AllocError>
+    ensures shape { IfOk result (λ c. app_of c ≡ declared.with_words name.now) }
+    ensures local { IfOk result (λ c. (fields_of c).has_globals ≡ false) }
+{
+    Command::new(alloc, name).arg(operands(alloc))
+}
+
 /// One operand or more.
 fn operands<'a>(alloc: Global) -> Arg<'a>
     ensures rule { rule_of result ≡ declared.several }
@@ -34,66 +96,4 @@ fn operands<'a>(alloc: Global) -> Arg<'a>
         .required(true)
         .num_args(1..)
         .action(ArgAction::Append)
-}
-
-/// A command with one or more words.
-fn with_words<'a>(alloc: Global, name: &'a str) -> Result<Command<'a>, AllocError>
-    ensures shape { IfOk result (λ c. app_of c ≡ declared.with_words name.now) }
-    ensures local { IfOk result (λ c. (fields_of c).has_globals ≡ false) }
-{
-    Command::new(alloc, name).arg(operands(alloc))
-}
-
-/// The program with one more command, over a file or standard input.
-fn with_file<'a>(
-    alloc: Global,
-    program: Command<'a>,
-    name: &'a str,
-) -> Result<Command<'a>, AllocError>
-    ensures shape { IfOk result (λ c.
-        app_of c ≡ declared.with_file (app_of program.entry) name.now) }
-{
-    program.subcommand(with_operand(alloc, name, "file", false)?)
-}
-
-/// The commands over a file or standard input.
-fn file_commands<'a>(alloc: Global) -> Result<Command<'a>, AllocError>
-    ensures { IfOk result (λ c. app_of c ≡ declared.file_commands) }
-{
-    let program = Command::new(alloc, "vicinity")
-        .disable_help_flag(true)
-        .disable_help_subcommand(true);
-    let program = with_file(alloc, program, "check")?;
-    let program = with_file(alloc, program, "simulate")?;
-    let program = with_file(alloc, program, "explain")?;
-    let program = with_file(alloc, program, "report")?;
-    let program = with_file(alloc, program, "margin")?;
-    with_file(alloc, program, "json")
-}
-
-/// These, the command over a word, and the first of those over many files.
-fn operand_commands<'a>(alloc: Global) -> Result<Command<'a>, AllocError>
-    ensures { IfOk result (λ c. app_of c ≡ declared.operand_commands) }
-{
-    file_commands(alloc)?
-        .subcommand(with_operand(alloc, "frame", "hex", true)?)?
-        .subcommand(with_words(alloc, "reconcile")?)
-}
-
-/// These, and two more of the commands over many files.
-fn files_commands<'a>(alloc: Global) -> Result<Command<'a>, AllocError>
-    ensures { IfOk result (λ c. app_of c ≡ declared.files_commands) }
-{
-    operand_commands(alloc)?
-        .subcommand(with_words(alloc, "survey")?)?
-        .subcommand(with_words(alloc, "collection")?)
-}
-
-/// The program's commands.
-pub(crate) fn commands<'a>(alloc: Global) -> Result<Command<'a>, AllocError>
-    ensures { IfOk result (λ c. app_of c ≡ declared.commands) }
-{
-    files_commands(alloc)?
-        .subcommand(with_words(alloc, "json-collection")?)?
-        .subcommand(with_words(alloc, "spell")?)
 }

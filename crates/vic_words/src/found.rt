@@ -11,53 +11,45 @@ use clap::ArgMatches;
 use std::alloc::{AllocError, Global};
 use vic_answer::Task;
 
-/// The text of an operand, if it was given.
-fn operand(alloc: Global, given: &ArgMatches<'_>, id: &str) -> Result<Option<String>, AllocError>
-    ensures { IfOk result (λ found.
-        option_map string_bytes found ≡ first_of id.now (rows_of (found_of given.now))) }
+/// What the words ask for, by what was found.
+pub(crate) fn asked_by(alloc: Global, matches: &ArgMatches<'_>) -> Result<Asked, WordsFault>
+    ensures asked { IfOk result (SubcommandAsks (subcommand_rows_of matches.now)) }
+    ensures usage { IfErr result (λ e. e ≡ Usage
+        → (asked : _) → SubcommandAsks (subcommand_rows_of matches.now) asked → ⊥) }
 {
-    match given.get_str(id) {
-        Some(text) => Ok(Some(String::from_str(alloc, text)?)),
-        None => Ok(None),
+    match matches.subcommand() {
+        Some((name, given)) => asked_for(alloc, name, given),
+        None => Err(WordsFault::Usage),
     }
 }
 
-/// Copies of some texts.
-fn copies(alloc: Global, texts: &[&str]) -> Result<Vec<String>, AllocError>
-    ensures { IfOk result (λ copies.
-        map string_bytes copies.items ≡ map (λ text. text.now) texts.now) }
+/// What a command asks for, by its name and what it was given.
+fn asked_for(alloc: Global, name: &str, given: &ArgMatches<'_>) -> Result<Asked, WordsFault>
+    ensures asked { IfOk result (RowsAsk name.now (rows_of (found_of given.now))) }
+    ensures usage { IfErr result (λ e. e ≡ Usage
+        → (asked : _) → RowsAsk name.now (rows_of (found_of given.now)) asked → ⊥) }
 {
-    let mut copies = Vec::new(alloc);
-    for text in texts {
-        copies.push(String::from_str(alloc, text)?)?;
+    if let Some(command) = files_command(name) {
+        return Ok(Asked::Files(command, given_words(alloc, given)?));
     }
-    Ok(copies)
+    if name == "json" {
+        return Ok(Asked::Json(operand(alloc, given, "file")?));
+    }
+    Ok(Asked::Task(asked_of_text(alloc, name, given)?))
 }
 
-/// The words that a command was given.
-fn given_words(alloc: Global, given: &ArgMatches<'_>) -> Result<Vec<String>, AllocError>
-    ensures { IfOk result (λ words.
-        map string_bytes words.items ≡ words_found (rows_of (found_of given.now))) }
-{
-    match given.get_strs("words") {
-        Some(words) => copies(alloc, words),
-        None => Ok(Vec::new(alloc)),
-    }
-}
-
-/// What a command with a file asks for, by its name.
-fn asked_of_file(name: &str, file: Option<String>) -> Result<Task, WordsFault>
-    ensures asked { IfOk result (FileAsks name.now (option_map string_bytes file)) }
-    ensures usage { IfErr result (λ _. (task : _)
-        → FileAsks name.now (option_map string_bytes file) task → ⊥) }
+/// The command with a name, if it takes one file after the other.
+fn files_command(name: &str) -> Option<FilesCommand>
+    ensures { MatchOption result
+        ((command : _) → name.now ≡ files_name command → ⊥)
+        (λ command. name.now ≡ files_name command) }
 {
     match name {
-        "check" => Ok(Task::Check(file)),
-        "simulate" => Ok(Task::Simulate(file)),
-        "explain" => Ok(Task::Explain(file)),
-        "report" => Ok(Task::Report(file)),
-        "margin" => Ok(Task::Margin(file)),
-        _ => Err(WordsFault::Usage),
+        "reconcile" => Some(FilesCommand::Reconcile),
+        "survey" => Some(FilesCommand::Survey),
+        "collection" => Some(FilesCommand::Collection),
+        "json-collection" => Some(FilesCommand::JsonCollection),
+        _ => None,
     }
 }
 
@@ -77,44 +69,52 @@ fn asked_of_text(alloc: Global, name: &str, given: &ArgMatches<'_>) -> Result<Ta
     }
 }
 
-/// The command with a name, if it takes one file after the other.
-fn files_command(name: &str) -> Option<FilesCommand>
-    ensures { MatchOption result
-        ((command : _) → name.now ≡ files_name command → ⊥)
-        (λ command. name.now ≡ files_name command) }
+/// What a command with a file asks for, by its name.
+fn asked_of_file(name: &str, file: Option<String>) -> Result<Task, WordsFault>
+    ensures asked { IfOk result (FileAsks name.now (option_map string_bytes file)) }
+    ensures usage { IfErr result (λ _. (task : _)
+        → FileAsks name.now (option_map string_bytes file) task → ⊥) }
 {
     match name {
-        "reconcile" => Some(FilesCommand::Reconcile),
-        "survey" => Some(FilesCommand::Survey),
-        "collection" => Some(FilesCommand::Collection),
-        "json-collection" => Some(FilesCommand::JsonCollection),
-        _ => None,
+        "check" => Ok(Task::Check(file)),
+        "simulate" => Ok(Task::Simulate(file)),
+        "explain" => Ok(Task::Explain(file)),
+        "report" => Ok(Task::Report(file)),
+        "margin" => Ok(Task::Margin(file)),
+        _ => Err(WordsFault::Usage),
     }
 }
 
-/// What a command asks for, by its name and what it was given.
-fn asked_for(alloc: Global, name: &str, given: &ArgMatches<'_>) -> Result<Asked, WordsFault>
-    ensures asked { IfOk result (RowsAsk name.now (rows_of (found_of given.now))) }
-    ensures usage { IfErr result (λ e. e ≡ Usage
-        → (asked : _) → RowsAsk name.now (rows_of (found_of given.now)) asked → ⊥) }
+/// The text of an operand, if it was given.
+fn operand(alloc: Global, given: &ArgMatches<'_>, id: &str) -> Result<Option<String>, AllocError>
+    ensures { IfOk result (λ found.
+        option_map string_bytes found ≡ first_of id.now (rows_of (found_of given.now))) }
 {
-    if let Some(command) = files_command(name) {
-        return Ok(Asked::Files(command, given_words(alloc, given)?));
+    match given.get_str(id) {
+        Some(text) => Ok(Some(String::from_str(alloc, text)?)),
+        None => Ok(None),
     }
-    if name == "json" {
-        return Ok(Asked::Json(operand(alloc, given, "file")?));
-    }
-    Ok(Asked::Task(asked_of_text(alloc, name, given)?))
 }
 
-/// What the words ask for, by what was found.
-pub(crate) fn asked_by(alloc: Global, matches: &ArgMatches<'_>) -> Result<Asked, WordsFault>
-    ensures asked { IfOk result (SubcommandAsks (subcommand_rows_of matches.now)) }
-    ensures usage { IfErr result (λ e. e ≡ Usage
-        → (asked : _) → SubcommandAsks (subcommand_rows_of matches.now) asked → ⊥) }
+/// The words that a command was given.
+fn given_words(alloc: Global, given: &ArgMatches<'_>) -> Result<Vec<String>, AllocError>
+    ensures { IfOk result (λ words.
+        map string_bytes words.items ≡ words_found (rows_of (found_of given.now))) }
 {
-    match matches.subcommand() {
-        Some((name, given)) => asked_for(alloc, name, given),
-        None => Err(WordsFault::Usage),
+    match given.get_strs("words") {
+        Some(words) => copies(alloc, words),
+        None => Ok(Vec::new(alloc)),
     }
+}
+
+/// Copies of some texts.
+fn copies(alloc: Global, texts: &[&str]) -> Result<Vec<String>, AllocError>
+    ensures { IfOk result (λ copies.
+        map string_bytes copies.items ≡ map (λ text. text.now) texts.now) }
+{
+    let mut copies = Vec::new(alloc);
+    for text in texts {
+        copies.push(String::from_str(alloc, text)?)?;
+    }
+    Ok(copies)
 }

@@ -18,26 +18,14 @@ pub use asked::{Asked, FilesCommand, WordsFault};
 use clap::ArgMatches;
 use std::alloc::{AllocError, Global};
 
-/// Whether the words are of `spell`, and no `--` stands before the first.
-fn wants_end(words: &[String]) -> bool
-    ensures { result ≡ wants_end (map string_bytes words.now) }
+/// What a command line asks for. The first word is the program's name.
+pub fn read_words(alloc: Global, words: Vec<String>) -> Result<Asked, WordsFault>
+    ensures asked { IfOk result (Ask (map string_bytes words.items)) }
+    ensures usage { IfErr result (λ e. e ≡ Usage
+        → (asked : _) → Ask (map string_bytes words.items) asked → ⊥) }
 {
-    match words {
-        [] | [_] => false,
-        [_, name] => name.as_str() == "spell",
-        [_, name, first, ..] => name.as_str() == "spell" && first.as_str() != "--",
-    }
-}
-
-/// The words as clap is given them: with `--` before those of `spell`, of which none is an option.
-fn for_clap(alloc: Global, mut words: Vec<String>) -> Result<Vec<String>, AllocError>
-    ensures { IfOk result (λ given.
-        map string_bytes given.items ≡ clap_words (map string_bytes words.items)) }
-{
-    if wants_end(words.as_slice()) {
-        words.insert(2, String::from_str(alloc, "--")?)?;
-    }
-    Ok(words)
+    let words = for_clap(alloc, words)?;
+    asked_by(alloc, &matches_of(alloc, words.as_slice())?)
 }
 
 /// What clap finds among the words.
@@ -52,12 +40,24 @@ fn matches_of<'a>(alloc: Global, words: &'a [String]) -> Result<ArgMatches<'a>, 
     Ok(commands(alloc)?.try_get_matches_from(words)?)
 }
 
-/// What a command line asks for. The first word is the program's name.
-pub fn read_words(alloc: Global, words: Vec<String>) -> Result<Asked, WordsFault>
-    ensures asked { IfOk result (Ask (map string_bytes words.items)) }
-    ensures usage { IfErr result (λ e. e ≡ Usage
-        → (asked : _) → Ask (map string_bytes words.items) asked → ⊥) }
+/// The words as clap is given them: with `--` before those of `spell`, of which none is an option.
+fn for_clap(alloc: Global, mut words: Vec<String>) -> Result<Vec<String>, AllocError>
+    ensures { IfOk result (λ given.
+        map string_bytes given.items ≡ clap_words (map string_bytes words.items)) }
 {
-    let words = for_clap(alloc, words)?;
-    asked_by(alloc, &matches_of(alloc, words.as_slice())?)
+    if wants_end(words.as_slice()) {
+        words.insert(2, String::from_str(alloc, "--")?)?;
+    }
+    Ok(words)
+}
+
+/// Whether the words are of `spell`, and no `--` stands before the first.
+fn wants_end(words: &[String]) -> bool
+    ensures { result ≡ wants_end (map string_bytes words.now) }
+{
+    match words {
+        [] | [_] => false,
+        [_, name] => name.as_str() == "spell",
+        [_, name, first, ..] => name.as_str() == "spell" && first.as_str() != "--",
+    }
 }

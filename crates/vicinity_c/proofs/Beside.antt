@@ -22,7 +22,7 @@ use Rattle.vic_log.specs.Order.{listed}
 use Rattle.vic_log.specs.Text.{IsLogOf, entry_line, fault_on, line_fault, logged, reading_fault, version_of}
 use Rattle.vic_log.specs.declared.entry.Entry.{Entry}
 use Rattle.vic_log.specs.declared.entry.Version.{Version}
-use Rattle.vicinity_c.specs.Beside.{ListsBeside, ended, with_listed}
+use Rattle.vicinity_c.specs.Beside.{ListsBeside, with_last_lf, with_listed}
 
 -- ---- a text with LF after its last line is cut before what follows
 
@@ -54,18 +54,18 @@ last_is text h =
     let all : take (i + 1) text ≡ text = take_all (i + 1) text (omega arith) in
     sym all ∙ take_more text i 0 lt ∙ ap (λ b. take i text ++ b ∷ []) (eqb-true (get_or text i 0) 10 parts.1)
 
-ended_is : (text : List ℕ) → (bytes : List ℕ) × (ended text ≡ bytes ++ 10 ∷ [])
+ended_is : (text : List ℕ) → (bytes : List ℕ) × (with_last_lf text ≡ bytes ++ 10 ∷ [])
 ended_is text = elim (cases_Bool (ends_with 10 text)) [
   | inl ends ↦ (take (length text - 1) text, cond-true _ _ _ ends ∙ last_is text ends)
   | inr goes_on ↦ (text, cond-false _ _ _ goes_on)
 ]
 
-lines_behind : (text more : List ℕ) → lines_of_text (ended text ++ more) ≡ lines_of_text (ended text) ++ lines_of_text more
+lines_behind : (text more : List ℕ) → lines_of_text (with_last_lf text ++ more) ≡ lines_of_text (with_last_lf text) ++ lines_of_text more
 lines_behind text more =
     let e = ended_is text in
     rw e.1 (ap lines_of_text (append_assoc e.0 (10 ∷ []) more) ∙ ap (map content) (cut_behind e.0 more) ∙ map-append content (cut (e.0 ++ 10 ∷ [])) (cut more))
 
-some_line : (text : List ℕ) → 0 < length (lines_of_text (ended text))
+some_line : (text : List ℕ) → 0 < length (lines_of_text (with_last_lf text))
 some_line text =
     let e = ended_is text in
     let some = some_part e.0 in
@@ -170,7 +170,7 @@ lists_up_to ls us (suc i) some fit clean le =
 
 pub lists_beside : (text us : List ℕ) (count : ℕ) → ((j : ℕ) → get_or us j 0 < 2 ^ 64) → HasCompleteList (with_listed text us) count → ListsBeside text us count
 lists_beside text us count fit h =
-    let ls = lines_of_text (ended text) in
+    let ls = lines_of_text (with_last_lf text) in
     let ms = map line_of us in
     let whole : lines_of_text (with_listed text us) ≡ ls ++ ms = lines_behind text (listed_text us) ∙ ap (λ more. ls ++ more) (listed_lines us) in
     let is = rw whole at h.is_log in

@@ -5,6 +5,7 @@ use Rattle.vic_frame.specs.Crc.{with_crc}
 use Rattle.vic_frame.specs.Replies.{reply_spelling}
 use Rattle.vic_frame.specs.Requests.{request_spelling}
 use Rattle.vic_frame.specs.Uids.{is_uid}
+use Rattle.vic_answer.specs.declared.spell.TheConstants.{MAX_LINK}
 use Rattle.vicinity_c.specs.declared.frames.TheConstants.{FRAME_ROOM, WRONG_REPLY, TOO_LONG}
 use Rattle.vicinity_c.specs.declared.frames.VicinityFrame.{VicinityFrame}
 use Rattle.vicinity_c.specs.declared.inventory.TheConstants.{WRONG_LINK}
@@ -30,7 +31,8 @@ inventory_frame link slots len value =
 
 abbrev pub stay_quiet_frame : (link uid : ℕ) → VicinityFrame
 stay_quiet_frame link uid =
-    if nat_lt 3 link then no_frame WRONG_LINK else framed (request_spelling (StayQuiet link uid))
+    if nat_lt MAX_LINK link then no_frame WRONG_LINK
+    else framed (request_spelling (StayQuiet link uid))
 
 -- the frame of a reply: its flags and DSFID are bytes, Error_flag, the lowest bit, is 0, and its
 -- UID begins E0

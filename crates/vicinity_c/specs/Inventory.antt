@@ -5,6 +5,7 @@ use Rattle.vic_frame.specs.declared.request.Request.{Request}
 use Rattle.vic_frame.specs.declared.request.Request.TheVariants.{Inventory}
 use Rattle.vic_frame.specs.Masks.{BitMask}
 use Rattle.vic_frame.specs.Slots.{mask_in}
+use Rattle.vic_answer.specs.declared.spell.TheConstants.{MAX_LINK}
 use Rattle.vicinity_c.specs.declared.inventory.TheConstants.{WRONG_LINK, WRONG_SLOTS, WRONG_MASK, WRONG_SLOT}
 use Rattle.vicinity_c.specs.declared.inventory.VicinityMask.{VicinityMask}
 
@@ -15,7 +16,7 @@ longest_mask slots = if slots == 16 then MAX_MASK_LEN_OF_SIXTEEN else MAX_MASK_L
 -- the fault of the numbers of an Inventory request, the first that applies, or 0
 abbrev pub inventory_fault : (link slots len value : ℕ) → ℕ
 inventory_fault link slots len value =
-    if nat_lt 3 link then WRONG_LINK
+    if nat_lt MAX_LINK link then WRONG_LINK
     else if not (slots == 1 || slots == 16) then WRONG_SLOTS
     else if nat_lt (longest_mask slots) len || nat_le (2 ^ len) value then WRONG_MASK
     else 0

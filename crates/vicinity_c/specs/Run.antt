@@ -6,9 +6,9 @@ use Rattle.vic_log.specs.Lines.{lf}
 use Rattle.vic_numbers.specs.Buffers.{IsReturned}
 use Rattle.vic_answer.specs.Status.{status_code}
 use Rattle.vic_answer.specs.declared.status.Status.{Status}
-use Rattle.vic_commands.specs.Commands.{IsToldBy, Writes}
+use Rattle.vic_commands.specs.Commands.{IsOutputBy, Writes}
 use Rattle.vic_commands.specs.declared.commands.Command.{Command}
-use Rattle.vic_commands.specs.declared.commands.Told.{Told}
+use Rattle.vic_commands.specs.declared.commands.Output.{Output}
 use Rattle.vic_commands.specs.declared.commands.Command.TheVariants.{Check, Explain, Report, Margin, Simulate, Reconcile, Frame, Spell, Survey, Collection, Json, JsonCollection}
 
 -- the command that has a number
@@ -73,10 +73,10 @@ pub record IsUsageInto (number : ℕ) (names texts lengths : List ℕ) (count : 
   pub nothing : (answer : List ℕ) (status : Status) → Writes command ns ts answer status → ⊥
   pub returned : IsReturned usage_line room room' count
 
--- what is told of what is given
-pub record IsToldOf (number : ℕ) (names texts lengths : List ℕ) (told : Told) : Type 0 where
+-- what the command writes for what is given
+pub record IsOutputFor (number : ℕ) (names texts lengths : List ℕ) (output : Output) : Type 0 where
   pub command : Command
   pub ns : List (List ℕ)
   pub ts : List (List ℕ)
   pub asked : IsAsked number names texts lengths command ns ts
-  pub right : IsToldBy (Writes command ns ts) told
+  pub right : IsOutputBy (Writes command ns ts) output

@@ -1,12 +1,13 @@
 //! Frames for C: requests, replies and bytes written with their CRC.
 
-ghost use Rattle.std.specs.Prelude.{◌≡◌, ◌≤◌, length, MatchOption};
+ghost use Rattle.std.specs.Prelude.{◌≡◌, ◌+◌, ◌≤◌, length, MatchOption};
 ghost use Rattle.vic_frame.specs.Crc.{with_crc};
 ghost use Rattle.vic_frame.specs.Replies.{reply_spelling};
 ghost use Rattle.vicinity_c.specs.Frames as spec;
 
 use crate::inventory::{WRONG_LINK, inventory};
 use arrayvec::ArrayVec;
+use vic_answer::MAX_LINK;
 use vic_frame::{Request, Response, Uid, crc, write_request, write_response};
 
 /// The size of the buffer for a frame: a request has at most 13 bytes.
@@ -57,7 +58,7 @@ pub extern "C" fn vicinity_write_stay_quiet(link: u32, uid: u64, frame: &mut Vic
     ensures frame { frame.new ≡ spec.stay_quiet_frame link uid }
     ensures fault { result ≡ frame.new.fault }
 {
-    *frame = if link > 3 {
+    *frame = if link > u32::from(MAX_LINK) {
         no_frame(WRONG_LINK)
     } else {
         let link = link as u8;
@@ -142,7 +143,7 @@ fn no_frame(fault: u32) -> VicinityFrame
 
 /// Bytes with their CRC after them.
 fn with_crc(bytes: &[u8]) -> VicinityFrame
-    requires { length bytes.now ≤ 14 }
+    requires { length bytes.now + 2 ≤ FRAME_ROOM }
     ensures { result ≡ spec.framed (with_crc bytes.now) }
 {
     let code = crc(bytes);

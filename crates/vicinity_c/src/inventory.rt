@@ -5,9 +5,10 @@ ghost use Rattle.vic_frame.specs.Requests.{IsValid};
 ghost use Rattle.vic_frame.specs.Slots.{slot_count, mask_in};
 ghost use Rattle.vicinity_c.specs.Inventory as spec;
 
+use vic_answer::MAX_LINK;
 use vic_frame::{MAX_MASK_LEN, MAX_MASK_LEN_OF_SIXTEEN, Mask, Request};
 
-/// The fault of a link above 3.
+/// The fault of a link above `MAX_LINK`.
 pub const WRONG_LINK: u32 = 201;
 
 /// The fault of a number of slots that is neither 1 nor 16.
@@ -57,7 +58,7 @@ pub(crate) fn inventory(link: u32, slots: u32, len: u32, value: u64) -> Result<R
         × (q ≡ spec.inventory_of link slots len value))
         (λ fault. (fault ≢ 0) × (fault ≡ spec.inventory_fault link slots len value)) }
 {
-    if link > 3 {
+    if link > u32::from(MAX_LINK) {
         return Err(WRONG_LINK);
     }
     if slots != 1 && slots != 16 {

@@ -1,13 +1,10 @@
 //! Lines of a log's text for C.
 
-ghost use Rattle.std.specs.Prelude.{◌≡◌, ◌≤◌, ◌+◌, ◌*◌, ◌∷◌, [], codes, length, IfOk};
-ghost use Rattle.vic_log.specs.Lines.{ends_with, lf};
-ghost use Rattle.vicinity_c.specs.Beside.{with_listed};
+ghost use Rattle.std.specs.Prelude.{◌≡◌, ◌≤◌, ◌+◌, ◌*◌, ◌∷◌, [], codes, length};
 ghost use Rattle.vicinity_c.specs.Lines as spec;
 
 use crate::frames::TOO_LONG;
 use arrayvec::ArrayVec;
-use std::alloc::{AllocError, Global};
 use vic_log::{MAX_LINE_LEN, push_hex};
 
 /// The size of the buffer for a line, its LF and a zero.
@@ -65,7 +62,7 @@ fn line_of(letter: u8, bytes: &[u8], uid: u64) -> VicinityLine
 }
 
 /// A letter, a space, bytes in hex digits and LF.
-fn bytes_line(letter: u8, bytes: &[u8]) -> ArrayVec<u8, LINE_ROOM>
+pub(crate) fn bytes_line(letter: u8, bytes: &[u8]) -> ArrayVec<u8, LINE_ROOM>
     requires { 2 + 2 * length bytes.now ≤ MAX_LINE_LEN }
     ensures items { result.items ≡ spec.bytes_line letter bytes.now }
 {
@@ -99,29 +96,5 @@ fn no_line(fault: u32) -> VicinityLine
         fault,
         len: 0,
         text: [0; LINE_ROOM],
-    }
-}
-
-/// A text with a list of UIDs after it, each on a line, and with LF after its own last line.
-pub(crate) fn with_listed(alloc: Global, text: &[u8], uids: &[u64]) -> Result<Vec<u8>, AllocError>
-    ensures { IfOk result (λ whole. whole.items ≡ with_listed text.now uids.now) }
-{
-    let mut whole = Vec::from_slice(alloc, text)?;
-    if !is_ended(text) {
-        whole.push(b'\n')?;
-    }
-    for uid in uids {
-        whole.extend_from_slice(bytes_line(b'U', &uid.to_be_bytes()).as_slice())?;
-    }
-    Ok(whole)
-}
-
-/// Whether a text has LF after its last line.
-fn is_ended(text: &[u8]) -> bool
-    ensures { result ≡ ends_with lf text.now }
-{
-    match text.last() {
-        Some(byte) => *byte == b'\n',
-        None => false,
     }
 }

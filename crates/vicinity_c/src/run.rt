@@ -5,7 +5,7 @@ ghost use Rattle.vicinity_c.specs.Run as spec;
 
 use crate::given::{names_in, texts_in};
 use std::alloc::{AllocError, Global};
-use vic_commands::{Command, Told, told_of};
+use vic_commands::{Command, Output, output_of};
 use vic_numbers::{NO_ANSWER, copy_list};
 
 /// The line that the program writes to standard error where words are no command with its operands.
@@ -32,17 +32,17 @@ fn command_of(number: u32) -> Option<Command>
     }
 }
 
-/// What is told of what C hands over; nothing if no command has the number, or the names or the
-/// lengths don't fit.
-fn told(
+/// What the program writes for what C hands over; nothing if no command has the number, or the
+/// names or the lengths don't fit.
+fn output(
     alloc: Global,
     number: u32,
     names: &[u8],
     texts: &[u8],
     lengths: &[usize],
-) -> Result<Option<Told>, AllocError>
-    ensures { IfOk result (λ told. MatchOption told ⊤
-        (spec.IsToldOf number names.now texts.now lengths.now)) }
+) -> Result<Option<Output>, AllocError>
+    ensures { IfOk result (λ output. MatchOption output ⊤
+        (spec.IsOutputFor number names.now texts.now lengths.now)) }
 {
     let Some(command) = command_of(number) else {
         return Ok(None);
@@ -54,7 +54,7 @@ fn told(
         return Ok(None);
     };
     if names.len() == texts.len() {
-        Ok(Some(told_of(alloc, command, &names, &texts)?))
+        Ok(Some(output_of(alloc, command, &names, &texts)?))
     } else {
         Ok(None)
     }
@@ -87,12 +87,12 @@ pub extern "C" fn vicinity_run(
     ensures nothing { result ≡ 4 → needed.new ≡ 0 → written.new ≡ written.old }
 {
     *needed = 0;
-    match told(alloc, command, names, texts, lengths) {
-        Ok(Some(Told::Answer(answer))) => {
+    match output(alloc, command, names, texts, lengths) {
+        Ok(Some(Output::Answer(answer))) => {
             *needed = copy_list(answer.text.as_slice(), written);
             u32::from(answer.status.code())
         }
-        Ok(Some(Told::Usage)) => {
+        Ok(Some(Output::Usage)) => {
             *needed = copy_list(USAGE_LINE.as_bytes(), written);
             NO_ANSWER.status
         }

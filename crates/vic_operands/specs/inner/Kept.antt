@@ -10,8 +10,8 @@ use Rattle.vic_operands.specs.declared.kind.Kind.{Kind}
 use Rattle.vic_operands.specs.declared.operand.NamedCatalogue.{NamedCatalogue}
 use Rattle.vic_operands.specs.declared.operand.Operand.{Operand}
 use Rattle.vic_operands.specs.declared.operand.Operand.TheVariants as operand
-use Rattle.vic_operands.specs.declared.operand.Unread.{Unread}
-use Rattle.vic_operands.specs.declared.operand.Unread.TheVariants.{Line, Memory}
+use Rattle.vic_operands.specs.declared.operand.FileFault.{FileFault}
+use Rattle.vic_operands.specs.declared.operand.FileFault.TheVariants.{Line, Memory}
 use Rattle.vic_operands.specs.declared.operands.Kept.{Kept}
 
 -- the catalogue of a file, with the file's name
@@ -38,9 +38,9 @@ IsOperandOf f (operand.Catalogue catalogue) = AreKept (f ∷ []) (catalogue ∷ 
 IsOperandOf f (operand.Places rows) = AreKept (f ∷ []) [] (rows ∷ []) []
 
 -- why one isn't read
-abbrev pub RefusesBy : Kind → List ℕ → Unread → Type 0
+abbrev pub RefusesBy : Kind → List ℕ → FileFault → Type 0
 RefusesBy kind text (Line line fault) = IsFaultBy kind text line fault
 RefusesBy kind text Memory = ⊤
 
-abbrev pub Refuses : File → Unread → Type 0
+abbrev pub Refuses : File → FileFault → Type 0
 Refuses f why = RefusesBy (kind_of f.text) f.text why

@@ -9,18 +9,18 @@ use Rattle.vic_operands.specs.inner.States.{HasTakenBy}
 use Rattle.vic_operands.specs.declared.fault.OperandFault.TheVariants as fault
 use Rattle.vic_operands.specs.declared.gathered.Gathered.{Gathered}
 use Rattle.vic_operands.specs.declared.gathered.Gathered.TheVariants as gathered
-use Rattle.vic_operands.specs.declared.operand.Unread.{Unread}
-use Rattle.vic_operands.specs.declared.operand.Unread.TheVariants.{Line, Memory}
+use Rattle.vic_operands.specs.declared.operand.FileFault.{FileFault}
+use Rattle.vic_operands.specs.declared.operand.FileFault.TheVariants.{Line, Memory}
 use Rattle.vic_operands.specs.declared.reconcile_operands.Expecting.{Expecting}
 use Rattle.vic_operands.specs.declared.reconcile_operands.Expecting.TheVariants.{Nothing, Unnamed, Refused, Listed, Collected}
 
 -- why a list isn't read
-abbrev pub RefusesList : List ℕ → Unread → Type 0
+abbrev pub RefusesList : List ℕ → FileFault → Type 0
 RefusesList text (Line line f) = IsListFault text line f
 RefusesList text Memory = ⊤
 
 -- why lines aren't those of a list
-abbrev pub RefusesLines : List LogLine → Unread → Type 0
+abbrev pub RefusesLines : List LogLine → FileFault → Type 0
 RefusesLines lines (Line n f) = IsFirstNotListed lines n × (f ≡ fault.NotListed)
 RefusesLines lines Memory = ⊤
 

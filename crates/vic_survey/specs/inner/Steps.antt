@@ -8,27 +8,27 @@ use Rattle.vic_survey.specs.Surveys.{SurveyValue, AreSurveys, IsSeen, IsSurvey}
 use Rattle.vic_survey.specs.SurveyText.{certain_line, open_line, found_text, lines_before, name_line, seal, survey_lines}
 use Rattle.vic_text.specs.Digits.{mask_text}
 use Rattle.vic_survey.specs.declared.begun.Begun.{Begun}
-use Rattle.vic_survey.specs.declared.begun.Begun.TheVariants.{Named, Telling, Told}
+use Rattle.vic_survey.specs.declared.begun.Begun.TheVariants.{Named, UpTo, Unsealed}
 use Rattle.vic_survey.specs.declared.begun.Part.{Part}
 use Rattle.vic_survey.specs.declared.begun.Part.TheVariants as part
-use Rattle.vic_survey.specs.declared.begun.Unread.{Unread}
-use Rattle.vic_survey.specs.declared.begun.Unread.TheVariants.{Wrong, Memory}
+use Rattle.vic_survey.specs.declared.begun.StepFault.{StepFault}
+use Rattle.vic_survey.specs.declared.begun.StepFault.TheVariants.{Wrong, Memory}
 use Rattle.vic_survey.specs.declared.survey.TheConstants.{MAX_COUNT}
 use Rattle.vic_survey.specs.declared.survey.Field.{Field}
 use Rattle.vic_survey.specs.declared.survey.Field.TheVariants.{Impossible, Possible}
 use Rattle.vic_survey.specs.declared.survey.Seen.{Seen}
 use Rattle.vic_survey.specs.inner.Rising.{is_above, is_behind}
-use Rattle.vic_survey.specs.inner.Values.{and_then, or_else, after, number_in, line_number_in, mask_in, found_in, certain_in, refused_in, name_in}
+use Rattle.vic_survey.specs.inner.Values.{and_then, or_else, after, number_up_to, line_number_in, mask_in, found_in, certain_in, refused_in, name_in}
 
 -- what a call returned is what is read, unless memory was refused
-abbrev pub Gives : {A : Type 0} → Result A Unread → Option A → Type 0
+abbrev pub Gives : {A : Type 0} → Result A StepFault → Option A → Type 0
 Gives (Ok x) read = read ≡ Some x
 Gives (Err Wrong) read = read ≡ None
 Gives (Err Memory) read = ⊤
 
 -- a number behind words; a line's number; a mask; a mask or `-`
 abbrev pub count_after : List ℕ → List ℕ → Option ℕ
-count_after words line = and_then (after words line) (number_in MAX_COUNT)
+count_after words line = and_then (after words line) (number_up_to MAX_COUNT)
 
 abbrev pub line_after : List ℕ → List ℕ → Option ℕ
 line_after words line = and_then (after words line) line_number_in
@@ -54,81 +54,25 @@ nothing = record {
 }
 
 abbrev pub with_answers : Seen → ℕ → Seen
-with_answers s n = record {
-  answers = n;
-  certain = s.certain;
-  «open» = s.«open»;
-  margin = s.margin;
-  weakest = s.weakest;
-  hidden = s.hidden;
-  deaf = s.deaf;
-}
+with_answers s n = record s { answers = n }
 
 abbrev pub with_certain : Seen → ShownUid → Seen
-with_certain s u = record {
-  answers = s.answers;
-  certain = s.certain ++ u ∷ [];
-  «open» = s.«open»;
-  margin = s.margin;
-  weakest = s.weakest;
-  hidden = s.hidden;
-  deaf = s.deaf;
-}
+with_certain s u = record s { certain = s.certain ++ u ∷ [] }
 
 abbrev pub with_open : Seen → BitMask → Seen
-with_open s m = record {
-  answers = s.answers;
-  certain = s.certain;
-  «open» = s.«open» ++ m ∷ [];
-  margin = s.margin;
-  weakest = s.weakest;
-  hidden = s.hidden;
-  deaf = s.deaf;
-}
+with_open s m = record s { «open» = s.«open» ++ m ∷ [] }
 
 abbrev pub with_margin : Seen → ℕ → Seen
-with_margin s n = record {
-  answers = s.answers;
-  certain = s.certain;
-  «open» = s.«open»;
-  margin = n;
-  weakest = s.weakest;
-  hidden = s.hidden;
-  deaf = s.deaf;
-}
+with_margin s n = record s { margin = n }
 
 abbrev pub with_weakest : Seen → BitMask → Seen
-with_weakest s m = record {
-  answers = s.answers;
-  certain = s.certain;
-  «open» = s.«open»;
-  margin = s.margin;
-  weakest = m;
-  hidden = s.hidden;
-  deaf = s.deaf;
-}
+with_weakest s m = record s { weakest = m }
 
 abbrev pub with_hidden : Seen → Option BitMask → Seen
-with_hidden s m = record {
-  answers = s.answers;
-  certain = s.certain;
-  «open» = s.«open»;
-  margin = s.margin;
-  weakest = s.weakest;
-  hidden = m;
-  deaf = s.deaf;
-}
+with_hidden s m = record s { hidden = m }
 
 abbrev pub with_deaf : Seen → Option BitMask → Seen
-with_deaf s m = record {
-  answers = s.answers;
-  certain = s.certain;
-  «open» = s.«open»;
-  margin = s.margin;
-  weakest = s.weakest;
-  hidden = s.hidden;
-  deaf = m;
-}
+with_deaf s m = record s { deaf = m }
 
 -- ---- the lines that follow
 
@@ -141,9 +85,9 @@ field_in line = or_else
 -- a line behind that of the name
 abbrev pub after_name : List ℕ → List ℕ → Option Begun
 after_name name line =
-    if bytes_eq line (codes "possible") then Some (Telling name nothing part.Possible)
+    if bytes_eq line (codes "possible") then Some (UpTo name nothing part.Possible)
     else and_then (field_in line)
-    (λ field. Some (Told (record { name = name; field = field })))
+    (λ field. Some (Unsealed (record { name = name; field = field })))
 
 abbrev pub certain_after : List ℕ → Option ShownUid
 certain_after line = and_then (after (codes "certain ") line) certain_in
@@ -152,27 +96,27 @@ certain_after line = and_then (after (codes "certain ") line) certain_in
 abbrev pub more_certain : List ℕ → Seen → List ℕ → Option Begun
 more_certain name s line = and_then (certain_after line)
     (λ c. if length s.«open» == 0 && is_above s.certain c.uid
-    then Some (Telling name (with_certain s c) part.Lists) else None)
+    then Some (UpTo name (with_certain s c) part.Lists) else None)
 
 -- one more open mask
 abbrev pub more_open : List ℕ → Seen → List ℕ → Option Begun
 more_open name s line = and_then (mask_after (codes "open ") line)
-    (λ m. if is_behind s.«open» m then Some (Telling name (with_open s m) part.Lists) else None)
+    (λ m. if is_behind s.«open» m then Some (UpTo name (with_open s m) part.Lists) else None)
 
 -- what a possible log says, one more line
 abbrev pub next_part : List ℕ → Seen → Part → List ℕ → Option Begun
 next_part name s part.Possible line = and_then (count_after (codes "answers ") line)
-    (λ n. Some (Telling name (with_answers s n) part.Lists))
+    (λ n. Some (UpTo name (with_answers s n) part.Lists))
 next_part name s part.Lists line =
     or_else (more_certain name s line) (or_else (more_open name s line)
     (and_then (count_after (codes "margin ") line)
-    (λ n. Some (Telling name (with_margin s n) part.Margin))))
+    (λ n. Some (UpTo name (with_margin s n) part.Margin))))
 next_part name s part.Margin line = and_then (mask_after (codes "weakest ") line)
-    (λ m. Some (Telling name (with_weakest s m) part.Weakest))
+    (λ m. Some (UpTo name (with_weakest s m) part.Weakest))
 next_part name s part.Weakest line = and_then (found_after (codes "hidden ") line)
-    (λ m. Some (Telling name (with_hidden s m) part.Hidden))
+    (λ m. Some (UpTo name (with_hidden s m) part.Hidden))
 next_part name s part.Hidden line = and_then (found_after (codes "deaf ") line)
-    (λ m. Some (Told (record { name = name; field = Possible (with_deaf s m) })))
+    (λ m. Some (Unsealed (record { name = name; field = Possible (with_deaf s m) })))
 
 -- ---- states
 
@@ -187,9 +131,9 @@ step_of done None line = and_then (name_in line)
     (λ name. Some (record { done = done; begun = Some (Named name) }))
 step_of done (Some (Named name)) line = and_then (after_name name line)
     (λ b. Some (record { done = done; begun = Some b }))
-step_of done (Some (Telling name s p)) line = and_then (next_part name s p line)
+step_of done (Some (UpTo name s p)) line = and_then (next_part name s p line)
     (λ b. Some (record { done = done; begun = Some b }))
-step_of done (Some (Told s)) line =
+step_of done (Some (Unsealed s)) line =
     if bytes_eq line (seal (lines_before s))
     then Some (record { done = done ++ s ∷ []; begun = None }) else None
 
@@ -227,8 +171,8 @@ lines_of_part s part.Hidden =
 abbrev pub lines_of : Option Begun → List (List ℕ)
 lines_of None = []
 lines_of (Some (Named name)) = name_line name ∷ []
-lines_of (Some (Telling name s p)) = name_line name ∷ codes "possible" ∷ lines_of_part s p
-lines_of (Some (Told s)) = lines_before s
+lines_of (Some (UpTo name s p)) = name_line name ∷ codes "possible" ∷ lines_of_part s p
+lines_of (Some (Unsealed s)) = lines_before s
 
 -- all lines
 abbrev pub so_far : State → List (List ℕ)
@@ -248,8 +192,8 @@ IsAt part.Hidden s = ⊤
 abbrev pub IsBegun : Option Begun → Type 0
 IsBegun None = ⊤
 IsBegun (Some (Named name)) = IsName name
-IsBegun (Some (Telling name s p)) = IsName name × IsSeen s × IsAt p s
-IsBegun (Some (Told s)) = IsSurvey s
+IsBegun (Some (UpTo name s p)) = IsName name × IsSeen s × IsAt p s
+IsBegun (Some (Unsealed s)) = IsSurvey s
 
 abbrev pub IsState : State → Type 0
 IsState st = AreSurveys st.done × IsBegun st.begun

@@ -1,19 +1,14 @@
 -- The values in the lines of surveys, as they are read: each is spelled again, and compared.
-use Rattle.std.specs.Prelude.{ℕ, ◌-◌, ◌^◌, ◌==◌, ◌&&◌, Bool, not, Option, Some, None, List, [], ◌∷◌, ◌++◌, Result, Ok, Err, length, take, drop, replicate, bytes_eq, nat_le, nat_lt, codes, decimal, if◌then◌else◌}
-use Rattle.std.specs.Int.{from_be_bytes, w64}
+use Rattle.std.specs.Prelude.{ℕ, ◌^◌, ◌==◌, ◌&&◌, Bool, not, Option, Some, None, List, [], ◌∷◌, length, take, drop, bytes_eq, nat_le, nat_lt, codes, if◌then◌else◌}
 use Rattle.std.specs.List.{list_all}
 use Rattle.std.specs.Str.{byte, is_utf8}
-use Rattle.std.specs.Str.Parse.{digits_value}
-use Rattle.hex.specs.Hex.{decode_sized}
-use Rattle.hex.specs.declared.error.FromHexError.{FromHexError}
 use Rattle.vic_frame.specs.declared.uid.TheConstants.{UID_BITS}
 use Rattle.vic_frame.specs.Masks.{BitMask}
-use Rattle.vic_frame.specs.Requests.{byte_count}
 use Rattle.vic_frame.specs.Uids.{is_uid}
 use Rattle.vic_log.specs.Names.{line_fault_name}
 use Rattle.vic_log.specs.declared.fault.LineFault.{LineFault}
 use Rattle.vic_report.specs.declared.shown.ShownUid.{ShownUid}
-use Rattle.vic_text.specs.Digits.{hex_bytes}
+use Rattle.vic_text.specs.Values.{hex_number_in, number_in, value_in}
 use Rattle.vic_survey.specs.declared.faults.TheConstants.{FAULTS}
 use Rattle.vic_survey.specs.declared.name.TheConstants.{MAX_NAME_LEN}
 use Rattle.vic_survey.specs.declared.rising.TheConstants.{MAX_LINE_NUMBER}
@@ -42,37 +37,15 @@ parted c (b ∷ bs) =
     if b == c then Some ([], bs) else and_then (parted c bs) (λ p. Some (b ∷ p.0, p.1))
 
 -- the number, up to a greatest one, that digits spell in decimal
-abbrev pub number_in : ℕ → List ℕ → Option ℕ
-number_in most w =
-    let n = digits_value 10 w in
-    if (nat_lt n (2 ^ 32) && nat_le n most) && bytes_eq (decimal n) w then Some n else None
+abbrev pub number_up_to : ℕ → List ℕ → Option ℕ
+number_up_to most w = and_then (number_in w) (λ n. if nat_le n most then Some n else None)
 
 abbrev pub line_number_in : List ℕ → Option ℕ
 line_number_in w =
-    and_then (number_in MAX_LINE_NUMBER w) (λ n. if nat_lt 0 n then Some n else None)
-
--- the number with these last bytes, at most eight, most significant first
-abbrev pub number_ending : List ℕ → ℕ
-number_ending bytes = from_be_bytes w64 (replicate (8 - length bytes) 0 ++ bytes)
-
--- the number that decoded bytes spell, if the digits are upper-case ones
-abbrev pub hex_decoded : ℕ → List ℕ → Result (List ℕ) FromHexError → Option ℕ
-hex_decoded count w (Ok bytes) =
-    let n = number_ending bytes in if bytes_eq (hex_bytes count n) w then Some n else None
-hex_decoded count w (Err e) = None
-
--- the number that digits spell as `count` bytes in hex
-abbrev pub hex_number_in : ℕ → List ℕ → Option ℕ
-hex_number_in count w = hex_decoded count w (decode_sized w count)
+    and_then (number_up_to MAX_LINE_NUMBER w) (λ n. if nat_lt 0 n then Some n else None)
 
 abbrev pub uid_in : List ℕ → Option ℕ
 uid_in w = and_then (hex_number_in 8 w) (λ u. if is_uid u then Some u else None)
-
--- the value of a mask of `len` bits, `-` if it has none
-abbrev pub value_in : ℕ → List ℕ → Option ℕ
-value_in len w =
-    if len == 0 then (if bytes_eq w (codes "-") then Some 0 else None)
-    else hex_number_in (byte_count len) w
 
 -- a mask of so many bits
 abbrev pub mask_of : ℕ → List ℕ → Option BitMask
@@ -82,7 +55,7 @@ mask_of len w = and_then (value_in len w)
 -- a mask of at most 56 bits
 abbrev pub mask_in : List ℕ → Option BitMask
 mask_in w = and_then (parted (byte " ") w)
-    (λ p. and_then (number_in UID_BITS p.0) (λ len. mask_of len p.1))
+    (λ p. and_then (number_up_to UID_BITS p.0) (λ len. mask_of len p.1))
 
 -- a mask, or `-`
 abbrev pub found_in : List ℕ → Option (Option BitMask)

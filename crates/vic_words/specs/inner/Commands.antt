@@ -34,22 +34,22 @@ abbrev pub with_file : App → Text → App
 with_file program name =
     with_subcommand program (with_operand name (codes "file") false).top
 
-abbrev pub file_commands : App
-file_commands = with_file (with_file (with_file (with_file (with_file (with_file program
+abbrev pub up_to_json : App
+up_to_json = with_file (with_file (with_file (with_file (with_file (with_file program
     (codes "check")) (codes "simulate")) (codes "explain")) (codes "report")) (codes "margin"))
     (codes "json")
 
-abbrev pub operand_commands : App
-operand_commands = with_subcommand (with_subcommand file_commands
+abbrev pub up_to_reconcile : App
+up_to_reconcile = with_subcommand (with_subcommand up_to_json
     (with_operand (codes "frame") (codes "hex") true).top) (with_words (codes "reconcile")).top
 
-abbrev pub files_commands : App
-files_commands = with_subcommand
-    (with_subcommand operand_commands (with_words (codes "survey")).top)
+abbrev pub up_to_collection : App
+up_to_collection = with_subcommand
+    (with_subcommand up_to_reconcile (with_words (codes "survey")).top)
     (with_words (codes "collection")).top
 
 -- the program
 abbrev pub commands : App
 commands = with_subcommand
-    (with_subcommand files_commands (with_words (codes "json-collection")).top)
+    (with_subcommand up_to_collection (with_words (codes "json-collection")).top)
     (with_words (codes "spell")).top

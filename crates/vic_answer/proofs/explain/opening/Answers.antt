@@ -8,4 +8,4 @@ with_population e us text is told = rw (told, is) (append_assoc (answer_line (an
 pub returns-in-Some : goal.returns-in-Some
 returns-in-Some c =
     let line = c.answer_line-text.ensures.items ∙ ap answer_line c.answer_of.ensures in
-    with_population c.args.explained.now c.in-Some.uids.now c.put_size.new.text.items (sym c.in-Some.ensures) (c.put_size.ensures ∙ ap (λ xs. xs ++ population_line (length c.in-Some.uids.now)) line)
+    with_population c.args.explained.now c.in-Some.uids.now c.push_size.new.text.items (sym c.in-Some.ensures) (c.push_size.ensures ∙ ap (λ xs. xs ++ population_line (length c.in-Some.uids.now)) line)

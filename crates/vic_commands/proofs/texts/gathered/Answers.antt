@@ -2,7 +2,7 @@ use Rattle.std.proofs.Common.{◌≡◌, ◌∙◌, ◌++◌, ◌+◌, ◌<◌, 
 use Rattle.std.proofs.lemmas.List.{get_or-map, length-map, take_all, take_more}
 use Rattle.std.proofs.lemmas.Result.{IfOk-weaker}
 use Rattle.vic_commands.proofs.TextsSoFar.{take_now-more}
-use Rattle.vic_commands.proofs.Tellings.{told-named}
+use Rattle.vic_commands.proofs.Outputs.{output-named}
 use Rattle.vic_commands.proofs.texts.gathered.Goals as goal
 use denote.Ref.{Bor}
 
@@ -28,4 +28,4 @@ returns g c =
     let all_names : take c.loop-i.i ns ≡ ns = take_all _ _ (omega (arith, names, c.if-names-texts.false)) in
     let all_texts : take c.loop-i.i ts ≡ ts = take_all _ _ (omega (arith, texts)) in
     let taken = rw (all_names, all_texts) at c.loop-i.invariant in
-    IfOk-weaker c.finish.result _ _ (λ told h. told-named g.G.Gather.Writes ns ts told (omega (arith, names, texts, c.if-names-texts.false)) (h ns ts taken)) c.finish.ensures
+    IfOk-weaker c.finish.result _ _ (λ output h. output-named g.G.Gather.Writes ns ts output (omega (arith, names, texts, c.if-names-texts.false)) (h ns ts taken)) c.finish.ensures

@@ -13,5 +13,5 @@ returns-in-None g c =
         leaves_source = c.do_task.ensures.leaves_source;
         leaves_sink = c.do_task.ensures.leaves_sink;
       };
-      ends = c.ended.ensures;
+      ends = c.end_of_run.ensures;
     })

@@ -18,16 +18,16 @@ lines_of_certain-requires-clause-certain c =
 
 pub returns-clause-seen : goal.returns-clause-seen
 returns-clause-seen c =
-    seen_made c.args.log.lines (is_open_in c.args.facts.«open») c.args.facts.met c.args.facts.certain c.in_ok-told.told.items _ c.requires.facts
-    c.in_ok-told.ensures.uids (subst (λ ls. All (IsShownCertain ls) c.in_ok-told.told.items) c.lines.ensures.value c.in_ok-told.ensures.shown)
+    seen_made c.args.log.lines (is_open_in c.args.facts.«open») c.args.facts.met c.args.facts.certain c.in_ok-shown.shown.items _ c.requires.facts
+    c.in_ok-shown.ensures.uids (subst (λ ls. All (IsShownCertain ls) c.in_ok-shown.shown.items) c.lines.ensures.value c.in_ok-shown.ensures.shown)
     c.of-certain.ensures c.in_ok-open.ensures c.answers-answers.ensures.value
     (subst (λ us. IsWeakestBesides (entries c.args.log.lines) us c.in_ok-margin.field-0) c.as_slice.ensures.value c.in_ok-margin.ensures)
     c.in_ok-hidden.ensures.hidden c.in_ok-hidden.ensures.deaf
 
 pub of-certain-requires : goal.of-certain-requires
 of-certain-requires c =
-    certain_valid c.args.log.version c.args.log.lines c.args.facts.certain c.in_ok-told.told.items (subst (IsLog c.args.log.version) c.lines.ensures.value c.lines.ensures.log) c.requires.facts.told.possible
-    (certain_listed (entries c.args.log.lines) (is_open_in c.args.facts.«open») c.args.facts.met c.args.facts.certain c.requires.facts) c.in_ok-told.ensures.uids (subst (λ ls. All (IsShownCertain ls) c.in_ok-told.told.items) c.lines.ensures.value c.in_ok-told.ensures.shown)
+    certain_valid c.args.log.version c.args.log.lines c.args.facts.certain c.in_ok-shown.shown.items (subst (IsLog c.args.log.version) c.lines.ensures.value c.lines.ensures.log) c.requires.facts.told.possible
+    (certain_listed (entries c.args.log.lines) (is_open_in c.args.facts.«open») c.args.facts.met c.args.facts.certain c.requires.facts) c.in_ok-shown.ensures.uids (subst (λ ls. All (IsShownCertain ls) c.in_ok-shown.shown.items) c.lines.ensures.value c.in_ok-shown.ensures.shown)
 
 pub returns-clause-valid : goal.returns-clause-valid
 returns-clause-valid c =

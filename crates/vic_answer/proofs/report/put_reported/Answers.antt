@@ -1,6 +1,0 @@
-use Rattle.vic_answer.proofs.Words.{sym, ap, ◌∙◌, reported_text}
-use Rattle.vic_answer.proofs.Waiting.{Puts-same}
-use Rattle.vic_answer.proofs.report.put_reported.Goals as goal
-
-pub returns-in-RefusedAt : goal.returns-in-RefusedAt
-returns-in-RefusedAt g c = Puts-same c.put_text.ensures (c.refusal_line.ensures.items ∙ ap reported_text (sym c.in-RefusedAt.is))
