@@ -218,10 +218,7 @@ class Asked(Command):
             for words in ([gone, "x"], [f"{gone}=x"]):
                 said, errors, status = within("collection", catalogue, *words)
                 self.assertEqual((said, status), (b"", 4))
-                self.assertEqual(errors.decode(), (
-                    f"vicinity: {gone} is no option any more: a collection is read as it stands. "
-                    "Join the tables first, and name the columns uid and place, and each text of "
-                    "surveys among the files: see COLLECTIONS\n"))
+                self.assertIn(f"unrecognized arguments: {words[0]}", errors.decode())
         self.assertEqual(within("collection", catalogue, "--", "--tags")[1:], (
             b"vicinity: cannot read --tags: No such file or directory\n", 4))
 
@@ -262,14 +259,6 @@ class Asked(Command):
                 said, errors, ended = command(*words, name, redirected=redirected)
                 self.assertEqual((bool(said), errors, ended), (not status, b"", status))
 
-    def test_progress(self):
-        words = "collection", "--csv", self.catalogue("uid\nE0040100000000A1\n")
-        names = [self.write(f"{number}.log", NOTHING) for number in range(50)]
-        for these, wanted in ((names, b"\r0 of 51 files"), (names[1:], b"")):
-            said, _ = on_a_terminal(*words, *these, streams=["stderr"])
-            self.assertEqual((said[:len(wanted)], said[-4:]),
-                             (wanted, b"\r\33[K" if wanted else b""))
-
 
 class Doubts(Command):
     """What is said of a catalogue of which nothing is refused, beside an answer that stays."""
@@ -307,6 +296,18 @@ class Doubts(Command):
                     "vicinity: K: The catalogue has no column 'place', so an item on a wrong shelf "
                     "isn't noticed, nor a shelf that wasn't counted. Column "
                     f"{number} is called {json.dumps(column)}, which isn't that name.\n"))
+
+    def test_no_log(self):
+        """Usually a pattern that found nothing. A survey is one, and so is an empty file."""
+        catalogue = self.catalogue("uid,away\nnone,\nE0040100000000A1,away\n")
+        for form in FORMS:
+            said, warned, status = within("collection", *form, catalogue)
+            self.assertEqual((bool(said), warned, status), (
+                True, b"vicinity: no log is given, so nothing is counted: did a pattern, or a list "
+                b"of names, find none?\n", 0))
+            for text in (NOTHING, b"", vicinity.survey(NOTHING, "a").text):
+                self.assertEqual(within("collection", *form, catalogue, self.write("a", text))[1],
+                                 b"")
 
     def test_other_names(self):
         """Those that the library reads as place, or as any other."""
@@ -353,8 +354,9 @@ class Sure(Command):
     def test_without_a_log(self):
         """It counts as too small."""
         words = "collection", self.catalogue("uid\nnone\n"), "--margin", "1"
-        self.assertEqual(within(*words, "--csv")[1:],
-                         (b"vicinity: margin unknown, 1 asked for\n", 1))
+        _, errors, status = within(*words, "--csv")
+        self.assertEqual((errors.splitlines()[0], status),
+                         (b"vicinity: margin unknown, 1 asked for", 1))
 
     def test_a_terminal_is_told(self):
         told, said = on_a_terminal("collection", self.expected, *self.logs, streams=["stderr"])

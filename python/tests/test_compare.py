@@ -1,7 +1,8 @@
 """What has changed between two answers of `collection --json`."""
 import json
 
-from cases import ALL, COLLECTION, HEARD_A, HEARD_B, SHELVES, Command, log, on_a_terminal, within
+from cases import (ALL, CAPTURED_A, COLLECTION, HEARD_A, HEARD_B, SHELVES, SILENCE_A, Command, log,
+                   on_a_terminal, third, within)
 
 CATALOGUE = b"uid,title,place\nE0040100000000A1,Emma,a\nnone,Map,a\n"
 
@@ -10,7 +11,8 @@ class Compare(Command):
     def answer(self, name, catalogue=CATALOGUE, a=ALL + HEARD_A, is_cut=False, **logs):
         """A file with the answer to a catalogue and to logs of the places a and others."""
         words = [self.write("catalogue.csv", catalogue), *(
-            self.write(f"{place}.log", log(lines)) for place, lines in {"a": a, **logs}.items())]
+            self.write(f"{place}.log", lines if lines.startswith(b"vicinity-") else log(lines))
+            for place, lines in {"a": a, **logs}.items())]
         said, errors, _ = within("collection", "--json", *words)
         self.assertEqual(b"has no line end" in errors, is_cut)
         return self.write(name, said)
@@ -97,10 +99,34 @@ class Compare(Command):
         self.write("b.log", log(ALL + HEARD_A))
         new = self.write("new", within(*words, a, b)[0])
         line = "there E0040100000000A1 in b.log, was there in a.log: Emma"
-        self.assertEqual(self.changes(old, new), [line])
+        hidden = "log b.log, if replies were hidden: others may be here, was still complete"
+        self.assertEqual(self.changes(old, new), [hidden, line])
         self.write("a.log", log(ALL + HEARD_A))
         both = self.write("both", within(*words, a, b)[0])
-        self.assertEqual((self.changes(old, both), self.changes(both, new)), ([], []))
+        self.assertEqual((self.changes(old, both), self.changes(both, new)), ([hidden], []))
+
+    def test_what_is_less_sure(self):
+        """Of a log that was searched to its end: a margin that is less, and another reading by
+        which others may be there. What is surer now isn't told."""
+        silence = SILENCE_A + ALL + b"S\n"
+        heard = b"F\nT 260138A1000000000104618F\n" + CAPTURED_A
+        sure, twice, deaf, alone = (
+            self.answer(name, a=third(lines)) for name, lines in (
+                ("sure", ALL + CAPTURED_A + silence + heard),
+                ("twice", ALL + CAPTURED_A + silence + ALL + b"S\n" + heard),
+                ("deaf", ALL + CAPTURED_A + silence), ("alone", ALL + HEARD_A)))
+        margin = "log a.log, margin: 1, was 2"
+        went_deaf = "log a.log, if the reader went deaf: others may be here, was still complete"
+        hidden = "log a.log, if replies were hidden: others may be here, was still complete"
+        for old, new, wanted in (
+                (twice, sure, [margin]), (sure, deaf, [went_deaf]), (deaf, alone, [hidden]),
+                (twice, alone, [margin, hidden, went_deaf])):
+            self.assertEqual(self.changes(old, new), wanted)
+            self.assertEqual(self.changes(new, old), [])
+        # of a log that isn't read to its end, or contradicts itself, that is told alone
+        for lines in (b"T 260104012214\n" + HEARD_A, ALL + b"S\n" + ALL + b"C\n"):
+            said = self.changes(twice, self.answer("new", a=third(lines)))
+            self.assertEqual([line for line in said if line.startswith("log a.log, ")], [])
 
     def test_as_json(self):
         old, new = self.answer("old"), self.answer("new", a=ALL + b"S\n")

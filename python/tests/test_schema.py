@@ -36,7 +36,8 @@ class Schema(Command):
         expected = self.write("expected.csv", b"uid\nE0040100000000A1\nnone\n")
         answers = [within("collection", "--json", *words)[0] for words in (
             [*tables, *SHELVES], [*tables, *SHELVES[:2], *self.names], [*tables, self.names[6]],
-            [expected, self.names[1]], ["--margin", "2", expected, self.names[1]])]
+            [expected, self.names[1]], ["--margin", "2", expected, self.names[1]],
+            [self.write("cut.csv", b"uid\nE0040100000000A1\nnone"), self.names[1]])]
         yield from ((json.loads(answer), "collection") for answer in answers)
         yield (drawn_in(within("collection", "--page", *tables, *SHELVES)[0].decode())[0],
                "collection")

@@ -13,6 +13,7 @@ import tempfile
 import threading
 import unittest
 from array import array
+from unittest import mock
 
 from cases import (A, ALL, ANSWERS, B, HEARD_A, HEARD_B, LIST_A, LIST_B, NOTHING, SILENCE_A,
                    SIXTEEN, TOP, frame, log)
@@ -375,27 +376,55 @@ class Library(unittest.TestCase):
 
     def test_another_library_is_no_vicinity(self):
         code = ("import vicinity\ntry: vicinity.check(b'')\n"
-                "except (OSError, AttributeError) as it: print(type(it).__name__)")
+                "except (OSError, AttributeError) as it: print(type(it).__name__, it)")
         said, _ = self.run_python(code, LIBVICINITY="libc.so.6")
-        self.assertEqual(said, "OSError\n")
+        self.assertRegex(said, "^OSError the library libc.so.6 can't be loaded .*vicinity_version")
 
     def test_a_processor_that_lacks_instructions(self):
-        flags = list(_native.X86_64_V2)
-        self.assertEqual(_native.lacking_of("x86_64", ["fpu", *flags]), [])
-        some = ["fpu", "cx16", "lahf_lm", "sse4_1", "ssse3"]
-        self.assertEqual(_native.lacking_of("x86_64", some), ["popcnt", "sse4_2"])
-        self.assertEqual(_native.lacking_of("aarch64", ["fp"]), [])
-        self.assertEqual(_native.lacking_of("x86_64", []), [])
-        code = ("from vicinity import _native\n_native._flags = lambda: ['fpu']\n"
-                "try: _native.library()\nexcept OSError as it: print(it)")
-        if os.uname().machine == "x86_64":
-            self.assertIn("needs a processor with x86-64-v2: this one lacks cx16",
+        """By what /proc/cpuinfo says on x86-64, on 64-bit ARM, and where it is lacking."""
+        all_of_them = "fpu cx16 lahf_lm popcnt sse4_1 sse4_2 ssse3"
+        with tempfile.NamedTemporaryFile("w+") as file:
+            for line, lacks in ((f"flags\t\t: {all_of_them}", []), ("Features\t: fp asimd", []),
+                                ("flags\t\t: fpu cx16 lahf_lm sse4_1 ssse3", ["popcnt", "sse4_2"])):
+                file.seek(0)
+                file.truncate()
+                file.write(f"processor\t: 0\n{line}\n\nprocessor\t: 1\nflags\t: {all_of_them}\n")
+                file.flush()
+                with mock.patch.object(_native, "PROCESSOR", file.name):
+                    self.assertEqual(_native.lacking(), lacks)
+            code = ("from vicinity import _native\n_native.PROCESSOR = '%s'\n"
+                    "try: _native.library()\nexcept OSError as it: print(it)" % file.name)
+            self.assertIn("needs a processor with x86-64-v2: this one lacks popcnt, sse4_2\n",
                           self.run_python(code)[0])
+        with mock.patch.object(_native, "PROCESSOR", "/nowhere"):
+            self.assertEqual(_native.lacking(), [])
 
-    def test_an_older_library_is_told(self):
+    def test_a_library_of_another_version_is_refused(self):
+        """Older or newer, though it has all calls: both versions are told, and where it is, as it
+        was named, or as the system found it."""
+        calls = "".join(f"unsigned vicinity_{name}(void) {{ return {{}}; }}\n"
+                        for name in _native.CALLS)
+        numbers = [int(it) for it in vicinity.__version__.split(".")[:3]]
+        for major, minor, patch in ((0, 0, -1), (0, 0, 1), (0, 1, 0), (-1, 0, 0)):
+            of = (numbers[0] + major, numbers[1] + minor, numbers[2] + patch)
+            said = "the library {} has the version %d.%d.%d, and this package %d.%d.%d: " % (
+                *of, *numbers)
+            with tempfile.TemporaryDirectory() as folder:
+                file = os.path.join(os.path.realpath(folder), _native.NAME)
+                number = of[0] * 10000 + of[1] * 100 + of[2]
+                subprocess.run(["cc", "-shared", "-fPIC", "-xc", "-", "-o", file], check=True,
+                               input=calls.replace("{}", str(number)).encode())
+                for env, name in ((dict(LIBVICINITY=file), f"{file}, which LIBVICINITY names,"),
+                                  (dict(LIBVICINITY="", LD_LIBRARY_PATH=folder), file)):
+                    ran = subprocess.run([sys.executable, "-m", "vicinity", "/nowhere"],
+                                         capture_output=True, env={**os.environ, **env})
+                    self.assertEqual((ran.stdout, ran.returncode), (b"", 4))
+                    self.assertIn(said.format(name), ran.stderr.decode())
+
+    def test_a_library_that_lacks_a_call_is_told(self):
         code = ("import vicinity; from vicinity._native import CALLS; CALLS['later'] = []\n"
                 "try: vicinity.check(b'')\nexcept OSError as it: print(it)")
-        self.assertIn("has no vicinity_later", self.run_python(code)[0])
+        self.assertIn("undefined symbol: vicinity_later", self.run_python(code)[0])
 
     def test_refused_memory_is_a_memory_error(self):
         code = ("import resource, vicinity\nvicinity.check(b'')\n"

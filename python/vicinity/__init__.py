@@ -13,6 +13,8 @@ It is loaded on the first call; LIBVICINITY may name its file.
 `python3 -m vicinity show LOG` and `page LOG` draw one;
 `python3 -m vicinity collection CATALOGUE LOG ..` compares many with what should be there.
 """
+__version__ = "2.0.1"
+
 from ._answers import (Answer, Explanation, Fault, Finding, FindingKind, Kind, Margin, Mask, Report,
                        Simulation, Weakest)
 from ._calls import (check, check_listed, explain, explain_into, margin, margin_listed, page,
@@ -30,4 +32,3 @@ __all__ = ["Answer", "Collection", "CollectionRefused", "Explanation", "Fault", 
            "margin_listed", "page", "parse_uid", "read_request", "read_response", "report", "run",
            "simulate", "simulate_into", "slot_mask", "survey", "uid_text", "write_inventory",
            "write_line", "write_response", "write_stay_quiet"]
-__version__ = "2.0.1"

@@ -7,7 +7,6 @@ import os
 import sys
 from contextlib import suppress
 from importlib import import_module
-from itertools import takewhile
 from typing import Any, Callable, Mapping, NoReturn, Optional, Sequence
 
 from . import __version__
@@ -84,10 +83,6 @@ MOST_MARGIN = 999_999
 GONE = {name: f"it is a command of the program: vicinity {name}"
         for name in ("explain", "frame", "margin", "simulate", "spell", "survey")}
 GONE["reconcile"] = "use collection CATALOGUE [PLACES] LOG .., or vicinity reconcile for a list"
-OPTIONS_GONE = ("--expected", "--column", "--tags", "--place", "--places", "--encoding", "--sep",
-                "--surveys", "--strict")
-JOIN = ("{} is no option any more: a collection is read as it stands. Join the tables first, and "
-        "name the columns uid and place, and each text of surveys among the files: see COLLECTIONS")
 
 
 def words() -> tuple[Words, Mapping[str, Words]]:
@@ -173,10 +168,6 @@ def main() -> int:
     if given[0] in GONE:
         raise NoAnswer(f"{given[0]} is no command here: {GONE[given[0]]}")
     name = given.pop(0) if given[0] in commands else "check"
-    options = takewhile(lambda word: word != "--", given if name == "collection" else ())
-    for option in (word.partition("=")[0] for word in options):
-        if option in OPTIONS_GONE:
-            raise NoAnswer(JOIN.format(option))
     asked = commands[name].parse(given)
     module, _, function = asked.does.partition(".")
     status: int = getattr(import_module(f"vicinity.commands.{module}"), function)(asked)

@@ -35,13 +35,7 @@ class Mask(NamedTuple):
 class Kind(enum.IntEnum):
     """Which answer it is."""
 
-    COMPLETE = 1
-    ABSENT = 2
-    UNLISTED = 3
-    UNSETTLED = 4
-    DOUBTFUL = 5
-    IMPOSSIBLE = 6
-    REFUSED = 7
+    COMPLETE, ABSENT, UNLISTED, UNSETTLED, DOUBTFUL, IMPOSSIBLE, REFUSED = range(1, 8)
 
     @property
     def word(self) -> str:
@@ -53,31 +47,12 @@ class Fault(enum.IntEnum):
     """Why a text isn't a log. Those that begin with FRAME are about the frame of a T or R line."""
 
     NONE = 0
-    TOO_MANY_LINES = 1
-    LINE_TOO_LONG = 2
-    HEADER = 3
-    UNKNOWN_ENTRY = 4
-    HEX = 5
-    LISTED_LENGTH = 6
-    NOT_VICINITY = 7
-    SLOT_OUTSIDE_ROUND = 8
-    ENTRY_AFTER_LIST = 9
-    DUPLICATE_LISTED = 10
-    FRAME_SHORT = 101
-    FRAME_CRC = 102
-    FRAME_EXTENSION = 103
-    FRAME_RESERVED = 104
-    FRAME_OPTION_FLAG = 105
-    FRAME_OTHER_COMMAND = 106
-    FRAME_INVENTORY_FLAG = 107
-    FRAME_AFI = 108
-    FRAME_LENGTH = 109
-    FRAME_MASK_TOO_LONG = 110
-    FRAME_MASK_PADDING = 111
-    FRAME_SELECT_FLAG = 112
-    FRAME_NOT_ADDRESSED = 113
-    FRAME_ERROR_FLAG = 114
-    FRAME_NOT_VICINITY = 115
+    (TOO_MANY_LINES, LINE_TOO_LONG, HEADER, UNKNOWN_ENTRY, HEX, LISTED_LENGTH, NOT_VICINITY,
+     SLOT_OUTSIDE_ROUND, ENTRY_AFTER_LIST, DUPLICATE_LISTED) = range(1, 11)
+    (FRAME_SHORT, FRAME_CRC, FRAME_EXTENSION, FRAME_RESERVED, FRAME_OPTION_FLAG,
+     FRAME_OTHER_COMMAND, FRAME_INVENTORY_FLAG, FRAME_AFI, FRAME_LENGTH, FRAME_MASK_TOO_LONG,
+     FRAME_MASK_PADDING, FRAME_SELECT_FLAG, FRAME_NOT_ADDRESSED, FRAME_ERROR_FLAG,
+     FRAME_NOT_VICINITY) = range(101, 116)
 
     @property
     def wrong(self) -> str:
@@ -142,14 +117,8 @@ class Explanation(NamedTuple):
 class FindingKind(enum.IntEnum):
     """What a finding is. The first four have the same numbers as the answers."""
 
-    ABSENT = 2
-    UNLISTED = 3
-    UNSETTLED = 4
-    DOUBTFUL = 5
-    OPEN_MASK = 8
-    MORE_OPEN_MASKS = 9
-    CONFLICT_LINE = 10
-    SILENCED_BY = 11
+    ABSENT, UNLISTED, UNSETTLED, DOUBTFUL = range(2, 6)
+    OPEN_MASK, MORE_OPEN_MASKS, CONFLICT_LINE, SILENCED_BY = range(8, 12)
 
 
 class Finding(NamedTuple):
@@ -173,19 +142,16 @@ class Finding(NamedTuple):
         return Mask(self.mask_len, self.mask_value)
 
     def __str__(self) -> str:
-        """The line that `vicinity report` writes, without its LF,
-        and the one that names the line that shows it, if one log does."""
-        by_line = f"\nby line {self.line}" if self.line else ""
-        mask = f"{self.mask.length} {self.mask.digits}"
+        """The line that `vicinity report` writes, without its LF, and of what a line shows the
+        one that names that."""
+        line = f"by line {self.line}"
+        of = f"{self.uid:016X}" if self.uid else f"{self.mask_len} {self.mask.digits}"
+        kind = FindingKind
         return {
-            FindingKind.ABSENT: f"absent {self.uid:016X}{by_line}",
-            FindingKind.UNLISTED: f"unlisted {self.uid:016X}{by_line}",
-            FindingKind.UNSETTLED: f"unsettled {mask}",
-            FindingKind.DOUBTFUL: f"doubtful {self.uid:016X}",
-            FindingKind.OPEN_MASK: f"open {mask}",
-            FindingKind.MORE_OPEN_MASKS: "more open",
-            FindingKind.CONFLICT_LINE: f"by line {self.line}",
-            FindingKind.SILENCED_BY: f"silenced by line {self.line}",
+            kind.ABSENT: f"absent {of}\n{line}", kind.UNLISTED: f"unlisted {of}\n{line}",
+            kind.UNSETTLED: f"unsettled {of}", kind.DOUBTFUL: f"doubtful {of}",
+            kind.OPEN_MASK: f"open {of}", kind.MORE_OPEN_MASKS: "more open",
+            kind.CONFLICT_LINE: line, kind.SILENCED_BY: f"silenced {line}",
         }[self.kind]
 
 

@@ -4,13 +4,14 @@ from __future__ import annotations
 import ctypes
 import struct
 from array import array
+from functools import partial
 from html import escape
 from typing import Any, Collection, Iterator, Sequence
 
 from ._answers import (Answer, Explanation, Fault, Finding, FindingKind, Kind, Margin, Mask, Report,
                        Simulation, Weakest)
-from ._native import (AnswerStruct, BytesLike, FindingStruct, WeakestStruct, bytes_of, library,
-                      room_of)
+from ._native import (U64, AnswerStruct, BytesLike, FindingStruct, WeakestStruct, bytes_of, filled,
+                      library)
 from ._run import NO_ANSWER, run
 
 FIRST_ROOM = 64
@@ -56,18 +57,6 @@ def _answer(told: ctypes.Structure) -> Answer:
                   told.mask_len, told.mask_value, told.uid, told.text.decode("ascii").rstrip("\n"))
 
 
-def _filled(place: Any, name: str, given: Sequence[Any]) -> tuple[ctypes.Structure, Any, int]:
-    """Makes a call that fills a buffer, first with a few elements, and again if it needs more:
-    what it answers, the buffer, and how many of its elements are filled."""
-    places = FIRST_ROOM
-    while True:
-        room, needed = room_of(place, places), ctypes.c_size_t()
-        told = _asked(name, given, room, places, ctypes.byref(needed))
-        if needed.value <= places:
-            return told, room, needed.value
-        places = needed.value
-
-
 def _margin(name: str, given: Sequence[Any]) -> Margin:
     least = WeakestStruct()
     answer = _answer(_asked(name, given, ctypes.byref(least)))
@@ -97,7 +86,7 @@ def check_listed(text: BytesLike, uids: Collection[int]) -> Answer:
 
 def explain(text: BytesLike) -> Explanation:
     """The answer to a text, and the UIDs of tags that show it. Raises what `check` raises."""
-    told, room, count = _filled(ctypes.c_uint64, "explain", _text(text))
+    told, room, count = filled(partial(_asked, "explain", _text(text)), U64, FIRST_ROOM)
     return Explanation(_answer(told), room[:count])
 
 
@@ -112,7 +101,7 @@ def explain_into(text: BytesLike, room: ctypes.Array[ctypes.c_uint64]) -> tuple[
 
 def report(text: BytesLike) -> Report:
     """The answer to a text, and every finding. Raises what `check` raises."""
-    told, room, count = _filled(FindingStruct, "report", _text(text))
+    told, room, count = filled(partial(_asked, "report", _text(text)), FindingStruct, FIRST_ROOM)
     findings = memoryview(room).cast("B")[:count * PACKED_FINDING.size]
     kinds = {kind.value: kind for kind in FindingKind}  # quicker than a call for each
     return Report(_answer(told), [
@@ -161,6 +150,6 @@ def page(text: BytesLike, name: str = "") -> Page:
     """The page of a log, as `python3 -m vicinity page` writes it: the answer, what to do,
     what was found, and the rounds. `name` is the name of the log. Raises what `check` raises."""
     from ._process import shown  # drawing is loaded only here
-    from .pages.log import of_log
+    from .pages.document import of_log
 
     return Page("".join(of_log(bytes_of(text), shown(name))[1]))

@@ -5,16 +5,19 @@ import ctypes
 import functools
 import mmap
 import os
-import platform
-from typing import Any, Sequence, Union
+from contextlib import suppress
+from typing import Any, Callable, TypeVar, Union
 
+from . import __version__
+
+T = TypeVar("T")
 BytesLike = Union[bytes, bytearray, memoryview, mmap.mmap]
-INTERFACE = 2
+#: That of the package, and of its library.
+VERSION = __version__.partition(".dev")[0]
 #: The library's file.
 NAME = "vicinity.dll" if os.name == "nt" else "libvicinity.so.2"
-#: A buffer of so many elements isn't worth a mapping.
-FEW_PLACES = 4096
-X86_64_V2 = ("cx16", "lahf_lm", "popcnt", "sse4_1", "sse4_2", "ssse3")
+#: What tells the flags of an x86-64 processor, and those of x86-64-v2.
+PROCESSOR, X86_64_V2 = "/proc/cpuinfo", ("cx16", "lahf_lm", "popcnt", "sse4_1", "sse4_2", "ssse3")
 
 
 U16, U32, U64 = ctypes.c_uint16, ctypes.c_uint32, ctypes.c_uint64
@@ -52,7 +55,7 @@ COMMANDS = ("check", "explain", "report", "margin", "simulate", "reconcile", "fr
             "survey", "collection", "json", "json-collection")
 
 CALLS = {
-    "interface": [], "version": [],
+    "version": [],
     "check": [*TEXT, ANSWER], "check_listed": [*TEXT, *UIDS, ANSWER],
     "explain": [*TEXT, ANSWER, *POPULATION], "report": [*TEXT, ANSWER, *FINDINGS],
     "margin": [*TEXT, ANSWER, WEAKEST], "margin_listed": [*TEXT, *UIDS, ANSWER, WEAKEST],
@@ -80,58 +83,68 @@ def bytes_of(text: BytesLike) -> bytes:
 
 
 def room_of(place: Any, places: int) -> Any:
-    """A buffer with that many elements, which takes memory only as it is filled."""
-    if places <= FEW_PLACES:
-        return (place * places)()
+    """A buffer with that many elements, at least one, which takes memory only as it is filled."""
     try:
         return (place * places).from_buffer(mmap.mmap(-1, places * ctypes.sizeof(place)))
     except OSError as error:
         raise MemoryError("vicinity: out of memory") from error
 
 
-def lacking_of(machine: str, flags: Sequence[str]) -> list[str]:
-    """What a processor with these flags lacks of x86-64-v2,
-    without which the library would end the process."""
-    if machine != "x86_64" or not flags:
-        return []
-    return [flag for flag in X86_64_V2 if flag not in flags]
+def filled(call: Callable[..., T], place: Any, places: int) -> tuple[T, Any, int]:
+    """Makes a call that fills a buffer, first with so many elements, and again if it needs more:
+    what it answers, the buffer, and how many of its elements are filled."""
+    while True:
+        room, needed = room_of(place, places), ctypes.c_size_t()
+        told = call(room, places, ctypes.byref(needed))
+        if needed.value <= places:
+            return told, room, needed.value
+        places = needed.value
 
 
-def _flags() -> list[str]:
-    """The flags of the first processor, if the system tells them."""
-    try:
-        with open("/proc/cpuinfo", encoding="utf-8") as file:
-            return next((line.split()[2:] for line in file if line.startswith("flags")), [])
-    except OSError:
-        return []
+def lacking() -> list[str]:
+    """What the processor lacks of x86-64-v2, without which the library would end the process, if
+    the system tells its flags."""
+    with suppress(OSError), open(PROCESSOR, encoding="utf-8") as file:
+        flags = next((line.split() for line in file if line.startswith("flags")), X86_64_V2)
+        return [flag for flag in X86_64_V2 if flag not in flags]
+    return []
 
 
 @functools.lru_cache(maxsize=None)
 def library() -> ctypes.CDLL:
     """The library, loaded once: the file that LIBVICINITY names,
-    or the one that came with the package, or the installed one."""
+    or the one that came with the package, or the installed one. Another version than that of the
+    package is refused, since it may lack what is mended in this one."""
     within = os.path.join(os.path.dirname(os.path.abspath(__file__)), NAME)
-    name = os.environ.get("LIBVICINITY") or (within if os.path.exists(within) else NAME)
-    lacking = lacking_of(platform.machine(), _flags())
-    if lacking:
+    named = os.environ.get("LIBVICINITY")
+    name = named or (within if os.path.exists(within) else NAME)
+    if lacking():
         raise OSError(f"the library {name} needs a processor with x86-64-v2: "
-                      f"this one lacks {', '.join(lacking)}")
+                      f"this one lacks {', '.join(lacking())}")
     try:
         lib = ctypes.CDLL(name)
-    except OSError as error:
+        number = lib.vicinity_version()
+        version = f"{number // 10000}.{number // 100 % 100}.{number % 100}"
+        if version == VERSION:
+            for call_name, arguments in CALLS.items():
+                call = getattr(lib, f"vicinity_{call_name}")
+                call.restype, call.argtypes = U32, arguments
+            return lib
+    except (OSError, AttributeError) as error:
         raise OSError(f"the library {name} can't be loaded ({error}): "
                       "install vicinity or the package libvicinity2, or "
                       "name the file in the environment variable LIBVICINITY") from None
-    for call_name, arguments in CALLS.items():
-        call = getattr(lib, f"vicinity_{call_name}", None)
-        if call is None:
-            raise OSError(f"the library {name} isn't that of vicinity, or is older than "
-                          f"this package: it has no vicinity_{call_name}")
-        call.restype, call.argtypes = U32, arguments
-    if lib.vicinity_interface() != INTERFACE:
-        raise OSError(f"the library {name} has the interface {lib.vicinity_interface()}, "
-                      f"and this package needs {INTERFACE}")
-    return lib
+    which = ", which LIBVICINITY names," * bool(named)
+    raise OSError(f"the library {_file_of(name)}{which} has the version {version}, "
+                  f"and this package {VERSION}: both have to be of one version")
+
+
+def _file_of(name: str) -> str:
+    """Where the system found a library, if it tells."""
+    with suppress(OSError), open("/proc/self/maps", encoding="utf-8", errors="replace") as maps:
+        found = (line.split(maxsplit=5)[-1].rstrip() for line in maps if f"/{name}" in line)
+        return next(found, name)
+    return name
 
 
 @functools.lru_cache(maxsize=None)

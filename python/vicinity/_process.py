@@ -15,7 +15,7 @@ import locale
 import os
 import signal
 import sys
-from typing import Callable, Generator, Iterable, TypeVar, Union
+from typing import Callable, Iterable, TypeVar, Union
 
 # Within these bytes, a longer log has a line that is too long, or too many lines:
 # 1,000,000 lines of 130 bytes, plus one.
@@ -23,8 +23,6 @@ MOST_BYTES = 1_000_000 * 130 + 1
 PIECE = 1 << 16
 #: Statuses: an input is refused, and there is no answer.
 REFUSED, NO_ANSWER = 3, 4
-#: With more logs than this, a terminal is told how many have been read, each time after so many.
-MOST_UNCOUNTED, TOLD_EACH = 50, 10
 
 T = TypeVar("T")
 
@@ -159,20 +157,6 @@ def shown(name: Union[str, bytes]) -> str:
     text = encoded.replace(b"\\", b"\\\\").decode("utf-8", "backslashreplace")
     return "".join(it if it.isprintable() else {"\t": "\\t", "\n": "\\n"}.get(it) or
                    "".join(f"\\x{byte:02x}" for byte in it.encode()) for it in text)
-
-
-def with_progress(things: Iterable[T], total: int) -> Generator[T, None, None]:
-    """The same things, one for each of many logs.
-    Their number is shown if standard error is a terminal."""
-    is_shown = total > MOST_UNCOUNTED and os.isatty(2)
-    try:
-        for number, thing in enumerate(things):
-            if is_shown and number % TOLD_EACH == 0:
-                _note(f"\r{number:,} of {total:,} files")
-            yield thing
-    finally:
-        if is_shown:
-            _note("\r\33[K")
 
 
 def tell_terminal(lines: Iterable[str]) -> None:

@@ -2,9 +2,10 @@
 from __future__ import annotations
 
 import ctypes
+from functools import partial
 from typing import NamedTuple, Sequence
 
-from ._native import COMMANDS, BytesLike, bytes_of, library, room_of
+from ._native import COMMANDS, BytesLike, bytes_of, filled, library
 
 #: How much room there is at first, so that most answers aren't worked out twice: so much, and
 #: so many times that of the texts, where an answer isn't short.
@@ -44,15 +45,11 @@ def run(command: str, *texts: BytesLike, names: Sequence[str] = ()) -> Written:
     joined, lines = b"".join(given), _names(names, len(given))
     lengths = (ctypes.c_size_t * len(given))(*map(len, given))
     places = FIRST_ROOM + OF_TEXT * len(joined) * (command not in SHORT)
-    while True:
-        room, needed = room_of(ctypes.c_uint8, places), ctypes.c_size_t()
-        status = library().vicinity_run(
-            COMMANDS.index(command) + 1, lines, len(lines), joined, len(joined), lengths,
-            len(given), room, places, ctypes.byref(needed))
-        if status == NO_ANSWER and needed.value:
-            raise ValueError(f"these texts aren't what {command} takes")
-        if status == NO_ANSWER:
-            raise MemoryError("vicinity: out of memory")
-        if needed.value <= places:
-            return Written(bytes(memoryview(room)[:needed.value]), status)
-        places = needed.value
+    call = partial(library().vicinity_run, COMMANDS.index(command) + 1, lines, len(lines), joined,
+                   len(joined), lengths, len(given))
+    status, room, count = filled(call, ctypes.c_uint8, places)
+    if status == NO_ANSWER and count:
+        raise ValueError(f"these texts aren't what {command} takes")
+    if status == NO_ANSWER:
+        raise MemoryError("vicinity: out of memory")
+    return Written(bytes(memoryview(room)[:count]), status)

@@ -10,16 +10,14 @@ from concurrent.futures import ThreadPoolExecutor
 from hashlib import sha256
 from typing import Any, Iterator, Sequence
 
-from .._native import library
+from .._native import VERSION, library
 from .._objects import NOT_COMPLETE, Object, too_small
-from .._process import (NoAnswer, complain, names_of, read, read_log, shown, tell_terminal,
-                        with_progress, write)
+from .._process import NoAnswer, complain, names_of, read, read_log, shown, tell_terminal, write
 from .._run import Written, run
 from .._sentences import advice
-from ..pages.document import document, version
-from ..pages.log import page_object
+from ..pages.document import document, page_object
 from ..sessions.findings import Told
-from ..sessions.headline import READ_AGAIN
+from ..sessions.headline import MAY_BE_HERE, READ_AGAIN, STILL_COMPLETE
 from ..sessions.words import count, listing
 from .catalogue import columns_of, doubts
 from .summary import summary
@@ -31,6 +29,7 @@ OBJECT = "json-collection"
 WRITES = {"lines": "reconcile", "csv": "collection", "json": OBJECT, "page": OBJECT}
 WANTED = ("these aren't the files of a collection: one catalogue, at most one table of places, and "
           "logs or surveys, with names in UTF-8 and without control characters")
+NO_LOGS = "no log is given, so nothing is counted: did a pattern, or a list of names, find none?"
 #: What a terminal is told of a complete collection.
 HEARD = ("This is said of tags that had power, heard the reader, "
          "and were heard when they answered: one that never answers is in no log.")
@@ -63,7 +62,8 @@ def collection(asked: argparse.Namespace) -> int:
         write([f"{less}\n" if less and asked.form == "lines" else said.text])
     if less and asked.form == "csv":
         complain(less)
-    for doubt in doubts(_tables(files)):
+    tables = _tables(files)
+    for doubt in [*doubts(tables), *[NO_LOGS] * (len(tables) == len(files))]:
         complain(doubt)
     tell_terminal(f"{note}\n" for note in _notes(said, told, is_shown))
     return NOT_COMPLETE if less else said.status
@@ -72,8 +72,7 @@ def collection(asked: argparse.Namespace) -> int:
 def _read(names: Sequence[str], jobs: int) -> Files:
     """The texts of files, of logs their surveys. The library's calls run side by side."""
     with ThreadPoolExecutor(jobs) as pool:
-        each = pool.map(_text, names) if jobs > 1 else map(_text, names)
-        return list(zip(names, with_progress(each, len(names))))
+        return list(zip(names, pool.map(_text, names) if jobs > 1 else map(_text, names)))
 
 
 def _text(name: str) -> bytes:
@@ -129,7 +128,7 @@ def _page(files: Files, told: Object) -> Iterator[str]:
             log["object"] = page_object(shown(os.path.basename(name)), Told(text))
     tables = _tables(files)
     name = shown(os.path.basename(next(name for name, text in tables if columns_of(text))))
-    told.update(version=version(), file=name, files=[
+    told.update(version=VERSION, file=name, files=[
         {"file": name, "sha256": sha256(text).hexdigest()} for name, text in tables])
     lines = _written("reconcile", files).text.decode()
     answer = _less(told, told["wanted"]) if "wanted" in told else told["answer"]
@@ -163,8 +162,8 @@ def _sure(told: Object) -> Iterator[str]:
         name = shown(logs[told["margin"]["log"]]["name"])
         yield ("Any other tag would have had to be missed in "
                f"{count(told['margin']['margin'], 'slot')} or more, in the field of {name}.")
-    for reading, name in zip(("hidden", "deaf"), READ_AGAIN.values()):
+    for _, reading, name in READ_AGAIN:
         fields = [shown(log["name"]) for log in logs if log[reading]]
         more = [count(len(fields) - MOST_NAMES, "other log")] * (len(fields) > MOST_NAMES)
         where = listing(fields[:MOST_NAMES] + more)
-        yield f"{name}: {f'others may be here, in {where}' if fields else 'still complete'}"
+        yield f"{name}: {f'{MAY_BE_HERE}, in {where}' if fields else STILL_COMPLETE}"

@@ -10,6 +10,7 @@ from typing import Any, Callable, Iterator, Mapping, NamedTuple
 from .._collections import as_object
 from .._objects import SCHEMA, Object
 from .._process import REFUSED, complain, read, shown, tell_terminal, write
+from ..sessions.headline import MAY_BE_HERE, READ_AGAIN, STILL_COMPLETE
 from .summary import summary
 
 #: The state of an item of the other answer alone.
@@ -29,10 +30,12 @@ class Item(NamedTuple):
 
 
 class Answer(NamedTuple):
-    """An answer: what is said of all, of each log and each place, and its items. Those of a UID or,
-    without one, with equal cells, are in their order."""
+    """An answer: what is said of all, of each log and each place; how sure each log is, by a number
+    and in words; and its items. Those of a UID or, without one, with equal cells, are in their
+    order."""
 
     said: Mapping[str, str]
+    sure: Mapping[str, tuple[int, str]]
     items: Mapping[str, list[Item]]
 
 
@@ -53,6 +56,8 @@ def compare(asked: argparse.Namespace) -> int:
     said = [(what, old.said.get(what, ""), new.said.get(what, ""))
             for what in {**old.said, **new.said}]
     said = [(what, was, now) for what, was, now in said if was != now]
+    said += [(what, was[1], new.sure[what][1]) for what, was in old.sure.items()
+             if what in new.sure and new.sure[what][0] < was[0]]
     changes = list(_changes(old, new))
     status = int(bool(said or changes))
     if asked.form == "json":
@@ -90,13 +95,23 @@ def _answer(told: Object, name: Callable[[str], str]) -> Answer:
             it.get("state", UNEXPECTED), tuple(logs[log] for log in it["certain_in"]),
             it.get("place") or "", {column: cell for column, cell in cells.items()
                                     if column.lower() not in COLUMNS}))
-    return Answer(said, items)
+    return Answer(said, {f"log {it}, {what}": how for it, log in zip(logs, told["logs"])
+                         for what, how in _sure(log)}, items)
 
 
 def _field(log: Object) -> str:
     """What is said of a log."""
     return "{field}{}{}".format(", not to its end" * bool(log.get("open")),
                                 ", left over" * log["left_over"], **log)
+
+
+def _sure(log: Object) -> Iterator[tuple[str, tuple[int, str]]]:
+    """How sure it is that no other tag was in a field that was searched to its end."""
+    if log["field"] == "possible" and not log["open"]:
+        yield "margin", (log["margin"], str(log["margin"]))
+        for _, reading, what in READ_AGAIN:
+            holds = log[reading] is None
+            yield what.lower(), (holds, STILL_COMPLETE if holds else MAY_BE_HERE)
 
 
 def _changes(old: Answer, new: Answer) -> Iterator[Change]:

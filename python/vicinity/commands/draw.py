@@ -6,7 +6,7 @@ import os
 import shutil
 
 from .._process import has_colours, has_unicode, read_log, shown, write
-from ..pages.log import of_log
+from ..pages.document import of_log
 from ..sessions.findings import Told
 from ..sessions.show import Look, show
 

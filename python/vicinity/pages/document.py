@@ -2,12 +2,18 @@
 and plain text for whom no script draws it."""
 from __future__ import annotations
 
+import json
 import runpy
+from hashlib import sha256
 from html import escape
 from pathlib import Path
 from typing import Iterable, Iterator
 
-from .._native import library
+from .._answers import Answer
+from .._native import VERSION
+from .._objects import Object, of_file
+from ..sessions.findings import Told
+from ..sessions.show import show
 
 HERE = Path(__file__).resolve().parent
 #: The page as a package has it, and what makes it in the repository.
@@ -32,7 +38,16 @@ def document(title: str, said: Iterable[str], plain: Iterable[str]) -> Iterator[
     yield tail
 
 
-def version() -> str:
-    """The version of the library that has judged."""
-    number = library().vicinity_version()
-    return f"{number // 10000}.{number // 100 % 100}.{number % 100}"
+def of_log(text: bytes, name: str) -> tuple[Answer, Iterator[str]]:
+    """The answer to a log, and the parts of its page."""
+    told = Told(text)
+    said = json.dumps(page_object(name, told))
+    return told.answer, document(f"{told.answer}: {name}", [said], show(told))
+
+
+def page_object(name: str, told: Told) -> Object:
+    """All that a page draws of a log: its object, and what only who opens it knows."""
+    session = told.session
+    return {**of_file(name, told.said), "version": VERSION,
+            "sha256": sha256(session.text).hexdigest(),
+            "text": session.until_refused.decode("utf-8", "replace")}

@@ -12,8 +12,10 @@ from .words import count, listing
 #: How many lines of a contradiction a sentence names.
 MOST_NAMED = 4
 ANSWERS = SENTENCES["answers"]
-#: How an answer is read more cautiously.
-READ_AGAIN = {"captured": "If replies were hidden", "deaf": "If the reader went deaf"}
+#: How an answer is read more cautiously: in the object of a log, in that of a collection, in words.
+READ_AGAIN = (("captured", "hidden", "If replies were hidden"),
+              ("deaf", "deaf", "If the reader went deaf"))
+STILL_COMPLETE, MAY_BE_HERE = "still complete", "others may be here"
 
 
 def headline(told: Told) -> str:
@@ -89,12 +91,12 @@ def lights(told: Told) -> Iterator[tuple[str, str]]:
     yield "List", _list(told)
     if is_complete:
         yield "Each other tag was asked", f"{count(told.said['margin'], 'time')} or more"
-    for reading, name in READ_AGAIN.items():
+    for reading, _, name in READ_AGAIN:
         if is_complete and told.holds(reading):
-            yield name, "still complete" if told.answer.count else "still empty"
+            yield name, STILL_COMPLETE if told.answer.count else "still empty"
         elif told.is_shaken(reading):
             of_others = is_complete or not told.session.listed
-            yield name, "others may be here" if of_others else "the answer may be wrong"
+            yield name, MAY_BE_HERE if of_others else "the answer may be wrong"
 
 
 def _list(told: Told) -> str:
