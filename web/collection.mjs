@@ -240,9 +240,9 @@ function lacking(object, { shelves, of, doubts, elsewhere: { length: elsewhere }
     : `${count(number, "item")} ${words}`);
   const isNamed = again.length <= MOST_NAMES && again.every((at) => shelves.isPlaced(at));
   const number = isNamed ? shelves.names(again) : again.length < fields.length || again.length === 1 ? count(again.length, "log") : "all logs";
-  const one = found(object) === 1, all = said.length || again.length ? "" : one ? "the one expected item" : `all ${count(found(object), "expected item")}`;
-  const here = !all ? listing(said) : isAsked ? "" : `${all} ${one ? "is" : "are"} ${isUnsettled ? "in some log" : "here"}`;
-  const text = [here, ...again.length ? [`count ${number} again`] : [], ...doubts.flatMap(({ short, isFirst }) => isFirst ? [short] : [])]
+  const here = found(object), one = here === 1, all = said.length || !here ? "" : one ? "the one expected item" : `all ${count(here, "expected item")}`;
+  const first = !all ? listing(said) : isAsked ? "" : `${all} ${one ? "is" : "are"} ${isUnsettled ? "in some log" : "here"}`;
+  const text = [first, ...again.length ? [`count ${number} again${all && first ? ", as others may be there" : ""}`] : [], ...doubts.flatMap(({ short, isFirst }) => isFirst ? [short] : [])]
     .filter((it) => it).join("; ");
   return `${text[0].toUpperCase()}${text.slice(1)}.${all && isAsked ? ` Together the logs have ${all}.` : ""}`;
 }
@@ -332,7 +332,7 @@ function oneLog(log, name, names, opens) {
 function drawnLog(told, names) {
   const label = `The text of ${printable(told.object.file)}`, shown = lowered(view(told, names, false));
   const field = /** @type {HTMLTextAreaElement} */ (el("textarea", { class: "text", readonly: "", "aria-label": label }));
-  new Pane(field, shown).put(told.object.text);
+  new Pane(field, shown).put(new TextEncoder().encode(told.object.text));
   return el("div", { class: "both" }, shown, el("div", { class: "beside" }, field));
 }
 

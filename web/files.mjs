@@ -33,7 +33,7 @@ export function utf8Of(text) {
 }
 
 /** @param {Given} file */
-const startOf = ({ text }) => new TextDecoder("utf-8", { ignoreBOM: true }).decode(utf8Of(text.subarray(0, MOST_SEEN)));
+export const startOf = ({ text }) => new TextDecoder("utf-8", { ignoreBOM: true }).decode(utf8Of(text.subarray(0, MOST_SEEN)));
 
 /** @param {Given} file */
 const headsOf = (file) => startOf(file).replace("\uFEFF", "").split(/\r?\n/, 1)[0].replace(/"/g, "").split(/[,;\t|]/)

@@ -1,6 +1,6 @@
 /** The page that judges: what is opened or typed is judged, and one of it is shown. */
 import { at, setForReader } from "./elements.mjs";
-import { isSpreadsheet, kindOf } from "./files.mjs";
+import { isSpreadsheet, kindOf, startOf } from "./files.mjs";
 import { collected, EXAMPLE, gathered, isLacking, isUnanswered, PASTED, read, without } from "./opened.mjs";
 import { bytesOf, unpacked } from "./packed.mjs";
 import { Pane } from "./pane.mjs";
@@ -177,12 +177,18 @@ close.addEventListener("click", () => {
 const logOf = ({ given }, name) => given?.logs.find((log) => log.name === name && kindOf(log) === "log");
 
 /**
+ * What is told of a log, with its text.
+ * @param {Entry} log
+ */
+const whole = async ({ name, text }) => (await work.ask({ name, text, isKept: true })).told;
+
+/**
  * What is told of a log of the collection that is shown, by its number: it is judged when it is asked for.
  * @param {number} number
  */
 function opener(number) {
   const entry = entries[current], log = logOf(entry, entry.collection?.logs[number].name);
-  return log ? async () => (await work.ask({ name: log.name, text: log.text })).told : null;
+  return log ? () => whole(log) : null;
 }
 
 shown.addEventListener("click", ({ target }) => {
@@ -221,8 +227,8 @@ function open(chosen) {
 
 /** Puts the text of the log that is shown into its field. */
 function edit() {
-  const text = new TextDecoder().decode(entries[current]?.text ?? new Uint8Array());
-  pane.put(isSpreadsheet(text) ? "" : text);
+  const entry = entries[current];
+  pane.put(entry && !isSpreadsheet(startOf(entry)) ? entry.text : new Uint8Array());
 }
 
 /**
@@ -251,7 +257,7 @@ field.addEventListener("input", () => {
 saves.addEventListener("click", async () => {
   const log = shownLog(), fold = unfold(), text = shown.innerText, title = titleOfEntry(log);
   fold();
-  const object = log.told?.object ?? (log.collection && await withObjects(log.collection, opener));
+  const object = log.collection ? await withObjects(log.collection, opener) : (await whole(log))?.object;
   if (object) save(pageOf(new TextDecoder().decode(await unpacked(bytesOf(RECORD))), object, title, text), `${log.name}.html`);
 });
 

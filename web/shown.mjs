@@ -4,10 +4,9 @@ import { at, button, el } from "./elements.mjs";
 import { kindOf } from "./files.mjs";
 import { leaveOut } from "./logs.mjs";
 import { isLacking, isUnanswered } from "./opened.mjs";
-import { nameOnPaper } from "./printing.mjs";
 import { isForeign, nameOfText } from "./refused.mjs";
 import { say } from "./say.mjs";
-import { titleOf, view } from "./view.mjs";
+import { signed, titleOf, view } from "./view.mjs";
 import { count, KIND, printable } from "./words.mjs";
 
 /** @typedef {import("./opened.mjs").Entry} Entry */
@@ -115,7 +114,8 @@ export function overview(entries, current) {
   const words = `${count(logs, "log")}${logs > 1 ? ", each with its own answer" : ""}.${how}${foreign ? ` ${count(foreign, "file isn't a log", "files aren't logs")}.` : ""}`;
   each.append(el(current < 0 ? "h1" : "p", {}, words), el("p", { class: "hint" }, TOGETHER));
   if (current >= 0) return;
-  shown.replaceChildren();
+  const sums = entries.flatMap(({ name, told }) => told ? [el("p", {}, `${printable(name)}: ${told.object.answer} · SHA-256 `, el("code", {}, told.object.sha256))] : []);
+  shown.replaceChildren(el("footer", { class: "record" }, ...sums, ...signed(words, count(many, "file"))));
   headed(words);
 }
 
@@ -161,7 +161,6 @@ const kept = (logs) => logs.some(isLacking) ? [OPEN_AGAIN] : !logs.length ? []
  */
 export function headed(title, words = document.querySelector("#each h1, #told h1")?.textContent ?? "") {
   document.title = title;
-  nameOnPaper(title);
   const said = at("said");
   if (said.textContent !== words) said.textContent = words;
 }

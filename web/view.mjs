@@ -1,9 +1,8 @@
 /** Draws what is told of a log. */
 import { isLarge } from "./conflict.mjs";
-import { bullets, el, folded, linked, oneStop, rest, toLine } from "./elements.mjs";
+import { bullets, drawnLater, el, folded, linked, oneStop, rest, toLine } from "./elements.mjs";
 import { isSpreadsheet } from "./files.mjs";
 import { maintainer } from "./maintainer.mjs";
-import { noted } from "./notes.mjs";
 import { LOOKS, rounds } from "./rounds.mjs";
 import { say } from "./say.mjs";
 import { alsoHolds, granted, HOLDS, ifDeaf, isApart, missed, ONCE_MORE, silentIn } from "./sure.mjs";
@@ -27,7 +26,7 @@ export function view(told, names = new Map(), isAlone = true) {
   // without a list, its first tag isn't more than the others
   const what = kind === KIND.UNLISTED && !told.counts.listed ? [file] : [file, el("span", { class: "paper" }, " · ", el("code", {}, answer))];
   return [banner(said, what), ...shelf(said), ...conditions(told), ...findings(told, names), ...tags(told, names),
-    ...maintainer(told, said, [...rounds(told, names), ...notes(told), ...conflict(told)]), ...takenForGranted(told),
+    ...maintainer(told, said, () => [...rounds(told, names), ...conflict(told)]), ...takenForGranted(told),
     record(told, isAlone, said.headline)];
 }
 
@@ -134,16 +133,9 @@ function lengthy(part, items) {
  */
 function tags({ object: { certain, found } }, names) {
   if (!certain.count || found.unlisted === certain.count) return [];
-  const items = certain.uids.map((uid) => el("li", {}, ...tagWith(uid, names)));
   const title = certain.count === 1 ? "The tag that is here" : `The ${count(certain.count, "tag")} that are here`;
-  return [lengthy(folded(title, false, el("ul", { class: "uids" }, items), ...rest(certain.count - items.length)), items.length)];
-}
-
-/** @param {Told} told */
-function notes(told) {
-  const all = noted(told.notes).map(([line, words]) => el("li", {}, toLine(line), linked(`: ${words}`)));
-  const isOpen = told.object.status > 0 || told.object.captured?.holds === false;
-  return all.length ? [folded(`Notes (${all.length})`, isOpen, oneStop(el("ul", {}, all)))] : [];
+  const items = () => el("ul", { class: "uids" }, certain.uids.map((uid) => el("li", {}, ...tagWith(uid, names))));
+  return [lengthy(drawnLater(title, false, () => [items(), ...rest(certain.count - certain.uids.length)]), certain.uids.length)];
 }
 
 /**
@@ -181,5 +173,5 @@ function record({ object: { file, kind, version, sha256, answer }, counts, fault
  */
 export function signed(headline, what) {
   return [el("p", { class: "signed" }, `${headline} (${what})`),
-    el("p", { class: "signed" }, "Counted on ____________________ at ____________________ by ____________________")];
+    el("p", { class: "signed" }, "Counted on ____________________ at ____________________ by ____________________"), el("p", { class: "signed printed" })];
 }
