@@ -1,8 +1,8 @@
 /** Draws what whoever maintains the reader needs: the causes, what tells them apart, and what is left to ask. */
 import { el, forReader, linked, oneStop, toLine } from "./elements.mjs";
 import { SENTENCES } from "./sentences.mjs";
-import { alsoHolds, ifDeaf, settled, TO_KNOW } from "./sure.mjs";
-import { count, numbered, UID_BITS, visible } from "./words.mjs";
+import { alsoHolds, ifDeaf, TO_KNOW } from "./sure.mjs";
+import { count, numbered, visible } from "./words.mjs";
 
 /** @typedef {import("./told.mjs").Told} Told */
 
@@ -53,13 +53,12 @@ function left(told) {
   const isAll = told.open.length === told.object.open.count, each = `${open.length > 1 ? "one for each" : "for the"} ${by}`;
   const how = isAll ? `${requests(open.length)} left${hidden.length ? "" : `, ${each}`}.`
     : `What is left to ask first, ${each}: send ${open.length > 1 ? "these" : "it"}, and judge the log again.`;
-  const last = told.notes.last && !hidden.length ? ` At last, ${TO_KNOW}.` : "", { count: masks, uids } = told.object.open;
-  if (masks > told.quiet) parts.push(el("p", {}, `Of all possible UIDs ${settled(Number(uids) / 2 ** UID_BITS)} are settled.`));
+  const last = told.notes.last && !hidden.length ? ` At last, ${TO_KNOW}.` : "";
   if (open.length) parts.push(el("p", {}, `${how} ${INSERT}${end}${last}`), ...copied(open));
   if (hidden.length) parts.push(el("p", {}, `${open.length ? "Then " : ""}${requests(hidden.length)} left${ASK_UNDER} ${open.length ? SPLIT : INSERT + end}`), ...copied(hidden));
   if (silenced.length && !told.cycles) parts.push(el("p", {}, ASKED.newVersion));
   else if (silenced.length) parts.push(el("p", {}, numbered(ASKED.silenced, silenced.length)), ...copied(["F", ...silenced]));
-  if (told.notes.last) parts.push(el("p", {}, linked(`Line ${told.notes.last.line}: ${told.notes.last.lacks} would go unnoticed.`)));
+  if (told.notes.last && !told.object.open.count) parts.push(el("p", {}, linked(`Line ${told.notes.last.line}: ${told.notes.last.lacks} would go unnoticed.`)));
   return parts;
 }
 

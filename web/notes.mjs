@@ -3,7 +3,8 @@ import { KIND, UID_BITS } from "./words.mjs";
 
 /** @typedef {import("./log.mjs").Log} Log */
 /** @typedef {{line: number, uid: string, at: number}} Lost a listed tag that the reader silenced, and that a line before rules out */
-/** @typedef {{lost: Lost[], last: {line: number, lacks: string} | null}} Notes */
+/** @typedef {{lost: Lost[], last: {line: number, slots: number, of: number, lacks: string} | null}} Notes
+ *   of the last round how many of its slots are logged, and what it lacks */
 
 /** How many notes of a kind are told. */
 export const MOST_NOTES = 5;
@@ -34,5 +35,5 @@ export function notesOf(log, object) {
   const missed = hasAskedAll ? "that stronger replies hid" : "that no earlier round asked";
   const lacks = hasAsked ? "Of a slot of the last round, which asked all tags, nothing is known: one there"
     : `The last round didn't ask all tags: one ${missed}`;
-  return { lost, last: { line: log.lineOf(last), lacks } };
+  return { lost, last: { line: log.lineOf(last), slots: log.outcomes(last).length, of: log.shape(last).slots, lacks } };
 }

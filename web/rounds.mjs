@@ -146,8 +146,9 @@ const unseen = (words) => el("span", { class: "unseen" }, words);
  */
 function legend(told) {
   const slots = told.rows.flatMap((row) => row.kind === "round" ? row.slots : []), drawn = new Set(slots.map((slot) => String(slot.reading)));
-  const isShort = told.rows.some((row) => row.kind === "round" && row.slots.length > 1 && row.slots.some((slot) => slot.uid !== null));
-  const digits = isShort ? [el("li", {}, "2C in the row ..1: a UID that ends in 2C1")] : [];
+  const short = told.rows.flatMap((row) => row.kind === "round" && row.slots.length > 1 && row.asked.len % 4 === 0
+    ? row.slots.flatMap(({ uid }) => uid === null ? [] : { low: hex(uid).slice(16 - row.asked.len / 4), whole: hex(uid).slice(14 - row.asked.len / 4) }) : []).pop();
+  const digits = short ? [el("li", {}, `${short.whole.slice(0, 2)} in the row ${short.low ? `..${short.low}` : "all"}: a UID that ends in ${short.whole}`)] : [];
   const isCut = told.rows.some((row) => row.kind === "round" && row.asked.len % 4);
   const bits = isCut ? [el("li", {}, "..7, bit 1: an odd digit before 7")] : [];
   if (slots.some((slot) => slot.silenced)) drawn.add("heard quiet");

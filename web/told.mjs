@@ -38,6 +38,7 @@ import { KIND } from "./words.mjs";
  * @property {number} lines
  * @property {boolean} ended whether the text ends with an LF
  * @property {string} sha256 empty where it can't be had
+ * @property {number} [changed] when the file was
  * @property {string} text
  * @property {{kind: string, uid?: string, line?: number, overlooked?: number}[]} findings the first of each kind, and all lines
  *   of a conflict; an absent UID was overlooked in so many slots
