@@ -162,6 +162,8 @@ def sure(page, values, given, look):
     page.until(f".banner.{look} h1", "")
     names = "Each other tag was asked", "If replies were hidden", "If the reader went deaf"
     wanted = {name: it for name, it in zip(names, values.split(" / "), strict=True) if it != "-"}
+    if wanted.get(names[1]) == "still empty":
+        wanted = {name.replace("other ", ""): it for name, it in wanted.items()}
     assert dict(zip(page.texts(".lights dt")[2:], page.texts(".lights dd")[2:])) == wanted
     is_heard, is_deaf = "RA" in given, not wanted.get(names[2], "still").startswith("still")
     said = "If the reader had gone deaf after the last answer of a tag, the answer may be wrong"
@@ -292,7 +294,7 @@ DRAWN = """
 return [...document.querySelectorAll(arguments[0])].map((it) => {
   const { borderTopStyle, borderTopWidth, backgroundColor, borderTopColor } = getComputedStyle(it);
   const border = `${parseFloat(borderTopWidth) ? borderTopStyle : "none"}`;
-  return [it.firstChild?.textContent, border, backgroundColor, borderTopColor];
+  return [(it.querySelector("button") ?? it).firstChild?.textContent, border, backgroundColor, borderTopColor];
 });
 """
 
@@ -339,9 +341,13 @@ def test_each_sheet_names_the_file(page):
     """However long the headline is."""
     page.drop(**{"shelf 1.log": log_of("I1 RA I1 RB")})
     page.until("h1", "This count can't be used.")
+    page.run("window.dispatchEvent(new Event('beforeprint'))")
     rules = page.run("return [...document.styleSheets[0].cssRules].map((it) => it.cssText)")
     assert '"shelf 1.log: This count can\'t be used. The log contradicts itself' in rules[-1]
     assert page.driver.title.endswith(" shelf 1.log") and ' …"' in rules[-1]
+    assert re.search(r'@bottom-left { content: "Printed on \d+ \w+ \d{4} at \d\d:\d\d"', rules[-1])
+    page.media("print")
+    assert page.texts(".printed")[0].startswith("Printed on ")
 
 
 def test_no_word_stands_on_a_line_number_on_paper(page):
@@ -355,7 +361,7 @@ def test_no_word_stands_on_a_line_number_on_paper(page):
         const [one] = range.getClientRects(), own = it.getBoundingClientRect();
         return next?.data ? one.left - own.right : own.left - one.right;
       })""")
-    assert len(ends) > 2 and min(ends) > -1
+    assert len(ends) > 1 and min(ends) > -1
     assert "shown by" in "\n".join(page.texts(".uids"))
 
 
@@ -436,7 +442,7 @@ def third(*lines):
 
 
 def test_slots_of_version_3_are_drawn(page):
-    """Each look once, with its words; the strip is not needed. On paper too."""
+    """Each look once, with its words. On paper too."""
     page.drop(log=third(EACH, "N", OVER_A, READ_B, *"S" * 13))
     page.until(".lights", "no")
     drawn = "return [...document.querySelectorAll('.rounds td.captured, .rounds td.unknown')]"
@@ -533,7 +539,6 @@ def test_a_large_conflict_is_told_by_its_collision(page, program, make):
     assert str(collision) in ringed <= by and (by <= ringed) == (make is a_collision_amid)
     is_more = any("and on slots not shown" in it for it in page.texts(".legend li"))
     assert is_more == (make is a_tag_late)
-    assert make is a_collision_amid or len(page.texts(".strip .marked")) > 24
 
 
 def test_the_cause_is_found_far_above(page):
@@ -587,7 +592,7 @@ def test_who_was_silenced_before_is_ringed(page):
 
 
 def test_the_last_stay_quiets_of_a_long_log_are_drawn_with_their_round(page):
-    """Whose slots they underline. The strip says which rows are marked."""
+    """Whose slots they underline."""
     rounds = [biglog.ask((8, 0)), "S"] * 70
     page.drop(log=text_of(["vicinity-log 1", ALL, READ_A, *rounds, EACH, READ_A, READ_B, *"S" * 14,
                            QUIET_A, biglog.silence(0xE0040100000000B2)]))
@@ -671,7 +676,7 @@ def test_an_edit_stays_with_its_log(page):
     page.press("#logs button", 1)
     page.until("#logs", "one (edited)")
     page.until("#logs", "no list to compare with")
-    assert "two ! No tag answered, but 1 is listed." in page.texts("#logs")[0]
+    assert "two No tag answered, but 1 is listed." in page.texts("#logs")[0]
     assert page.driver.find_element("id", "text").get_property("value") == log_of(
         "I1 S UA").decode()
 
@@ -736,7 +741,7 @@ def test_several_logs(page):
     page.until("h1", "No tag answered")
     assert len(page.texts("h1")) == 1 and said in page.texts("#each")[0]
     assert page.texts("#logs button [aria-hidden=true]") == ["i", "!", "?"]
-    assert page.run("return document.activeElement.textContent").startswith("two ")
+    assert page.run("return document.activeElement.textContent").startswith("!two ")
 
 
 def test_what_is_no_log_is_not_counted_as_one(page):
@@ -766,11 +771,13 @@ def saved(page, folder):
 
 @pytest.mark.parametrize(("two", "others", "look"), [
     ("I1 RB", "; others may be, if stronger replies hid them.", "read"),
-    ("I1 RB QB I1 S", ", and no others answered.", "yes")])
+    ("I1 RB QB I1 S", ", and no others answered.", "read"),
+    ("V3 I1 RB QB I1 S F MB RB", ", and no others.", "yes")])
 def test_a_collection_is_not_green_where_a_list_is_not(page, two, others, look):
-    """In a field in which not all were asked once more, others may have been hidden."""
+    """In a field in which not all were asked once more, others may have been hidden; and where it
+    didn't ask a tag again at the end, the reader may have gone deaf."""
     page.drop(**{"books.csv": b"uid,place\nE0040100000000A1,one\nE0040100000000B2,two\n",
-                 "one.log": log_of("I1 RA QA I1 S"), "two.log": log_of(two)})
+                 "one.log": log_of("V3 I1 RA QA I1 S F MA RA"), "two.log": log_of(two)})
     page.until(f".banner.{look} h1", f"All 2 expected items are here{others}")
     page.press("#close")
     page.drop(**{"two.log": log_of(f"{two} UB")})
@@ -780,8 +787,8 @@ def test_a_collection_is_not_green_where_a_list_is_not(page, two, others, look):
 def test_an_empty_field_is_not_green_without_a_tag_that_is_expected(page):
     """As an export has it that failed, beside an antenna that does; nor is it without a list."""
     page.drop(**{"books.csv": b"uid,title\nnone,Emma\nnone,Kim\n", "A.log": log_of("I1 S")})
-    page.until(".banner.read h1", "Nothing is expected here, and no tag answered. But 2 items have "
-               "no tag and nothing answered in A.log.")
+    page.until(".banner.read h1", "Nothing is expected here, and no tag answered: that doesn't "
+               "show that the reader worked. But 2 items have no tag.")
     assert page.texts(".lights dd")[1] == "0 of 2 items, 2 without a tag"
     page.press("#close")
     page.drop(**{"A.log": log_of("I1 S")})
@@ -806,7 +813,7 @@ def test_items_without_a_place_are_not_called_in_place(page):
     page.drop(**{"books.csv": books.replace(b"any", b"B")})
     page.until("#told > p", "The 2 other items of the catalogue are here, and in place.")
     page.drop(**{"books.csv": b"uid,place\nE0040100000000A1,A\nE0040100000000B2,B\n"})
-    page.until(".banner.yes h1", "All 2 expected items are here, and no others answered.")
+    page.until(".banner.read h1", "All 2 expected items are here, and no others answered.")
     assert page.texts(".lights dd")[:2] == ["2 of 2 logs", "2 of 2 items"]
 
 
@@ -865,7 +872,7 @@ def test_items_that_are_not_on_their_shelves(page):
 def test_what_is_left_to_ask_in_a_field(page, log, left):
     page.drop(**{"catalogue": b"uid\nE0040100000000C8\n", "one.log": log_of(log)})
     page.until("h1", "1 item not known yet; count 1 log again.")
-    assert page.texts(".logs summary") == [f"one.log: 0 tags proved; left to ask: {left}"]
+    assert page.texts(".logs summary") == [f"one.log: 0 tags; left to ask: {left}"]
 
 
 def test_rows_without_a_tag(page):
@@ -918,7 +925,7 @@ def test_a_name_written_from_right_to_left_does_not_move_a_number(page):
                  "\u05de\u05d3\u05e3 1.log": log_of("I1 RA QA I1 S")})
     page.until("h1", "The one expected item is here, and no other answered.")
     page.press("details:has(.logs) > summary")
-    assert page.texts(".logs summary") == ["\u05de\u05d3\u05e3 1: 1 tag proved"]
+    assert page.texts(".logs summary") == ["\u05de\u05d3\u05e3 1: 1 tag"]
     name, number = page.run("""
       const it = document.querySelector(".logs b"), range = document.createRange();
       range.setStart(it.nextSibling, 2);
@@ -960,7 +967,7 @@ def test_no_collection_is_judged_without_one_of_its_logs(page, why):
     for name in "books.csv", "better.csv":
         page.drop(**{name: OF_A})
         page.until(".error", f"{name}: no answer (two: {why}).")
-        assert page.texts("#told p") == [
+        assert page.texts("#told li") == [
             "Open all files again, together: the logs and the catalogue."]
 
 
@@ -969,10 +976,10 @@ def test_an_edited_log_is_called_so_in_a_collection(page):
     page.until("h1", "1 tag is here")
     type_in(page, log_of("I1 RA QA I1 S").decode())
     page.drop(**{"books.csv": OF_A})
-    page.until(".banner.yes h1", "The one expected item is here, and no other answered.")
+    page.until(".banner.read h1", "The one expected item is here, and no other answered.")
     assert page.texts(".banner div > p") == ["books.csv · 1 log (1 edited)"]
     page.press("#told > details > summary")
-    assert page.texts(".logs summary") == ["A (A.log (edited)): 1 tag proved"]
+    assert page.texts(".logs summary") == ["A (A.log (edited)): 1 tag"]
 
 
 def test_no_answer_stands_beside_another_log_of_the_same_name(page):
@@ -984,7 +991,7 @@ def test_no_answer_stands_beside_another_log_of_the_same_name(page):
     page.run(DROP, [["log", log_of(names).decode()] for names in ("I1 RA QA I1 S UA", "I1 S UA")])
     page.until("#logs", "The one listed tag is here")
     page.press("#logs button")
-    page.until(".banner.yes h1", "The one listed tag is here")
+    page.until(".banner.read h1", "The one listed tag is here")
     page.press("#logs button", 1)
     assert (page.said(), page.texts("h1"), page.driver.title) == ("", [], "log ..")
 
@@ -1020,7 +1027,7 @@ def test_a_table_waits_for_a_log_that_is_still_read(page):
     page.drop(**{"books.csv": OF_A.replace(b",A", b",slow")})
     page.wait(lambda: page.run("return 'go' in window"))
     page.run("window.go()")
-    page.until(".banner.yes h1", "The one expected item is here, and no other answered.")
+    page.until(".banner.read h1", "The one expected item is here, and no other answered.")
 
 
 @pytest.mark.parametrize("is_example", [False, True])
@@ -1046,7 +1053,7 @@ def test_the_example_leaves_with_the_first_file(page, is_edited):
         type_in(page, log_of("I1 RA").decode())
         page.until(".banner", "the example (edited)")
     page.drop(**{"books.csv": OF_A})
-    page.until("h1", "The catalogue has 1 item on 1 place. Now open the logs.")
+    page.until("h1", "The catalogue has 1 item in 1 place. Now open the logs.")
     page.drop(**{"A.log": log_of("I1 RA QA I1 S")})
     page.until("h1", "The one expected item is here, and no other answered.")
     page.press("#example")
@@ -1185,7 +1192,7 @@ def test_no_sum_is_named_where_none_can_be_had(page, file):
     """As on a page that comes by http."""
     open_lacking(page, file, "Object.defineProperty(self, 'crypto', { value: {} });")
     page.drop(**{"books.csv": OF_A, "A.log": log_of("I1 RA QA I1 S")})
-    page.until(".banner.yes h1", "The one expected item is here, and no other answered.")
+    page.until(".banner.read h1", "The one expected item is here, and no other answered.")
     assert "SHA-256" not in page.texts(".record")[0]
 
 
@@ -1252,7 +1259,7 @@ def test_a_page_that_a_browser_has_saved(page, tmp_path):
     page.open(file)
     page.until("#status", "This is what a browser has saved of the page: its answers, without the")
     page.press("#logs button", 1)
-    assert "two ! No tag answered, but 1 is listed." in page.texts("#logs")[0]
+    assert "two No tag answered, but 1 is listed." in page.texts("#logs")[0]
     assert page.texts("h1") == ["The one listed tag is here, and no other answered."]
     assert not any(page.driver.find_element("id", it).is_displayed() for it in ("text", "save"))
     page.drop(two=log_of("I1 S UA"))
@@ -1412,12 +1419,12 @@ def test_what_is_shown_of_a_log_stays_while_another_is_judged(page):
       };
     """)
     page.drop(one=log_of("I1 RA QA I1 S UA"), two=log_of("I1 S UA"))
-    page.until("#logs", "one ✓")
+    page.until("#logs", "one The one listed tag is here")
     page.press("#logs button")
     page.run("document.querySelector('#told details').open = true")
     page.run("document.querySelector('#told summary').focus()")
     page.run("window.free()")
-    page.until("#logs", "two ! No tag")
+    page.until("#logs", "two No tag")
     assert page.run("return document.activeElement.parentElement.open")
 
 
@@ -1442,7 +1449,7 @@ def test_many_logs_do_not_freeze_the_page(page):
         page.drop_files({f"{number}.log": log_of("I1 RA QA I1 S UA") for number in range(400)})
         page.run("document.querySelector('#logs button').focus()")
         page.when("h1", "Complete: 400 of 400.")
-    assert page.run("return document.activeElement.textContent").startswith("0.log ✓ The one")
+    assert page.run("return document.activeElement.textContent").startswith("i0.log The one")
 
 
 # How many lists of logs the page's thread takes in: items may share one.

@@ -1,13 +1,13 @@
 /** Draws a collection: what isn't sure of its logs, what to count again, what to do at each shelf, what isn't known yet, and each log. */
-import { bullets, el, folded, lowered, oneStop, rest } from "./elements.mjs";
+import { bullets, drawnLater, el, folded, lowered, oneStop, rest } from "./elements.mjs";
 import { maskOf } from "./frames.mjs";
-import { doubted, doubtsOf } from "./logs.mjs";
+import { doubted, doubtsOf, IS_EMPTY } from "./logs.mjs";
 import { Pane } from "./pane.mjs";
-import { noOthers } from "./say.mjs";
+import { IF_HEARD, noOthers, NOTHING_TO_DO } from "./say.mjs";
 import { inOrder, MOST_NAMES, nameOf, shelved, Shelves } from "./shelves.mjs";
-import { deafIn, granted, HOLDS, howSure, mayBeWrong, missed, notSure, stillHolds, TO_KNOW } from "./sure.mjs";
+import { DEAF, deafIn, granted, HOLDS, howSure, mayBeWrong, missed, notSure, stillHolds, TO_KNOW } from "./sure.mjs";
 import { banner, signed, view } from "./view.mjs";
-import { count, EDITED, endings, grouped, KIND, listing, madeOnce, printable } from "./words.mjs";
+import { count, dated, EDITED, endings, grouped, KIND, listing, madeOnce, printable } from "./words.mjs";
 
 /** @typedef {import("./told.mjs").LogObject} LogObject */
 /** @typedef {import("./told.mjs").Told} Told */
@@ -18,8 +18,8 @@ import { count, EDITED, endings, grouped, KIND, listing, madeOnce, printable } f
 /** @typedef {Omit<Item, "state" | "place" | "cells"> & {line: number}} Unexpected */
 /** @typedef {{name: string, place: string | null, left_over: boolean, field: string, answers?: number, certain?: number, shared?: number, open?: MaskFields[],
  *   more?: boolean, margin?: number, hidden?: MaskFields | null, deaf?: MaskFields | null, sha256?: string, object?: LogObject,
- *   denied?: string[], was?: string, changed?: number}} OneLog of which `denied` are the UIDs on its own list that it rules out, and `was` is
- *   the name of its file, if it took the place of another; `changed` is when the file was */
+ *   denied?: string[], was?: string, changed?: number, newer?: number}} OneLog of which `denied` are the UIDs on its own list that it rules out, and `was` is
+ *   the name of its file, if it took the place of another; `changed` is when the file was, and `newer` when one was of its name that it replaced */
 /**
  * The object of a collection, as docs/answers.schema.json has it.
  * @typedef {Object} CollectionObject
@@ -52,7 +52,7 @@ import { count, EDITED, endings, grouped, KIND, listing, madeOnce, printable } f
 /** @typedef {(at: number) => null | (() => Promise<Told | undefined>)} Opener what is told of a log, by its number, if it can be had */
 
 /** How many logs are drawn, how many items are seen unfolded, how many masks are named, and by how many doubts a headline is explained. */
-const MOST_LOGS = 2000, FEW_ITEMS = 200, MOST_MASKS = 3, MOST_DOUBTS = 2;
+const MOST_LOGS = 2000, FEW_ITEMS = 200, MOST_PRINTED = 100, MOST_MASKS = 3, MOST_DOUBTS = 2;
 /** How many cells of the catalogue are the name of an item. */
 const MOST_CELLS = 2;
 const LOOK_FOR = "If it is in plain sight, its tag is broken, covered, or another than in the catalogue, or its reply was lost: move it, and count again. " +
@@ -66,6 +66,9 @@ const UNKNOWN_YET = "Whether these are here isn't known until the logs above are
 const NOT_COUNTED = "Nothing is known of these, as their places have no log.";
 const WAITS = "The catalogue can be read, and waits here: open or drop the logs, in any order. They are compared with it at once.";
 const AGAIN_BROKEN = " If a log contradicts itself again, send it and this page to whoever maintains the reader.";
+const NOTHING = "Nothing is expected here, and no tag answered: that doesn't show that the reader worked.";
+const STRAYS = "Of these it isn't known where they were heard: their logs are of no place. Where to find them is known once the places are.";
+const NO_RESULT = "This sheet is no result: a question above is open.";
 const CARRIED = "Nothing was carried from one field to another while the logs were written.";
 const ONCE_AGAIN = `Of these a strong reply may have hidden others: ${TO_KNOW}.`;
 const PROVED = "What is said of each item and log is what the library writes of these files, which is proved; how the page draws it is tested.";
@@ -97,15 +100,16 @@ function byState({ items, unexpected }) {
  * @returns {Node[]}
  */
 export function collectionView(object, opener = () => null, canLeave = () => false) {
-  const summary = summaryOf(object), { shelves, doubts, of, elsewhere, others, open, hiding } = summary;
+  const summary = summaryOf(object), { shelves, doubts, of, elsewhere, others, open, hiding, deaf } = summary;
   const { counts } = object, headline = headlineOf(object);
   const home = (/** @type {Item} */ { place }) => printable(place ?? ""), known = new Set(["", ...of("in place").map(home)]);
   const mayBe = { "may be in": (/** @type {Item} */ item) => shelves.mayBe(item) };
   const some = others.filter((item) => known.has(home(item))), none = others.filter((item) => !known.has(home(item)));
   // of a shelf of which nothing is known to be in place no items are named
-  const all = listing([...new Set(none.map(home))].sort(inOrder)), these = some.length ? ", and these:" : ".";
-  const which = none.length ? ` They are ${count(none.length, "item")} of ${all}, not named here${these}` : "";
-  const todo = of("missing", "misplaced", "unexpected", "returned"), isKnown = !todo.length && !counts["not provable"] && !counts["not counted"];
+  const places = listing([...new Set(none.map(home))].sort(inOrder)), these = some.length ? ", and these:" : ".";
+  const which = none.length ? ` They are ${count(none.length, "item")} of ${places}, not named here${these}` : "";
+  const all = of("missing", "misplaced", "unexpected", "returned"), strays = all.filter((item) => shelves.isStray(item)), todo = all.filter((item) => !strays.includes(item));
+  const isKnown = !all.length && !counts["not provable"] && !counts["not counted"];
   const edited = object.logs.filter(({ name }) => name.endsWith(EDITED)).length, changes = edited ? ` (${edited.toLocaleString("en")} edited)` : "";
   const said = { ...lookOf(object, summary), headline, lights: lights(object, summary) };
   const rests = conditionsOfAll(object, summary), done = [...object.logs.keys()].filter((at) => !open.includes(at));
@@ -116,16 +120,19 @@ export function collectionView(object, opener = () => null, canLeave = () => fal
   const drawn = (/** @type {string} */ title, /** @type {string} */ words, /** @type {number[]} */ list, /** @type {boolean} */ isFirst) =>
     logs(title, words, list, isFirst, object, shelves, opener);
   return [...(object.left ?? []).map((it) => el("p", { class: "note" }, it)),
-    banner(said, `${printable(object.file)} · ${count(object.logs.length, "log")}${changes}`), ...doubted(doubts, canLeave), ...isKnown ? rests : [],
+    banner(said, `${printable(object.file)} · ${count(object.logs.length, "log")}${changes}`), ...doubted(doubts, canLeave),
+    ...isComplete(object) && !doubts.length && !hiding.length ? [el("h2", {}, "At the shelves"), el("p", { class: "steps" }, deaf.length ? IF_HEARD : NOTHING_TO_DO)] : [],
+    ...isKnown ? rests : [],
     ...drawn("Count again", countAgain(open.length) + (open.some((at) => object.logs[at].field.startsWith(KIND.IMPOSSIBLE)) ? AGAIN_BROKEN : ""), open, true),
     ...part("At the shelves", todo, true, howTo(object), shelved(todo, shelves, (item) => shelves.at(item), {}, (item) => shelves.toDo(item))),
+    ...part("Heard in logs of no place", strays, false, STRAYS, shelved(strays, shelves, (item) => shelves.at(item), { "belongs to": home })),
     ...part("Not heard on their shelves", elsewhere, true, ELSEWHERE, shelved(elsewhere, shelves, home, mayBe)),
     ...part("Without a tag", of("no tag"), true, NO_TAG, shelved(of("no tag"), shelves, home, {}, () => "look for")),
     ...part("Not counted", of("not counted"), false, NOT_COUNTED, shelved(of("not counted"), shelves, home)),
     ...part("Not known yet", others, false, UNKNOWN_YET + which, shelved(some, shelves, home, some.every(home) ? {} : mayBe)),
-    ...inPlace(object), ...isKnown ? [] : rests,
+    ...inPlace(object), ...listOf(of("in place", "there"), shelves), ...isKnown ? [] : rests,
     ...drawn("Ask all once more", ONCE_AGAIN, done.filter((at) => hiding.includes(at)), false),
-    ...drawn("Nothing left to ask", "", done.filter((at) => !hiding.includes(at)), false),
+    ...drawn("Searched to the end", "", done.filter((at) => !hiding.includes(at)), false),
     ...grantedOfAll(object), recordOfAll(object)];
 }
 
@@ -162,6 +169,18 @@ function inPlace(object) {
 }
 
 /**
+ * The items that are here, by their shelves; on paper they stand if they are few.
+ * @param {Item[]} list
+ * @param {Shelves} shelves
+ */
+function listOf(list, shelves) {
+  if (!list.length) return [];
+  const it = drawnLater(`Here (${count(list.length, "item")})`, false, () => shelved(list, shelves, ({ place }) => printable(place ?? "")));
+  it.classList.toggle("aside", list.length > MOST_PRINTED);
+  return [it];
+}
+
+/**
  * What the catalogue says of each UID.
  * @param {CollectionObject} object
  * @param {Shelves} shelves
@@ -174,14 +193,14 @@ const isComplete = ({ answer, status }) => status === 0 && answer.startsWith(KIN
 
 /**
  * As of one log, what is complete isn't green without a tag that was expected, nor where others may
- * be hidden, nor where anything isn't sure of its logs.
+ * be hidden, or a reader may have gone deaf, nor where anything isn't sure of its logs.
  * @param {CollectionObject} object
  * @param {Summary} summary
  * @returns {Pick<import("./say.mjs").Said, "look" | "sign">}
  */
-function lookOf(object, { doubts, hiding }) {
+function lookOf(object, { doubts, hiding, deaf }) {
   if (!isComplete(object)) return { look: "no", sign: "!" };
-  const isSure = found(object) && !object.counts["no tag"] && !hiding.length && !doubts.length;
+  const isSure = found(object) && !object.counts["no tag"] && !hiding.length && !deaf.length && !doubts.length;
   return isSure ? { look: "yes", sign: "✓" } : { look: "read", sign: "i" };
 }
 
@@ -207,20 +226,19 @@ export function headlineOf(object) {
   if (!object.logs.length) return waiting(object);
   if (object.wanted) return notSure(object.margin?.margin, object.wanted);
   if (!isComplete(object) || summary.isAsked) return lacking(object, summary);
-  const doubts = summary.doubts.map(({ short }) => short), more = doubts.length - MOST_DOUBTS;
+  const doubts = summary.doubts.flatMap(({ short, cure }) => cure === IS_EMPTY && !found(object) ? [] : short), more = doubts.length - MOST_DOUBTS;
   const number = found(object), without = object.counts["no tag"];
   const untagged = without ? [`${count(without, "item")} ${without === 1 ? "has" : "have"} no tag`] : [];
   const but = [...untagged, ...doubts.slice(0, MOST_DOUBTS), ...more > 0 ? [`${more} more`] : []];
   const all = number === 1 ? "The one expected item is" : `All ${count(number, "expected item")} are`;
   if (summary.isUnsettled) return `${all} in some log; but ${listing(but)}.`;
-  const here = number ? `${all} here${noOthers(number, hiding.length > 0, deaf.length > 0)}`
-    : "Nothing is expected here, and no tag answered.";
+  const here = number ? `${all} here${noOthers(number, hiding.length > 0, deaf.length > 0)}` : NOTHING;
   return but.length ? `${here} But ${listing(but)}.` : here;
 }
 
 /** @param {CollectionObject} object */
 function waiting({ items, without_log: places }) {
-  const where = places.length ? ` on ${count(places.length, "place")}` : "";
+  const where = places.length ? ` in ${count(places.length, "place")}` : "";
   return `The catalogue has ${count(items.length, "item")}${where}. Now open the logs.`;
 }
 
@@ -240,9 +258,9 @@ function lacking(object, { shelves, of, doubts, elsewhere: { length: elsewhere }
     : `${count(number, "item")} ${words}`);
   const isNamed = again.length <= MOST_NAMES && again.every((at) => shelves.isPlaced(at));
   const number = isNamed ? shelves.names(again) : again.length < fields.length || again.length === 1 ? count(again.length, "log") : "all logs";
-  const one = found(object) === 1, all = said.length || again.length ? "" : one ? "the one expected item" : `all ${count(found(object), "expected item")}`;
-  const here = !all ? listing(said) : isAsked ? "" : `${all} ${one ? "is" : "are"} ${isUnsettled ? "in some log" : "here"}`;
-  const text = [here, ...again.length ? [`count ${number} again`] : [], ...doubts.flatMap(({ short, isFirst }) => isFirst ? [short] : [])]
+  const here = found(object), one = here === 1, all = said.length || !here ? "" : one ? "the one expected item" : `all ${count(here, "expected item")}`;
+  const first = !all ? listing(said) : isAsked ? "" : `${all} ${one ? "is" : "are"} ${isUnsettled ? "in some log" : "here"}`;
+  const text = [first, ...again.length ? [`count ${number} again${all && first ? ", as others may be there" : ""}`] : [], ...doubts.flatMap(({ short, isFirst }) => isFirst ? [short] : [])]
     .filter((it) => it).join("; ");
   return `${text[0].toUpperCase()}${text.slice(1)}.${all && isAsked ? ` Together the logs have ${all}.` : ""}`;
 }
@@ -254,7 +272,7 @@ function lacking(object, { shelves, of, doubts, elsewhere: { length: elsewhere }
  */
 function lights(object, summary) {
   const { counts, items, logs, without_log: places, margin } = object, here = found(object);
-  const { hiding, deaf, isResting, shelves: { isAsked: isPlaced } } = summary;
+  const { hiding, deaf, isResting, isUnsettled, shelves: { isAsked: isPlaced } } = summary;
   const other = margin ? "others may be here" : "the answer may be wrong";
   const sure = howSure(margin?.margin, "still complete", other, hiding.length > 0, deaf.length > 0);
   const done = logs.filter((log) => !isOpen(log) && !log.hidden).length;
@@ -266,8 +284,9 @@ function lights(object, summary) {
   const lost = places.length ? `, no log of ${count(places.length, "place")}` : "";
   const all = /** @type {import("./say.mjs").Light[]} */ ([
     { name: "Search finished", value: `${done.toLocaleString("en")} of ${count(logs.length, "log")}${lost}`, look: done === logs.length && !lost ? "yes" : "no" },
-    { name: isPlaced ? "In place" : "Here", value, look: here + counts.away === items.length ? "yes" : differs ? "no" : "plain" }, ...isResting ? sure : []]);
-  return all.map((it) => summary.isUnsettled && it.look === "yes" ? { ...it, look: "plain" } : it);
+    { name: isUnsettled ? "In some log" : isPlaced ? "In place" : "Here", value,
+      look: here && here + counts.away === items.length ? "yes" : differs ? "no" : "plain" }, ...isResting && !isUnsettled ? sure : []]);
+  return all.map((it) => isUnsettled && it.look === "yes" ? { ...it, look: "plain" } : it);
 }
 
 /**
@@ -276,12 +295,14 @@ function lights(object, summary) {
  * @param {CollectionObject} object
  * @param {Summary} summary
  */
-function conditionsOfAll({ counts, margin }, { shelves, hiding, deaf, isResting }) {
-  if (!isResting && !counts.unexpected) return [];
-  const also = hiding.length ? `${mayBeWrong(` ${shelves.fields(hiding)},`)}.`
-    : stillHolds(margin?.margin);
+function conditionsOfAll({ counts, margin, logs }, { shelves, open, hiding, deaf, isResting, isUnsettled }) {
+  if (isUnsettled || !isResting && !counts.unexpected) return [];
+  // of what is to be counted again nothing else is asked
+  const [once, heard] = [hiding, deaf].map((all) => all.filter((at) => !open.includes(at)).sort((one, other) => inOrder(shelves.name(one), shelves.name(other))));
+  const also = once.length ? `${mayBeWrong(` ${shelves.fields(once)},`)}.` : hiding.length ? "" : stillHolds(margin?.margin);
   const sure = margin ? [HOLDS, ...missed(margin, ` ${shelves.fields([margin.log])}`)] : [];
-  const said = [...sure, also, ...isResting && deaf.length ? [deafIn(shelves.fields(deaf))] : []];
+  const answered = heard.filter((at) => logs[at].answers), ifDeaf = answered.length ? deafIn(shelves.fields(answered)) : heard.length ? DEAF : "";
+  const said = [...sure, also, ...isResting && ifDeaf ? [ifDeaf] : []].filter((it) => it);
   return [el("section", { class: "holds" }, said.map((it) => el("p", {}, it)))];
 }
 
@@ -312,7 +333,8 @@ function logs(title, words, list, open, object, shelves, opener) {
  */
 function oneLog(log, name, names, opens) {
   const sha256 = log.sha256 ?? log.object?.sha256, file = nameOf(log.was ?? log.name), isSame = [file, file.replace(/\.[^. ]*$/, "")].includes(name);
-  const sum = sha256 ? [el("span", { class: "sum" }, "\u00A0· ", el("code", {}, `SHA-256 ${sha256}`))] : [];
+  const of = log.changed ? `of ${dated(log.changed)}\u00A0· ` : "";
+  const sum = sha256 ? [el("span", { class: "sum" }, `\u00A0· ${of}`, el("code", {}, `SHA-256 ${sha256}`))] : [];
   const words = [el("b", { title: printable(log.was ?? log.name) }, name), `${isSame ? "" : ` (${file})`}: ${saidOf(log)}`, ...sum];
   if (!opens) return el("p", { class: "log" }, words);
   const it = /** @type {HTMLDetailsElement} */ (el("details", { class: "log aside" }, el("summary", {}, words)));
@@ -332,7 +354,7 @@ function oneLog(log, name, names, opens) {
 function drawnLog(told, names) {
   const label = `The text of ${printable(told.object.file)}`, shown = lowered(view(told, names, false));
   const field = /** @type {HTMLTextAreaElement} */ (el("textarea", { class: "text", readonly: "", "aria-label": label }));
-  new Pane(field, shown).put(told.object.text);
+  new Pane(field, shown).put(new TextEncoder().encode(told.object.text));
   return el("div", { class: "both" }, shown, el("div", { class: "beside" }, field));
 }
 
@@ -344,7 +366,7 @@ function saidOf({ field, certain = 0, open = [], more }) {
   const [kind, , , line] = field.split(" "), where = `line ${parseInt(line)}`;
   if (kind === KIND.IMPOSSIBLE) return `nothing is known of its field, since its log contradicts itself (${where})`;
   if (kind === KIND.REFUSED) return `this log can't be read (${where}), so nothing is known of its field: copy it again, or count again`;
-  const proved = `${count(certain, "tag")} proved`, rest = open.length - MOST_MASKS;
+  const proved = count(certain, "tag"), rest = open.length - MOST_MASKS;
   const others = more ? "more masks" : rest > 1 ? `${rest.toLocaleString("en")}\u00A0more masks` : "";
   return open.length ? `${proved}; left to ask: ${endings(open.slice(0, others ? MOST_MASKS : MOST_MASKS + 1).map(maskOf), others)}` : proved;
 }
@@ -365,5 +387,5 @@ function recordOfAll(object) {
   const said = [count(items.length, "item"), ...states, count(fields.length, "log")].join("\u00A0· ");
   const sums = files.map((it) => el("p", {}, `${printable(it.file)}${it.sha256 ? " · SHA-256 " : ""}`, el("code", {}, it.sha256)));
   return el("footer", { class: "record" }, el("p", {}, said), el("p", {}, `vicinity ${version}: `, el("code", {}, printable(answer))), ...sums,
-    ...fields.length ? signed(headlineOf(object), printable(file)) : []);
+    ...summaryOf(object).isUnsettled ? [el("p", { class: "signed" }, NO_RESULT)] : fields.length ? signed(headlineOf(object), printable(file)) : []);
 }

@@ -3,7 +3,6 @@
 /** @typedef {import("./log.mjs").Log} Log */
 /** @typedef {import("./log.mjs").Row} Row */
 /** @typedef {import("./log.mjs").Round} Round */
-/** @typedef {{line: number, isMarked: boolean, held: [import("./log.mjs").Reading, number][]}} Bar with how many of its slots held what */
 /** @typedef {{kind: "gap", rounds: number, quiets: number, cycles: number, causes: number}} Gap with how many of its rounds are causes */
 
 /** How many rows are drawn, how many if all are rounds of one slot beside a list, and how many at each end at least. */
@@ -48,9 +47,9 @@ export function drawn(log, named, causing, whole) {
  * @returns {Gap}
  */
 function gap(log, from, to, causing) {
-  const rows = Array.from({ length: to - from }, (_, at) => from + at), rounds = rows.filter((at) => log.isRound(at)).length;
-  const quiets = rows.filter((at) => log.isQuiet(at)).length;
-  return { kind: "gap", rounds, quiets, cycles: rows.length - rounds - quiets, causes: causing.filter((at) => at >= from && at < to).length };
+  let rounds = 0, quiets = 0;
+  for (let at = from; at < to; at++) if (log.isRound(at)) rounds++; else if (log.isQuiet(at)) quiets++;
+  return { kind: "gap", rounds, quiets, cycles: to - from - rounds - quiets, causes: causing.filter((at) => at >= from && at < to).length };
 }
 
 /**
@@ -84,26 +83,4 @@ function withQuiets(log, round, next, marked) {
     next = at + 1;
   }
   return next;
-}
-
-/** How many bars the strip of the whole session has. */
-const MOST_BARS = 200;
-/** From above. */
-const ORDERED = /** @type {import("./log.mjs").Reading[]} */ (["silent", "unknown", "collision", "garbled", "captured", "heard"]);
-
-/**
- * @param {Log} log
- * @param {Set<number>} marked rows
- * @returns {Bar[]}
- */
-export function strip(log, marked) {
-  const each = Math.ceil(log.rowCount / MOST_BARS), bars = [];
-  for (let from = 0; from < log.rowCount; from += each) {
-    const rows = Array.from({ length: Math.min(each, log.rowCount - from) }, (_, at) => from + at);
-    const first = rows.find((row) => marked.has(row)), counts = ORDERED.map(() => 0);
-    for (const row of rows) for (const line of log.outcomes(row)) counts[ORDERED.indexOf(log.reading(line) ?? "unreached")]++;
-    const held = ORDERED.map((look, at) => /** @type {Bar["held"][0]} */ ([look, counts[at]]));
-    bars.push({ line: log.lineOf(first ?? from), isMarked: first !== undefined, held: held.filter(([, many]) => many) });
-  }
-  return bars;
 }

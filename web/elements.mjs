@@ -52,6 +52,9 @@ export function toLine(line, ...words) {
   return el("button", { type: "button", class: "to-line", "data-line": String(line), ...name }, ...words.length ? words : [`line ${line}`]);
 }
 
+/** The arrows that lead to the next button, and to the one before; in a table the first two stay in a column. */
+const STEPS = /** @type {Record<string, number>} */ ({ ArrowDown: 1, ArrowUp: -1, ArrowRight: 1, ArrowLeft: -1 });
+
 /**
  * A part of whose buttons one is a stop for the keyboard: arrows lead to the others.
  * @param {HTMLElement} part
@@ -62,12 +65,15 @@ export function oneStop(part, which = "button") {
   const stop = (/** @type {Element} */ one) => buttons().forEach((it) => { it.tabIndex = it === one ? 0 : -1; });
   stop(buttons()[0]);
   part.addEventListener("keydown", (event) => {
-    const all = buttons(), step = event.key === "ArrowDown" ? 1 : event.key === "ArrowUp" ? -1 : 0;
-    const at = all.findIndex((it) => it === document.activeElement), next = all[at + step];
-    if (!step || at < 0 || !next) return;
+    const all = buttons(), step = STEPS[event.key], isAcross = event.key === "ArrowRight" || event.key === "ArrowLeft";
+    const column = (/** @type {Element | undefined} */ it) => /** @type {HTMLTableCellElement | null | undefined} */ (it?.closest("td, th"))?.cellIndex;
+    let at = all.findIndex((it) => it === document.activeElement);
+    if (!step || at < 0) return;
+    do at += step; while (!isAcross && all[at] && column(all[at]) !== column(document.activeElement ?? undefined));
+    if (!all[at]) return;
     event.preventDefault();
-    stop(next);
-    next.focus();
+    stop(all[at]);
+    all[at].focus();
   });
   return part;
 }
@@ -90,10 +96,10 @@ export function linked(sentence) {
 /**
  * A part for whoever maintains the reader, with the rounds and the text of the log beside it: folded, until somebody came for it.
  * @param {string} heading
- * @param {...Content} content
+ * @param {() => Content[]} draw
  */
-export function forReader(heading, ...content) {
-  const part = folded(heading, isForReader, ...content);
+export function forReader(heading, draw) {
+  const part = drawnLater(heading, isForReader, draw);
   part.classList.add("reader");
   part.querySelector("summary")?.addEventListener("click", () => setForReader(!part.hasAttribute("open")));
   return part;
@@ -126,3 +132,16 @@ export function lowered(nodes) {
  */
 export const folded = (heading, open, ...content) =>
   el("details", open ? { open: "" } : {}, el("summary", {}, el("h2", {}, heading)), ...content);
+
+/**
+ * The same, drawn once it is unfolded.
+ * @param {string} heading
+ * @param {boolean} open
+ * @param {() => Content[]} draw
+ */
+export function drawnLater(heading, open, draw) {
+  const part = folded(heading, open, ...open ? draw() : []), drawn = () => { if (part.childElementCount < 2) part.append(...draw().flat()); };
+  part.addEventListener("toggle", drawn);
+  part.querySelector("summary")?.addEventListener("click", drawn);
+  return part;
+}

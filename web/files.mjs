@@ -33,7 +33,7 @@ export function utf8Of(text) {
 }
 
 /** @param {Given} file */
-const startOf = ({ text }) => new TextDecoder("utf-8", { ignoreBOM: true }).decode(utf8Of(text.subarray(0, MOST_SEEN)));
+export const startOf = ({ text }) => new TextDecoder("utf-8", { ignoreBOM: true }).decode(utf8Of(text.subarray(0, MOST_SEEN)));
 
 /** @param {Given} file */
 const headsOf = (file) => startOf(file).replace("\uFEFF", "").split(/\r?\n/, 1)[0].replace(/"/g, "").split(/[,;\t|]/)
@@ -70,6 +70,12 @@ export function stemOf(name) {
 }
 
 /**
+ * A name as it was before it was copied.
+ * @param {string} stem
+ */
+export const uncopied = (stem) => COPIED.exec(stem)?.[1] ?? stem;
+
+/**
  * Which names are those of copies, or of later counts, of others: pairs of such a name and the other one.
  * @param {string[]} names
  * @returns {[string, string][]}
@@ -77,7 +83,7 @@ export function stemOf(name) {
 export function copiesAmong(names) {
   const found = /** @type {Map<string, string>} */ (new Map());
   return [...names].sort((one, other) => one.length - other.length).flatMap((name) => {
-    const stem = stemOf(name), key = COPIED.exec(stem)?.[1] ?? stem, other = found.get(key);
+    const stem = stemOf(name), key = uncopied(stem), other = found.get(key);
     if (other === undefined) found.set(key, name);
     return other !== undefined && stemOf(other) !== stem ? [/** @type {[string, string]} */ ([name, other])] : [];
   });

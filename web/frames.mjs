@@ -15,7 +15,7 @@ export const STAY_QUIET = 2;
 /** Where the digits of the command, and of the length of a mask, begin. */
 export const COMMAND_AT = 2, LENGTH_AT = 4;
 /** One subcarrier, high data rate. */
-const ANY_LINK = 2;
+export const ANY_LINK = 2;
 export const SLOTS = 16;
 const SLOT_BITS = 4;
 /** The bits of a UID. */
@@ -49,15 +49,6 @@ export const slotsOf = (flags) => flags & ONE_SLOT ? 1 : SLOTS;
 
 /** @param {string} frame */
 export const linkOf = (frame) => parseInt(frame.slice(0, 2), 16) & LINK;
-
-/**
- * The link of the first request.
- * @param {string} text
- */
-export function linkIn(text) {
-  const first = text.match(/^T ([0-9A-Fa-f]{2})/m);
-  return first ? linkOf(first[1]) : ANY_LINK;
-}
 
 /**
  * The UID in a Stay Quiet request, or in a reply.

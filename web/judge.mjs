@@ -2,7 +2,7 @@
 import { isPlaces, isSpreadsheet, kindOf, PACKED, SAVE_AS_CSV, stemOf, TABLE, utf8Of } from "./files.mjs";
 import { hasUid, maskOf } from "./frames.mjs";
 import { LF, LISTING } from "./log.mjs";
-import { wrongTable } from "./refused.mjs";
+import { SAVED, wrongTable } from "./refused.mjs";
 import { hex, madeOnce, printable } from "./words.mjs";
 
 /** @typedef {import("./library.mjs").Library} Library */
@@ -127,8 +127,8 @@ function wrongIn(texts, line, name, fault) {
   const same = texts.map((it) => it.name).filter((it) => stemOf(it) === stemOf(name));
   if (fault === "SameName") return new Wrong(`${name}: ${wrong}`, [fix], same);
   if (isSpreadsheet(quoted)) {
-    const what = TABLE.test(name) ? "spreadsheet" : PACKED, cure = `${SAVE_AS_CSV}, and open that`;
-    return new Wrong(`${name} is a ${what}`, [`If it has the catalogue, ${cure}; else leave it out.`], [name]);
+    const what = TABLE.test(name) ? `spreadsheet: ${SAVE_AS_CSV}` : PACKED;
+    return new Wrong(`${name} is a ${what}`, [SAVED[0], SAVED[1], "If it isn't the catalogue, leave it out."], [name]);
   }
   return new Wrong(`${name}, line ${line}: ${wrong}`,
     [fix, ...quoted ? [`Line ${line} is: ${printable(quoted)}`] : []], [name]);

@@ -1,5 +1,5 @@
 /** A log's text as rows to draw: rounds, Stay Quiets and field cycles. */
-import { COMMAND_AT, inventoryOf, LENGTH_AT, slotMask, slotsOf, STAY_QUIET, uidIn, VALUE_AT } from "./frames.mjs";
+import { ANY_LINK, COMMAND_AT, inventoryOf, LENGTH_AT, linkOf, slotMask, slotsOf, STAY_QUIET, uidIn, VALUE_AT } from "./frames.mjs";
 
 /** @typedef {import("./frames.mjs").Mask} Mask */
 /** @typedef {"silent" | "heard" | "captured" | "collision" | "garbled" | "unknown" | "unreached"} Reading what a slot held */
@@ -16,14 +16,15 @@ const codeOf = (letter) => letter.charCodeAt(0);
 const ASKING = codeOf("T"), CYCLED = codeOf("F");
 /** With which byte a line of the list begins. */
 export const LISTING = codeOf("U");
-/** What a slot held, by the byte with which its line begins. */
+/** What a slot held, by the letter with which its line begins. */
+const LETTERS = /** @type {[string, Reading][]} */ ([["S", "silent"], ["R", "heard"], ["H", "captured"], ["C", "collision"], ["D", "garbled"], ["N", "unknown"]]);
 const READINGS = /** @type {(Reading | undefined)[]} */ (new Array(256).fill(undefined));
-Object.assign(READINGS, { [codeOf("S")]: "silent", [codeOf("R")]: "heard", [codeOf("H")]: "captured", [codeOf("C")]: "collision",
-  [codeOf("D")]: "garbled", [codeOf("N")]: "unknown" });
+for (const [letter, reading] of LETTERS) READINGS[codeOf(letter)] = reading;
 /** Those that name a tag, and those in which others may have answered. */
 const REPLIES = new Set(["heard", "captured"]), UNREAD = new Set(["captured", "collision", "garbled", "unknown"]);
-/** Where a frame begins in its line. */
-const FRAME_AT = 2;
+/** Where a frame begins in its line, and what its digits are worth, by their bytes. */
+const FRAME_AT = 2, DIGITS = new Uint8Array(256);
+for (const digit of "0123456789ABCDEFabcdef") DIGITS[codeOf(digit)] = parseInt(digit, 16);
 /** A log has no more lines, and none that is longer: of what is refused the rest isn't looked at. */
 const MOST_LINES = 1_000_000, LONGEST = 4096;
 /** A byte order mark stays, since it is why a text is refused. */
@@ -40,32 +41,29 @@ export class Log {
   /** @param {Uint8Array} text */
   constructor(text) {
     this.text = text;
-    const starts = [0];
-    for (let at = text.indexOf(LF); at >= 0 && starts.length <= MOST_LINES; at = text.indexOf(LF, at + 1)) starts.push(at + 1);
-    if (starts[starts.length - 1] !== text.length) starts.push(text.length + 1);
-    this.#starts = Uint32Array.from(starts);
-    this.counts.lines = starts.length - 1;
-    this.#rows = Uint32Array.from(this.#count());
+    const starts = new Uint32Array(Math.min(text.length, MOST_LINES) + 2);
+    let last = 0;
+    for (let at = 0; at < text.length && last < MOST_LINES; at++) if (text[at] === LF) starts[++last] = at + 1;
+    if (starts[last] !== text.length) starts[++last] = text.length + 1;
+    this.#starts = starts.subarray(0, last + 1);
+    this.#rows = this.#count();
   }
 
   /** The lines that begin a row; the other lines are counted. */
   #count() {
-    const rows = [], counts = this.counts;
-    for (let line = 2; line <= counts.lines; line++) {
-      const code = this.#code(line), reading = READINGS[code];
-      if (reading) {
-        counts.slots++;
-        if (REPLIES.has(reading)) counts.heard++;
-        if (reading === "heard") counts.alone++;
-      } else if (code === LISTING) counts.listed++;
-      else if (code === ASKING || code === CYCLED) {
-        rows.push(line);
-        if (code === CYCLED) counts.cycles++;
-        else if (this.#silences(line)) counts.quiets++;
-        else counts.rounds++;
-      }
+    const rows = new Uint32Array(this.lineCount), seen = new Uint32Array(256), counts = this.counts;
+    let number = 0;
+    for (let line = 2; line <= this.lineCount; line++) {
+      const code = this.#code(line);
+      seen[code]++;
+      if (code !== ASKING && code !== CYCLED) continue;
+      if (code === ASKING && this.#silences(line)) counts.quiets++;
+      rows[number++] = line;
     }
-    return rows;
+    const alone = seen[codeOf("R")], cycles = seen[CYCLED];
+    Object.assign(counts, { lines: this.lineCount, rounds: number - cycles - counts.quiets, cycles, alone, heard: alone + seen[codeOf("H")],
+      slots: LETTERS.reduce((sum, [letter]) => sum + seen[codeOf(letter)], 0), listed: seen[LISTING] });
+    return rows.subarray(0, number);
   }
 
   /**
@@ -92,7 +90,7 @@ export class Log {
    */
   #byte(line, at) {
     const from = this.#starts[line - 1] + FRAME_AT + at;
-    return parseInt(String.fromCharCode(this.text[from], this.text[from + 1]), 16);
+    return DIGITS[this.text[from]] << 4 | DIGITS[this.text[from + 1]];
   }
 
   /**
@@ -115,6 +113,12 @@ export class Log {
 
   /** The version that the header names. */
   get version() { return Number(this.line(1).slice(-1)); }
+
+  /** That of the first request. */
+  get link() {
+    const first = this.#rows.find((line) => this.#code(line) === ASKING);
+    return first ? linkOf(this.frame(first)) : ANY_LINK;
+  }
 
   /** @param {number} line */
   #silences(line) { return this.#byte(line, COMMAND_AT) === STAY_QUIET; }

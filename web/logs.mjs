@@ -1,8 +1,8 @@
 /** What is to be known of the logs of a collection before its items are: what wasn't counted, and what isn't sure. */
 import { button, el, rest } from "./elements.mjs";
-import { copiesAmong } from "./files.mjs";
+import { copiesAmong, stemOf, uncopied } from "./files.mjs";
 import { firstOf, nameOf } from "./shelves.mjs";
-import { count, KIND, printable } from "./words.mjs";
+import { count, dated, KIND, printable } from "./words.mjs";
 
 /** @typedef {import("./collection.mjs").CollectionObject} CollectionObject */
 /** @typedef {import("./shelves.mjs").Shelves} Shelves */
@@ -17,9 +17,14 @@ import { count, KIND, printable } from "./words.mjs";
 const MOST_LISTED = 12, MOST_LEFT = 4;
 const RENAME = "The catalogue has no place of that name. Give the log the name of its place, or write it into the table of places; an old one, or one of " +
   "another collection, leave out.";
+const NO_PLACE = "The catalogue names no place: delete its column place, or fill it.";
+const MOVED = "What moved in between isn't seen: count there again, or say that its file was only copied.";
+const COUNTS = "If that was a mistake, press Back.";
+/** By how much files of one count may differ, in ms, and how many tags are named that two logs prove. */
+const A_DAY = 86_400_000, MOST_TAGS = 5;
 const NO_PLACES = "If items can stand on wrong shelves, add a column 'place', and name each log after its place: then shelves that weren't counted are " +
   "noticed, too.";
-const IS_EMPTY = "If something should be there, check the antenna, and count again. If not, lay an item with a tag there and count again, to see " +
+export const IS_EMPTY = "If something should be there, check the antenna, and count again. If not, lay an item with a tag there and count again, to see " +
   "that the antenna works.";
 const OLDER = "may be an older log of the same shelf: leave out the older.";
 const OVERLAP = "The fields of two readers may overlap, one of the logs may be an older one, or items were carried from one to the other.";
@@ -33,36 +38,56 @@ const DENIED = "Its reply may have been lost, or the list is that of another cou
  * @returns {Doubt[]}
  */
 export function doubtsOf(object, shelves) {
-  const asked = copies(object), those = asked.flatMap(({ logs = [] }) => logs);
-  return [...asked, ...withoutLog(object), ...leftOver(object, those), ...cutOff(object),
-    ...ruledOut(object, shelves), ...withoutAnswer(object, shelves), ...shared(object, shelves),
+  const asked = [...copies(object, shelves), ...copyOfNone(object)], those = asked.flatMap(({ logs = [] }) => logs);
+  return [...asked, ...withoutLog(object, those), ...leftOver(object, those), ...cutOff(object), ...older(object, shelves), ...ofOtherDays(object, shelves),
+    ...ruledOut(object, shelves), ...withoutAnswer(object, shelves), ...shared(object, shelves, those),
     ...notAsked(shelves)];
 }
 
 /**
  * Logs that are called like copies of others, unless each has a place of its own.
  * @param {CollectionObject} object
+ * @param {Shelves} shelves
  * @returns {Doubt[]}
  */
-function copies({ logs, both = [] }) {
+function copies({ logs, both = [] }, { isAsked }) {
   const placed = new Set(logs.filter(({ place }) => place !== null).map(({ name }) => name));
   const asked = copiesAmong(logs.map(({ name }) => name)).filter((ask) => !both.includes(ask[0]) && !ask.every((name) => placed.has(name)));
   return asked.map(([later, first]) => {
-    const one = nameOf(later), other = nameOf(first);
+    const one = nameOf(later), other = nameOf(first), [of, ofOther] = [later, first].map((name) => dated(logs.find((log) => log.name === name)?.changed));
+    const when = (/** @type {string} */ date) => date && of !== ofOther ? ` of ${date}` : "";
     return { short: `say whether ${other} or ${one} counts`, isFirst: true, mayNotCount: true, cure: WHICH, logs: [later, first],
       words: `By its name, ${one} may be a later count than ${other}, or a copy.`,
-      buttons: [[`Only ${one}`, { "data-leave": first, "data-kept": later }],
-        [`Only ${other}`, { "data-leave": later, "data-kept": first }],
-        ["Both: other fields", { "data-both": later }]] };
+      buttons: [[`Only ${other}${when(ofOther)}`, { "data-leave": later, "data-kept": first }],
+        [`Only ${one}${when(of)}`, { "data-leave": first, "data-kept": later }],
+        // where places are asked for, one of no place counts nowhere
+        ...isAsked ? [] : [/** @type {[string, Record<string, string>]} */ (["Both: they are of different fields", { "data-both": later }])]] };
   });
 }
 
 /**
+ * Logs of no place that are called like copies of one of a place that has none.
  * @param {CollectionObject} object
  * @returns {Doubt[]}
  */
-function withoutLog({ without_log: places, items, logs }) {
-  if (!places.length || !logs.length) return [];
+function copyOfNone({ logs, without_log: places }) {
+  return logs.filter((log) => log.left_over).flatMap(({ name }) => {
+    const place = uncopied(stemOf(name)), one = nameOf(name);
+    return place === stemOf(name) || !places.includes(place) ? [] : [{ short: `say whether ${one} is the log of ${printable(place)}`, isFirst: true, mayNotCount: true,
+      words: `By its name, ${one} is a copy of the log of ${printable(place)}, which isn't here.`, cure: "If it is, press the button; else leave it out.", logs: [name],
+      buttons: [[`Count it as ${printable(place)}`, { "data-as": `${place}.log`, "data-kept": name }], [`Leave out ${one}`, { "data-leave": name }]] }];
+  });
+}
+
+/**
+ * Places without a log, but those of which it is asked whether a copy is one.
+ * @param {CollectionObject} object
+ * @param {string[]} asked
+ * @returns {Doubt[]}
+ */
+function withoutLog({ without_log, items, logs, files, file }, asked) {
+  const places = without_log.filter((place) => !asked.some((name) => uncopied(stemOf(name)) === place));
+  if (!places.length || !logs.length || isNoneNamed({ logs, files, file }, asked)) return [];
   const lost = items.filter((item) => item.state === "not counted").length, where = firstOf(places.map(printable), "and", MOST_LISTED);
   const left = lost ? `${count(lost, "item")} that ${lost === 1 ? "belongs" : "belong"} there ${lost === 1 ? "isn't" : "aren't"} counted`
     : "what belongs there is in other logs, or nothing does";
@@ -71,31 +96,77 @@ function withoutLog({ without_log: places, items, logs }) {
 }
 
 /**
+ * Whether a table of places names none of the logs.
+ * @param {Pick<CollectionObject, "logs" | "files" | "file">} object
+ * @param {string[]} asked
+ */
+const isNoneNamed = ({ logs, files, file }, asked) => files.some((it) => it.file !== file) && !asked.length && logs.every((log) => log.left_over);
+
+/**
  * Logs of no place, but those of which it is asked whether they count.
  * @param {CollectionObject} object
  * @param {string[]} asked
  * @returns {Doubt[]}
  */
-function leftOver({ logs }, asked) {
+function leftOver({ logs, items, without_log, files, file }, asked) {
   const lost = logs.filter((log) => log.left_over && !asked.includes(log.name)), names = lost.map(({ name }) => nameOf(name));
+  const table = files.find((it) => it.file !== file), isNone = !without_log.length && items.every(({ place }) => place === null);
+  const where = firstOf(without_log.map(printable), "and", MOST_LISTED), isTable = isNoneNamed({ logs, files, file }, asked);
+  const [cure, more] = isNone ? [NO_PLACE, {}] : table && isTable
+    ? [`${printable(table.file)} names none of these logs: rename them, or write their names into its column log. Without it, each log is of the place after which it is named.`,
+      leaving([{ name: table.file }])] : [RENAME, leaving(lost)];
   return lost.length ? [{ short: `${firstOf(names)} ${lost.length === 1 ? "is" : "are"} of no place`,
-    words: `${count(lost.length, "log")} of no place: ${firstOf(names, "and", MOST_LISTED)}.`,
-    isFirst: true, cure: RENAME, ...leaving(lost) }] : [];
+    words: `${count(lost.length, "log")} of no place: ${firstOf(names, "and", MOST_LISTED)}.${isTable ? ` No log is of ${where}.` : ""}`,
+    isFirst: true, cure, ...more }] : [];
 }
 
 /**
- * What buttons say that leave files out; of several, with when each was changed, where that is known.
- * @param {{name: string, changed?: number}[]} files
+ * Logs that took the place of a newer file of the same name.
+ * @param {CollectionObject} object
+ * @param {Shelves} shelves
+ * @returns {Doubt[]}
  */
-export const leaveOut = (files) => files.map(({ name, changed }) => `Leave out ${nameOf(name)}` + (files.length < 2 || !changed ? ""
-  : ` of ${new Date(changed).toLocaleString("en-GB", { dateStyle: "medium", timeStyle: "short" })}`));
+const older = ({ logs, both = [] }, shelves) => logs.flatMap(({ newer, changed, name }, at) => {
+  const key = `${name} of ${changed}`;
+  return !newer || both.includes(key) ? [] : [{ short: `the log of ${shelves.name(at)} is older than the one it replaced`, mayNotCount: true, cure: COUNTS, logs: [name],
+    words: `${nameOf(name)} of ${dated(changed)} is older than the file that it replaced, of ${dated(newer)}.`, buttons: [["It is the one that counts", { "data-both": key }]] }];
+});
 
 /**
- * @param {CollectionObject["logs"]} logs
+ * Logs whose files are more than a day older than the newest one.
+ * @param {CollectionObject} object
+ * @param {Shelves} shelves
+ * @returns {Doubt[]}
+ */
+function ofOtherDays({ logs, both = [] }, shelves) {
+  const newest = Math.max(0, ...logs.map(({ changed = 0 }) => changed));
+  const late = [...logs.keys()].filter((at) => (logs[at].changed ?? newest) < newest - A_DAY && !logs[at].newer), those = late.map((at) => logs[at]), names = late.map((at) => shelves.name(at));
+  const key = those.map(({ name, changed }) => `${name} of ${changed}`).join(), [first] = those, isOne = late.length === 1;
+  const other = isOne ? `its file is of ${dated(first?.changed)}` : `the file of ${names[0]} is of ${dated(first?.changed)}`;
+  return !late.length || both.includes(key) ? [] : [{ short: `the log${isOne ? "" : "s"} of ${firstOf(names)} ${isOne ? "is" : "are"} of another day`, mayNotCount: true,
+    cure: MOVED, ...leaving(those, [[isOne ? "It is of this count" : "They are of this count", { "data-both": key }]]),
+    words: `The log${isOne ? "" : "s"} of ${firstOf(names, "and", MOST_LISTED)} ${isOne ? "is" : "are"} older than the others: ${other}, the newest of ${dated(newest)}.` }];
+}
+
+/**
+ * What buttons say that leave files out, the oldest first; of several, with when each was changed, where these differ.
+ * @template {{name: string, changed?: number}} Left
+ * @param {Left[]} files
+ * @returns {[string, Left][]}
+ */
+export function leaveOut(files) {
+  const sorted = [...files].sort((one, other) => (one.changed ?? 0) - (other.changed ?? 0)), dates = sorted.map(({ changed }) => dated(changed));
+  const isDated = new Set(dates).size > 1 && !dates.includes(""), old = files.length > 2 ? "oldest" : "older";
+  return sorted.map((file, at) => [`Leave out ${nameOf(file.name)}${!isDated ? "" : at ? ` of ${dates[at]}` : `, the ${old} file, of ${dates[at]}`}`, file]);
+}
+
+/**
+ * @param {{name: string, changed?: number}[]} logs
+ * @param {[string, Record<string, string>][]} more buttons
  * @returns {Pick<Doubt, "buttons" | "logs">}
  */
-const leaving = (logs) => logs.length > MOST_LEFT ? {} : { logs: logs.map(({ name }) => name),
-  buttons: leaveOut(logs).map((words, at) => [words, { "data-leave": logs[at].name }]) };
+const leaving = (logs, more = []) => ({ logs: logs.map(({ name }) => name),
+  buttons: [...logs.length > MOST_LEFT ? [] : leaveOut(logs).map(([words, { name }]) => /** @type {[string, Record<string, string>]} */ ([words, { "data-leave": name }])), ...more] });
 
 /**
  * @param {CollectionObject} object
@@ -136,29 +207,33 @@ function withoutAnswer({ logs }, shelves) {
 }
 
 /**
- * Logs that prove tags which another proves too, those first of which most are so; of two one is said.
+ * Logs that prove tags which another proves too, those first of which most are so; of two one is said, and nothing of copies of which it is asked.
  * @param {CollectionObject} object
  * @param {Shelves} shelves
+ * @param {string[]} asked
  * @returns {Doubt[]}
  */
-function shared({ logs, items, unexpected }, shelves) {
-  const others = logs.map(() => /** @type {Set<number>} */ (new Set()));
-  for (const { certain_in: [first, ...rest] } of [...items, ...unexpected]) {
+function shared({ logs, items, unexpected }, shelves, asked) {
+  const others = logs.map(() => /** @type {Set<number>} */ (new Set())), many = [...items, ...unexpected].filter(({ certain_in: its }) => its.length > 1);
+  for (const { certain_in: [first, ...rest] } of many) {
     for (const at of rest) others[at].add(first) && others[first].add(at);
   }
   const share = (/** @type {number} */ at) => (logs[at].shared ?? 0) / (logs[at].certain || 1), said = new Set();
   const ordered = [...logs.keys()].filter((at) => logs[at].shared).sort((one, other) => share(other) - share(one) || other - one);
   return ordered.flatMap((at) => {
     const { shared: number = 0, certain = 0 } = logs[at], all = number === certain;
-    if ([...others[at]].every((other) => said.has(other))) return [];
+    if ([...others[at]].every((other) => said.has(other) || asked.includes(logs[other].name) && asked.includes(logs[at].name))) return [];
     said.add(at);
     const which = all ? certain === 1 ? "the tag" : `all ${count(certain, "tag")}` : `${number.toLocaleString("en")} of the ${count(certain, "tag")}`;
     const those = [at, ...others[at]].sort((one, other) => one - other), names = shelves.apart(those);
     const name = names[those.indexOf(at)], rest = firstOf(names.filter((it) => it !== name));
-    // of one shelf that which proves fewer may be the newer one, after a loss
-    const cure = all && certain > 1 ? `One of ${those.length === 2 ? "the two" : "these"} ${OLDER}` : OVERLAP;
-    return [{ short: `${firstOf(names)} prove the same tags`, mayNotCount: true, cure, ...cure === OVERLAP ? {} : leaving(those.map((it) => logs[it])),
-      words: `${which[0].toUpperCase()}${which.slice(1)} that ${name} proves ${number === 1 ? "is" : "are"} proved by ${rest} too.` }];
+    const tags = many.filter(({ certain_in: its }) => its.includes(at)).map((it) => printable("cells" in it && shelves.said(it, 1) || it.uid || ""));
+    // of one shelf that which proves fewer may be the newer one, after a loss; one of another place is no older one
+    const isOfOne = (/** @type {number} */ one) => those.some((it) => it !== one && (logs[it].place === logs[one].place || logs[it].left_over || logs[one].left_over));
+    const ofOne = those.filter(isOfOne).map((it) => logs[it]), isOlder = all && certain > 1 && ofOne.length > 1;
+    return [{ short: `${count(number, "tag")} ${number === 1 ? "is" : "are"} in ${those.length === 2 ? "both" : "several of"} ${firstOf(names)}`, mayNotCount: true,
+      cure: isOlder ? `One of ${those.length === 2 ? "the two" : "these"} ${OLDER}` : OVERLAP, ...isOlder ? leaving(ofOne) : {},
+      words: `${which[0].toUpperCase()}${which.slice(1)} that ${name} proves ${number === 1 ? "is" : "are"} proved by ${rest} too: ${firstOf(tags, "and", MOST_TAGS)}.` }];
   });
 }
 

@@ -1,7 +1,8 @@
 /** Draws what whoever maintains the reader needs: the causes, what tells them apart, and what is left to ask. */
 import { el, forReader, linked, oneStop, toLine } from "./elements.mjs";
-import { alsoHolds, ifDeaf, settled, TO_KNOW } from "./sure.mjs";
-import { count, UID_BITS, visible } from "./words.mjs";
+import { SENTENCES } from "./sentences.mjs";
+import { alsoHolds, ifDeaf, TO_KNOW } from "./sure.mjs";
+import { count, numbered, visible } from "./words.mjs";
 
 /** @typedef {import("./told.mjs").Told} Told */
 
@@ -10,20 +11,26 @@ const SPLIT = "If a slot has a collision, ask its mask in sixteen slots too.", I
 /** Tags stay silent only while they have power. */
 const IF_OFF = "If the field has been off since, write F first.", IF_ON = "Only if the field has been on since; else begin a new log.";
 const ASK_UNDER = ", to ask again where a reply may have hidden others, when the tags that were read there are silent.";
-const SILENCED = "tags that were silenced before they were heard: only then do they answer";
-const HEARD = "To know whether the reader still heard at the end, switch the field off and on, write F, and ask for a tag that was found: it has to answer.";
-const NO_CYCLES = "That takes a log of version 2 or 3: one of version 1 has no line for it.";
-const NEW_VERSION = "Tags that were silenced before they were heard answer only after the field was switched off and on, and a log of " +
-  "version 1 has no line for that. Begin a new log, of version 3, and ask for the whole field again.";
+const ASKED = SENTENCES.requests;
 
 /**
  * @param {Told} told
  * @param {import("./say.mjs").Said} said
- * @param {Node[]} more what is drawn of the log
+ * @param {() => Node[]} more what is drawn of the log
  */
 export function maintainer(told, said, more) {
-  const parts = [], ask = alsoHolds(told)?.ask ?? [], heard = ifDeaf(told)?.ask ?? [];
-  if (!said.causes.length && !ask.length && !heard.length && !more.length) return [];
+  const ask = alsoHolds(told)?.ask ?? [], heard = ifDeaf(told)?.ask ?? [], isAny = said.causes.length || ask.length || heard.length || told.rows.length;
+  return isAny ? [forReader("For whoever maintains the reader", () => [...whyAndAsk(told, said, ask, heard), ...left(told), ...more()])] : [];
+}
+
+/**
+ * @param {Told} told
+ * @param {import("./say.mjs").Said} said
+ * @param {string[]} ask
+ * @param {string[]} heard
+ */
+function whyAndAsk(told, said, ask, heard) {
+  const parts = [];
   if (told.faulty) parts.push(el("p", {}, toLine(told.object.line ?? 1), ": ", el("code", {}, visible(told.faulty).slice(0, MOST_SHOWN))));
   if (said.lead) parts.push(el("p", {}, said.lead));
   if (said.causes.length) parts.push(oneStop(el("ul", {}, said.causes.map((cause) => el("li", {}, linked(cause))))));
@@ -31,9 +38,9 @@ export function maintainer(told, said, more) {
   if (told.object.unnoticed) {
     parts.push(el("p", {}, "A tag ", el("code", {}, told.object.unnoticed), " could be here: the log would be the same."));
   }
-  if (ask.length) parts.push(el("p", {}, `To know whether a strong reply hid a weaker one, ${TO_KNOW}:`), ...copied(ask));
-  if (heard.length && !ask.length) parts.push(el("p", {}, told.cycles ? HEARD : `${HEARD} ${NO_CYCLES}`), ...copied(["F", ...heard]));
-  return [forReader("For whoever maintains the reader", ...parts, ...left(told), ...more)];
+  if (ask.length) parts.push(el("p", {}, ASKED.hidden), ...copied(ask));
+  if (heard.length && !ask.length) parts.push(el("p", {}, told.cycles ? ASKED.heard : `${ASKED.heard} ${ASKED.noCycles}`), ...copied(["F", ...heard]));
+  return parts;
 }
 
 /**
@@ -46,15 +53,12 @@ function left(told) {
   const isAll = told.open.length === told.object.open.count, each = `${open.length > 1 ? "one for each" : "for the"} ${by}`;
   const how = isAll ? `${requests(open.length)} left${hidden.length ? "" : `, ${each}`}.`
     : `What is left to ask first, ${each}: send ${open.length > 1 ? "these" : "it"}, and judge the log again.`;
-  const last = told.notes.last && !hidden.length ? ` At last, ${TO_KNOW}.` : "", { count: masks, uids } = told.object.open;
-  if (masks > told.quiet) parts.push(el("p", {}, `Of all possible UIDs ${settled(Number(uids) / 2 ** UID_BITS)} are settled.`));
+  const last = told.notes.last && !hidden.length ? ` At last, ${TO_KNOW}.` : "";
   if (open.length) parts.push(el("p", {}, `${how} ${INSERT}${end}${last}`), ...copied(open));
   if (hidden.length) parts.push(el("p", {}, `${open.length ? "Then " : ""}${requests(hidden.length)} left${ASK_UNDER} ${open.length ? SPLIT : INSERT + end}`), ...copied(hidden));
-  if (silenced.length && !told.cycles) parts.push(el("p", {}, NEW_VERSION));
-  else if (silenced.length) {
-    const then = open.length || hidden.length ? "Then switch" : "Switch", number = count(silenced.length, "request");
-    parts.push(el("p", {}, `${then} the field off and on, write F, and send ${number} for ${SILENCED}.`), ...copied(["F", ...silenced]));
-  }
+  if (silenced.length && !told.cycles) parts.push(el("p", {}, ASKED.newVersion));
+  else if (silenced.length) parts.push(el("p", {}, numbered(ASKED.silenced, silenced.length)), ...copied(["F", ...silenced]));
+  if (told.notes.last && !told.object.open.count) parts.push(el("p", {}, linked(`Line ${told.notes.last.line}: ${told.notes.last.lacks} would go unnoticed.`)));
   return parts;
 }
 

@@ -11,7 +11,7 @@ import { count, EDITED, listing, printable } from "./words.mjs";
  * A log, or a collection, with what was done to it last; or one that waits for its catalogue.
  * Of a file it has when that was changed, and its own name, if it took another; of a catalogue which it replaced.
  * @typedef {Given & import("./work.mjs").Done & {given?: Collection, waits?: string, note?: string, replaced?: string,
- *   pause?: number, words?: string, changed?: number, was?: string}} Entry
+ *   pause?: number, said?: import("./say.mjs").Said, changed?: number, was?: string, newer?: number}} Entry
  */
 
 /** Larger files are no logs, and no text for each browser. */
@@ -81,14 +81,15 @@ export function gathered(taken, entries) {
   if (!tables.length && !(isJoining && earlier)) return taken;
   const here = isJoining && earlier || { tables: [], logs: isJoining ? entries.filter((it) => !isPasted(it)) : [], both: [], left: [] };
   const stems = new Set(logs.map(({ name }) => stemOf(name))), replaced = here.logs.filter(({ name }) => stems.has(stemOf(name)));
-  const left = here.logs.filter((log) => !replaced.includes(log)), all = [...left, ...logs];
+  const newerThan = (/** @type {Entry} */ log) => replaced.find(({ name, changed = 0 }) => stemOf(name) === stemOf(log.name) && changed > (log.changed ?? changed))?.changed;
+  const left = here.logs.filter((log) => !replaced.includes(log)), all = [...left, ...logs.map((log) => ({ ...log, newer: newerThan(log) }))];
   const kept = here.tables.filter((table) => !tables.some((other) => isPlaces(other) === isPlaces(table)));
   const was = (/** @type {Entry[]} */ list, /** @type {string} */ how) => list.length ? `${names(list)} ${list.length > 1 ? "were" : "was"} ${how}. ` : "";
   const gone = here.tables.filter((table) => !kept.includes(table)), [old] = gone.filter(isCatalogue), items = entries[0]?.collection?.items.length;
   const joined = left.length ? [...logs, ...gone.length ? [] : tables.filter(isPasted)] : [];
   const note = was(gone.filter(isPlaces), `replaced by ${names(tables.filter(isPlaces))}`) +
     was(isJoining && !earlier ? entries.filter(isPasted) : [], "left out: what is pasted has no name") +
-    (was(replaced, "replaced by what you opened under the same name") || (joined.length ? `${names(joined)} joined the logs that were here.` : ""));
+    (was(replaced, `replaced by ${replaced.length === 1 && logs.some(newerThan) ? "an older file of" : "what you opened under"} the same name`) || (joined.length ? `${names(joined)} joined the logs that were here.` : ""));
   const given = { tables: [...kept, ...tables], logs: all, both: here.both, left: here.left.filter(([name]) => !stems.has(stemOf(name))) };
   return [{ ...collected(given, note),
     replaced: old && `${names([old])}${items === undefined ? "" : ` (${count(items, "item")})`} was replaced by ${names(tables.filter(isCatalogue))}` }];
@@ -111,6 +112,28 @@ export function without({ tables, logs, both, left: out }, left, kept, object) {
   const rest = { tables: others(tables), both, left: tables.some((it) => it === left) ? out : /** @type {typeof out} */ ([...out, [name, note]]),
     logs: others(logs).map((log) => takes && log.name === kept ? { ...log, name, was: kept } : log) };
   return rest.tables.length ? [collected(rest, note)] : rest.logs;
+}
+
+/**
+ * A collection in which a log of no place counts by another name.
+ * @param {Collection} given
+ * @param {string} name
+ * @param {string} as
+ */
+export const counted = (given, name, as) =>
+  collected({ ...given, logs: given.logs.map((log) => log.name === name ? { ...log, name: as, was: name } : log) }, `${name} counts as ${as}.`);
+
+/**
+ * A collection with what is known of its files.
+ * @param {CollectionObject} object
+ * @param {Collection} given
+ */
+export function withFiles(object, { logs, both, left }) {
+  Object.assign(object, { both, left: left.map(([, said]) => printable(said)) });
+  for (const log of object.logs) {
+    const { was, changed, newer } = logs.find(({ name }) => name === log.name) ?? {};
+    Object.assign(log, { was, changed, newer });
+  }
 }
 
 /**

@@ -1,10 +1,11 @@
 /** The page that judges: what is opened or typed is judged, and one of it is shown. */
 import { at, setForReader } from "./elements.mjs";
-import { isSpreadsheet, kindOf } from "./files.mjs";
-import { collected, EXAMPLE, gathered, isLacking, isUnanswered, PASTED, read, without } from "./opened.mjs";
+import { isSpreadsheet, kindOf, startOf } from "./files.mjs";
+import { collected, counted, EXAMPLE, gathered, isLacking, isUnanswered, PASTED, read, withFiles, without } from "./opened.mjs";
 import { bytesOf, unpacked } from "./packed.mjs";
 import { Pane } from "./pane.mjs";
 import { unfold, unfoldOnPaper } from "./printing.mjs";
+import { isForeign } from "./refused.mjs";
 import { pageOf, save, withObjects } from "./saving.mjs";
 import { begin, focusOnHeading, headed, overview, show, shown, titleOfEntry } from "./shown.mjs";
 import { count, EDITED, printable } from "./words.mjs";
@@ -64,10 +65,8 @@ async function ask(entry) {
   wait();
   const { given, name, text } = entry;
   const done = await work.ask(given ? { files: [...given.tables, ...given.logs].map((file) => ({ name: file.name, text: file.text })) } : { name, text });
-  if (done.collection) {
-    done.collection.both = given?.both;
-    for (const log of done.collection.logs) log.was = given?.logs.find(({ name }) => name === log.name)?.was;
-  }
+  if (done.told) done.told.object.changed = entry.changed;
+  if (done.collection && given) withFiles(done.collection, given);
   // of one that was asked twice the first answer stays
   if (isUnanswered(entry)) Object.assign(entry, done);
   if (!pending && !entries.some(isUnanswered)) quiet();
@@ -112,9 +111,9 @@ function draw() {
   back.hidden = !past.length;
   close.hidden = !entries.length;
   drawList();
-  saves.hidden = !entry?.told && !entry?.collection;
+  saves.hidden = !(entry?.told && !isForeign(entry.told)) && !entry?.collection;
   beside.hidden = !!pending || entry?.given !== undefined || current < 0;
-  show(entry, entry === answered, opener, (name) => Boolean(logOf(entry, name)));
+  show(entry, entry === answered, opener, (name) => filesOf(entry).some((file) => file.name === name));
   answered = entry;
   pane.mark();
   if (!isPressed || pending || entries.some(isUnanswered)) return;
@@ -169,6 +168,9 @@ close.addEventListener("click", () => {
   take([]);
 });
 
+/** @param {Entry} [entry] */
+const filesOf = (entry) => [...entry?.given?.tables ?? [], ...entry?.given?.logs ?? []];
+
 /**
  * A log of a collection.
  * @param {Entry} entry
@@ -177,22 +179,28 @@ close.addEventListener("click", () => {
 const logOf = ({ given }, name) => given?.logs.find((log) => log.name === name && kindOf(log) === "log");
 
 /**
+ * What is told of a log, with its text.
+ * @param {Entry} log
+ */
+const whole = async ({ name, text }) => (await work.ask({ name, text, isKept: true })).told;
+
+/**
  * What is told of a log of the collection that is shown, by its number: it is judged when it is asked for.
  * @param {number} number
  */
 function opener(number) {
   const entry = entries[current], log = logOf(entry, entry.collection?.logs[number].name);
-  return log ? async () => (await work.ask({ name: log.name, text: log.text })).told : null;
+  return log ? () => whole(log) : null;
 }
 
 shown.addEventListener("click", ({ target }) => {
-  const { leave, kept, both, out } = /** @type {HTMLElement} */ (target).closest("button")?.dataset ?? {};
-  const { given, collection } = entries[current] ?? {};
-  if (!given || !leave && !both && !out) return;
+  const { leave, kept, both, out, as } = /** @type {HTMLElement} */ (target).closest("button")?.dataset ?? {};
+  const { given, collection } = entries[current] ?? {}, all = filesOf(entries[current]);
+  if (!given || !leave && !both && !out && !as) return;
   keep();
   isPressed = true;
-  const left = out ? [...given.tables, ...given.logs][Number(out)] : given.logs.find((it) => it.name === leave);
-  take(both ? [collected({ ...given, both: [...given.both, both] })] : without(given, left, kept, collection));
+  take(both ? [collected({ ...given, both: [...given.both, both] })] : as && kept ? [counted(given, kept, as)]
+    : without(given, out ? all[Number(out)] : all.find((it) => it.name === leave), kept, collection));
 });
 
 /**
@@ -221,8 +229,8 @@ function open(chosen) {
 
 /** Puts the text of the log that is shown into its field. */
 function edit() {
-  const text = new TextDecoder().decode(entries[current]?.text ?? new Uint8Array());
-  pane.put(isSpreadsheet(text) ? "" : text);
+  const entry = entries[current];
+  pane.put(entry && !isSpreadsheet(startOf(entry)) ? entry.text : new Uint8Array());
 }
 
 /**
@@ -251,7 +259,7 @@ field.addEventListener("input", () => {
 saves.addEventListener("click", async () => {
   const log = shownLog(), fold = unfold(), text = shown.innerText, title = titleOfEntry(log);
   fold();
-  const object = log.told?.object ?? (log.collection && await withObjects(log.collection, opener));
+  const object = log.collection ? await withObjects(log.collection, opener) : (await whole(log))?.object;
   if (object) save(pageOf(new TextDecoder().decode(await unpacked(bytesOf(RECORD))), object, title, text), `${log.name}.html`);
 });
 

@@ -1,12 +1,12 @@
 /** The text of a log beside its rounds: a line leads to its cell, and a cell to its line. */
 
-/** A text above this length isn't edited: a few lines around one that is asked for are shown. */
-const MOST_EDITED = 1_000_000, AROUND = 20;
+/** A text of more bytes isn't edited: of it the line is shown that is asked for. */
+const MOST_EDITED = 1_000_000;
 const NEW_LINE = "\n", LARGE = "This log is too long to be shown here. Press the number of a line to see it.";
 
 export class Pane {
   /** The text, and the number of the field's first line. */
-  #text = "";
+  #text = new Uint8Array();
   #firstLine = 1;
 
   /**
@@ -21,18 +21,18 @@ export class Pane {
     shown.addEventListener("click", (event) => {
       const line = /** @type {HTMLElement} */ (event.target).closest("[data-line]")?.getAttribute("data-line");
       // it stands beside what is for whoever maintains the reader
-      if (line && this.#text) /** @type {HTMLElement | null} */ (shown.querySelector("details.reader:not([open]) > summary"))?.click();
-      if (line && this.#text) this.select(Number(line));
+      if (line && this.#text.length) /** @type {HTMLElement | null} */ (shown.querySelector("details.reader:not([open]) > summary"))?.click();
+      if (line && this.#text.length) this.select(Number(line));
     });
     document.addEventListener("selectionchange", () => this.mark());
   }
 
-  /** @param {string} text */
+  /** @param {Uint8Array} text */
   put(text) {
     const isLarge = text.length > MOST_EDITED;
     this.#text = text;
     this.#firstLine = 1;
-    this.field.value = isLarge ? "" : text;
+    this.field.value = isLarge ? "" : new TextDecoder().decode(text);
     this.field.readOnly = isLarge || !this.hint;
     this.field.placeholder = isLarge ? LARGE : this.hint;
   }
@@ -56,7 +56,10 @@ export class Pane {
    * @param {number} line
    */
   select(line) {
-    if (this.field.placeholder === LARGE) this.#excerpt(line);
+    if (this.field.placeholder === LARGE) {
+      this.field.value = new TextDecoder().decode(this.#text).split(NEW_LINE, line)[line - 1];
+      this.#firstLine = line;
+    }
     const above = line - this.#firstLine, lines = this.field.value.split(NEW_LINE).slice(0, above);
     const before = lines.join(NEW_LINE).length + (above > 0 ? 1 : 0);
     const end = this.field.value.indexOf(NEW_LINE, before);
@@ -65,21 +68,5 @@ export class Pane {
     const height = parseFloat(getComputedStyle(this.field).lineHeight);
     this.field.scrollTop = Math.max(0, (above - 2) * height);
     this.mark();
-  }
-
-  /**
-   * Puts the lines around one into the field, of a text that is too long for it.
-   * @param {number} line
-   */
-  #excerpt(line) {
-    const first = Math.max(1, line - AROUND);
-    let from = 0, to = 0;
-    for (let number = 1; number <= line + AROUND && to < this.#text.length; number++) {
-      if (number === first) from = to;
-      const end = this.#text.indexOf(NEW_LINE, to);
-      to = end < 0 ? this.#text.length : end + 1;
-    }
-    this.#firstLine = first;
-    this.field.value = this.#text.slice(from, to);
   }
 }

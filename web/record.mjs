@@ -3,7 +3,7 @@ import { collectionView, headlineOf } from "./collection.mjs";
 import { at } from "./elements.mjs";
 import { isSpreadsheet } from "./files.mjs";
 import { Pane } from "./pane.mjs";
-import { nameOnPaper, unfoldOnPaper } from "./printing.mjs";
+import { unfoldOnPaper } from "./printing.mjs";
 import { nameOfText } from "./refused.mjs";
 import { tell } from "./told.mjs";
 import { titleOf, view } from "./view.mjs";
@@ -21,12 +21,11 @@ if ("items" in object) {
 } else {
   const told = tell(object), pane = new Pane(/** @type {HTMLTextAreaElement} */ (at("text")), shown);
   shown.replaceChildren(...view(told));
-  pane.put(object.text);
+  pane.put(new TextEncoder().encode(object.text));
   at("named").textContent = nameOfText(told, true);
   at("beside").hidden = isSpreadsheet(object.text);
   document.title = titleOf(told);
 }
-nameOnPaper(document.title);
 unfoldOnPaper();
 // not in what a browser has saved of it
 at("old")?.remove();

@@ -18,7 +18,9 @@ const COPY = "The file may have been cut off, by a full disk or because it was c
 const LOG_IS = "A log is text from the reader's software; its first line begins with 'vicinity-log'.";
 const BOTH = ["To compare this table with what the logs show, open both at once in vicinity.html: choose or drop the table and the logs together.", LOG_IS];
 const NAME = "In its first row, name the column of tag numbers (16 characters, 0 to 9 and A to F) 'uid'";
-const IF_TABLE = { when: "If it is a table with tag numbers:", steps: [`${NAME}.`, BOTH[0]] }, SAVED = [`${NAME}, and save it as CSV.`, ...BOTH];
+const IF_TABLE = { when: "If it is a table with tag numbers:", steps: [`${NAME}.`, BOTH[0]] };
+/** What to do with a spreadsheet. */
+export const SAVED = [`${NAME}, and save it as CSV.`, ...BOTH];
 const UNPACK = "If it is a ZIP file with logs in it, unpack it, and open the logs.";
 const IF_SPREADSHEET = "If it is a spreadsheet with tag numbers:";
 const IS_UTF_16 = "The file seems to be UTF-16: save it as ASCII or UTF-8.";
@@ -85,6 +87,7 @@ export function wrongTable(text, line, fault) {
   const { wrong, fix } = SENTENCES.files[known ? known[1] : "turnedUid"];
   if (known) return { wrong: `this is ${wrong}`, fix: fix.join(" ") };
   if (fault === "Utf8" && text.includes("\0")) return { ...SENTENCES.tables[fault], fix: IS_UTF_16 };
+  if (fault === "Utf8" && text.includes("\uFFFD")) return { wrong: "the line isn't UTF-8", fix: "Save the sheet as 'CSV UTF-8'." };
   if (fault === "Uid" && TURNED.test(text)) return { wrong, fix: fix.join(" ") };
   return /** @type {Record<string, Advice>} */ (SENTENCES.tables)[fault] ?? SENTENCES.faults[""];
 }

@@ -1,5 +1,5 @@
 /** What is left to ask, as lines that send it. */
-import { hasUid, linkIn, linkOf, maskOf, requestOf, sixteen, stayQuietOf, UID_LEN } from "./frames.mjs";
+import { hasUid, linkOf, maskOf, requestOf, sixteen, stayQuietOf, UID_LEN } from "./frames.mjs";
 import { MOST_NOTES } from "./notes.mjs";
 import { UID_BITS } from "./words.mjs";
 
@@ -35,7 +35,7 @@ export const NO_REQUESTS = { open: [], by: BY_MASK, silenced: [], hidden: [], lo
  * @returns {Requests}
  */
 export function requestsOf(log, object, { open, quiet, hidden, causes, lost }) {
-  const { captured, status, certain, open: { masks, count } } = object, link = linkIn(object.text), again = askedAgain(log, causes);
+  const { captured, status, certain, open: { masks, count } } = object, link = log.link, again = askedAgain(log, causes);
   const own = masks.filter((_, at) => !quiet.has(open[at]) && !hidden.has(open[at]));
   const isHiding = status < 2 && (captured?.holds === false || captured?.settled === false);
   const { heard, ready, all } = isHiding || again.length ? allButHeard(log, link) : { heard: 0, ready: 0, all: [] };

@@ -17,8 +17,6 @@ export const LOOKS = {
   unknown: { sign: "~", words: "nothing is known of it" }, unreached: { sign: "", words: "not reached" },
 };
 const MOST_DIGITS = 4;
-/** What is said of a table that has to be scrolled. */
-const SCROLLED = { tabindex: "0", role: "group", "aria-label": "The rounds, scrolled sideways" };
 /** What the signs mean. */
 const LEGEND = [["silent", "·", "nobody"], ["heard", "A1", "one tag"], ["captured", "A1", "one tag, perhaps over others"],
   ["heard quiet", "A1", "underlined: silenced afterwards"], ["collision", "×", "two or more"], ["garbled", "?", "unreadable"],
@@ -37,46 +35,7 @@ export function rounds(told, names) {
   const ringed = new Set(told.ringed), named = new Set(told.named);
   const body = told.rows.map((row) => rowOf(row, ringed, named, names));
   const table = el("table", { class: "rounds" }, el("caption", {}, "The rounds of the session"), el("thead", {}, head), el("tbody", {}, body));
-  const bars = told.strip.map(barOf);
-  const whole = `The whole session, from left to right: ${count(told.counts.rounds, "round")}, with ` +
-    `${count(told.counts.heard, "reply", "replies")} in ${count(told.counts.slots, "slot")}${markedAt(told.marked)}.`;
-  const strip = bars.length ? [el("p", { class: "strip", "aria-hidden": "true" }, bars), el("p", {}, whole)] : [];
-  return [el("section", {}, el("h2", {}, "The rounds"), ...strip, legend(told), scrolled(oneStop(table)))];
-}
-
-/**
- * Where the strip is marked.
- * @param {number[]} marked
- */
-function markedAt(marked) {
-  if (marked.length < 2) return marked.length ? `, marked at line ${marked[0]}` : "";
-  return `, marked at ${marked.length.toLocaleString("en")} rounds and requests, from line ${marked[0]} to line ${marked[marked.length - 1]}`;
-}
-
-/**
- * A table that is reached by the keyboard if it has to be scrolled.
- * @param {HTMLElement} table
- */
-function scrolled(table) {
-  const wide = el("div", { class: "wide" }, table);
-  new ResizeObserver(() => {
-    const isWider = wide.scrollWidth > wide.clientWidth;
-    for (const [name, value] of Object.entries(SCROLLED)) if (isWider) wide.setAttribute(name, value); else wide.removeAttribute(name);
-  }).observe(wide);
-  return wide;
-}
-
-/**
- * A bar of the strip: of its height each thing that slots held has a share.
- * @param {import("./drawn.mjs").Bar} bar
- */
-function barOf({ line, isMarked, held }) {
-  const parts = held.map(([look, many]) => {
-    const part = el("b", { class: look });
-    part.style.flexGrow = String(many);
-    return part;
-  });
-  return el("i", { class: isMarked ? "marked" : "", "data-line": String(line) }, ...parts);
+  return [el("section", {}, el("h2", {}, "The rounds"), legend(told), el("div", { class: "wide" }, oneStop(table)))];
 }
 
 /**
@@ -163,7 +122,7 @@ function cell(round, slot, named, name) {
   if (one) attributes.colspan = String(SLOTS);
   attributes["data-line"] = String(slot.line || round.line);
   const said = uid === null ? [el("span", { "aria-hidden": "true" }, sign || "\u00A0"), unseen(look.words)] : [sign];
-  return el("td", attributes, ...said, ...slot.silenced ? [unseen(" (silenced afterwards)")] : [], ...marked(named));
+  return el("td", attributes, toLine(slot.line || round.line, ...said, ...slot.silenced ? [unseen(" (silenced afterwards)")] : [], ...marked(named)));
 }
 
 /**
@@ -187,8 +146,9 @@ const unseen = (words) => el("span", { class: "unseen" }, words);
  */
 function legend(told) {
   const slots = told.rows.flatMap((row) => row.kind === "round" ? row.slots : []), drawn = new Set(slots.map((slot) => String(slot.reading)));
-  const isShort = told.rows.some((row) => row.kind === "round" && row.slots.length > 1 && row.slots.some((slot) => slot.uid !== null));
-  const digits = isShort ? [el("li", {}, "2C in the row ..1: a UID that ends in 2C1")] : [];
+  const short = told.rows.flatMap((row) => row.kind === "round" && row.slots.length > 1 && row.asked.len % 4 === 0
+    ? row.slots.flatMap(({ uid }) => uid === null ? [] : { low: hex(uid).slice(16 - row.asked.len / 4), whole: hex(uid).slice(14 - row.asked.len / 4) }) : []).pop();
+  const digits = short ? [el("li", {}, `${short.whole.slice(0, 2)} in the row ${short.low ? `..${short.low}` : "all"}: a UID that ends in ${short.whole}`)] : [];
   const isCut = told.rows.some((row) => row.kind === "round" && row.asked.len % 4);
   const bits = isCut ? [el("li", {}, "..7, bit 1: an odd digit before 7")] : [];
   if (slots.some((slot) => slot.silenced)) drawn.add("heard quiet");

@@ -35,18 +35,20 @@ const LOOK = "Or look whether what isn't proved is there: the answer speaks only
 const EMPTY = ["If items should be here: check the antenna, switch the reader's field off and on, and count again.",
   "If nothing should be here: lay an item with a tag at the antenna, and count again. Once it is found, the antenna works, and there is nothing " +
   "else to do."];
+export const IF_HEARD = "Nothing to do, if each reader worked to its end.";
 const HEARS = "Nothing to do, if the reader worked to the end. To see that it did: switch its field off and on, and let it ask once more for a tag " +
   "that was found.";
-const NOTHING = "Nothing to do.", ABOVE = "What there is to do here by the catalogue stands above.";
-const ONE_MORE = ["Send the log and this page (printed as PDF) to whoever maintains the reader: it stopped without asking all tags once more. " +
-  "Asking them all, until none answers, shows whether a strong reply hid a weaker one.",
-  "Until then: spread out items that lie on each other, and count again."];
+export const NOTHING_TO_DO = "Nothing to do.";
+const ABOVE = "What there is to do here by the catalogue stands above.";
+const ONE_MORE = ["Spread out items that lie on each other, and count again.",
+  "If it stays so, send the log and this page (printed as PDF) to whoever maintains the reader: it stopped without asking all tags once more. " +
+  "Asking them all, until none answers, shows whether a strong reply hid a weaker one."];
 const ONE_ROUND = "To see whether others are here: run the inventory again, to a last round that no tag answers.";
 const COMPARE = "Compare these tags with what should be here: open a catalogue (CSV) together with the log.";
 const TITLES = "To see the items' titles: open a catalogue (CSV) together with the log.";
 /** If the list is what was expected here, and if it is what the reader found: of tags that didn't answer, and of others. */
 const IF_EXPECTED = "If the list says what should be here:", IF_READ = "If the reader wrote the list of what it found:";
-const NOT_KNOWN_WHOSE = "If you don't know who made the list: count again first, and look for what still differs.";
+const NOT_KNOWN_WHOSE = "Count again first, unless you know who made the list, and look for what still differs.";
 const IS_BROKEN = "is here, its tag is broken or covered, or its reply was lost: move it, and count again. If you don't find it, it is missing.";
 const WERE_TAKEN = "Tags were taken away since it was written, it is that of another session, or it has UIDs that weren't heard: count again.";
 const LOST = "may have been lost. Switch its field off and on, and count again.";
@@ -100,8 +102,8 @@ function possible(told, isAlone) {
     `Line ${line} silenced ${uid}, which was never heard: its reply may have been lost in line ${at}.`);
   const causes = [...why, ...silenced, ...hasList && found.absent && !lost.length ? [NOT_HEARD] : [], ...hasList && found.unlisted ? [NOT_CLAIMED] : [],
     ...!hasList && isAlone && object.certain.count ? [NO_LINES] : []];
-  // a list is green only where it is said what holds if the reader went deaf
-  const isGreen = isSure && isAlone && object.deaf !== undefined;
+  // a list is green only if it is complete also if the reader went deaf
+  const isGreen = isSure && isAlone && object.deaf?.holds;
   return { look: isGreen ? "yes" : only ? "read" : "no", sign: isGreen ? "✓" : only ? "i" : "!", headline: headline(told, isAlone),
     lights: lightsOf(told, isAlone, { value: look === "plain" ? "not known yet" : look, look },
       { value: list, look: isSure ? "yes" : differs || lacks ? "no" : "plain" }),
@@ -117,8 +119,8 @@ function possible(told, isAlone) {
  */
 function lightsOf(told, isAlone, finished, list) {
   const { object: { kind, count: number, margin, captured, deaf }, counts: { listed } } = told;
-  const shown = !isAlone ? [] : [{ name: "List", ...listed ? list : NO_LIST }];
-  const other = kind === KIND.COMPLETE || !listed ? "others may be here" : "the answer may be wrong";
+  const shown = !isAlone ? [] : [{ name: "The reader's list", ...listed ? list : NO_LIST }];
+  const other = kind !== KIND.COMPLETE && listed ? "the answer may be wrong" : number === 0 ? "tags may be here" : "others may be here";
   return [{ name: "Search finished", ...finished }, ...shown,
     ...howSure(kind === KIND.COMPLETE && deaf ? margin : 0, number ? "still complete" : "still empty", other,
       isShaken(told, captured), isShaken(told, deaf))];
@@ -131,20 +133,20 @@ function lightsOf(told, isAlone, finished, list) {
  * @returns {Step[]}
  */
 function steps({ object: { kind, found, open, captured, deaf }, counts, quiet, notes }, isAlone) {
-  if (kind === KIND.COMPLETE) return !isAlone ? [ABOVE] : !counts.listed ? EMPTY : captured?.holds === false ? ONE_MORE : [deaf?.holds ? NOTHING : HEARS];
+  if (kind === KIND.COMPLETE) return !isAlone ? [ABOVE] : !counts.listed ? EMPTY : captured?.holds === false ? ONE_MORE : [deaf?.holds ? NOTHING_TO_DO : HEARS];
   if (!open.count && !counts.listed) return [...captured?.settled === false ? [ONE_ROUND, STAYS] : [], ...isAlone ? [COMPARE] : []];
   const steps = /** @type {Step[]} */ ([]);
   if (kind === KIND.DOUBTFUL) steps.push(CYCLE, LOOK);
   else if (open.count) steps.push(quiet === open.count ? CYCLE : AGAIN);
   if (found.absent && notes.lost.length) steps.push(silencedBefore(notes.lost.length));
   const isMore = found.unlisted > 0 && counts.listed > 0, differs = found.absent > 0 || isMore, look = lookFor(found.absent);
-  if ((differs || found.doubtful) && isAlone) steps.push(TITLES);
+  const titles = (differs || found.doubtful) && isAlone ? [TITLES] : [];
   // if the reader knew all of them, there is nothing to choose from
-  if (found.absent && !isMore && notes.lost.length === found.absent) return [...steps, `If the answer stays the same, ${look}`];
-  if (!differs) return [...steps, STAYS];
+  if (found.absent && !isMore && notes.lost.length === found.absent) return [...steps, `If the answer stays the same, ${look}`, ...titles];
+  if (!differs) return [...steps, STAYS, ...titles];
   const of = (/** @type {string} */ absent, /** @type {string} */ more) => [...found.absent ? [absent] : [], ...isMore ? [more] : []];
   return [...steps, NOT_KNOWN_WHOSE, { when: IF_EXPECTED, steps: of(`${look[0].toUpperCase()}${look.slice(1)}`, STRANGERS) },
-    { when: IF_READ, steps: of(WERE_TAKEN, WERE_OMITTED) }, STILL];
+    { when: IF_READ, steps: of(WERE_TAKEN, WERE_OMITTED) }, STILL, ...titles];
 }
 
 /** @param {number} number of tags that the reader silenced and never heard */

@@ -11,6 +11,7 @@ const MOST_ROWS = 2000, MOST_COLUMNS = 8;
 export const MOST_NAMES = 3;
 /** How many characters a name has at most that says no more than which shelf it is. */
 const MOST_BARE = 4;
+const SHELF = "shelf";
 /** Columns that say what the page says otherwise. */
 const KNOWN = new Set(["uid", "away"]);
 /** Shelf 2 before Shelf 10. */
@@ -137,7 +138,7 @@ export function firstOf(names, last, most = MOST_NAMES) {
  * @param {Cell} [toDo]
  */
 export function shelved(list, shelves, shelf, where = {}, toDo) {
-  const groups = grouped(list, shelf), isOne = groups.size === 1 && groups.has(""), titled = (/** @type {string} */ name, /** @type {string} */ scope) =>
+  const groups = grouped(list, shelf), isOne = groups.size === 1 && groups.has(""), isMany = groups.size > 1, titled = (/** @type {string} */ name, /** @type {string} */ scope) =>
     el("tr", {}, el("th", { scope, colspan: String(heads.length) }, name.length > MOST_BARE ? name : name ? `Shelf ${name}` : "Place not known"));
   const columns = shelves.columns.filter(({ at }) => list.some(({ cells, place }) => cells?.[at] && (isOne || cells[at].trim() !== place)));
   const asked = Object.keys(where), isTagged = list.some((item) => item.uid), last = columns.length && isTagged ? ["UID"] : [];
@@ -148,16 +149,18 @@ export function shelved(list, shelves, shelf, where = {}, toDo) {
     const own = first < 0 && !last.length ? [el("th", { scope: "row", colspan: String(columns.length || 1) }, uid)]
       : said.map((cell, at) => at === first ? el("th", { scope: "row" }, cell) : cellOf(columns[at].head, cell));
     return el("tr", {}, ...toDo ? [el("td", {}, toDo(item))] : [], ...own, ...asked.map((head) => cellOf(head, where[head](item))),
-      ...last.map((head) => first < 0 ? el("th", { scope: "row", "data-head": head }, uid) : cellOf(head, item.uid ? uid : "")));
+      ...last.map((head) => first < 0 ? el("th", { scope: "row", "data-head": head }, uid) : cellOf(head, item.uid ? uid : "")),
+      ...isMany ? [el("td", { class: "paper", "data-head": SHELF }, shelf(item))] : []);
   };
   let room = MOST_ROWS;
   const bodies = [...groups].sort(([one], [other]) => inOrder(one, other)).map(([name, group]) => {
     const rows = group.slice(0, Math.max(0, room)).map(rowOf);
     room -= rows.length;
-    return el("tbody", {}, ...rows.length && groups.size > 1 ? [titled(name, "rowgroup")] : [], ...rows);
+    return el("tbody", {}, ...rows.length && isMany ? [titled(name, "rowgroup")] : [], ...rows);
   });
-  // what is at the head stands on each sheet of paper again
-  const head = el("thead", {}, el("tr", {}, heads.map((it) => el("th", { scope: "col" }, printable(it)))),
+  // what is at the head stands on each sheet of paper again, and where shelves are several, each row names its own
+  const head = el("thead", {}, el("tr", {}, heads.map((it) => el("th", { scope: "col" }, printable(it))),
+    isMany ? [el("th", { scope: "col", class: "paper" }, SHELF)] : []),
     ...groups.size === 1 && !isOne ? [titled([...groups.keys()][0], "colgroup")] : []);
   return list.length ? [el("table", { class: heads.length > MOST_COLUMNS ? "items many" : "items" }, head, ...bodies), ...rest(list.length - MOST_ROWS)] : [];
 }

@@ -4,10 +4,9 @@ import { at, button, el } from "./elements.mjs";
 import { kindOf } from "./files.mjs";
 import { leaveOut } from "./logs.mjs";
 import { isLacking, isUnanswered } from "./opened.mjs";
-import { nameOnPaper } from "./printing.mjs";
 import { isForeign, nameOfText } from "./refused.mjs";
 import { say } from "./say.mjs";
-import { titleOf, view } from "./view.mjs";
+import { banner, signed, titleOf, view } from "./view.mjs";
 import { count, KIND, printable } from "./words.mjs";
 
 /** @typedef {import("./opened.mjs").Entry} Entry */
@@ -34,8 +33,6 @@ export function show(entry, isShown, opener, canLeave) {
   shown.setAttribute("aria-busy", String(isOld));
   at("named").textContent = entry?.told ? nameOfText(entry.told, false) : "The log";
   if (!entry || isOld && isShown) return;
-  if (entry.collection) entry.collection.left = entry.given?.left.map(([, said]) => printable(said));
-  for (const log of entry.collection?.logs ?? []) log.changed = entry.given?.logs.find(({ name }) => name === log.name)?.changed;
   shown.replaceChildren(...nodesOf(entry, opener, canLeave));
   headed(titleOfEntry(entry));
   if (noteOf(entry)) at("said").prepend(`${noteOf(entry)} `);
@@ -66,8 +63,9 @@ function nodesOf(entry, opener, canLeave) {
   const logs = given && (waits || error) ? given.logs.filter((it) => kindOf(it) !== "other") : [];
   // beside a log that can't stay, the next catalogue wouldn't help
   const words = [...cure ?? [], ...logs.some((it) => files?.includes(it.name)) ? [] : kept(logs)];
-  const said = [...words.map((it) => el("p", {}, it)), ...given && files ? leavingOut(given, files) : []];
-  if (error) return [el("h1", { class: "error" }, unanswered(name, error)), ...said];
+  const said = [...words.length ? [el("h2", {}, "What to do"), el("ul", { class: "steps" }, words.map((it) => el("li", {}, it)))] : [],
+    ...given && files ? leavingOut(given, files) : []];
+  if (error) return [banner({ look: "refused", sign: "?", headline: unanswered(name, error), lights: [] }, printable(name)), ...said];
   if (waits) return [el("h1", {}, waits), ...said];
   if (!collection) return told ? view(told) : [];
   return [...note && !collection.left?.includes(note) ? [el("p", { class: "note" }, note)] : [], ...collectionView(collection, opener, canLeave)];
@@ -87,8 +85,8 @@ const noteOf = ({ note = "", replaced, collection }) =>
  */
 function leavingOut({ tables, logs }, files) {
   const all = [...tables, ...logs], alike = all.filter(({ name }) => files.includes(name));
-  return alike.length ? [el("p", { class: "take" }, leaveOut(alike).map((words, at) =>
-    button(words, { "data-out": String(all.indexOf(alike[at])) })))] : [];
+  return alike.length ? [el("p", { class: "take" }, leaveOut(alike).map(([words, file]) =>
+    button(words, { "data-out": String(all.indexOf(file)) })))] : [];
 }
 
 /** @param {Entry} entry */
@@ -115,7 +113,8 @@ export function overview(entries, current) {
   const words = `${count(logs, "log")}${logs > 1 ? ", each with its own answer" : ""}.${how}${foreign ? ` ${count(foreign, "file isn't a log", "files aren't logs")}.` : ""}`;
   each.append(el(current < 0 ? "h1" : "p", {}, words), el("p", { class: "hint" }, TOGETHER));
   if (current >= 0) return;
-  shown.replaceChildren();
+  const sums = entries.flatMap(({ name, told }) => told ? [el("p", {}, `${printable(name)}: ${told.object.answer} · SHA-256 `, el("code", {}, told.object.sha256))] : []);
+  shown.replaceChildren(el("footer", { class: "record" }, ...sums, ...signed(words, count(many, "file"))));
   headed(words);
 }
 
@@ -126,17 +125,10 @@ export function overview(entries, current) {
  * @param {boolean} isPressed
  */
 function label(button, entry, isPressed) {
-  const { told, error = "..", words = told ? saidBy(told) : error } = entry, name = printable(entry.name);
-  if (told) entry.words = words;
+  const { told, error = ".." } = entry, name = printable(entry.name), said = told && (entry.said ??= say(told)), words = ` ${said?.headline ?? error}`;
   button.setAttribute("aria-pressed", String(isPressed));
-  const said = told ? [el("span", { "aria-hidden": "true" }, words[0]), words.slice(1)] : [words];
-  if (button.textContent !== `${name} ${words}`) button.replaceChildren(el("b", {}, name), " ", ...said);
-}
-
-/** @param {import("./told.mjs").Told} told */
-function saidBy(told) {
-  const { sign, headline } = say(told);
-  return `${sign} ${headline}`;
+  if (button.textContent === `${said?.sign ?? ""}${name}${words}`) return;
+  button.replaceChildren(...said ? [el("span", { class: `sign ${said.look}`, "aria-hidden": "true" }, said.sign)] : [], el("b", {}, name), words);
 }
 
 /**
@@ -144,7 +136,7 @@ function saidBy(told) {
  * @param {string} name
  * @param {string} error
  */
-const unanswered = (name, error) => printable((error.startsWith(name) ? `No answer: ${error}.` : `${name}: no answer (${error}).`).slice(0, MOST_SAID));
+const unanswered = (name, error) => printable((error.startsWith(name) ? `${error}.` : `${name}: no answer (${error}).`).slice(0, MOST_SAID));
 
 /**
  * What becomes of the logs of a collection that has no answer.
@@ -161,7 +153,6 @@ const kept = (logs) => logs.some(isLacking) ? [OPEN_AGAIN] : !logs.length ? []
  */
 export function headed(title, words = document.querySelector("#each h1, #told h1")?.textContent ?? "") {
   document.title = title;
-  nameOnPaper(title);
   const said = at("said");
   if (said.textContent !== words) said.textContent = words;
 }

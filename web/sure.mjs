@@ -15,8 +15,9 @@ const HEARS_STILL = "To know, switch its field off and on, and let it ask once m
 /** @param {string} where */
 export const deafIn = (where) => `${IF_DEAF}may be wrong ${where}. To know, switch the field off ` +
   "and on there, and let the reader ask once more for a tag that was found.";
-const DEAF = "A reader that is deaf writes the same log: only a tag at its antenna shows that it hears.";
-export const ONCE_MORE = "Asking all of them once more, when none answers, adds one.";
+export const DEAF = "A reader that is deaf writes the same log: only a tag at its antenna shows that it hears.";
+/** @param {number} margin */
+export const onceMore = (margin) => `Asking all of them once more, when none answers, makes it ${margin + 1}.`;
 export const TO_KNOW = "silence each tag that was heard, and ask all in one slot, until none answers";
 const ALLOWED = "The answer allows for strong replies that hid weaker ones.";
 
@@ -38,15 +39,6 @@ export const granted = (holds, isAnswered = false) => [
     "it was switched off and on.",
   "Only one reader powered the tags.",
 ];
-
-/**
- * The share of the UIDs that are settled, never rounded up to all.
- * @param {number} open
- */
-export function settled(open) {
-  const percent = Math.floor((1 - open) * 100);
-  return percent >= 99 ? "over 99 %" : `${percent} %`;
-}
 
 /**
  * Whether the answer also holds if a strong reply hid a weaker one, and how sure it is then, or else what to ask; of an answer
@@ -90,7 +82,7 @@ export function howSure(margin, still, other, isHiding, isDeaf) {
     ({ name, value: isWrong ? other : still, look: /** @type {Look} */ (isWrong ? "no" : "yes") });
   const both = [light("If replies were hidden", isHiding), light("If the reader went deaf", isDeaf)];
   if (!margin) return both.filter(({ look }) => look === "no");
-  return [{ name: "Each other tag was asked", value: `${count(margin, "time")} or more`, look: "plain" }, ...both];
+  return [{ name: still === "still empty" ? "Each tag was asked" : "Each other tag was asked", value: `${count(margin, "time")} or more`, look: "plain" }, ...both];
 }
 
 /**

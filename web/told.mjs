@@ -7,7 +7,7 @@
  */
 import { causesOf, silencedUnheard, widthOf } from "./causes.mjs";
 import { conflictOf, isLarge, keyLines } from "./conflict.mjs";
-import { drawn, strip } from "./drawn.mjs";
+import { drawn } from "./drawn.mjs";
 import { hasUid, maskOf } from "./frames.mjs";
 import { Log } from "./log.mjs";
 import { notesOf } from "./notes.mjs";
@@ -38,6 +38,7 @@ import { KIND } from "./words.mjs";
  * @property {number} lines
  * @property {boolean} ended whether the text ends with an LF
  * @property {string} sha256 empty where it can't be had
+ * @property {number} [changed] when the file was
  * @property {string} text
  * @property {{kind: string, uid?: string, line?: number, overlooked?: number}[]} findings the first of each kind, and all lines
  *   of a conflict; an absent UID was overlooked in so many slots
@@ -80,8 +81,6 @@ import { KIND } from "./words.mjs";
  * @property {import("./notes.mjs").Notes} notes
  * @property {Log["counts"]} counts
  * @property {(Row | Gap)[]} rows those drawn
- * @property {import("./drawn.mjs").Bar[]} strip the whole session, if not all rows are drawn
- * @property {number[]} marked the lines of the rows that are marked in it
  * @property {string[]} ringed the slots that are marked, as ROUND:NUMBER
  * @property {number[]} named the lines that are marked
  */
@@ -100,8 +99,8 @@ export function tell(object, text = new TextEncoder().encode(object.text)) {
   /** @type {Told} */
   const told = { object, faulty: refused && line <= log.lineCount ? log.line(line) : "",
     cycles: log.version > 1, conflict: null, open: object.open.masks.map(maskOf), silenced: [], quiet: 0, isMore: false,
-    requests: NO_REQUESTS, causes: [], neverAsked: false, notes: { lost: [], cut: [], last: null }, counts: log.counts, rows: [],
-    strip: [], marked: [], ringed: [], named: [] };
+    requests: NO_REQUESTS, causes: [], neverAsked: false, notes: { lost: [], last: null }, counts: log.counts, rows: [],
+    ringed: [], named: [] };
   if (!refused) explain(log, told);
   return told;
 }
@@ -120,18 +119,12 @@ function explain(log, told) {
   Object.assign(told, { silenced: tags, quiet: masks.length, causes, neverAsked, isMore: hasMore(causes, object),
     requests: requestsOf(log, object, { open, quiet, hidden, causes, lost: told.notes.lost }) });
   told.named = named(told);
-  const cut = new Set(causes.flatMap(({ reading, round }) => reading === "unreached" ? round : []));
-  told.notes.cut = told.notes.cut.filter(({ line }) => !cut.has(line));
   if (told.conflict || object.captured?.settled || object.kind === KIND.COMPLETE && object.captured?.holds) told.notes.last = null;
   // what may have been hidden is marked where nothing else is left
   const marking = causes.filter(({ reading }) => reading !== "captured" || causes[0].reading === reading);
   told.ringed = marking.flatMap((cause) => cause.slots.map((number) => `${cause.round}:${number}`));
   const rows = [...new Set([...marking].sort((one, other) => widthOf(other) - widthOf(one)).map((cause) => log.rowAt(cause.round)))];
   told.rows = drawn(log, told.named, rows, !isLarge(told.conflict));
-  if (!told.rows.some((row) => row.kind === "gap")) return;
-  const marked = new Set([...rows, ...told.named.map((line) => log.rowAt(line))]);
-  told.strip = strip(log, marked);
-  told.marked = [...marked].sort((one, other) => one - other).map((row) => log.lineOf(row));
 }
 
 /**

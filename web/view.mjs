@@ -1,13 +1,12 @@
 /** Draws what is told of a log. */
 import { isLarge } from "./conflict.mjs";
-import { bullets, el, folded, linked, oneStop, rest, toLine } from "./elements.mjs";
+import { bullets, drawnLater, el, folded, linked, oneStop, rest, toLine } from "./elements.mjs";
 import { isSpreadsheet } from "./files.mjs";
 import { maintainer } from "./maintainer.mjs";
-import { noted } from "./notes.mjs";
 import { LOOKS, rounds } from "./rounds.mjs";
 import { say } from "./say.mjs";
-import { alsoHolds, granted, HOLDS, ifDeaf, isApart, missed, ONCE_MORE, silentIn } from "./sure.mjs";
-import { count, hex, KIND, lines, listing, printable, whom } from "./words.mjs";
+import { alsoHolds, granted, HOLDS, ifDeaf, isApart, missed, onceMore, silentIn } from "./sure.mjs";
+import { count, dated, hex, KIND, lines, listing, printable, whom } from "./words.mjs";
 
 /** @typedef {import("./told.mjs").Told} Told */
 /** @typedef {Map<string, string>} Names what a catalogue says of UIDs */
@@ -27,7 +26,7 @@ export function view(told, names = new Map(), isAlone = true) {
   // without a list, its first tag isn't more than the others
   const what = kind === KIND.UNLISTED && !told.counts.listed ? [file] : [file, el("span", { class: "paper" }, " · ", el("code", {}, answer))];
   return [banner(said, what), ...shelf(said), ...conditions(told), ...findings(told, names), ...tags(told, names),
-    ...maintainer(told, said, [...rounds(told, names), ...notes(told), ...conflict(told)]), ...takenForGranted(told),
+    ...maintainer(told, said, () => [...rounds(told, names), ...conflict(told)]), ...takenForGranted(told),
     record(told, isAlone, said.headline)];
 }
 
@@ -42,7 +41,7 @@ export const titleOf = (told) => `${say(told).headline} ${printable(told.object.
 export function banner(said, what) {
   const lights = said.lights.map(({ name, value, look }) => el("div", { class: `light ${look}` }, el("dt", {}, name), el("dd", {}, value)));
   return el("header", { class: `banner ${said.look}` }, el("p", { class: "sign", "aria-hidden": "true" }, said.sign),
-    el("div", {}, el("h1", { class: "answer", tabindex: "-1" }, said.headline), el("p", {}, what)),
+    el("div", {}, el("h1", { class: said.look === "refused" ? "answer error" : "answer", tabindex: "-1" }, said.headline), el("p", {}, what)),
     ...lights.length ? [el("dl", { class: "lights" }, lights)] : []);
 }
 
@@ -52,7 +51,7 @@ export function banner(said, what) {
  */
 function conditions(told) {
   const { object: { kind, open, status }, counts } = told, also = alsoHolds(told)?.words, deaf = ifDeaf(told)?.words;
-  const isOfAll = kind === KIND.COMPLETE || status === 1 && !open.count && !counts.listed, sure = missed(told.object).map((it) => `${it} ${ONCE_MORE}`);
+  const isOfAll = kind === KIND.COMPLETE || status === 1 && !open.count && !counts.listed, sure = missed(told.object).map((it) => `${it} ${onceMore(told.object.margin ?? 0)}`);
   const parts = [...isOfAll ? [HOLDS, ...sure] : [], ...also ? [also] : [], ...deaf ? [deaf] : []].map((it) => el("p", {}, it));
   return parts.length ? [el("section", { class: "holds" }, parts)] : [];
 }
@@ -75,14 +74,15 @@ function shelf(said) {
  * @param {Told} told
  * @param {Names} names
  */
-function findings({ object: { findings, found, open }, counts }, names) {
-  const listed = counts.listed > 0;
+function findings({ object: { findings, found, open }, counts, silenced }, names) {
+  const listed = counts.listed > 0, known = new Set(findings.map(({ uid }) => uid)), others = silenced.filter(({ uid }) => !known.has(hex(uid)));
+  const maybe = others.map(({ uid, line }) => el("li", {}, ...tagWith(hex(uid), names), " silenced in ", toLine(line)));
   const kinds = /** @type {["absent" | "unlisted" | "doubtful", string, string, string][]} */ ([
     [KIND.ABSENT, "listed tag that didn't answer", "listed tags that didn't answer", "ruled out by "],
     [KIND.UNLISTED, listed ? "tag here that isn't listed" : "tag that is here", listed ? "tags here that aren't listed" : "tags that are here",
       "shown by "],
     [KIND.DOUBTFUL, "listed tag that isn't proved", "listed tags that aren't proved", ""]]);
-  return kinds.filter(([kind]) => found[kind]).map(([kind, one, many, by]) => {
+  const parts = kinds.filter(([kind]) => found[kind]).map(([kind, one, many, by]) => {
     const list = findings.filter((it) => it.kind === kind), all = found[kind];
     const shown = (/** @type {number} */ line, asked = "") => [" ", el("span", { class: "by" }, asked, by), toLine(line)];
     const items = list.map(({ uid = "", line, overlooked }) => el("li", {}, ...tagWith(uid, names),
@@ -90,6 +90,7 @@ function findings({ object: { findings, found, open }, counts }, names) {
     const isSeen = all <= FEW || !listed && !open.count;
     return lengthy(folded(count(all, one, many), isSeen, oneStop(el("ul", { class: `uids ${kind}` }, items)), ...rest(all - list.length)), items.length);
   });
+  return [...parts, ...maybe.length ? [folded(count(maybe.length, "tag that may be here", "tags that may be here"), maybe.length <= FEW, oneStop(el("ul", { class: "uids" }, maybe)))] : []];
 }
 
 /**
@@ -134,16 +135,9 @@ function lengthy(part, items) {
  */
 function tags({ object: { certain, found } }, names) {
   if (!certain.count || found.unlisted === certain.count) return [];
-  const items = certain.uids.map((uid) => el("li", {}, ...tagWith(uid, names)));
   const title = certain.count === 1 ? "The tag that is here" : `The ${count(certain.count, "tag")} that are here`;
-  return [lengthy(folded(title, false, el("ul", { class: "uids" }, items), ...rest(certain.count - items.length)), items.length)];
-}
-
-/** @param {Told} told */
-function notes(told) {
-  const all = noted(told.notes).map(([line, words]) => el("li", {}, toLine(line), linked(`: ${words}`)));
-  const isOpen = told.object.status > 0 || told.object.captured?.holds === false;
-  return all.length ? [folded(`Notes (${all.length})`, isOpen, oneStop(el("ul", {}, all)))] : [];
+  const items = () => el("ul", { class: "uids" }, certain.uids.map((uid) => el("li", {}, ...tagWith(uid, names))));
+  return [lengthy(drawnLater(title, false, () => [items(), ...rest(certain.count - certain.uids.length)]), certain.uids.length)];
 }
 
 /**
@@ -163,13 +157,13 @@ function takenForGranted(told) {
  * @param {boolean} isAlone
  * @param {string} headline
  */
-function record({ object: { file, kind, version, sha256, answer }, counts, faulty }, isAlone, headline) {
+function record({ object: { file, kind, version, sha256, answer, changed }, counts, faulty }, isAlone, headline) {
   const said = isSpreadsheet(faulty) ? [] : [count(counts.lines, "line")], isRefused = kind === KIND.REFUSED;
   const parts = /** @type {[number, string, string?][]} */ ([[counts.rounds, "round"], [counts.slots, "slot"], [counts.heard, "reply", "replies"],
     [counts.quiets, "Stay Quiet"], [counts.cycles, "field cycle"], [counts.listed, "UID listed", "UIDs listed"]]);
   // of a text that isn't a log nothing but its lines is known
   if (!isRefused) said.push(...parts.filter(([number]) => number).map((part) => count(...part)));
-  const sum = sha256 ? [` · SHA-256 of the ${isRefused ? "file" : "log"} `, el("code", {}, sha256)] : [];
+  const sum = sha256 ? [`${changed ? ` · of ${dated(changed)}` : ""} · SHA-256 of the ${isRefused ? "file" : "log"} `, el("code", {}, sha256)] : [];
   return el("footer", { class: "record" }, ...said.length ? [el("p", {}, said.join("\u00A0· "))] : [], el("p", {}, `vicinity ${version}: `, el("code", {}, answer), ...sum),
     ...isRefused || !isAlone ? [] : signed(headline, printable(file)));
 }
@@ -181,5 +175,5 @@ function record({ object: { file, kind, version, sha256, answer }, counts, fault
  */
 export function signed(headline, what) {
   return [el("p", { class: "signed" }, `${headline} (${what})`),
-    el("p", { class: "signed" }, "Counted on ____________________ at ____________________ by ____________________")];
+    el("p", { class: "signed" }, "Counted on ____________________ at ____________________ by ____________________"), el("p", { class: "signed printed" })];
 }

@@ -20,7 +20,7 @@ export function whyOpen({ causes, silenced, neverAsked, counts, notes: { last } 
     const its = causes.filter((cause) => cause.reading === reading);
     return its.length > MOST_CAUSES ? [together(its)] : its.map(because);
   });
-  if (causes.length > MOST_CAUSES && last) why.unshift(stopped(last.line));
+  if (causes.length > MOST_CAUSES && last) why.unshift(stopped(last));
   if (neverAsked) why.push(counts.rounds ? "Some UIDs were asked by no request, or only after they were silenced." : "No request asked for any tag.");
   if (silenced.length === 1) why.push(`Line ${first.line} silenced ${short(first.uid)} before it was heard: ${whence(1)}`);
   if (silenced.length > 1) {
@@ -36,9 +36,10 @@ const whence = (number) => number === 1 ? "a reply before it isn't in the log, o
 
 /**
  * Of a search that left many slots.
- * @param {number} line
+ * @param {{line: number, slots: number, of: number}} last
  */
-const stopped = (line) => `The search stopped after the round of line ${line}.`;
+const stopped = ({ line, slots, of }) => slots < of ? `The search stopped in the round of line ${line}, after ${slots} of ${count(of, "slot")}.`
+  : `The search stopped after the round of line ${line}.`;
 
 /**
  * A cause for the shelf: where the reader stopped, or else of what is widest.
@@ -47,7 +48,7 @@ const stopped = (line) => `The search stopped after the round of line ${line}.`;
  */
 export function mainly({ causes, notes: { last } }, why) {
   if (!why.length) return "";
-  if (causes.length > MOST_CAUSES && last) return stopped(last.line);
+  if (causes.length > MOST_CAUSES && last) return stopped(last);
   const [widest] = causes.filter((it) => it.reading !== "captured").sort((one, other) => widthOf(other) - widthOf(one));
   const main = causes.find((it) => it.reading === "unreached") ?? widest, its = causes.filter((it) => it.reading === main?.reading);
   const said = !main ? why[0] : its.length > MOST_CAUSES ? together(its) : because(main);

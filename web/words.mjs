@@ -41,6 +41,12 @@ export function numbered(sentence, number) {
 }
 
 /**
+ * When a file was changed.
+ * @param {number} [changed]
+ */
+export const dated = (changed) => changed ? new Date(changed).toLocaleString("en-GB", { dateStyle: "medium", timeStyle: "short" }) : "";
+
+/**
  * a, b and c.
  * @param {string[]} items
  * @param {string} [last]

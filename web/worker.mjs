@@ -32,7 +32,12 @@ onmessage = async ({ data: { id, ...data } }) => {
       loading = load();
     }
     const library = await loading;
-    if (data.text) postMessage({ id, told: tell(await judge(library, data.text, data.name), data.text) });
+    if (data.text) {
+      const told = tell(await judge(library, data.text, data.name), data.text);
+      // the page has its bytes
+      if (!data.isKept) told.object.text = "";
+      postMessage({ id, told });
+    }
     if (data.files) postMessage({ id, collection: await judgeAll(library, data.files) });
   } catch (error) {
     postMessage({ id, ...why(error) });

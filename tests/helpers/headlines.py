@@ -95,10 +95,10 @@ def light_says_too_much(said, log):
              if lights.get(name, "").startswith("still") and not (is_so and log.is_complete)]
     if lights["Search finished"] == "yes" and (log.is_open or log.is_hiding):
         wrong.append("finished")
-    if lights.get("List") == "matches" and not (log.is_complete and not log.is_hiding):
+    if lights.get("The reader's list") == "matches" and not (log.is_complete and not log.is_hiding):
         wrong.append("matches")
     if said["look"] == "yes" and not (log.is_complete and told["count"] and not log.is_hiding
-                                      and "If the reader went deaf" in lights):
+                                      and not log.is_deaf):
         wrong.append("green")
     return f"lights: {wrong}" if wrong else None
 
