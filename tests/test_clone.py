@@ -231,7 +231,7 @@ def test_the_code_as_it_was_built_is_run(built):
     text = file.read_text()
     built.change("crates/vic_frame/src/uid.rt")
     file.write_text(text)
-    (built.top / "crates/vic_tests/src/main.rt").touch()
+    (built.top / "crates/vic_tests/src/lib.rt").touch()
     (built.top / "crates/vic_frame/must-fail/other.edit").touch()
     assert built.ask() == (b"built here\n", b"", 0)
 

@@ -3,7 +3,7 @@
 A few lines of C (tests/c/refuse.c) come between a built program and the C library, and refuse the
 allocation with one number. A run in which none is refused shows how many there are; each is then
 refused in a run of its own: those of the program's commands on some logs, and those of
-crates/vic_tests, whose program makes each call that takes memory and that no command makes. By the number of
+crates/growths, which makes each call that takes memory and that no command makes. By the number of
 sets that are made it is seen that no log is judged more than once."""
 import random
 import resource
@@ -48,9 +48,9 @@ HOSTILE = ("quiet-polls", "quiet-answers", "nest-singles-late", "nest-scattered-
            "eight-replies-late", "replies-listed", "all-heard-hidden", "all-silent", "sixteen-late",
            "listed-scattered", "session-late", "one-slot", "captured", "captured-turns")
 HOSTILE_SIZE = 500
-# The calls of crates/vic_tests, in their order: what it writes when nothing is refused.
+# The calls of crates/growths, in their order: what it writes when nothing is refused.
 CALLS = [line.rpartition(" ")[0]
-         for line in (TOP / "crates/vic_tests/stdout").read_text().splitlines()]
+         for line in (TOP / "crates/growths/stdout").read_text().splitlines()]
 PLANTED = ["planted answer", "planted idleness"]
 
 
@@ -63,7 +63,7 @@ def refuse(tmp_path_factory):
 @pytest.fixture(scope="session")
 def growths(pytestconfig):
     """The calls."""
-    return program_of(pytestconfig, "vic_tests")
+    return program_of(pytestconfig, "growths")
 
 
 def wrong_calls(answer, names):

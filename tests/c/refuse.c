@@ -7,7 +7,7 @@
 void *__libc_malloc(size_t size);
 void *__libc_realloc(void *block, size_t size);
 
-/* as in crates/vic_tests/src/judgings.rt */
+/* as in crates/growths/src/judgings.rt */
 enum { TELLING = 7919 };
 
 static unsigned long grown, telling, refused;

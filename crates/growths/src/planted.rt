@@ -1,7 +1,7 @@
 //! Calls that are deliberately wrong, to show that the test finds them.
 
 use crate::found::{Found, call_again};
-use crate::log_calls::{TWO_HEARD, is_text, log_of};
+use crate::logs::{TWO_HEARD, is_text, log_of};
 use std::alloc::{AllocError, Global};
 
 /// Answers although memory was refused.

@@ -1,7 +1,7 @@
 //! How many times a log is judged: each time, judging begins with a set of every UID. Here, a set
 //! allocates a block of a particular size when it is made, and `tests/c/refuse.c` counts these.
 
-use crate::log_calls::log_of;
+use crate::logs::log_of;
 use arrayvec::ArrayVec;
 use std::alloc::{AllocError, Global};
 use std::io;

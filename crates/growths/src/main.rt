@@ -1,39 +1,17 @@
-//! The tests of the libraries, by their public calls, and a program for tests. They have a crate of
-//! their own because a crate with tests is proved twice.
+//! Makes each call that takes memory and that no command makes, and prints how it answered:
+//! `right`, `memory` (refused memory, and the right answer when called again) or `wrong`.
 //!
-//! The program makes each call that takes memory and that no command makes, and prints how it
-//! answered: `right`, `memory` (refused memory, and the right answer when called again) or `wrong`.
 //! `tests/test_growths.py` runs it with one allocation refused, each in turn. With `planted` on
 //! standard input it makes calls that are deliberately wrong; with a log it judges that log, and
 //! the test counts how many times.
 #![tactic(auto)]
 
-#[cfg(test)]
-mod devices;
-#[cfg(test)]
-mod field;
 mod found;
-#[cfg(test)]
-mod frame;
 mod judgings;
-#[cfg(test)]
-mod log;
-mod log_calls;
-#[cfg(test)]
 mod logs;
-#[cfg(test)]
-mod margin;
 mod planted;
-mod set_calls;
-#[cfg(test)]
-mod sources_and_sinks;
-mod tag_calls;
-#[cfg(test)]
-mod tree;
-#[cfg(test)]
-mod values;
-#[cfg(test)]
-mod verdict;
+mod sets;
+mod tags;
 
 use found::{Found, call_again};
 use judgings::judge_counted;
@@ -79,19 +57,19 @@ fn say_again<F: Fn(Global) -> Result<bool, AllocError>>(
 
 /// Makes the calls on a log and on tags.
 fn say_logs(rt: &HostRuntime) -> io::Result<()> {
-    say(rt, "push", log_calls::push(rt.alloc()))?;
-    say_again(rt, "read_log", log_calls::read_row)?;
-    say(rt, "add", tag_calls::add(rt.alloc()))
+    say(rt, "push", logs::push(rt.alloc()))?;
+    say_again(rt, "read_log", logs::read_row)?;
+    say(rt, "add", tags::add(rt.alloc()))
 }
 
 /// Makes the calls on sets of open UIDs.
 fn say_sets(rt: &HostRuntime) -> io::Result<()> {
-    say_again(rt, "settle CellList", set_calls::settle_masks::<CellList>)?;
-    say_again(rt, "settle MaskTree", set_calls::settle_masks::<MaskTree>)?;
-    say_again(rt, "settle RangeSet", set_calls::settle_masks::<RangeSet>)?;
-    say_again(rt, "without CellList", set_calls::leave_keys::<CellList>)?;
-    say_again(rt, "without MaskTree", set_calls::leave_keys::<MaskTree>)?;
-    say_again(rt, "without RangeSet", set_calls::leave_keys::<RangeSet>)
+    say_again(rt, "settle CellList", sets::settle_masks::<CellList>)?;
+    say_again(rt, "settle MaskTree", sets::settle_masks::<MaskTree>)?;
+    say_again(rt, "settle RangeSet", sets::settle_masks::<RangeSet>)?;
+    say_again(rt, "without CellList", sets::leave_keys::<CellList>)?;
+    say_again(rt, "without MaskTree", sets::leave_keys::<MaskTree>)?;
+    say_again(rt, "without RangeSet", sets::leave_keys::<RangeSet>)
 }
 
 fn main(rt: HostRuntime) -> io::Result<()> {
