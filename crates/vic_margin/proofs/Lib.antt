@@ -11,7 +11,7 @@ pub mod LawLemmas
 pub mod More
 pub mod Opened
 pub mod Reopened
-mod SamePopulations
+pub mod SamePopulations
 mod SameVerdict
 mod OneMore
 mod Always
