@@ -35,7 +35,6 @@ TYPE = """
 const field = document.getElementById("text");
 field.value = arguments[0];
 field.dispatchEvent(new Event("input", { bubbles: true }));
-return document.getElementById("told").getAttribute("aria-busy");
 """
 RINGED = """
 return [...document.querySelectorAll(".rounds td.named")]
@@ -118,8 +117,8 @@ def shown(browser, file):
 
 
 def type_in(page, text):
-    """Types a text; whether the answer to the one before is then still shown, but pale."""
-    return page.run(TYPE, text) == "true"
+    """Puts a text into the field, as a phone does that pastes it."""
+    page.run(TYPE, text)
 
 
 def test_one_small_file_that_fetches_nothing(file):
@@ -240,12 +239,18 @@ def test_what_is_for_whoever_maintains_the_reader_is_folded(page, file):
     assert page.run(CHOSEN).startswith("T ")
 
 
-def test_a_text_that_is_typed_stays_in_its_field(page, file):
+def test_a_text_that_is_put_into_the_field_is_opened(page, file):
+    """Where no log is shown; that of a log can't be changed, so it is that which is judged."""
     page.open(file, "")
     assert page.run(SEEN, "#text")
-    type_in(page, "Dear reader")
-    page.until("h1", "This file isn't a log.")
-    assert page.run(SEEN, "#text")
+    type_in(page, log_of("I1 RA UA").decode())
+    page.until("h1", "The one listed tag is here")
+    assert page.texts(".banner div > p") == ["pasted text"]
+    field = page.driver.find_element("id", "text")
+    assert field.get_property("value") == log_of("I1 RA UA").decode()
+    assert field.get_property("readOnly")
+    page.press("#close")
+    page.wait(lambda: not field.get_property("readOnly") and not field.get_property("value"))
 
 
 @pytest.mark.parametrize("part", ["", "#reader"])
@@ -294,7 +299,8 @@ DRAWN = """
 return [...document.querySelectorAll(arguments[0])].map((it) => {
   const { borderTopStyle, borderTopWidth, backgroundColor, borderTopColor } = getComputedStyle(it);
   const border = `${parseFloat(borderTopWidth) ? borderTopStyle : "none"}`;
-  return [(it.querySelector("button") ?? it).firstChild?.textContent, border, backgroundColor, borderTopColor];
+  const first = (it.querySelector("button") ?? it).firstChild?.textContent;
+  return [first, border, backgroundColor, borderTopColor];
 });
 """
 
@@ -345,9 +351,10 @@ def test_each_sheet_names_the_file(page):
     rules = page.run("return [...document.styleSheets[0].cssRules].map((it) => it.cssText)")
     assert '"shelf 1.log: This count can\'t be used. The log contradicts itself' in rules[-1]
     assert page.driver.title.endswith(" shelf 1.log") and ' …"' in rules[-1]
-    assert re.search(r'@bottom-left { content: "Printed on \d+ \w+ \d{4} at \d\d:\d\d"', rules[-1])
+    when = r"Printed on \d+ \w+ \d{4} at \d\d:\d\d"
+    assert re.search(rf'@bottom-left {{ content: "{when}"', rules[-1])
     page.media("print")
-    assert page.texts(".printed")[0].startswith("Printed on ")
+    assert re.fullmatch(when, page.texts(".printed")[0])
 
 
 def test_no_word_stands_on_a_line_number_on_paper(page):
@@ -640,9 +647,6 @@ def test_a_file_that_cannot_be_read(page):
     assert page.driver.title == page.run(
         "return document.getElementById('said').textContent") == page.texts(".error")[0]
     assert "listed tag" not in page.said()
-    # a text that is pasted then isn't called by its name
-    type_in(page, log_of("I1 RA UA").decode())
-    page.until(".banner div > p", "pasted text")
 
 
 def test_a_file_is_chosen_again(page, tmp_path):
@@ -664,23 +668,6 @@ def test_nothing_is_left_of_the_answer_before(page):
     assert page.run("return document.getElementById('said').textContent") == ""
 
 
-def test_an_edit_stays_with_its_log(page):
-    """Also if another log is shown before it is judged."""
-    page.drop(one=log_of("I1 RA UA"), two=log_of("I1 S UA"))
-    page.press("#logs button")
-    page.until("#each", "Complete: 1 of 2.")
-    # until it is judged, it isn't counted
-    before = page.run(f"(() => {{ {TYPE} }})(); return document.getElementById('each').innerText;",
-                      log_of("I1 RA").decode())
-    assert before.startswith("2 logs, each with its own answer.") and "Complete" not in before
-    page.press("#logs button", 1)
-    page.until("#logs", "one (edited)")
-    page.until("#logs", "no list to compare with")
-    assert "two No tag answered, but 1 is listed." in page.texts("#logs")[0]
-    assert page.driver.find_element("id", "text").get_property("value") == log_of(
-        "I1 S UA").decode()
-
-
 def test_the_lines_of_a_large_log_are_shown(page):
     comments = ["#" + "." * 120] * 10_000
     page.drop(log=text_of(["vicinity-log 1", *comments, "T 260100F60A",
@@ -698,22 +685,30 @@ def test_the_focus_is_on_what_is_pressed(page):
     assert page.run(ring, "#example") == "none"
 
 
-def test_a_log_is_edited(page):
-    """Meanwhile the answer to the text before is pale; then the name says that it is changed."""
-    page.drop(log=log_of("I1 RA UA"))
-    page.until("h1", "The one listed tag is here")
-    assert type_in(page, log_of("I1 RA").decode())
-    page.until("h1", "no list to compare with")
-    assert page.driver.find_element("id", "told").get_attribute("aria-busy") == "false"
-    page.until(".banner", "log (edited)")
-
-
 def test_a_long_judging_is_stopped(page, million):
     page.run(STOP)
     page.driver.find_element("id", "files").send_keys(str(million))
     page.until(".error", "no answer (stopped)")
     page.drop(log=log_of("I1 RA UA"))
     page.until("h1", "The one listed tag is here")
+
+
+def test_slots_answer_to_the_keyboard(page):
+    """Arrows lead along a row, and down a column; a slot that is pressed shows its line."""
+    page.drop(log=log_of("I16 S RA RB S13 M4 S16"))
+    page.until(".rounds", "A1")
+    page.run("document.querySelector('.rounds tbody .to-line').focus()")
+
+    def press(*keys):
+        for key in keys:
+            page.driver.switch_to.active_element.send_keys(key)
+        return page.run("return document.activeElement.closest('td, th')?.dataset.line ?? ''")
+    assert press(Keys.ARROW_RIGHT, Keys.ARROW_RIGHT) == "4"
+    assert press(Keys.ARROW_DOWN) == "21" and press(Keys.ARROW_UP) == "4"
+    assert page.run("return document.querySelectorAll('.rounds [tabindex=\"0\"]').length") == 1
+    press(Keys.ENTER)
+    assert page.run(CHOSEN).startswith("R 0000A1")
+    assert page.run("return document.activeElement.id") == "text"
 
 
 def test_text_and_rounds_are_linked(page):
@@ -742,6 +737,41 @@ def test_several_logs(page):
     assert len(page.texts("h1")) == 1 and said in page.texts("#each")[0]
     assert page.texts("#logs button [aria-hidden=true]") == ["i", "!", "?"]
     assert page.run("return document.activeElement.textContent").startswith("!two ")
+
+
+def test_several_logs_on_paper_are_a_record(page):
+    """With the answer to each, its sum, and a line to sign; when it was printed stands there."""
+    one, two = log_of("I1 RA UA"), log_of("I1 S UA")
+    page.drop(one=one, two=two)
+    page.until("h1", "2 logs, each with its own answer. Complete: 1 of 2.")
+    page.media("print")
+    page.run("window.dispatchEvent(new Event('beforeprint'))")
+    for words in (f"one: complete 1 · SHA-256 {sha256(one).hexdigest()}",
+                  f"two: absent E0040100000000A1 · SHA-256 {sha256(two).hexdigest()}",
+                  "Counted on", "Printed on "):
+        assert words in page.said()
+
+
+def test_the_title_and_who_does_not_see_it_get_the_headline(page):
+    """Whatever is shown, and after each change."""
+    def is_same():
+        (headline,), said = page.texts("h1"), page.run(
+            "return document.getElementById('said').textContent")
+        assert said.endswith(headline) and page.driver.title.startswith(headline)
+    for names, words in (("I1 RA QA I1 S UA", "The one listed tag"), ("I1 S UA", "No tag answered"),
+                         ("I1 RA I1 S", "This count"), ("UA UA", "This log"), ("I16 S", "Not fin")):
+        page.drop(log=log_of(names))
+        page.until("h1", words)
+        is_same()
+    page.drop(one=log_of("I1 S"), two=log_of("I1 S UA"))
+    page.until("h1", "Complete: 1 of 2.")
+    is_same()
+    page.drop(**{"books.csv": OF_A})
+    page.until("h1", "item")
+    is_same()
+    page.drop(**{"books.xlsx": b"PK\x03\x04"})
+    page.until("h1", "books.xlsx is a spreadsheet")
+    is_same()
 
 
 def test_what_is_no_log_is_not_counted_as_one(page):
@@ -971,17 +1001,6 @@ def test_no_collection_is_judged_without_one_of_its_logs(page, why):
             "Open all files again, together: the logs and the catalogue."]
 
 
-def test_an_edited_log_is_called_so_in_a_collection(page):
-    page.drop(**{"A.log": log_of("I1 RA")})
-    page.until("h1", "1 tag is here")
-    type_in(page, log_of("I1 RA QA I1 S").decode())
-    page.drop(**{"books.csv": OF_A})
-    page.until(".banner.read h1", "The one expected item is here, and no other answered.")
-    assert page.texts(".banner div > p") == ["books.csv · 1 log (1 edited)"]
-    page.press("#told > details > summary")
-    assert page.texts(".logs summary") == ["A (A.log (edited)): 1 tag"]
-
-
 def test_no_answer_stands_beside_another_log_of_the_same_name(page):
     page.run("""
       const post = Worker.prototype.postMessage;
@@ -1044,14 +1063,10 @@ def test_a_file_that_is_read_slowly_does_not_replace_a_later_one(page, is_exampl
     page.wait(lambda: not page.run(SEEN, "#example"))
 
 
-@pytest.mark.parametrize("is_edited", [False, True])
-def test_the_example_leaves_with_the_first_file(page, is_edited):
+def test_the_example_leaves_with_the_first_file(page):
     page.press("#example")
     page.until("#told .banner", "the example")
     assert page.run("return document.activeElement.tagName") == "H1"
-    if is_edited:
-        type_in(page, log_of("I1 RA").decode())
-        page.until(".banner", "the example (edited)")
     page.drop(**{"books.csv": OF_A})
     page.until("h1", "The catalogue has 1 item in 1 place. Now open the logs.")
     page.drop(**{"A.log": log_of("I1 RA QA I1 S")})
@@ -1113,14 +1128,17 @@ def test_a_file_that_is_not_complete_yet_has_no_answer(page, name):
 
 
 def test_a_text_that_is_dropped(page):
-    """Nothing is silently ignored. What is dropped into the field is typed there."""
+    """Nothing is silently ignored. What is dropped into an empty field is opened."""
     page.drop(log=log_of("I1 RA UA"))
     page.until("h1", "The one listed tag is here")
     size = {"width": 1200, "height": 900, "deviceScaleFactor": 1, "mobile": False}
     page.driver.execute_cdp_cmd("Emulation.setDeviceMetricsOverride", size)
     text = {"items": [{"mimeType": "text/plain", "data": "#"}], "dragOperationsMask": 1}
     for where, selector, words in (("#told", "#status", "No file was dropped, so nothing has "),
-                                   ("#text", "h1", "This log can't be used. Line ")):
+                                   ("#text", "h1", "This text isn't a log. Line 1: ")):
+        if where == "#text":
+            page.press("#close")
+            page.until("h1", "Did the RFID reader find every tag?")
         x, y = page.run("const it = document.querySelector(arguments[0]).getBoundingClientRect();"
                         "return [it.left + 60, it.top + 40]", where)
         for kind in "dragEnter", "dragOver", "drop":
@@ -1281,18 +1299,6 @@ def test_a_page_that_a_browser_has_saved_before_it_was_used(page, tmp_path):
     page.until("h1", "No tag answered, but 1 is listed")
 
 
-def test_a_page_that_a_browser_has_saved_while_an_answer_was_pale(page, tmp_path):
-    page.drop(log=log_of("I1 RA QA I1 S UA"))
-    page.until("h1", "The one listed tag is here")
-    page.run("window.setTimeout = () => 0")
-    assert type_in(page, log_of("I1 S UA").decode())
-    file = tmp_path / "saved.html"
-    file.write_text(page.run(AS_SAVED))
-    page.open(file)
-    page.until("#status", "This is what a browser has saved")
-    assert page.driver.find_element("id", "told").get_attribute("aria-busy") == "true"
-
-
 # Pastes files, each by its name and text, or a text alone, into an element.
 PASTES = """
 const data = new DataTransfer(), [files, text, into] = arguments;
@@ -1319,7 +1325,7 @@ def test_what_is_pasted_beside_the_field(page):
         "absent E0040100000000A1"]
 
 
-def test_what_is_pasted_where_a_log_is_too_long_to_be_edited(page):
+def test_what_is_pasted_where_a_log_is_too_long_to_be_shown(page):
     page.drop_files({"long.log": b"vicinity-log 1\n" + b"#\n" * 600_000})
     page.until(".banner", "long.log")
     assert not page.run(PASTES, [], log_of("I1 RA UA").decode(), "#text")
@@ -1346,46 +1352,12 @@ def test_what_is_judged_of_another_log_is_ended(page):
     assert page.run("return window.isEnded")
 
 
-def test_the_answer_to_an_earlier_text_goes_if_judging_takes_long(page):
-    """The title doesn't have it from the first key on."""
-    page.drop(log=log_of("I1 RA UA"))
-    page.until("h1", "The one listed tag is here")
-    page.run(HOLD)
-    assert type_in(page, log_of("I1 S UA").decode())
-    assert page.driver.title == "log (edited) .."
-    page.until("#status", "Judging log (edited) ..")
-    assert (page.said(), page.texts("h1")) == ("", [])
-
-
-def test_the_answer_to_an_earlier_text_is_neither_printed_nor_copied_nor_pressed(page):
-    """A press on a line of it, also by a key, put the earlier text back into an empty field. In an
-    e-mail it isn't pale; nor is it where it is said to whoever doesn't see it."""
-    page.drop(log=log_of("I1 RA UA"))
-    page.until("h1", "The one listed tag is here")
-    page.run("window.setTimeout = () => 0")
-    assert type_in(page, "") and page.said()
-    x, y = page.run("const it = document.querySelector('#told td.heard'); it.scrollIntoView();"
-                    "const { left, top } = it.getBoundingClientRect(); return [left + 9, top + 9]")
-    for kind in "mousePressed", "mouseReleased":
-        page.driver.execute_cdp_cmd("Input.dispatchMouseEvent", {
-            "type": kind, "x": x, "y": y, "button": "left", "clickCount": 1})
-    page.run("document.querySelector('#told .to-line').focus()")
-    page.driver.switch_to.active_element.send_keys(Keys.ENTER)
-    assert page.driver.find_element("id", "text").get_property("value") == ""
-    copied = page.run("""
-      getSelection().selectAllChildren(document.body);
-      return getSelection().toString() + document.getElementById("said").textContent;""")
-    assert "Nothing leaves this computer" in copied and "listed tag" not in copied
-    page.media("print")
-    assert not page.driver.find_element("id", "told").is_displayed()
-
-
 def test_what_is_waited_for_is_said(page):
     """Of many logs not the last, and nothing of a text that a file replaces."""
     page.drop(log=log_of("I1 RA UA"))
     page.until("h1", "The one listed tag is here")
     page.run(HOLD + SLOW)
-    type_in(page, log_of("I1 S UA").decode())
+    page.drop(log=log_of("I1 S UA"))
     page.drop(**{"slow.log": log_of("I1 RA UA")})
     page.until("#status", "slow.log ..")
     time.sleep(1)

@@ -21,8 +21,9 @@ SEED, NUMBER, PARTS = 15693, 100, 2
 READINGS = {"If replies were hidden": "hidden", "If the reader went deaf": "deaf"}
 DROP = """
 const data = new DataTransfer();
-for (const [name, text] of arguments[0]) {
-  data.items.add(new File([Uint8Array.from(atob(text), (it) => it.charCodeAt(0))], name));
+for (const [name, text, lastModified] of arguments[0]) {
+  const bytes = Uint8Array.from(atob(text), (it) => it.charCodeAt(0));
+  data.items.add(new File([bytes], name, lastModified ? { lastModified } : {}));
 }
 const how = { dataTransfer: data, bubbles: true, cancelable: true };
 document.dispatchEvent(new DragEvent("drop", how));
@@ -56,9 +57,10 @@ def page(browser, file):
     one.end()
 
 
-def drop(page, files):
-    """Drops files, byte for byte, and waits until they are judged."""
-    page.run(DROP, [[name, b64encode(text).decode()] for name, text in files.items()])
+def drop(page, files, dates=None):
+    """Drops files, byte for byte, some of a time of their own, and waits until they are judged."""
+    page.run(DROP, [[name, b64encode(text).decode(), (dates or {}).get(name)]
+                    for name, text in files.items()])
     page.wait(lambda: page.run(IS_DONE), page.said)
 
 
@@ -97,7 +99,8 @@ def is_sure(told):
     return (told["status"] == 0 and counts["in place"] + counts["there"] > 0
             and not counts["no tag"] and not told["without_log"] and told["ended"]
             and (asks or len(logs) < 2)
-            and not any(log["left_over"] or log["hidden"] or log["deaf"] or log["shared"] or not log["answers"]
+            and not any(log["left_over"] or log["hidden"] or log["deaf"] or log["shared"]
+                        or not log["answers"]
                         for log in logs))
 
 
@@ -359,6 +362,8 @@ def test_an_older_log_of_a_shelf(page, uids, words):
 
 
 ALL = (UID_A, UID_B, UID_C)
+# Times of files, in ms: one, and how much earlier another is.
+NOON, HOUR, DAY = 1_795_000_000_000, 3_600_000, 86_400_000
 NO_PLACES = books(*[(uid, "") for uid in ALL], head="uid,title")
 ON_B = books(*[(uid, ",B") for uid in ALL])
 # Tables, and a later count in which an item is lost, and the earlier one, by their names.
@@ -375,21 +380,22 @@ def test_it_is_asked_which_of_two_is_the_older(page, how, tmp_path):
     """The later count proves fewer, as an item is lost. Where the earlier one is left out, that is
     missing; where the later one is, the page says on what its green rests, as does one saved."""
     tables, later, earlier = LATER[how]
-    drop(page, {**tables, later: field(UID_A, UID_B), earlier: field(*ALL)})
+    drop(page, {**tables, later: field(UID_A, UID_B), earlier: field(*ALL)},
+         {later: NOON, earlier: NOON - HOUR})
     doubt = next(it for it in page.texts(".doubts li") if "proved by" in it)
     assert "One of the two may be an older log of the same shelf: leave out the older." in doubt
     assert look(page) != "yes" and not page.texts(".light.yes")
-    buttons = page.texts(".doubts button")[-2:]
-    dated = [re.sub(r" of \d+ \w+ \d{4}, \d\d:\d\d$", "", it) for it in buttons]
-    assert set(dated) == {f"Leave out {later}", f"Leave out {earlier}"}
-    assert dated != buttons
-    page.press(".doubts button", dated.index(f"Leave out {later}") - 2)
+    at = len(page.texts(".doubts button")) - 2
+    first, second = page.texts(".doubts button")[at:]
+    assert re.match(rf"Leave out {earlier}, the older file, of \d+ Nov 2026, \d\d:\d\d$", first)
+    assert re.match(rf"Leave out {later} of \d+ Nov 2026, \d\d:\d\d$", second)
+    page.press(".doubts button", at + 1)
     page.until(".banner.yes h1", "All 3 expected items are here, and no others.")
     assert page.texts(".note, .banner h1")[0] == f"{later} was left out."
     made = saved(page, tmp_path / "saved")
     page.press("#back")
     page.until("h1", "in both" if how != "of no place" else "is of no place")
-    page.press(".doubts button", dated.index(f"Leave out {earlier}") - 2)
+    page.press(".doubts button", at)
     page.until("h1", "1 item missing" if how != "of no place" else "no log of B")
     assert look(page) == "no" and page.texts(".note") == [f"{earlier} was left out."]
     page.open(made)
@@ -584,19 +590,12 @@ def test_a_pasted_table_joins_what_is_here(page):
     assert page.texts(".note") == ["pasted text joined the logs that were here."]
 
 
-@pytest.mark.parametrize("is_edited", [False, True])
-def test_no_catalogue_takes_a_pasted_log_in(page, is_edited):
-    """Not even if it was edited."""
+def test_no_catalogue_takes_a_pasted_log_in(page):
     page.run(PASTE, field(UID_A).decode())
     page.until("h1", "1 tag is here")
-    if is_edited:
-        page.driver.find_element("id", "text").send_keys("#")
-        page.until(".banner", "pasted text (edited)")
     drop(page, {"books.csv": books((UID_A, ""), head="uid,title")})
     assert page.texts("h1") == ["The catalogue has 1 item. Now open the logs."]
-    edited = " (edited)" if is_edited else ""
-    assert page.texts(".note") == [
-        f"pasted text{edited} was left out: what is pasted has no name."]
+    assert page.texts(".note") == ["pasted text was left out: what is pasted has no name."]
 
 
 @pytest.mark.parametrize("files", [
@@ -678,13 +677,15 @@ def test_of_two_logs_of_one_name_one_is_left_out(page, names):
     """They have the times at which they were changed. The second one is the log of a tag more."""
     files = zip((*names, "B.log", "books.csv"),
                 (field(UID_A), field(UID_A, UID_C), field(UID_B), BOTH))
-    page.run(DROP, [[name, b64encode(text).decode()] for name, text in files])
+    page.run(DROP, [[name, b64encode(text).decode(), NOON - at * HOUR]
+                    for at, (name, text) in enumerate(files)])
     page.until(".error", "another log has that name, or is of a place by the same name")
     assert "still here" not in page.said()
     told = page.texts("#told button")
-    assert [re.sub(r" of \d+ \w+ \d{4}, \d\d:\d\d$", "", it) for it in told] == [
-        f"Leave out {name}" for name in names]
-    page.press("#told button", 1)
+    # the older one first
+    assert told[0].startswith(f"Leave out {names[1]}, the older file, of ")
+    assert told[1].startswith(f"Leave out {names[0]} of ")
+    page.press("#told button", 0)
     page.until("h1", "All 2 expected items are here, and no others.")
     assert page.run(FOCUS) == page.texts("h1")[0]
 
@@ -735,7 +736,130 @@ def test_a_text_of_surveys_stands_in_place_of_its_logs(page, program, tmp_path):
     page.until("h1", "This file isn't a log, but a text of surveys")
 
 
+# How old the files are.
+
+def test_an_older_file_that_replaces_a_newer_one_is_not_green(page):
+    """It is said, and asked; the date is that of the file, which may be one of a copy."""
+    drop(page, {**COMPLETE, "B.log": field()}, {name: NOON for name in COMPLETE})
+    page.until("h1", "1 item missing")
+    drop(page, {"B.log": field(UID_B)}, {"B.log": NOON - HOUR})
+    assert page.texts(".note") == ["B.log was replaced by an older file of the same name."]
+    assert page.texts("h1") == ["All 2 expected items are in some log; but the log of B is older "
+                                "than the one it replaced."]
+    assert look(page) == "read" and not page.texts(".light.yes")
+    (words,) = page.texts(".doubts b")
+    assert re.match(r"B.log of 18 Nov 2026, \d\d:\d6 is older than the file that it replaced, of "
+                    r"18 Nov 2026, \d\d:\d6\.$", words)
+    page.press(".doubts button")
+    page.until(".banner.yes h1", "All 2 expected items are here, and no others.")
+    drop(page, {"B.log": field(UID_B, asks=2)}, {"B.log": NOON})
+    assert page.texts(".note") == ["B.log was replaced by what you opened under the same name."]
+    assert look(page) == "yes"
+
+
+@pytest.mark.parametrize(("late", "answer"), [(DAY, True), (DAY + HOUR, False)])
+def test_a_log_of_another_day_is_not_green(page, late, answer):
+    """Until it is said that it is of this count: its file may only have been copied."""
+    drop(page, COMPLETE, {"books.csv": NOON - 9 * DAY, "A.log": NOON, "B.log": NOON - late})
+    assert (look(page) == "yes") == answer
+    if answer:
+        return
+    assert page.texts("h1") == [
+        "All 2 expected items are in some log; but the log of B is of another day."]
+    assert "its file is of 17 Nov 2026" in page.texts(".doubts b")[0]
+    assert page.texts(".doubts button") == ["Leave out B.log", "It is of this count"]
+    page.media("print")
+    page.run(PRINTS)
+    # no result is signed while a question is open; each log has the date of its file
+    assert "This sheet is no result: a question above is open." in page.said()
+    assert "Counted on" not in page.said()
+    assert "of 17 Nov 2026" in "\n".join(page.texts(".sum"))
+    page.media()
+    page.press(".doubts button", 1)
+    page.until(".banner.yes h1", "All 2 expected items are here, and no others.")
+
+
+# Which logs count, and where.
+
+def test_a_copy_of_a_log_that_is_not_here(page):
+    """It can be counted as that one."""
+    drop(page, {"books.csv": BOTH, "A.log": field(UID_A), "B (1).log": field(UID_B)})
+    assert look(page) == "no"
+    assert page.texts("h1") == ["1 item heard in a log of no place; say whether B (1).log is the "
+                                "log of B."]
+    assert page.texts(".doubts button") == ["Count it as B", "Leave out B (1).log"]
+    page.press(".doubts button")
+    page.until(".banner.yes h1", "All 2 expected items are here, and no others.")
+    assert page.texts(".note") == ["B (1).log counts as B.log."]
+    assert "B (B (1).log): 1 tag" in page.run("return document.querySelector('.logs').textContent")
+
+
+def test_a_table_of_places_that_names_no_log(page):
+    """Without it each log is of the place after which it is named."""
+    drop(page, {**COMPLETE, "places.csv": b"place,log\nA,shelf-a\nB,shelf-b\n"})
+    assert page.texts("h1") == ["2 items heard in a log of no place; A.log and B.log are of no "
+                                "place."]
+    assert "places.csv names none of these logs" in page.texts(".doubts")[0]
+    assert page.texts(".doubts button") == ["Leave out places.csv"]
+    page.press(".doubts button")
+    page.until(".banner.yes h1", "All 2 expected items are here, and no others.")
+
+
+def test_a_catalogue_that_names_no_place(page):
+    drop(page, {"books.csv": books((UID_A, ",any")), "A.log": field(UID_A)})
+    assert "The catalogue names no place: delete its column place, or fill it." in (
+        page.texts(".doubts")[0])
+    assert page.texts(".doubts button") == []
+
+
+def test_no_log_of_another_shelf_is_left_out(page):
+    """Of the shelf B there is no other log. What two prove is named."""
+    drop(page, {"books.csv": books((UID_A, ",A"), (UID_C, ",A"), (UID_B, ",B")),
+                "places.csv": b"place,log\nA,A\nA,old\nB,B\n", "A.log": field(UID_A, UID_C),
+                "old.log": field(UID_A, UID_C, UID_B), "B.log": field(UID_B)})
+    buttons = page.texts(".doubts button")
+    assert buttons and {*buttons} <= {"Leave out A.log", "Leave out old.log"}
+    assert "Emma" in page.texts(".doubts b")[0] and look(page) == "read"
+
+
+def test_where_all_are_here_and_a_log_is_not_finished(page):
+    drop(page, {**COMPLETE, "B.log": log_of("I16 S2 RB S9")})
+    page.until("h1", "All 2 expected items are here; count B again, as others may be there.")
+    assert look(page) == "no"
+
+
+def test_what_is_away_is_not_in_place(page):
+    """Where nothing is expected, no light is lit for it."""
+    drop(page, {"books.csv": b"uid,title,place,away\nE0040100000000A1,Emma,A,away\n",
+                "A.log": field()})
+    assert page.texts("h1") == ["Nothing is expected here, and no tag answered: that doesn't show "
+                                "that the reader worked."]
+    assert look(page) == "read" and "In place" not in page.texts(".light.yes dt")
+    assert dict(zip(page.texts(".lights dt"), page.texts(".lights dd")))["In place"] == (
+        "0 of 1 item, 1 away")
+
+
 # What is saved and printed.
+
+def test_each_row_on_paper_names_its_shelf(page):
+    """A table may run onto a second sheet; on the screen the shelf stands above its rows. What is
+    here stands on paper, too."""
+    rows = [(0xE004010000000000 + number, f",{'AB'[number % 2]}") for number in range(60)]
+    table = "\n".join(["uid,place", *(f"{uid:016X}{more}" for uid, more in rows), ""]).encode()
+    drop(page, {"books.csv": table, "A.log": field(), "B.log": field()})
+    page.until("h1", "60 items missing")
+    assert page.texts(".items td:last-child") and not any(page.texts(".items td.paper"))
+    page.media("print")
+    page.run(PRINTS)
+    assert page.texts(".items td.paper") == ["A"] * 30 + ["B"] * 30
+
+
+def test_what_is_here_stands_on_paper(page):
+    drop(page, COMPLETE)
+    assert "Walden" not in page.said()
+    page.media("print")
+    page.run(PRINTS)
+    assert "Walden\tE0040100000000B2\tB" in page.said()
 
 
 CELLS = """

@@ -340,9 +340,9 @@ def test_page_of_a_longer_session(opened, sessions, name):
     page = opened(name, sessions[name])
     assert ("The reader silenced" in page.said()) == (name == "lost")
     if name == "conflict":
-        page.until("summary", "The 737 lines that can't all be true, of 47 rounds")
+        page.until("summary", "The 737 lines that can't all be true")
         page.press(".reader details > summary")
-        page.until("details li", "line 3: line 2 asked all UIDs, and two or more tags answered")
+        page.wait(lambda: len(page.texts(".reader details .to-line")) == 737)
         assert len(page.texts(".rounds td.named")) == 737
 
 

@@ -7,7 +7,7 @@ import { IF_HEARD, noOthers, NOTHING_TO_DO } from "./say.mjs";
 import { inOrder, MOST_NAMES, nameOf, shelved, Shelves } from "./shelves.mjs";
 import { DEAF, deafIn, granted, HOLDS, howSure, mayBeWrong, missed, notSure, stillHolds, TO_KNOW } from "./sure.mjs";
 import { banner, signed, view } from "./view.mjs";
-import { count, dated, EDITED, endings, grouped, KIND, listing, madeOnce, printable } from "./words.mjs";
+import { count, dated, endings, grouped, KIND, listing, madeOnce, printable } from "./words.mjs";
 
 /** @typedef {import("./told.mjs").LogObject} LogObject */
 /** @typedef {import("./told.mjs").Told} Told */
@@ -108,9 +108,9 @@ export function collectionView(object, opener = () => null, canLeave = () => fal
   // of a shelf of which nothing is known to be in place no items are named
   const places = listing([...new Set(none.map(home))].sort(inOrder)), these = some.length ? ", and these:" : ".";
   const which = none.length ? ` They are ${count(none.length, "item")} of ${places}, not named here${these}` : "";
-  const all = of("missing", "misplaced", "unexpected", "returned"), strays = all.filter((item) => shelves.isStray(item)), todo = all.filter((item) => !strays.includes(item));
+  const all = of("missing", "misplaced", "unexpected", "returned"), strays = all.filter((item) => shelves.isStray(item));
+  const todo = all.filter((item) => !shelves.isStray(item)), isDone = isComplete(object) && !doubts.length && !hiding.length;
   const isKnown = !all.length && !counts["not provable"] && !counts["not counted"];
-  const edited = object.logs.filter(({ name }) => name.endsWith(EDITED)).length, changes = edited ? ` (${edited.toLocaleString("en")} edited)` : "";
   const said = { ...lookOf(object, summary), headline, lights: lights(object, summary) };
   const rests = conditionsOfAll(object, summary), done = [...object.logs.keys()].filter((at) => !open.includes(at));
   if (!object.logs.length) {
@@ -120,8 +120,8 @@ export function collectionView(object, opener = () => null, canLeave = () => fal
   const drawn = (/** @type {string} */ title, /** @type {string} */ words, /** @type {number[]} */ list, /** @type {boolean} */ isFirst) =>
     logs(title, words, list, isFirst, object, shelves, opener);
   return [...(object.left ?? []).map((it) => el("p", { class: "note" }, it)),
-    banner(said, `${printable(object.file)} · ${count(object.logs.length, "log")}${changes}`), ...doubted(doubts, canLeave),
-    ...isComplete(object) && !doubts.length && !hiding.length ? [el("h2", {}, "At the shelves"), el("p", { class: "steps" }, deaf.length ? IF_HEARD : NOTHING_TO_DO)] : [],
+    banner(said, `${printable(object.file)} · ${count(object.logs.length, "log")}`), ...doubted(doubts, canLeave),
+    ...isDone ? [el("h2", {}, "At the shelves"), el("p", { class: "steps" }, deaf.length ? IF_HEARD : NOTHING_TO_DO)] : [],
     ...isKnown ? rests : [],
     ...drawn("Count again", countAgain(open.length) + (open.some((at) => object.logs[at].field.startsWith(KIND.IMPOSSIBLE)) ? AGAIN_BROKEN : ""), open, true),
     ...part("At the shelves", todo, true, howTo(object), shelved(todo, shelves, (item) => shelves.at(item), {}, (item) => shelves.toDo(item))),
@@ -258,10 +258,11 @@ function lacking(object, { shelves, of, doubts, elsewhere: { length: elsewhere }
     : `${count(number, "item")} ${words}`);
   const isNamed = again.length <= MOST_NAMES && again.every((at) => shelves.isPlaced(at));
   const number = isNamed ? shelves.names(again) : again.length < fields.length || again.length === 1 ? count(again.length, "log") : "all logs";
-  const here = found(object), one = here === 1, all = said.length || !here ? "" : one ? "the one expected item" : `all ${count(here, "expected item")}`;
+  const here = found(object), one = here === 1;
+  const all = said.length || !here ? "" : one ? "the one expected item" : `all ${count(here, "expected item")}`;
   const first = !all ? listing(said) : isAsked ? "" : `${all} ${one ? "is" : "are"} ${isUnsettled ? "in some log" : "here"}`;
-  const text = [first, ...again.length ? [`count ${number} again${all && first ? ", as others may be there" : ""}`] : [], ...doubts.flatMap(({ short, isFirst }) => isFirst ? [short] : [])]
-    .filter((it) => it).join("; ");
+  const whatToCount = again.length ? [`count ${number} again${all && first ? ", as others may be there" : ""}`] : [];
+  const text = [first, ...whatToCount, ...doubts.flatMap(({ short, isFirst }) => isFirst ? [short] : [])].filter((it) => it).join("; ");
   return `${text[0].toUpperCase()}${text.slice(1)}.${all && isAsked ? ` Together the logs have ${all}.` : ""}`;
 }
 
@@ -298,7 +299,9 @@ function lights(object, summary) {
 function conditionsOfAll({ counts, margin, logs }, { shelves, open, hiding, deaf, isResting, isUnsettled }) {
   if (isUnsettled || !isResting && !counts.unexpected) return [];
   // of what is to be counted again nothing else is asked
-  const [once, heard] = [hiding, deaf].map((all) => all.filter((at) => !open.includes(at)).sort((one, other) => inOrder(shelves.name(one), shelves.name(other))));
+  const done = (/** @type {number[]} */ all) => all.filter((at) => !open.includes(at))
+    .sort((one, other) => inOrder(shelves.name(one), shelves.name(other)));
+  const once = done(hiding), heard = done(deaf);
   const also = once.length ? `${mayBeWrong(` ${shelves.fields(once)},`)}.` : hiding.length ? "" : stillHolds(margin?.margin);
   const sure = margin ? [HOLDS, ...missed(margin, ` ${shelves.fields([margin.log])}`)] : [];
   const answered = heard.filter((at) => logs[at].answers), ifDeaf = answered.length ? deafIn(shelves.fields(answered)) : heard.length ? DEAF : "";

@@ -1,13 +1,9 @@
 /** What there is of a conflict's lines: the slots that its form is told by. */
-import { hasUid, linkOf, uidIn } from "./frames.mjs";
-import { grouped } from "./words.mjs";
+import { hasUid, linkOf } from "./frames.mjs";
 
 /** @typedef {import("./log.mjs").Log} Log */
 /** @typedef {import("./log.mjs").Slot} Slot */
-/** @typedef {import("./log.mjs").Reading} Reading */
 /** @typedef {import("./frames.mjs").Mask} Mask */
-/** @typedef {{asked: Mask, round: number, lines: number[], reading: Reading, uids: bigint[]}} Part lines of one round that hold the
- *    same, with the tags that were read */
 /**
  * @typedef {Object} Conflict
  * @property {number} count how many lines it has
@@ -16,8 +12,6 @@ import { grouped } from "./words.mjs";
  * @property {Slot | null} unread its collision or garbled slot, of which it has one at most
  * @property {Slot[]} heard its first and last reply
  * @property {number} silent its first silent slot's line, 0 if it has none
- * @property {Part[]} parts its lines by rounds, the first of many
- * @property {number} rounds of how many rounds they are
  * @property {boolean} hasCycles whether the log's version has lines for field cycles
  * @property {boolean} hasQuiets whether tags were silenced in the log
  * @property {boolean} isNone whether its other lines are silent slots that leave none of the tags of its collision
@@ -27,7 +21,7 @@ import { grouped } from "./words.mjs";
  * @property {boolean} isAlone whether another tag that was silenced too was asked in the round of this reply, and stayed silent
  */
 
-/** How many rounds of a conflict are told, and how many lines make one that has a list of its own. */
+/** Of how many lines it is looked at what they leave, and how many make a conflict that has a list of its own. */
 const MOST_PARTS = 1000, MOST_FEW = 8;
 
 /**
@@ -53,7 +47,7 @@ export function conflictOf(log, lines, silencer) {
   return { hasCycles: log.version > 1, hasQuiets: log.counts.quiets > 0, isNone: slot !== null && !heard.length && leavesNone(log, slot, lines), count: lines.length, first: lines[0], last: lines[lines.length - 1], silencer, quietest, isAlone,
     link: linkOf(log.frame(log.lineOf(log.rowAt(lines[0])))), unread: slot,
     heard: [...new Set([...heard.slice(0, 1), ...heard.slice(-1)])].flatMap((line) => log.slot(line) ?? []),
-    silent: lines.find(isSilent) ?? 0, ...partsOf(log, lines) };
+    silent: lines.find(isSilent) ?? 0 };
 }
 
 /**
@@ -97,23 +91,6 @@ function stayedSilent(log, round, till, except) {
   const { heard, ready } = log.heardBefore(till + 1), silenced = [...heard].filter((uid) => !ready.has(uid) && uid !== except), asked = log.row(round);
   const slots = asked.kind === "round" ? asked.slots.filter(({ reading }) => reading === "silent" || reading === "heard") : [];
   return slots.some(({ mask, uid: read }) => silenced.some((uid) => uid !== read && hasUid(mask, uid)));
-}
-
-/**
- * The lines by their rounds, and by what they hold.
- * @param {Log} log
- * @param {number[]} lines
- */
-function partsOf(log, lines) {
-  const byRow = grouped(lines, (line) => log.rowAt(line));
-  const of = (/** @type {number[]} */ its) => ({ lines: its, uids: its.filter((line) => log.isReply(line)).map((line) => uidIn(log.frame(line))) });
-  const parts = [...byRow].slice(0, MOST_PARTS).flatMap(([at, its]) => {
-    const row = log.row(at);
-    if (row.kind !== "round") return [];
-    const { asked, line: round } = row, readings = grouped(its, (line) => log.reading(line) ?? "unknown");
-    return [...readings].map(([reading, held]) => ({ asked, round, reading, ...of(held) }));
-  });
-  return { rounds: byRow.size, parts };
 }
 
 /**

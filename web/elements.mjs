@@ -66,10 +66,10 @@ export function oneStop(part, which = "button") {
   stop(buttons()[0]);
   part.addEventListener("keydown", (event) => {
     const all = buttons(), step = STEPS[event.key], isAcross = event.key === "ArrowRight" || event.key === "ArrowLeft";
-    const column = (/** @type {Element | undefined} */ it) => /** @type {HTMLTableCellElement | null | undefined} */ (it?.closest("td, th"))?.cellIndex;
+    const column = (/** @type {Element | null} */ it) => /** @type {HTMLTableCellElement | null | undefined} */ (it?.closest("td, th"))?.cellIndex;
     let at = all.findIndex((it) => it === document.activeElement);
     if (!step || at < 0) return;
-    do at += step; while (!isAcross && all[at] && column(all[at]) !== column(document.activeElement ?? undefined));
+    do at += step; while (!isAcross && all[at] && column(all[at]) !== column(document.activeElement));
     if (!all[at]) return;
     event.preventDefault();
     stop(all[at]);
@@ -106,7 +106,7 @@ export function forReader(heading, draw) {
 }
 
 /** @param {boolean} isOpen what is drawn next is for whoever maintains the reader */
-export function setForReader(isOpen) {
+function setForReader(isOpen) {
   isForReader = isOpen;
   document.body.classList.toggle("reading", isOpen);
 }

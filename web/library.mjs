@@ -45,9 +45,6 @@ export class Library {
     return new Library((await WebAssembly.instantiate(bytes)).instance);
   }
 
-  /** How much memory it has taken. */
-  get memoryBytes() { return this.#memory.buffer.byteLength; }
-
   /** The library's version, as in the header. */
   get version() { return Number(this.#calls.vicinity_version()); }
 

@@ -17,7 +17,8 @@ const ASKING = codeOf("T"), CYCLED = codeOf("F");
 /** With which byte a line of the list begins. */
 export const LISTING = codeOf("U");
 /** What a slot held, by the letter with which its line begins. */
-const LETTERS = /** @type {[string, Reading][]} */ ([["S", "silent"], ["R", "heard"], ["H", "captured"], ["C", "collision"], ["D", "garbled"], ["N", "unknown"]]);
+const LETTERS = /** @type {[string, Reading][]} */ ([["S", "silent"], ["R", "heard"], ["H", "captured"], ["C", "collision"],
+  ["D", "garbled"], ["N", "unknown"]]);
 const READINGS = /** @type {(Reading | undefined)[]} */ (new Array(256).fill(undefined));
 for (const [letter, reading] of LETTERS) READINGS[codeOf(letter)] = reading;
 /** Those that name a tag, and those in which others may have answered. */

@@ -18,14 +18,16 @@ const MOST_LISTED = 12, MOST_LEFT = 4;
 const RENAME = "The catalogue has no place of that name. Give the log the name of its place, or write it into the table of places; an old one, or one of " +
   "another collection, leave out.";
 const NO_PLACE = "The catalogue names no place: delete its column place, or fill it.";
+const NONE_NAMED = "names none of these logs: rename them, or write their names into its column log. Without it, each log is of the place " +
+  "after which it is named.";
 const MOVED = "What moved in between isn't seen: count there again, or say that its file was only copied.";
 const COUNTS = "If that was a mistake, press Back.";
 /** By how much files of one count may differ, in ms, and how many tags are named that two logs prove. */
 const A_DAY = 86_400_000, MOST_TAGS = 5;
 const NO_PLACES = "If items can stand on wrong shelves, add a column 'place', and name each log after its place: then shelves that weren't counted are " +
   "noticed, too.";
-export const IS_EMPTY = "If something should be there, check the antenna, and count again. If not, lay an item with a tag there and count again, to see " +
-  "that the antenna works.";
+export const IS_EMPTY = "If something should be there, check the antenna, and count again. If not, lay an item with a tag there and count " +
+  "again, to see that the antenna works.";
 const OLDER = "may be an older log of the same shelf: leave out the older.";
 const OVERLAP = "The fields of two readers may overlap, one of the logs may be an older one, or items were carried from one to the other.";
 const WHICH = "Each log has to be of another field: press the one that counts.";
@@ -39,7 +41,8 @@ const DENIED = "Its reply may have been lost, or the list is that of another cou
  */
 export function doubtsOf(object, shelves) {
   const asked = [...copies(object, shelves), ...copyOfNone(object)], those = asked.flatMap(({ logs = [] }) => logs);
-  return [...asked, ...withoutLog(object, those), ...leftOver(object, those), ...cutOff(object), ...older(object, shelves), ...ofOtherDays(object, shelves),
+  return [...asked, ...withoutLog(object, those), ...leftOver(object, those), ...cutOff(object),
+    ...older(object, shelves), ...ofOtherDays(object, shelves),
     ...ruledOut(object, shelves), ...withoutAnswer(object, shelves), ...shared(object, shelves, those),
     ...notAsked(shelves)];
 }
@@ -54,7 +57,8 @@ function copies({ logs, both = [] }, { isAsked }) {
   const placed = new Set(logs.filter(({ place }) => place !== null).map(({ name }) => name));
   const asked = copiesAmong(logs.map(({ name }) => name)).filter((ask) => !both.includes(ask[0]) && !ask.every((name) => placed.has(name)));
   return asked.map(([later, first]) => {
-    const one = nameOf(later), other = nameOf(first), [of, ofOther] = [later, first].map((name) => dated(logs.find((log) => log.name === name)?.changed));
+    const [of, ofOther] = [later, first].map((name) => dated(logs.find((log) => log.name === name)?.changed));
+    const one = nameOf(later), other = nameOf(first);
     const when = (/** @type {string} */ date) => date && of !== ofOther ? ` of ${date}` : "";
     return { short: `say whether ${other} or ${one} counts`, isFirst: true, mayNotCount: true, cure: WHICH, logs: [later, first],
       words: `By its name, ${one} may be a later count than ${other}, or a copy.`,
@@ -72,10 +76,11 @@ function copies({ logs, both = [] }, { isAsked }) {
  */
 function copyOfNone({ logs, without_log: places }) {
   return logs.filter((log) => log.left_over).flatMap(({ name }) => {
-    const place = uncopied(stemOf(name)), one = nameOf(name);
-    return place === stemOf(name) || !places.includes(place) ? [] : [{ short: `say whether ${one} is the log of ${printable(place)}`, isFirst: true, mayNotCount: true,
-      words: `By its name, ${one} is a copy of the log of ${printable(place)}, which isn't here.`, cure: "If it is, press the button; else leave it out.", logs: [name],
-      buttons: [[`Count it as ${printable(place)}`, { "data-as": `${place}.log`, "data-kept": name }], [`Leave out ${one}`, { "data-leave": name }]] }];
+    const place = uncopied(stemOf(name)), one = nameOf(name), where = printable(place);
+    return place === stemOf(name) || !places.includes(place) ? [] : [{ short: `say whether ${one} is the log of ${where}`, isFirst: true,
+      mayNotCount: true, cure: "If it is, press the button; else leave it out.", logs: [name],
+      words: `By its name, ${one} is a copy of the log of ${where}, which isn't here.`,
+      buttons: [[`Count it as ${where}`, { "data-as": `${place}.log`, "data-kept": name }], [`Leave out ${one}`, { "data-leave": name }]] }];
   });
 }
 
@@ -113,8 +118,7 @@ function leftOver({ logs, items, without_log, files, file }, asked) {
   const table = files.find((it) => it.file !== file), isNone = !without_log.length && items.every(({ place }) => place === null);
   const where = firstOf(without_log.map(printable), "and", MOST_LISTED), isTable = isNoneNamed({ logs, files, file }, asked);
   const [cure, more] = isNone ? [NO_PLACE, {}] : table && isTable
-    ? [`${printable(table.file)} names none of these logs: rename them, or write their names into its column log. Without it, each log is of the place after which it is named.`,
-      leaving([{ name: table.file }])] : [RENAME, leaving(lost)];
+    ? [`${printable(table.file)} ${NONE_NAMED}`, leaving([{ name: table.file }])] : [RENAME, leaving(lost)];
   return lost.length ? [{ short: `${firstOf(names)} ${lost.length === 1 ? "is" : "are"} of no place`,
     words: `${count(lost.length, "log")} of no place: ${firstOf(names, "and", MOST_LISTED)}.${isTable ? ` No log is of ${where}.` : ""}`,
     isFirst: true, cure, ...more }] : [];
@@ -128,8 +132,9 @@ function leftOver({ logs, items, without_log, files, file }, asked) {
  */
 const older = ({ logs, both = [] }, shelves) => logs.flatMap(({ newer, changed, name }, at) => {
   const key = `${name} of ${changed}`;
-  return !newer || both.includes(key) ? [] : [{ short: `the log of ${shelves.name(at)} is older than the one it replaced`, mayNotCount: true, cure: COUNTS, logs: [name],
-    words: `${nameOf(name)} of ${dated(changed)} is older than the file that it replaced, of ${dated(newer)}.`, buttons: [["It is the one that counts", { "data-both": key }]] }];
+  return !newer || both.includes(key) ? [] : [{ short: `the log of ${shelves.name(at)} is older than the one it replaced`, mayNotCount: true,
+    words: `${nameOf(name)} of ${dated(changed)} is older than the file that it replaced, of ${dated(newer)}.`,
+    cure: COUNTS, logs: [name], buttons: [["It is the one that counts", { "data-both": key }]] }];
 });
 
 /**
@@ -140,12 +145,14 @@ const older = ({ logs, both = [] }, shelves) => logs.flatMap(({ newer, changed, 
  */
 function ofOtherDays({ logs, both = [] }, shelves) {
   const newest = Math.max(0, ...logs.map(({ changed = 0 }) => changed));
-  const late = [...logs.keys()].filter((at) => (logs[at].changed ?? newest) < newest - A_DAY && !logs[at].newer), those = late.map((at) => logs[at]), names = late.map((at) => shelves.name(at));
-  const key = those.map(({ name, changed }) => `${name} of ${changed}`).join(), [first] = those, isOne = late.length === 1;
-  const other = isOne ? `its file is of ${dated(first?.changed)}` : `the file of ${names[0]} is of ${dated(first?.changed)}`;
-  return !late.length || both.includes(key) ? [] : [{ short: `the log${isOne ? "" : "s"} of ${firstOf(names)} ${isOne ? "is" : "are"} of another day`, mayNotCount: true,
-    cure: MOVED, ...leaving(those, [[isOne ? "It is of this count" : "They are of this count", { "data-both": key }]]),
-    words: `The log${isOne ? "" : "s"} of ${firstOf(names, "and", MOST_LISTED)} ${isOne ? "is" : "are"} older than the others: ${other}, the newest of ${dated(newest)}.` }];
+  const late = [...logs.keys()].filter((at) => (logs[at].changed ?? newest) < newest - A_DAY && !logs[at].newer);
+  const those = late.map((at) => logs[at]), names = late.map((at) => shelves.name(at));
+  const key = those.map(({ name, changed }) => `${name} of ${changed}`).join(), isOne = late.length === 1;
+  const [log, is, they] = isOne ? ["log", "is", "It is"] : ["logs", "are", "They are"];
+  const other = `${isOne ? "its file" : `the file of ${names[0]}`} is of ${dated(those[0]?.changed)}, the newest of ${dated(newest)}`;
+  return !late.length || both.includes(key) ? [] : [{ short: `the ${log} of ${firstOf(names)} ${is} of another day`, mayNotCount: true,
+    words: `The ${log} of ${firstOf(names, "and", MOST_LISTED)} ${is} older than the others: ${other}.`,
+    cure: MOVED, ...leaving(those, [[`${they} of this count`, { "data-both": key }]]) }];
 }
 
 /**
@@ -157,7 +164,8 @@ function ofOtherDays({ logs, both = [] }, shelves) {
 export function leaveOut(files) {
   const sorted = [...files].sort((one, other) => (one.changed ?? 0) - (other.changed ?? 0)), dates = sorted.map(({ changed }) => dated(changed));
   const isDated = new Set(dates).size > 1 && !dates.includes(""), old = files.length > 2 ? "oldest" : "older";
-  return sorted.map((file, at) => [`Leave out ${nameOf(file.name)}${!isDated ? "" : at ? ` of ${dates[at]}` : `, the ${old} file, of ${dates[at]}`}`, file]);
+  const when = (/** @type {number} */ at) => at ? ` of ${dates[at]}` : `, the ${old} file, of ${dates[at]}`;
+  return sorted.map((file, at) => [`Leave out ${nameOf(file.name)}${isDated ? when(at) : ""}`, file]);
 }
 
 /**
@@ -165,8 +173,11 @@ export function leaveOut(files) {
  * @param {[string, Record<string, string>][]} more buttons
  * @returns {Pick<Doubt, "buttons" | "logs">}
  */
-const leaving = (logs, more = []) => ({ logs: logs.map(({ name }) => name),
-  buttons: [...logs.length > MOST_LEFT ? [] : leaveOut(logs).map(([words, { name }]) => /** @type {[string, Record<string, string>]} */ ([words, { "data-leave": name }])), ...more] });
+function leaving(logs, more = []) {
+  const those = logs.length > MOST_LEFT ? [] : leaveOut(logs);
+  const buttons = those.map(([words, { name }]) => /** @type {[string, Record<string, string>]} */ ([words, { "data-leave": name }]));
+  return { logs: logs.map(({ name }) => name), buttons: [...buttons, ...more] };
+}
 
 /**
  * @param {CollectionObject} object
@@ -214,7 +225,8 @@ function withoutAnswer({ logs }, shelves) {
  * @returns {Doubt[]}
  */
 function shared({ logs, items, unexpected }, shelves, asked) {
-  const others = logs.map(() => /** @type {Set<number>} */ (new Set())), many = [...items, ...unexpected].filter(({ certain_in: its }) => its.length > 1);
+  const others = logs.map(() => /** @type {Set<number>} */ (new Set()));
+  const many = [...items, ...unexpected].filter(({ certain_in: its }) => its.length > 1);
   for (const { certain_in: [first, ...rest] } of many) {
     for (const at of rest) others[at].add(first) && others[first].add(at);
   }
@@ -229,11 +241,13 @@ function shared({ logs, items, unexpected }, shelves, asked) {
     const name = names[those.indexOf(at)], rest = firstOf(names.filter((it) => it !== name));
     const tags = many.filter(({ certain_in: its }) => its.includes(at)).map((it) => printable("cells" in it && shelves.said(it, 1) || it.uid || ""));
     // of one shelf that which proves fewer may be the newer one, after a loss; one of another place is no older one
-    const isOfOne = (/** @type {number} */ one) => those.some((it) => it !== one && (logs[it].place === logs[one].place || logs[it].left_over || logs[one].left_over));
+    const isOfOne = (/** @type {number} */ one) => those.some((it) => it !== one &&
+      (logs[it].place === logs[one].place || logs[it].left_over || logs[one].left_over));
     const ofOne = those.filter(isOfOne).map((it) => logs[it]), isOlder = all && certain > 1 && ofOne.length > 1;
-    return [{ short: `${count(number, "tag")} ${number === 1 ? "is" : "are"} in ${those.length === 2 ? "both" : "several of"} ${firstOf(names)}`, mayNotCount: true,
+    const is = number === 1 ? "is" : "are";
+    return [{ short: `${count(number, "tag")} ${is} in ${those.length === 2 ? "both" : "several of"} ${firstOf(names)}`, mayNotCount: true,
       cure: isOlder ? `One of ${those.length === 2 ? "the two" : "these"} ${OLDER}` : OVERLAP, ...isOlder ? leaving(ofOne) : {},
-      words: `${which[0].toUpperCase()}${which.slice(1)} that ${name} proves ${number === 1 ? "is" : "are"} proved by ${rest} too: ${firstOf(tags, "and", MOST_TAGS)}.` }];
+      words: `${which[0].toUpperCase()}${which.slice(1)} that ${name} proves ${is} proved by ${rest} too: ${firstOf(tags, "and", MOST_TAGS)}.` }];
   });
 }
 

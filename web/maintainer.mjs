@@ -19,8 +19,9 @@ const ASKED = SENTENCES.requests;
  * @param {() => Node[]} more what is drawn of the log
  */
 export function maintainer(told, said, more) {
-  const ask = alsoHolds(told)?.ask ?? [], heard = ifDeaf(told)?.ask ?? [], isAny = said.causes.length || ask.length || heard.length || told.rows.length;
-  return isAny ? [forReader("For whoever maintains the reader", () => [...whyAndAsk(told, said, ask, heard), ...left(told), ...more()])] : [];
+  const ask = alsoHolds(told)?.ask ?? [], heard = ifDeaf(told)?.ask ?? [];
+  if (!said.causes.length && !ask.length && !heard.length && !told.rows.length) return [];
+  return [forReader("For whoever maintains the reader", () => [...whyAndAsk(told, said, ask, heard), ...left(told), ...more()])];
 }
 
 /**
@@ -58,7 +59,8 @@ function left(told) {
   if (hidden.length) parts.push(el("p", {}, `${open.length ? "Then " : ""}${requests(hidden.length)} left${ASK_UNDER} ${open.length ? SPLIT : INSERT + end}`), ...copied(hidden));
   if (silenced.length && !told.cycles) parts.push(el("p", {}, ASKED.newVersion));
   else if (silenced.length) parts.push(el("p", {}, numbered(ASKED.silenced, silenced.length)), ...copied(["F", ...silenced]));
-  if (told.notes.last && !told.object.open.count) parts.push(el("p", {}, linked(`Line ${told.notes.last.line}: ${told.notes.last.lacks} would go unnoticed.`)));
+  const note = told.object.open.count ? null : told.notes.last;
+  if (note) parts.push(el("p", {}, linked(`Line ${note.line}: ${note.lacks} would go unnoticed.`)));
   return parts;
 }
 

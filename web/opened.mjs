@@ -1,7 +1,7 @@
 /** What is opened: files as logs, each with its text, or together a collection, which has none of its own. */
 import { isPlaces, kindOf, stemOf } from "./files.mjs";
 import { STOPPED } from "./work.mjs";
-import { count, EDITED, listing, printable } from "./words.mjs";
+import { count, listing, printable } from "./words.mjs";
 
 /** @typedef {import("./files.mjs").Given} Given */
 /** @typedef {import("./collection.mjs").CollectionObject} CollectionObject */
@@ -11,7 +11,7 @@ import { count, EDITED, listing, printable } from "./words.mjs";
  * A log, or a collection, with what was done to it last; or one that waits for its catalogue.
  * Of a file it has when that was changed, and its own name, if it took another; of a catalogue which it replaced.
  * @typedef {Given & import("./work.mjs").Done & {given?: Collection, waits?: string, note?: string, replaced?: string,
- *   pause?: number, said?: import("./say.mjs").Said, changed?: number, was?: string, newer?: number}} Entry
+ *   said?: import("./say.mjs").Said, changed?: number, was?: string, newer?: number}} Entry
  */
 
 /** Larger files are no logs, and no text for each browser. */
@@ -61,7 +61,7 @@ const isATable = (entry) => kindOf(entry) === "table";
 /** @param {Entry} entry */
 const isCatalogue = (entry) => isATable(entry) && !isPlaces(entry);
 /** @param {Entry} entry */
-const isPasted = ({ name }) => [PASTED, EXAMPLE].includes(name.replace(EDITED, ""));
+const isPasted = ({ name }) => [PASTED, EXAMPLE].includes(name);
 /** @param {Entry} entry */
 const joins = (entry) => kindOf(entry) !== "other" && (isATable(entry) || !isPasted(entry));
 
@@ -81,15 +81,16 @@ export function gathered(taken, entries) {
   if (!tables.length && !(isJoining && earlier)) return taken;
   const here = isJoining && earlier || { tables: [], logs: isJoining ? entries.filter((it) => !isPasted(it)) : [], both: [], left: [] };
   const stems = new Set(logs.map(({ name }) => stemOf(name))), replaced = here.logs.filter(({ name }) => stems.has(stemOf(name)));
-  const newerThan = (/** @type {Entry} */ log) => replaced.find(({ name, changed = 0 }) => stemOf(name) === stemOf(log.name) && changed > (log.changed ?? changed))?.changed;
+  const newerThan = (/** @type {Entry} */ log) => replaced.find(({ name, changed = 0 }) =>
+    stemOf(name) === stemOf(log.name) && changed > (log.changed ?? changed))?.changed;
   const left = here.logs.filter((log) => !replaced.includes(log)), all = [...left, ...logs.map((log) => ({ ...log, newer: newerThan(log) }))];
   const kept = here.tables.filter((table) => !tables.some((other) => isPlaces(other) === isPlaces(table)));
   const was = (/** @type {Entry[]} */ list, /** @type {string} */ how) => list.length ? `${names(list)} ${list.length > 1 ? "were" : "was"} ${how}. ` : "";
   const gone = here.tables.filter((table) => !kept.includes(table)), [old] = gone.filter(isCatalogue), items = entries[0]?.collection?.items.length;
-  const joined = left.length ? [...logs, ...gone.length ? [] : tables.filter(isPasted)] : [];
+  const isOlder = replaced.length === 1 && logs.some(newerThan), joined = left.length ? [...logs, ...gone.length ? [] : tables.filter(isPasted)] : [];
   const note = was(gone.filter(isPlaces), `replaced by ${names(tables.filter(isPlaces))}`) +
     was(isJoining && !earlier ? entries.filter(isPasted) : [], "left out: what is pasted has no name") +
-    (was(replaced, `replaced by ${replaced.length === 1 && logs.some(newerThan) ? "an older file of" : "what you opened under"} the same name`) || (joined.length ? `${names(joined)} joined the logs that were here.` : ""));
+    (was(replaced, `replaced by ${isOlder ? "an older file of" : "what you opened under"} the same name`) || (joined.length ? `${names(joined)} joined the logs that were here.` : ""));
   const given = { tables: [...kept, ...tables], logs: all, both: here.both, left: here.left.filter(([name]) => !stems.has(stemOf(name))) };
   return [{ ...collected(given, note),
     replaced: old && `${names([old])}${items === undefined ? "" : ` (${count(items, "item")})`} was replaced by ${names(tables.filter(isCatalogue))}` }];

@@ -1,20 +1,20 @@
 /** The page that judges: what is opened or typed is judged, and one of it is shown. */
-import { at, setForReader } from "./elements.mjs";
+import { at } from "./elements.mjs";
 import { isSpreadsheet, kindOf, startOf } from "./files.mjs";
-import { collected, counted, EXAMPLE, gathered, isLacking, isUnanswered, PASTED, read, withFiles, without } from "./opened.mjs";
+import { collected, counted, EXAMPLE, gathered, isUnanswered, PASTED, read, withFiles, without } from "./opened.mjs";
 import { bytesOf, unpacked } from "./packed.mjs";
 import { Pane } from "./pane.mjs";
 import { unfold, unfoldOnPaper } from "./printing.mjs";
 import { isForeign } from "./refused.mjs";
 import { pageOf, save, withObjects } from "./saving.mjs";
-import { begin, focusOnHeading, headed, overview, show, shown, titleOfEntry } from "./shown.mjs";
-import { count, EDITED, printable } from "./words.mjs";
+import { begin, focusOnHeading, overview, show, shown, titleOfEntry } from "./shown.mjs";
+import { count, printable } from "./words.mjs";
 import { STOPPED, Work } from "./work.mjs";
 
 /** @typedef {import("./opened.mjs").Entry} Entry */
 
-/** How long after the last key a text is judged, and how long a judging goes on before it can be stopped, in ms. */
-const PAUSE = 250, PATIENCE = 400;
+/** How long a judging goes on before it can be stopped, in ms. */
+const PATIENCE = 400;
 const PASTE = "Paste a log here";
 const NO_DROP = "No file was dropped, so nothing has changed. Save the text as a file, and open that.";
 const SAVED_COPY = "This is what a browser has saved of the page: its answers, without the logs. To go on, open these again.";
@@ -26,11 +26,6 @@ const stop = at("stop"), status = at("status"), saves = at("save"), back = at("b
 let entries = [];
 /** Which is shown; none of several, until one is pressed. */
 let current = 0;
-/**
- * Of which the answer is shown, or that to its text before it was changed.
- * @type {Entry | undefined}
- */
-let answered;
 /** @type {number | undefined} */
 let patience;
 /**
@@ -74,7 +69,7 @@ async function ask(entry) {
   else if (entries.includes(entry)) drawing ??= window.setTimeout(drawList, entries.length);
 }
 
-/** What takes long can be stopped. The answer to an earlier text isn't shown any longer then. */
+/** What takes long can be stopped. */
 function wait() {
   clearTimeout(patience);
   patience = window.setTimeout(() => {
@@ -82,9 +77,6 @@ function wait() {
     if (!pending && !left.length) return;
     stop.hidden = false;
     status.textContent = printable(pending ? `Reading ${pending.name} ..` : `Judging ${left.length > 1 ? count(left.length, "log") : left[0].name} ..`);
-    if (shown.getAttribute("aria-busy") === "false") return;
-    answered = undefined;
-    draw();
   }, PATIENCE);
 }
 
@@ -113,8 +105,7 @@ function draw() {
   drawList();
   saves.hidden = !(entry?.told && !isForeign(entry.told)) && !entry?.collection;
   beside.hidden = !!pending || entry?.given !== undefined || current < 0;
-  show(entry, entry === answered, opener, (name) => filesOf(entry).some((file) => file.name === name));
-  answered = entry;
+  show(entry, opener, (name) => filesOf(entry).some((file) => file.name === name));
   pane.mark();
   if (!isPressed || pending || entries.some(isUnanswered)) return;
   isPressed = false;
@@ -233,31 +224,8 @@ function edit() {
   pane.put(entry && !isSpreadsheet(startOf(entry)) ? entry.text : new Uint8Array());
 }
 
-/**
- * A changed text belongs to the log that is shown now, whichever is shown when it is judged.
- * @param {string} name
- */
-function changed(name) {
-  shown.setAttribute("aria-busy", "true");
-  clearTimeout(entries[current]?.pause);
-  /** @type {Entry} */
-  const entry = { name, text: new TextEncoder().encode(field.value) };
-  entries[current] = entry;
-  answered = entry;
-  saves.hidden = true;
-  headed(titleOfEntry(entry), "");
-  drawList();
-  entry.pause = window.setTimeout(() => { if (entries.includes(entry)) ask(entry); }, PAUSE);
-}
-
-const shownLog = () => entries[current];
-field.addEventListener("input", () => {
-  setForReader(true);
-  // what is typed is no text of a file that wasn't read
-  changed(entries.length && !isLacking(shownLog()) ? shownLog().name.replace(EDITED, "") + EDITED : PASTED);
-});
 saves.addEventListener("click", async () => {
-  const log = shownLog(), fold = unfold(), text = shown.innerText, title = titleOfEntry(log);
+  const log = entries[current], fold = unfold(), text = shown.innerText, title = titleOfEntry(log);
   fold();
   const object = log.collection ? await withObjects(log.collection, opener) : (await whole(log))?.object;
   if (object) save(pageOf(new TextDecoder().decode(await unpacked(bytesOf(RECORD))), object, title, text), `${log.name}.html`);
@@ -275,12 +243,13 @@ at("example").addEventListener("click", () => {
   open([new File([at("sample").textContent ?? ""], EXAMPLE)]);
 });
 /**
- * Whether a text gets into the field, where it is typed.
+ * Whether a text gets into the field, which takes one where no log is shown.
  * @param {Event} event
  */
 const isInField = ({ target }) => target === field && !field.readOnly;
 /** @param {DragEvent} event */
 const isTyped = (event) => isInField(event) && !event.dataTransfer?.types.includes("Files");
+field.addEventListener("input", () => open([new File([field.value], PASTED)]));
 document.addEventListener("dragover", (event) => { if (!isTyped(event)) event.preventDefault(); });
 document.addEventListener("drop", (event) => {
   if (isTyped(event)) return;

@@ -1,7 +1,7 @@
 /** The text of a log beside its rounds: a line leads to its cell, and a cell to its line. */
 
-/** A text of more bytes isn't edited: of it the line is shown that is asked for. */
-const MOST_EDITED = 1_000_000;
+/** Of a text of more bytes only the line is shown that is asked for. */
+const MOST_SEEN_WHOLE = 1_000_000;
 const NEW_LINE = "\n", LARGE = "This log is too long to be shown here. Press the number of a line to see it.";
 
 export class Pane {
@@ -29,11 +29,11 @@ export class Pane {
 
   /** @param {Uint8Array} text */
   put(text) {
-    const isLarge = text.length > MOST_EDITED;
+    const isLarge = text.length > MOST_SEEN_WHOLE;
     this.#text = text;
     this.#firstLine = 1;
     this.field.value = isLarge ? "" : new TextDecoder().decode(text);
-    this.field.readOnly = isLarge || !this.hint;
+    this.field.readOnly = text.length > 0 || !this.hint;
     this.field.placeholder = isLarge ? LARGE : this.hint;
   }
 

@@ -1,7 +1,7 @@
 /** What is folded is unfolded on paper, and where only text is kept; each sheet says when it was printed, those behind the first one of what. */
 
 /** How much of that stands on a sheet: the name of the file whole. */
-const MOST_TITLE = 110;
+const MOST_TITLE = 110, SMALL = "font: 8pt system-ui, sans-serif;";
 let rule = -1;
 
 /**
@@ -27,8 +27,8 @@ export function unfoldOnPaper() {
 }
 
 /**
- * Puts the title at the head of each sheet of paper but the first, and at the foot of each when it was printed; below what is signed that stands, too,
- * for browsers that write nothing at the edge of a sheet.
+ * Puts the title at the head of each sheet of paper but the first, and at the foot of each when it was printed. Below what is signed
+ * that stands, too, for browsers that write nothing at the edge of a sheet.
  * @param {string} now
  */
 function nameOnPaper(now) {
@@ -39,6 +39,6 @@ function nameOnPaper(now) {
   for (const it of document.querySelectorAll(".printed")) it.textContent = printed;
   if (!sheet) return;
   if (rule >= 0) sheet.deleteRule(rule);
-  rule = sheet.insertRule(`@page { @top-left { content: ${said}; font: 8pt system-ui, sans-serif; } @bottom-left { content: "${printed}"; font: 8pt system-ui, sans-serif; } }`,
-    sheet.cssRules.length);
+  const boxes = `@top-left { content: ${said}; ${SMALL} } @bottom-left { content: "${printed}"; ${SMALL} }`;
+  rule = sheet.insertRule(`@page { ${boxes} }`, sheet.cssRules.length);
 }

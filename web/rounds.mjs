@@ -10,7 +10,7 @@ import { count, ending, hex, listing, printable } from "./words.mjs";
 /** @typedef {import("./log.mjs").Slot} Slot */
 
 /** What a slot held: the sign of its cell, and words. */
-export const LOOKS = {
+const LOOKS = {
   silent: { sign: "·", words: "no tag answered" }, heard: { sign: "", words: "one tag was heard" },
   captured: { sign: "", words: "one tag was heard, and others may have answered under it" },
   collision: { sign: "×", words: "two or more tags answered" }, garbled: { sign: "?", words: "something answered that couldn't be read" },
@@ -146,9 +146,9 @@ const unseen = (words) => el("span", { class: "unseen" }, words);
  */
 function legend(told) {
   const slots = told.rows.flatMap((row) => row.kind === "round" ? row.slots : []), drawn = new Set(slots.map((slot) => String(slot.reading)));
-  const short = told.rows.flatMap((row) => row.kind === "round" && row.slots.length > 1 && row.asked.len % 4 === 0
-    ? row.slots.flatMap(({ uid }) => uid === null ? [] : { low: hex(uid).slice(16 - row.asked.len / 4), whole: hex(uid).slice(14 - row.asked.len / 4) }) : []).pop();
-  const digits = short ? [el("li", {}, `${short.whole.slice(0, 2)} in the row ${short.low ? `..${short.low}` : "all"}: a UID that ends in ${short.whole}`)] : [];
+  const heard = told.rows.flatMap((row) => row.kind === "round" && row.slots.length > 1 && row.asked.len % 4 === 0
+    ? row.slots.flatMap(({ uid }) => uid === null ? [] : hex(uid).slice(14 - row.asked.len / 4)) : []), digits = heard.slice(-1).map((end) =>
+    el("li", {}, `${end.slice(0, 2)} in the row ${end.length > 2 ? `..${end.slice(2)}` : "all"}: a UID that ends in ${end}`));
   const isCut = told.rows.some((row) => row.kind === "round" && row.asked.len % 4);
   const bits = isCut ? [el("li", {}, "..7, bit 1: an odd digit before 7")] : [];
   if (slots.some((slot) => slot.silenced)) drawn.add("heard quiet");

@@ -133,7 +133,8 @@ function lightsOf(told, isAlone, finished, list) {
  * @returns {Step[]}
  */
 function steps({ object: { kind, found, open, captured, deaf }, counts, quiet, notes }, isAlone) {
-  if (kind === KIND.COMPLETE) return !isAlone ? [ABOVE] : !counts.listed ? EMPTY : captured?.holds === false ? ONE_MORE : [deaf?.holds ? NOTHING_TO_DO : HEARS];
+  const nothing = deaf?.holds ? NOTHING_TO_DO : HEARS;
+  if (kind === KIND.COMPLETE) return !isAlone ? [ABOVE] : !counts.listed ? EMPTY : captured?.holds === false ? ONE_MORE : [nothing];
   if (!open.count && !counts.listed) return [...captured?.settled === false ? [ONE_ROUND, STAYS] : [], ...isAlone ? [COMPARE] : []];
   const steps = /** @type {Step[]} */ ([]);
   if (kind === KIND.DOUBTFUL) steps.push(CYCLE, LOOK);

@@ -138,7 +138,8 @@ export function firstOf(names, last, most = MOST_NAMES) {
  * @param {Cell} [toDo]
  */
 export function shelved(list, shelves, shelf, where = {}, toDo) {
-  const groups = grouped(list, shelf), isOne = groups.size === 1 && groups.has(""), isMany = groups.size > 1, titled = (/** @type {string} */ name, /** @type {string} */ scope) =>
+  const groups = grouped(list, shelf), isOne = groups.size === 1 && groups.has(""), isMany = groups.size > 1;
+  const titled = (/** @type {string} */ name, /** @type {string} */ scope) =>
     el("tr", {}, el("th", { scope, colspan: String(heads.length) }, name.length > MOST_BARE ? name : name ? `Shelf ${name}` : "Place not known"));
   const columns = shelves.columns.filter(({ at }) => list.some(({ cells, place }) => cells?.[at] && (isOne || cells[at].trim() !== place)));
   const asked = Object.keys(where), isTagged = list.some((item) => item.uid), last = columns.length && isTagged ? ["UID"] : [];

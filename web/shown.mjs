@@ -22,17 +22,15 @@ export const shown = at("told");
 const START = document.body.classList.contains("empty") ? [...shown.childNodes] : [], TITLE = document.title;
 
 /**
- * Shows what is told of a log or a collection. Until it is judged, what is shown is that to its text before it was changed.
+ * Shows what is told of a log or a collection; until it is judged, nothing.
  * @param {Entry | undefined} entry
- * @param {boolean} isShown whether what is shown is of it
  * @param {import("./collection.mjs").Opener} opener
  * @param {(name: string) => boolean} canLeave
  */
-export function show(entry, isShown, opener, canLeave) {
-  const isOld = entry !== undefined && isUnanswered(entry);
-  shown.setAttribute("aria-busy", String(isOld));
+export function show(entry, opener, canLeave) {
+  shown.setAttribute("aria-busy", String(entry !== undefined && isUnanswered(entry)));
   at("named").textContent = entry?.told ? nameOfText(entry.told, false) : "The log";
-  if (!entry || isOld && isShown) return;
+  if (!entry) return;
   shown.replaceChildren(...nodesOf(entry, opener, canLeave));
   headed(titleOfEntry(entry));
   if (noteOf(entry)) at("said").prepend(`${noteOf(entry)} `);
@@ -113,7 +111,8 @@ export function overview(entries, current) {
   const words = `${count(logs, "log")}${logs > 1 ? ", each with its own answer" : ""}.${how}${foreign ? ` ${count(foreign, "file isn't a log", "files aren't logs")}.` : ""}`;
   each.append(el(current < 0 ? "h1" : "p", {}, words), el("p", { class: "hint" }, TOGETHER));
   if (current >= 0) return;
-  const sums = entries.flatMap(({ name, told }) => told ? [el("p", {}, `${printable(name)}: ${told.object.answer} · SHA-256 `, el("code", {}, told.object.sha256))] : []);
+  const sums = entries.flatMap(({ name, told }) => told ? [el("p", {}, `${printable(name)}: ${told.object.answer} · SHA-256 `,
+    el("code", {}, told.object.sha256))] : []);
   shown.replaceChildren(el("footer", { class: "record" }, ...sums, ...signed(words, count(many, "file"))));
   headed(words);
 }
@@ -125,7 +124,8 @@ export function overview(entries, current) {
  * @param {boolean} isPressed
  */
 function label(button, entry, isPressed) {
-  const { told, error = ".." } = entry, name = printable(entry.name), said = told && (entry.said ??= say(told)), words = ` ${said?.headline ?? error}`;
+  const { told, error = ".." } = entry, said = told && (entry.said ??= say(told));
+  const name = printable(entry.name), words = ` ${said?.headline ?? error}`;
   button.setAttribute("aria-pressed", String(isPressed));
   if (button.textContent === `${said?.sign ?? ""}${name}${words}`) return;
   button.replaceChildren(...said ? [el("span", { class: `sign ${said.look}`, "aria-hidden": "true" }, said.sign)] : [], el("b", {}, name), words);

@@ -82,7 +82,8 @@ export function howSure(margin, still, other, isHiding, isDeaf) {
     ({ name, value: isWrong ? other : still, look: /** @type {Look} */ (isWrong ? "no" : "yes") });
   const both = [light("If replies were hidden", isHiding), light("If the reader went deaf", isDeaf)];
   if (!margin) return both.filter(({ look }) => look === "no");
-  return [{ name: still === "still empty" ? "Each tag was asked" : "Each other tag was asked", value: `${count(margin, "time")} or more`, look: "plain" }, ...both];
+  const name = still === "still empty" ? "Each tag was asked" : "Each other tag was asked";
+  return [{ name, value: `${count(margin, "time")} or more`, look: "plain" }, ...both];
 }
 
 /**

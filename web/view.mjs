@@ -3,16 +3,16 @@ import { isLarge } from "./conflict.mjs";
 import { bullets, drawnLater, el, folded, linked, oneStop, rest, toLine } from "./elements.mjs";
 import { isSpreadsheet } from "./files.mjs";
 import { maintainer } from "./maintainer.mjs";
-import { LOOKS, rounds } from "./rounds.mjs";
+import { rounds } from "./rounds.mjs";
 import { say } from "./say.mjs";
 import { alsoHolds, granted, HOLDS, ifDeaf, isApart, missed, onceMore, silentIn } from "./sure.mjs";
-import { count, dated, hex, KIND, lines, listing, printable, whom } from "./words.mjs";
+import { count, dated, hex, KIND, printable } from "./words.mjs";
 
 /** @typedef {import("./told.mjs").Told} Told */
 /** @typedef {Map<string, string>} Names what a catalogue says of UIDs */
 
-/** How many UIDs are shown without being asked for beside other things, and of how many rounds the lines of a conflict are on paper. */
-const FEW = 24, MOST_ROUNDS = 60;
+/** How many UIDs are shown without being asked for beside other things, and how many lines of a conflict are named. */
+const FEW = 24, MOST_LINES_NAMED = 1000;
 
 /**
  * The whole of what is drawn of a log.
@@ -51,7 +51,8 @@ export function banner(said, what) {
  */
 function conditions(told) {
   const { object: { kind, open, status }, counts } = told, also = alsoHolds(told)?.words, deaf = ifDeaf(told)?.words;
-  const isOfAll = kind === KIND.COMPLETE || status === 1 && !open.count && !counts.listed, sure = missed(told.object).map((it) => `${it} ${onceMore(told.object.margin ?? 0)}`);
+  const isOfAll = kind === KIND.COMPLETE || status === 1 && !open.count && !counts.listed;
+  const sure = missed(told.object).map((it) => `${it} ${onceMore(told.object.margin ?? 0)}`);
   const parts = [...isOfAll ? [HOLDS, ...sure] : [], ...also ? [also] : [], ...deaf ? [deaf] : []].map((it) => el("p", {}, it));
   return parts.length ? [el("section", { class: "holds" }, parts)] : [];
 }
@@ -90,7 +91,8 @@ function findings({ object: { findings, found, open }, counts, silenced }, names
     const isSeen = all <= FEW || !listed && !open.count;
     return lengthy(folded(count(all, one, many), isSeen, oneStop(el("ul", { class: `uids ${kind}` }, items)), ...rest(all - list.length)), items.length);
   });
-  return [...parts, ...maybe.length ? [folded(count(maybe.length, "tag that may be here", "tags that may be here"), maybe.length <= FEW, oneStop(el("ul", { class: "uids" }, maybe)))] : []];
+  const title = count(maybe.length, "tag that may be here", "tags that may be here");
+  return [...parts, ...maybe.length ? [folded(title, maybe.length <= FEW, oneStop(el("ul", { class: "uids" }, maybe)))] : []];
 }
 
 /**
@@ -104,18 +106,15 @@ function tagWith(uid, names) {
 }
 
 /**
- * The lines of a contradiction that are too many to be named in a sentence, by their rounds.
+ * The lines of a contradiction that are too many to be named in a sentence.
  * @param {Told} told
  */
-function conflict({ conflict: it }) {
+function conflict({ conflict: it, object }) {
   if (!it || !isLarge(it)) return [];
-  const items = it.parts.map(({ asked, round, lines: numbers, reading, uids }) => el("li", {}, toLine(numbers[0], lines(numbers)),
-    `: line ${round} asked ${whom(asked)}, and ${LOOKS[reading].words}${uids.length ? `, ${listing(uids.map((uid) => hex(uid)))}` : ""}`));
-  const part = folded(`The ${count(it.count, "line")} that can't all be true, of ${count(it.rounds, "round")}`, false, oneStop(el("ul", {}, items)),
-    ...rest(it.rounds - new Set(it.parts.map((part) => part.round)).size));
-  if (it.rounds > MOST_ROUNDS) part.classList.add("aside");
-  const where = `The ${count(it.count, "line")} that can't all be true are from line ${it.first} to line ${it.last}; the page lists them on a screen.`;
-  return [lengthy(part, items.length), ...it.rounds > MOST_ROUNDS ? [el("p", { class: "cut" }, where)] : []];
+  const numbers = object.findings.flatMap(({ kind, line }) => kind === "conflict" && line ? [line] : []), shown = numbers.slice(0, MOST_LINES_NAMED);
+  const items = () => oneStop(el("p", {}, shown.flatMap((line) => [toLine(line, String(line)), " "])));
+  const title = `The ${count(it.count, "line")} that can't all be true`, more = rest(numbers.length - shown.length);
+  return [lengthy(drawnLater(title, false, () => [items(), ...more]), it.count)];
 }
 
 /**

@@ -16,8 +16,6 @@ const E0 = 0xE0n << BigInt(UID_BITS);
  */
 const uidOf = (mask) => mask.value | E0;
 
-/** What the name of a log ends with of which the text was changed. */
-export const EDITED = " (edited)";
 /** Why there is no answer where no worker runs, or no WebAssembly. */
 export const FAILED = "this browser doesn't run what judges it";
 
