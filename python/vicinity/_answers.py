@@ -67,25 +67,26 @@ class Fault(enum.IntEnum):
 
 
 class Answer(NamedTuple):
-    """The answer to a text. Numbers that the kind doesn't use are 0."""
+    """The answer to a text. Numbers that the kind doesn't use are 0.
+
+    status: the exit status of `vicinity check`, 0 to 3. Here 0 is complete
+    count: how many UIDs are listed, if the kind is COMPLETE
+    line: the line, from 1, if the kind is IMPOSSIBLE or REFUSED
+    fault: what is wrong with that line, if the kind is REFUSED
+    mask_len, mask_value: how many low bits the mask has, 0 to 56, and the value of these bits,
+        if the kind is UNSETTLED
+    uid: the UID, if the kind is ABSENT, UNLISTED or DOUBTFUL. Its top byte is E0
+    text: the line that `vicinity check` writes, without its LF"""
 
     kind: Kind
     status: int
-    """The exit status of `vicinity check`, 0 to 3. Here 0 is complete."""
     count: int  # type: ignore[assignment]
-    """How many UIDs are listed, if the kind is COMPLETE."""
     line: int
-    """The line, from 1, if the kind is IMPOSSIBLE or REFUSED."""
     fault: Fault
-    """What is wrong with that line, if the kind is REFUSED."""
     mask_len: int
-    """How many low bits the mask has, 0 to 56, if the kind is UNSETTLED."""
     mask_value: int
-    """The value of these bits, if the kind is UNSETTLED."""
     uid: int
-    """The UID, if the kind is ABSENT, UNLISTED or DOUBTFUL. Its top byte is E0."""
     text: str
-    """The line that `vicinity check` writes, without its LF."""
 
     @property
     def mask(self) -> Mask:
@@ -105,13 +106,14 @@ class Answer(NamedTuple):
 
 
 class Explanation(NamedTuple):
-    """The answer to a text, and tags that show it."""
+    """The answer to a text, and tags that show it.
+
+    population: UIDs of tags that could have produced the log but aren't exactly the listed ones,
+        in rising order. It is empty if there are none to show (COMPLETE, IMPOSSIBLE, REFUSED),
+        and if an empty field shows the answer"""
 
     answer: Answer
     population: list[int]
-    """UIDs of tags that could have produced the log but aren't exactly the listed ones,
-    in rising order. It is empty if there are none to show (COMPLETE, IMPOSSIBLE, REFUSED),
-    and if an empty field shows the answer."""
 
 
 class FindingKind(enum.IntEnum):
@@ -123,18 +125,19 @@ class FindingKind(enum.IntEnum):
 
 class Finding(NamedTuple):
     """One point in which a log contradicts its list or leaves it undecided.
-    Numbers that the kind doesn't use are 0."""
+    Numbers that the kind doesn't use are 0.
+
+    line: the line that shows it (ABSENT, UNLISTED), that belongs to a conflict, or that silenced
+        a tag
+    mask_len, mask_value: how many low bits the mask has, and the value of these bits, if the kind
+        is UNSETTLED or OPEN_MASK
+    uid: the UID, if the kind is ABSENT, UNLISTED or DOUBTFUL"""
 
     kind: FindingKind
     line: int
-    """The line that shows it (ABSENT, UNLISTED), that belongs to a conflict,
-    or that silenced a tag."""
     mask_len: int
-    """How many low bits the mask has, if the kind is UNSETTLED or OPEN_MASK."""
     mask_value: int
-    """The value of these bits."""
     uid: int
-    """The UID, if the kind is ABSENT, UNLISTED or DOUBTFUL."""
 
     @property
     def mask(self) -> Mask:
@@ -156,11 +159,12 @@ class Finding(NamedTuple):
 
 
 class Report(NamedTuple):
-    """The answer to a text, and every finding."""
+    """The answer to a text, and every finding.
+
+    findings: in the order of the lines of `vicinity report`; none for COMPLETE and REFUSED"""
 
     answer: Answer
     findings: list[Finding]
-    """In the order of the lines of `vicinity report`; none for COMPLETE and REFUSED."""
 
     def __str__(self) -> str:
         """What `vicinity report` writes, without its last LF."""
@@ -169,29 +173,31 @@ class Report(NamedTuple):
 
 
 class Weakest(NamedTuple):
-    """Where a list is weakest: a tag that isn't on it would have had to be missed least often."""
+    """Where a list is weakest: a tag that isn't on it would have had to be missed least often.
+
+    margin: in how many slots: a UID was overlooked in a slot in which its tag should have answered,
+        if that is logged as silent, or as the reply R of another
+    mask: the first mask, by length and then by value, of at most 56 bits, all of whose UIDs aren't
+        listed and were overlooked in so many slots
+    hidden: of a complete list the first mask of UIDs that aren't on it and could be there if each
+        reply R may have hidden others; None if it is complete even so
+    deaf: the same if, besides, the reader may have gone deaf after the last slot in which a tag
+        answered"""
 
     margin: int
-    """In how many slots: a UID was overlooked in a slot in which its tag should have answered,
-    if that is logged as silent, or as the reply R of another."""
     mask: Mask
-    """The first mask, by length and then by value, of at most 56 bits,
-    all of whose UIDs aren't listed and were overlooked in so many slots."""
     hidden: Optional[Mask] = None
-    """Of a complete list the first mask of UIDs that aren't on it and could be there
-    if each reply R may have hidden others; None if it is complete even so."""
     deaf: Optional[Mask] = None
-    """The same if, besides, the reader may have gone deaf after the last slot
-    in which a tag answered."""
 
 
 class Margin(NamedTuple):
-    """The answer to a text, and how sure it is."""
+    """The answer to a text, and how sure it is.
+
+    weakest: None if the text is refused or the log impossible. Of a complete list the margin is at
+        least 1; it is 0 if a tag that isn't listed may be there"""
 
     answer: Answer
     weakest: Optional[Weakest]
-    """None if the text is refused or the log impossible. Of a complete list the margin
-    is at least 1; it is 0 if a tag that isn't listed may be there."""
 
     def __str__(self) -> str:
         """What `vicinity margin` writes, without its last LF."""
@@ -205,10 +211,10 @@ class Margin(NamedTuple):
 
 
 class Simulation(NamedTuple):
-    """What `vicinity simulate` writes for a text, and its status."""
+    """What `vicinity simulate` writes for a text, and its status: 0 if that is a log, 3 if it is
+    the one line of a refusal."""
 
     status: int
-    """0 if `text` is a log, 3 if it is the one line of a refusal."""
     text: bytes
 
 

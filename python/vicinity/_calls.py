@@ -11,7 +11,7 @@ from typing import Any, Collection, Iterator, Sequence
 from ._answers import (Answer, Explanation, Fault, Finding, FindingKind, Kind, Margin, Mask, Report,
                        Simulation, Weakest)
 from ._native import (U64, AnswerStruct, BytesLike, FindingStruct, WeakestStruct, bytes_of, filled,
-                      library)
+                      library, text_of)
 from ._run import NO_ANSWER, run
 
 FIRST_ROOM = 64
@@ -19,16 +19,10 @@ FIRST_ROOM = 64
 PACKED_FINDING = struct.Struct("IIIIQQ")
 
 
-def _text(text: BytesLike) -> tuple[bytes, int]:
-    """A text as a call takes it."""
-    text = bytes_of(text)
-    return text, len(text)
-
-
 def _text_and_list(text: BytesLike, uids: Collection[int]) -> Sequence[Any]:
     """A text with a separate list."""
     listed = _numbers(uids)
-    return *_text(text), listed, len(listed)
+    return *text_of(text), listed, len(listed)
 
 
 def _numbers(uids: Collection[int]) -> ctypes.Array[ctypes.c_uint64]:
@@ -71,7 +65,7 @@ def check(text: BytesLike) -> Answer:
 
     Raises TypeError if the text isn't bytes or similar, MemoryError if memory is refused,
     and OSError if the shared library can't be loaded."""
-    return _answer(_asked("check", _text(text)))
+    return _answer(_asked("check", text_of(text)))
 
 
 def check_listed(text: BytesLike, uids: Collection[int]) -> Answer:
@@ -86,7 +80,7 @@ def check_listed(text: BytesLike, uids: Collection[int]) -> Answer:
 
 def explain(text: BytesLike) -> Explanation:
     """The answer to a text, and the UIDs of tags that show it. Raises what `check` raises."""
-    told, room, count = filled(partial(_asked, "explain", _text(text)), U64, FIRST_ROOM)
+    told, room, count = filled(partial(_asked, "explain", text_of(text)), U64, FIRST_ROOM)
     return Explanation(_answer(told), room[:count])
 
 
@@ -95,13 +89,13 @@ def explain_into(text: BytesLike, room: ctypes.Array[ctypes.c_uint64]) -> tuple[
     They are put at the start of the buffer `room` if they fit; otherwise it stays as it is.
     Raises what `check` raises."""
     needed = ctypes.c_size_t()
-    told = _asked("explain", _text(text), room, len(room), ctypes.byref(needed))
+    told = _asked("explain", text_of(text), room, len(room), ctypes.byref(needed))
     return _answer(told), needed.value
 
 
 def report(text: BytesLike) -> Report:
     """The answer to a text, and every finding. Raises what `check` raises."""
-    told, room, count = filled(partial(_asked, "report", _text(text)), FindingStruct, FIRST_ROOM)
+    told, room, count = filled(partial(_asked, "report", text_of(text)), FindingStruct, FIRST_ROOM)
     findings = memoryview(room).cast("B")[:count * PACKED_FINDING.size]
     kinds = {kind.value: kind for kind in FindingKind}  # quicker than a call for each
     return Report(_answer(told), [
@@ -112,7 +106,7 @@ def report(text: BytesLike) -> Report:
 def margin(text: BytesLike) -> Margin:
     """The answer to a text, and in how many slots a tag that isn't listed
     would have had to be missed. Raises what `check` raises."""
-    return _margin("margin", _text(text))
+    return _margin("margin", text_of(text))
 
 
 def margin_listed(text: BytesLike, uids: Collection[int]) -> Margin:
@@ -126,7 +120,7 @@ def simulate_into(text: BytesLike, room: ctypes.Array[ctypes.c_uint8]) -> tuple[
     They are put at the start of the buffer `room` if they fit; otherwise it stays as it is.
     Raises what `check` raises."""
     needed = ctypes.c_size_t()
-    status = library().vicinity_simulate(*_text(text), room, len(room), ctypes.byref(needed))
+    status = library().vicinity_simulate(*text_of(text), room, len(room), ctypes.byref(needed))
     if status == NO_ANSWER:
         raise MemoryError("vicinity: out of memory")
     return status, needed.value

@@ -13,24 +13,24 @@ from ._run import Written, run
 
 @dataclass(frozen=True)
 class Found:
-    """A tag that is there and that the catalogue hasn't. Logs go by their places, from 0."""
+    """A tag that is there and that the catalogue hasn't. Logs go by their places, from 0.
+
+    possible_in: without those in which it is certain
+    line: the line of the first of these logs that shows it"""
 
     uid: int
     certain_in: tuple[int, ...]
     possible_in: tuple[int, ...]
-    """Without those in which it is certain."""
     line: int
-    """The line of the first of these logs that shows it."""
 
 
 @dataclass(frozen=True)
 class Item:
-    """A row of the catalogue."""
+    """A row of the catalogue, and its state, named as in docs/COLLECTIONS.md."""
 
     line: int
     uid: Optional[int]
     state: str
-    """As docs/COLLECTIONS.md names it, such as "in place"."""
     place: Optional[str]
     away: bool
     certain_in: tuple[int, ...]
@@ -41,13 +41,14 @@ class Item:
 @dataclass(frozen=True)
 class Log:
     """What a log says of its field. One that contradicts itself or is refused says nothing,
-    and has only the first four."""
+    and has only the first four.
+
+    field: the second line of its survey: `possible`, `impossible at line 5`, .."""
 
     name: str
     place: Optional[str]
     left_over: bool
     field: str
-    """The second line of its survey, such as "possible"."""
     answers: int = 0
     certain: int = 0
     shared: int = 0
@@ -70,15 +71,16 @@ class Least:
 
 @dataclass(frozen=True)
 class Collection:
-    """What logs say of a catalogue. It is true if that is complete."""
+    """What logs say of a catalogue. It is true if that is complete.
+
+    counts: how many items there are of each state, and tags that the catalogue hasn't
+    ended: whether the catalogue ends by a line end: else it may have been cut"""
 
     status: int
     answer: str
     counts: Mapping[str, int]
-    """How many items there are of each state, and tags that the catalogue hasn't."""
     columns: tuple[str, ...]
     ended: bool
-    """Whether the catalogue ends by a line end: else it may have been cut."""
     items: tuple[Item, ...]
     unexpected: tuple[Found, ...]
     unsettled: Optional[Mask]

@@ -82,6 +82,12 @@ def bytes_of(text: BytesLike) -> bytes:
                         f"not {type(text).__name__}") from None
 
 
+def text_of(text: BytesLike) -> tuple[bytes, int]:
+    """A text, or a frame, as a call takes it."""
+    text = bytes_of(text)
+    return text, len(text)
+
+
 def room_of(place: Any, places: int) -> Any:
     """A buffer with that many elements, at least one, which takes memory only as it is filled."""
     try:

@@ -14,11 +14,11 @@ NO_ANSWER = 4
 
 
 class Written(NamedTuple):
-    """What the program writes to standard output, and its exit status."""
+    """What the program writes to standard output, and its exit status, 0 to 3, as of the
+    command."""
 
     text: bytes
     status: int
-    """0 to 3, as of the command."""
 
     def __bool__(self) -> bool:
         """An answer that isn't complete is one, too: so it is no condition."""

@@ -8,10 +8,10 @@ from typing import NamedTuple, Union
 
 from ._answers import Fault, Mask
 from ._native import (BytesLike, FrameStruct, LineStruct, MaskStruct, ReplyStruct, RequestStruct,
-                      bytes_of, library, name_of)
+                      library, name_of, text_of)
 
+#: The first line of a log.
 HEADER_LINE = b"vicinity-log 3\n"
-"""The first line of a log."""
 #: A UID in a text, and what may be among its digits,
 #: as spreadsheets and library systems write them.
 DIGITS = re.compile("'?(?:0[xX])?([0-9A-Fa-f]{16})")
@@ -77,22 +77,14 @@ class Reply(NamedTuple):
 
 def read_request(frame: BytesLike) -> Request:
     """The fields of a request's frame, CRC included. Raises FrameFault if it isn't one."""
-    told = _read("request", frame, RequestStruct())
+    told = _made("read_request", RequestStruct(), *text_of(frame))
     return Request(told.link, told.slots, Mask(told.mask_len, told.mask_value), told.uid)
 
 
 def read_response(frame: BytesLike) -> Reply:
     """The fields of a reply's frame, CRC included. Raises FrameFault if it isn't one."""
-    told = _read("response", frame, ReplyStruct())
+    told = _made("read_response", ReplyStruct(), *text_of(frame))
     return Reply(told.flags, told.dsfid, told.uid)
-
-
-def _read(kind: str, frame: BytesLike, told: ctypes.Structure) -> ctypes.Structure:
-    frame = bytes_of(frame)
-    fault = getattr(library(), f"vicinity_read_{kind}")(frame, len(frame), ctypes.byref(told))
-    if fault:
-        raise FrameFault(Fault(fault))
-    return told
 
 
 def write_inventory(link: int, slots: int, mask: Mask = Mask(0, 0)) -> bytes:
@@ -118,18 +110,16 @@ def write_response(flags: int, dsfid: int, uid: int) -> bytes:
 def add_crc(content: BytesLike) -> bytes:
     """At most 14 bytes with their CRC after them: a frame whose CRC the reader's chip removed.
     Raises ValueError if there are more."""
-    content = bytes_of(content)
-    return _frame("add_crc", content, len(content))
+    return _frame("add_crc", *text_of(content))
 
 
 def write_line(letter: str, frame: BytesLike = b"", uid: int = 0) -> bytes:
     """A line of a log, with its LF: "T", "R" or "H" with a frame of at most 63 bytes,
     which isn't judged, "U" with a UID, or only "S", "C", "D", "N" or "F".
     Raises ValueError, with the name of the refusal and what is asked, if there is no such line."""
-    frame = bytes_of(frame)
     if not (isinstance(letter, str) and len(letter) == 1 and letter.isascii()):
         raise ValueError(f"WrongLetter: {WANTED['WrongLetter']}, not {letter!r}")
-    return bytes(_made("write_line", LineStruct(), ord(letter), frame, len(frame), uid).text)
+    return bytes(_made("write_line", LineStruct(), ord(letter), *text_of(frame), uid).text)
 
 
 def slot_mask(slots: int, mask: Mask, slot: int) -> Mask:
@@ -148,7 +138,7 @@ def _frame(name: str, *given: Union[int, bytes]) -> bytes:
 
 
 def _made(name: str, told: ctypes.Structure, *given: Union[int, bytes]) -> ctypes.Structure:
-    """What a call writes of bytes, and of numbers that fit what C takes."""
+    """What a call reads or writes of bytes, and of numbers that fit what C takes."""
     call = getattr(library(), f"vicinity_{name}")
     for number, kind in zip(given, call.argtypes):
         if isinstance(number, bytes):
@@ -160,6 +150,8 @@ def _made(name: str, told: ctypes.Structure, *given: Union[int, bytes]) -> ctype
         if not 0 <= number < 1 << bits:
             raise ValueError(f"{number} isn't a number of {bits} bits")
     fault = call(*given, ctypes.byref(told))
+    if 0 < fault <= max(Fault):
+        raise FrameFault(Fault(fault))
     if fault:
         refusal = name_of("fault", fault)
         raise ValueError(f"{refusal}: {WANTED[refusal]}")
