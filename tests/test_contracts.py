@@ -16,7 +16,7 @@ from helpers.program import TOP
 from helpers.statements import File, load, reach
 
 LISTED = TOP / "tests/data/contracts.txt"
-OF_TESTS = {"tables", "uses", "vic_tests"}
+OF_TESTS = {"growths", "tables", "uses", "vic_tests"}
 BLOCK = re.compile(r"(?P<trait>pub trait|impl)\b(?:<.*?>)? *(?P<of>.* for )?(?P<type>\w+)")
 FUNCTION = re.compile(r"(?P<indent> *)(?P<open>pub )?(?:const )?(?:extern \"C\" )?fn (?P<name>\w+)")
 CLAUSE = re.compile(r" *(requires|ensures)\b")

@@ -5,7 +5,7 @@ ghost use Rattle.vic_answer.specs.CheckText.{HasCompleteList};
 ghost use Rattle.vic_numbers.specs.Numbers.{AreNumbersFor, no_answer};
 ghost use Rattle.vicinity_c.specs.Beside.{ListsBeside, with_listed};
 
-use crate::beside::with_listed;
+use crate::listed::with_listed;
 use std::alloc::Global;
 use vic_answer::judge_text;
 use vic_numbers::{NO_ANSWER, VicinityAnswer, numbers_of};

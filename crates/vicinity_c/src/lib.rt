@@ -4,7 +4,6 @@
 
 ghost use Rattle.std.specs.Prelude.{◌≡◌};
 
-mod beside;
 mod check;
 mod explain;
 mod fields;
@@ -12,6 +11,7 @@ mod frames;
 mod given;
 mod inventory;
 mod lines;
+mod listed;
 mod margins;
 mod names;
 mod report;

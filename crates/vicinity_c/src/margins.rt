@@ -6,7 +6,7 @@ ghost use Rattle.vic_numbers.specs.MarginNumbers as spec;
 ghost use Rattle.vic_numbers.specs.Numbers.{AreNumbersFor, no_answer};
 ghost use Rattle.vicinity_c.specs.Beside.{ListsBeside, with_listed};
 
-use crate::beside::with_listed;
+use crate::listed::with_listed;
 use std::alloc::Global;
 use vic_answer::{answer_of, answer_text};
 use vic_numbers::{NO_ANSWER, NO_WEAKEST, VicinityAnswer, VicinityWeakest, numbers_of, weakest_of};

@@ -1,6 +1,6 @@
 use Rattle.vicinity_c.proofs.Words.{◌≡◌, ℕ, ◌+◌, List, ◌++◌, drop, slice_index, ap, ◌∙◌, w64, listed_text, to_be_bytes, bytes_line}
 use Rattle.vicinity_c.proofs.ListedLines.{next_uid}
-use Rattle.vicinity_c.proofs.beside.with_listed.Goals as goal
+use Rattle.vicinity_c.proofs.listed.with_listed.Goals as goal
 
 pub loop-uid-preserved : goal.loop-uid-preserved
 loop-uid-preserved c =
