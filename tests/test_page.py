@@ -871,7 +871,7 @@ def test_a_log_of_a_collection_is_compared_with_its_catalogue(page):
     assert page.texts(".logs h3") == ["1 tag is here, and no other answered.", "No tag answered."]
     assert page.texts(".logs dt") == [
         "Search finished", "If the reader went deaf",
-        "Search finished", "Each other tag was asked", "If replies were hidden",
+        "Search finished", "Each tag was asked", "If replies were hidden",
         "If the reader went deaf"]
     assert page.texts(".logs h4").count("At the shelf") == 1
     assert page.texts(ROWS)[:2] == ["one.log", "not in the catalogue\nE0040100000000A1"]
