@@ -748,7 +748,7 @@ def test_several_logs_on_paper_are_a_record(page):
     page.run("window.dispatchEvent(new Event('beforeprint'))")
     for words in (f"one: complete 1 · SHA-256 {sha256(one).hexdigest()}",
                   f"two: absent E0040100000000A1 · SHA-256 {sha256(two).hexdigest()}",
-                  "Counted on", "Printed on "):
+                  "(2 files, by vicinity ", "Counted on", "Printed on "):
         assert words in page.said()
 
 
