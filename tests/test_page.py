@@ -748,7 +748,7 @@ def test_several_logs_on_paper_are_a_record(page):
     page.run("window.dispatchEvent(new Event('beforeprint'))")
     for words in (f"one: complete 1 · SHA-256 {sha256(one).hexdigest()}",
                   f"two: absent E0040100000000A1 · SHA-256 {sha256(two).hexdigest()}",
-                  "Counted on", "Printed on "):
+                  "(2 files, by vicinity ", "Counted on", "Printed on "):
         assert words in page.said()
 
 
@@ -871,7 +871,7 @@ def test_a_log_of_a_collection_is_compared_with_its_catalogue(page):
     assert page.texts(".logs h3") == ["1 tag is here, and no other answered.", "No tag answered."]
     assert page.texts(".logs dt") == [
         "Search finished", "If the reader went deaf",
-        "Search finished", "Each other tag was asked", "If replies were hidden",
+        "Search finished", "Each tag was asked", "If replies were hidden",
         "If the reader went deaf"]
     assert page.texts(".logs h4").count("At the shelf") == 1
     assert page.texts(ROWS)[:2] == ["one.log", "not in the catalogue\nE0040100000000A1"]

@@ -109,8 +109,20 @@ def cases(part):
     rng = random.Random(f"{SEED} {part}")
     for _ in range(NUMBER // PARTS):
         case = case_of(rng)
-        yield {re.sub(r"[/\\]", "-", name): case.files[name] for name in case.words
-               if name in case.files}
+        yield {re.sub(r"[/\\]", "-", name): heard_again(rng, case.files[name])
+               for name in case.words if name in case.files}
+
+
+def heard_again(rng, text):
+    """Of many logs of version 3 such that end with a tag that answers behind a field cycle."""
+    lines = text.split(b"\n")
+    heard = [line for line in lines if re.fullmatch(rb"[RH] [0-9A-F]{24}", line)]
+    if lines[0] != b"vicinity-log 3" or not heard or rng.random() < .3:
+        return text
+    uid = int.from_bytes(bytes.fromhex(heard[-1].decode()[2:])[2:9], "little")
+    end = next((at for at, line in enumerate(lines) if line[:1] == b"U"), len(lines) - 1)
+    last = [b"F", biglog.ask((56, uid)).encode(), b"H" + heard[-1][1:]]
+    return b"\n".join([*lines[:end], *last, *lines[end:]])
 
 
 @pytest.mark.slow
@@ -163,7 +175,7 @@ def compare(page, told):
         holds = not any(log.get(reading) for log in told["logs"])
         wanted = ("still complete" if holds else "others may be here") if is_complete else (
             "the answer may be wrong" if is_missing and not holds else None)
-        assert lights.get(light) == (None if "In some log" in lights else wanted), told
+        assert lights.get(light) == (None if "In some log" in lights and holds else wanted), told
     assert not is_complete or "and no others." not in headline or (
         lights["If the reader went deaf"] == "still complete")
     number = sum(told["counts"][state] for state in ("in place", "there"))
@@ -276,8 +288,8 @@ def test_a_catalogue_that_may_have_been_cut_off(page):
 def test_where_others_may_be_hidden_something_is_left_to_ask(page):
     drop(page, {**COMPLETE, "B.log": log_of("I1 RB")})
     assert page.texts(".lights dd")[0] == "1 of 2 logs"
-    assert page.texts("#told > details > summary")[:2] == [
-        "Ask all once more (1 log)", "Searched to the end (1 log)"]
+    assert page.texts("#told > details > summary")[:3] == [
+        "Ask all once more (1 log)", "Here (2 items)", "Searched to the end (1 log)"]
 
 
 def test_a_field_in_which_nothing_answered(page):
@@ -342,6 +354,7 @@ def test_an_item_that_only_a_log_of_no_place_proves(page):
     drop(page, {"books.csv": BOTH, "B.log": field(UID_B), "cart.log": field(UID_A)})
     assert page.texts("#told h1") == [
         "1 item heard in a log of no place; no log of A; cart.log is of no place."]
+    page.press("#told > details > summary")
     assert page.texts(".items :is(thead tr + tr, tbody tr)") == [
         "cart.log", "Emma\nA\nE0040100000000A1"]
     drop(page, {"B.log": field(UID_A, UID_B)})
@@ -351,8 +364,8 @@ def test_an_item_that_only_a_log_of_no_place_proves(page):
 
 
 @pytest.mark.parametrize(("uids", "words"), [
-    ([UID_A, UID_C], "All 2 tags that A-old.log proves are proved by A too."),
-    ([UID_A, UID_B], "1 of the 2 tags that A-old.log proves is proved by A too.")])
+    ([UID_A, UID_C], "All 2 tags that A-old.log proves are proved by A too: Emma and Kim."),
+    ([UID_A, UID_B], "1 of the 2 tags that A-old.log proves is proved by A too: Emma.")])
 def test_an_older_log_of_a_shelf(page, uids, words):
     """It says how many tags both prove, and what that may mean."""
     drop(page, {"books.csv": books((UID_A, ",A"), (UID_C, ",A")), "A.log": field(UID_A, UID_C),
@@ -419,7 +432,8 @@ def test_two_logs_of_one_place_are_called_by_their_files(page):
                 "p.csv": b"place,log\nB,B\nB,B_old\n", "B_old.log": field(UID_A, UID_B)})
     assert page.texts("#told h1") == ["All 2 expected items are in some log; but 2 tags are "
                                       "in both B.log and B_old.log."]
-    assert "All 2 tags that B_old.log proves are proved by B.log too." in page.texts(".doubts b")
+    assert "All 2 tags that B_old.log proves are proved by B.log too: Emma and Walden." in (
+        page.texts(".doubts b"))
 
 
 def test_until_it_is_said_which_of_two_counts_nothing_is_sure(page):
@@ -604,7 +618,7 @@ def test_no_catalogue_takes_a_pasted_log_in(page):
 def test_nothing_is_said_any_more_when_all_is_closed(page, files):
     """Neither in the banner nor in the title, to whoever doesn't see it, nor on paper."""
     drop(page, files)
-    page.wait(lambda: look(page) == "yes" or "Complete: 2 of 2." in page.run(TOLD))
+    page.wait(lambda: look(page) in ("yes", "read") or "Complete: 2 of 2." in page.run(TOLD))
     page.press("#close")
     wanted = "Did the RFID reader find every tag?"
     page.until("h1", wanted)
@@ -797,8 +811,8 @@ def test_a_copy_of_a_log_that_is_not_here(page):
 def test_a_table_of_places_that_names_no_log(page):
     """Without it each log is of the place after which it is named."""
     drop(page, {**COMPLETE, "places.csv": b"place,log\nA,shelf-a\nB,shelf-b\n"})
-    assert page.texts("h1") == ["2 items heard in a log of no place; A.log and B.log are of no "
-                                "place."]
+    assert page.texts("h1") == ["2 items heard in a log of no place; no log of A and B; A.log and "
+                                "B.log are of no place."]
     assert "places.csv names none of these logs" in page.texts(".doubts")[0]
     assert page.texts(".doubts button") == ["Leave out places.csv"]
     page.press(".doubts button")

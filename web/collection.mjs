@@ -130,8 +130,8 @@ export function collectionView(object, opener = () => null, canLeave = () => fal
     ...part("Without a tag", of("no tag"), true, NO_TAG, shelved(of("no tag"), shelves, home, {}, () => "look for")),
     ...part("Not counted", of("not counted"), false, NOT_COUNTED, shelved(of("not counted"), shelves, home)),
     ...part("Not known yet", others, false, UNKNOWN_YET + which, shelved(some, shelves, home, some.every(home) ? {} : mayBe)),
-    ...inPlace(object), ...listOf(of("in place", "there"), shelves), ...isKnown ? [] : rests,
-    ...drawn("Ask all once more", ONCE_AGAIN, done.filter((at) => hiding.includes(at)), false),
+    ...inPlace(object), ...isKnown ? [] : rests,
+    ...drawn("Ask all once more", ONCE_AGAIN, done.filter((at) => hiding.includes(at)), false), ...listOf(of("in place", "there"), shelves),
     ...drawn("Searched to the end", "", done.filter((at) => !hiding.includes(at)), false),
     ...grantedOfAll(object), recordOfAll(object)];
 }
@@ -275,7 +275,7 @@ function lights(object, summary) {
   const { counts, items, logs, without_log: places, margin } = object, here = found(object);
   const { hiding, deaf, isResting, isUnsettled, shelves: { isAsked: isPlaced } } = summary;
   const other = margin ? "others may be here" : "the answer may be wrong";
-  const sure = howSure(margin?.margin, "still complete", other, hiding.length > 0, deaf.length > 0);
+  const sure = howSure(isUnsettled ? undefined : margin?.margin, "still complete", other, hiding.length > 0, deaf.length > 0);
   const done = logs.filter((log) => !isOpen(log) && !log.hidden).length;
   if (!logs.length) return [];
   const more = (/** @type {number} */ number, /** @type {string} */ words) => number ? `, ${number.toLocaleString("en")} ${words}` : "";
@@ -286,7 +286,7 @@ function lights(object, summary) {
   const all = /** @type {import("./say.mjs").Light[]} */ ([
     { name: "Search finished", value: `${done.toLocaleString("en")} of ${count(logs.length, "log")}${lost}`, look: done === logs.length && !lost ? "yes" : "no" },
     { name: isUnsettled ? "In some log" : isPlaced ? "In place" : "Here", value,
-      look: here && here + counts.away === items.length ? "yes" : differs ? "no" : "plain" }, ...isResting && !isUnsettled ? sure : []]);
+      look: here && here + counts.away === items.length ? "yes" : differs ? "no" : "plain" }, ...isResting ? sure : []]);
   return all.map((it) => isUnsettled && it.look === "yes" ? { ...it, look: "plain" } : it);
 }
 
@@ -297,13 +297,13 @@ function lights(object, summary) {
  * @param {Summary} summary
  */
 function conditionsOfAll({ counts, margin, logs }, { shelves, open, hiding, deaf, isResting, isUnsettled }) {
-  if (isUnsettled || !isResting && !counts.unexpected) return [];
+  if (!isResting && !counts.unexpected) return [];
   // of what is to be counted again nothing else is asked
   const done = (/** @type {number[]} */ all) => all.filter((at) => !open.includes(at))
     .sort((one, other) => inOrder(shelves.name(one), shelves.name(other)));
   const once = done(hiding), heard = done(deaf);
-  const also = once.length ? `${mayBeWrong(` ${shelves.fields(once)},`)}.` : hiding.length ? "" : stillHolds(margin?.margin);
-  const sure = margin ? [HOLDS, ...missed(margin, ` ${shelves.fields([margin.log])}`)] : [];
+  const also = once.length ? `${mayBeWrong(` ${shelves.fields(once)},`)}.` : hiding.length || isUnsettled ? "" : stillHolds(margin?.margin);
+  const sure = margin && !isUnsettled ? [HOLDS, ...missed(margin, ` ${shelves.fields([margin.log])}`)] : [];
   const answered = heard.filter((at) => logs[at].answers), ifDeaf = answered.length ? deafIn(shelves.fields(answered)) : heard.length ? DEAF : "";
   const said = [...sure, also, ...isResting && ifDeaf ? [ifDeaf] : []].filter((it) => it);
   return [el("section", { class: "holds" }, said.map((it) => el("p", {}, it)))];

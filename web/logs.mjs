@@ -119,8 +119,9 @@ function leftOver({ logs, items, without_log, files, file }, asked) {
   const where = firstOf(without_log.map(printable), "and", MOST_LISTED), isTable = isNoneNamed({ logs, files, file }, asked);
   const [cure, more] = isNone ? [NO_PLACE, {}] : table && isTable
     ? [`${printable(table.file)} ${NONE_NAMED}`, leaving([{ name: table.file }])] : [RENAME, leaving(lost)];
-  return lost.length ? [{ short: `${firstOf(names)} ${lost.length === 1 ? "is" : "are"} of no place`,
-    words: `${count(lost.length, "log")} of no place: ${firstOf(names, "and", MOST_LISTED)}.${isTable ? ` No log is of ${where}.` : ""}`,
+  const [lacking, none] = isTable && where ? [`no log of ${firstOf(without_log.map(printable))}; `, ` No log is of ${where}.`] : ["", ""];
+  return lost.length ? [{ short: `${lacking}${firstOf(names)} ${lost.length === 1 ? "is" : "are"} of no place`,
+    words: `${count(lost.length, "log")} of no place: ${firstOf(names, "and", MOST_LISTED)}.${none}`,
     isFirst: true, cure, ...more }] : [];
 }
 

@@ -173,7 +173,11 @@ const logOf = ({ given }, name) => given?.logs.find((log) => log.name === name &
  * What is told of a log, with its text.
  * @param {Entry} log
  */
-const whole = async ({ name, text }) => (await work.ask({ name, text, isKept: true })).told;
+async function whole({ name, text, changed }) {
+  const { told } = await work.ask({ name, text, isKept: true });
+  if (told) told.object.changed = changed;
+  return told;
+}
 
 /**
  * What is told of a log of the collection that is shown, by its number: it is judged when it is asked for.

@@ -111,9 +111,10 @@ export function overview(entries, current) {
   const words = `${count(logs, "log")}${logs > 1 ? ", each with its own answer" : ""}.${how}${foreign ? ` ${count(foreign, "file isn't a log", "files aren't logs")}.` : ""}`;
   each.append(el(current < 0 ? "h1" : "p", {}, words), el("p", { class: "hint" }, TOGETHER));
   if (current >= 0) return;
+  const version = entries.flatMap(({ told }) => told ? `, by vicinity ${told.object.version}` : []).find((it) => it) ?? "";
   const sums = entries.flatMap(({ name, told }) => told ? [el("p", {}, `${printable(name)}: ${told.object.answer} · SHA-256 `,
     el("code", {}, told.object.sha256))] : []);
-  shown.replaceChildren(el("footer", { class: "record" }, ...sums, ...signed(words, count(many, "file"))));
+  shown.replaceChildren(el("footer", { class: "record" }, ...sums, ...signed(words, `${count(many, "file")}${version}`)));
   headed(words);
 }
 
