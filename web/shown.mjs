@@ -152,7 +152,7 @@ const kept = (logs) => logs.some(isLacking) ? [OPEN_AGAIN] : !logs.length ? []
  * @param {string} title
  * @param {string} words nothing of what is pale
  */
-export function headed(title, words = document.querySelector("#each h1, #told h1")?.textContent ?? "") {
+function headed(title, words = document.querySelector("#each h1, #told h1")?.textContent ?? "") {
   document.title = title;
   const said = at("said");
   if (said.textContent !== words) said.textContent = words;
