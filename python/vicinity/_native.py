@@ -120,7 +120,7 @@ def lacking() -> list[str]:
 def library() -> ctypes.CDLL:
     """The library, loaded once: the file that LIBVICINITY names,
     or the one that came with the package, or the installed one. Another version than that of the
-    package is refused, since it may lack what is mended in this one."""
+    package is refused, since it may lack what is fixed in this one."""
     within = os.path.join(os.path.dirname(os.path.abspath(__file__)), NAME)
     named = os.environ.get("LIBVICINITY")
     name = named or (within if os.path.exists(within) else NAME)
