@@ -7,8 +7,8 @@ import subprocess
 import sys
 from unittest import mock
 
-from cases import (ALL, ANSWERS, HEARD_A, LIST_A, NAMES, SILENCE_A, SIXTEEN, Command, command,
-                   least, log, on_a_terminal, within)
+from cases import (ALL, ALONE, ANSWERS, CAPTURED_A, HEARD_A, LIST_A, NAMES, SILENCE_A, SIXTEEN,
+                   Command, command, least, log, on_a_terminal, third, within)
 import vicinity.__main__
 
 COMPLETE = log(ALL + b"S\n")
@@ -134,6 +134,17 @@ class Words(Command):
             self.assertEqual(b"\33[" in on_a_terminal("show", self.names[1], **env)[0], colours)
         self.assertNotIn(b"\33", within("show", self.names[1])[0])
         self.assertNotIn(b"\33", on_a_terminal("show", self.names[1], TERM="dumb")[0])
+
+    def test_green_is_what_is_sure(self):
+        """A list that stays complete if replies were hidden, and if the reader went deaf; so does
+        one behind whose last silence a tag that was found answers again, after a field cycle."""
+        sure = third(ALONE + b"F\nT 260138A1000000000104618F\n" + HEARD_A + LIST_A)
+        hidden, deaf = third(ALL + CAPTURED_A + LIST_A), third(ALONE + LIST_A)
+        for text, colour in ((sure, b"1;32"), (deaf, b"1;34"), (COMPLETE, b"1;34"),
+                             (log(ALL + HEARD_A + LIST_A), b"1;34"), (hidden, b"1;33"),
+                             (log(ALL + b"S\n" + LIST_A), b"1;33")):
+            drawn = on_a_terminal("show", self.write("one.log", text))[0]
+            self.assertTrue(drawn.startswith(b"\33[%sm" % colour), drawn)
 
     def test_a_locale_without_unicode(self):
         for locale, is_ascii in (("C", True), ("POSIX", True), ("C.UTF-8", False)):

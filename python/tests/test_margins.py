@@ -14,7 +14,7 @@ TWICE = ALL + HEARD_A + SILENCE_A + ALL + b"S\n"
 ONCE_B = ALL + HEARD_A + SILENCE_A + SILENCE_B + ALL + b"S\n"
 #: B is heard, and all are asked three times more.
 OFTEN = ALL + HEARD_B + SILENCE_B + (ALL + b"S\n") * 3
-ASKED = "Each other tag was asked"
+ASKED = "tag was asked"
 
 
 class Calls(Command):
@@ -102,9 +102,9 @@ class Said(Command):
 
     def test_in_a_terminal(self):
         for lines, wanted in (
-                (TWICE + LIST_A, f"{ASKED}: 2 times or more"),
-                (ALL + b"S\n", f"{ASKED}: 1 time or more"),
-                (ONCE_B + LIST_A, f"{ASKED}: 1 time or more"),
+                (TWICE + LIST_A, f"Each other {ASKED}: 2 times or more"),
+                (ALL + b"S\n", f"Each {ASKED}: 1 time or more"),
+                (ONCE_B + LIST_A, f"Each other {ASKED}: 1 time or more"),
                 (OFTEN + LIST_A + LIST_B,
                  "line 3: absent E0040100000000A1 would have been missed in 4 slots"),
                 (ALL + b"S\n" + LIST_A,

@@ -29,6 +29,11 @@ ASK = ("To know whether a strong reply hid a weaker one, silence each tag that w
        "all in one slot, until none answers:")
 DEAF = ("To know whether the reader still heard at the end, switch the field off and on, write F, "
         "and ask for a tag that was found: it has to answer.")
+QUIET_A = SILENCE_A.decode().strip()
+#: Four tags, each read in a slot of its own, over which others may have been.
+FOUR = SIXTEEN + b"".join(
+    b"R %s\n" % hex_of(bytes.fromhex(f"00001{slot}000000000104E0")).encode() for slot in range(4)
+) + b"S\n" * 12
 #: Two tags, the first of which was read over the second: with R a contradiction, with H all tags.
 OVER = ALL + HEARD_A + SILENCE_A + ALL + HEARD_B + SILENCE_B + ALL + b"S\n" + LIST_A + LIST_B
 #: After the last silence, a tag that was found answers once more.
@@ -75,7 +80,8 @@ class Said(Command):
         for text, wanted, not_said in (
                 (log(ALONE + LIST_A), f"{hidden}: still complete; {deaf}: others may be here", ASK),
                 (b"vicinity-log 2\n" + CURED + LIST_A, f"{deaf}: still complete", "To know"),
-                (log(ALL + b"S\n"), f"{hidden}: still empty; {deaf}: others may be", "To know"),
+                (log(ALL + b"S\n"), f"Each tag was asked: 1 time or more; {hidden}: still empty; "
+                 f"{deaf}: tags may be here", "To know"),
                 (log(ALL + HEARD_A), f"{hidden}: others may be here; {deaf}: others", "still"),
                 (log(ALL + HEARD_A + LIST_A), f"{hidden}: others may be here", "and no other"),
                 (log(ALL + HEARD_A + LIST_B), f"{hidden}: the answer may be wrong", "still"),
@@ -90,9 +96,11 @@ class Said(Command):
         other = vicinity.write_line("T", vicinity.write_inventory(0, 1))
         alone, silenced = SIXTEEN + b"S\n" * 9, SILENCE_B + ALL + b"S\n"
         for text, *wanted in (
-                (log(ALL + HEARD_A), ASK, "T 260100F60A"),
-                (log(ALL + HEARD_A + LIST_A), ASK, "T 260100F60A"),
-                (log(other + HEARD_A + LIST_A), ASK, other.decode().strip()),
+                (log(ALL + HEARD_A), ASK, QUIET_A, "T 260100F60A"),
+                (log(ALL + HEARD_A + LIST_A), ASK, QUIET_A, "T 260100F60A"),
+                (log(other + HEARD_A + LIST_A), ASK,
+                 f"T {hex_of(bytes.fromhex('2002A1000000000104E0'))}", other.decode().strip()),
+                (log(FOUR), f"{ASK} (a Stay Quiet to each of 4 tags)", "T 260100F60A"),
                 (third(ALONE + LIST_A), DEAF, "F", "T 260138A1000000000104618F"),
                 (log(ALONE + LIST_A), DEAF + " That takes a log of version 2 or 3: one of "
                  "version 1 has no line for it."),
@@ -141,8 +149,9 @@ class Page(Command):
     def test_how_sure(self):
         for names, wanted in self.rows_of("sure", 12):
             said = dict(lights(Told(log_of(names))))
-            values = [said.get(name, "-") for name in (
-                "Each other tag was asked", "If replies were hidden", "If the reader went deaf")]
+            asked = said.get("Each other tag was asked", said.get("Each tag was asked", "-"))
+            values = [asked, *(said.get(name, "-") for name in (
+                "If replies were hidden", "If the reader went deaf"))]
             self.assertEqual(" / ".join(values), wanted, names)
 
 

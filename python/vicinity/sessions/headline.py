@@ -16,6 +16,7 @@ ANSWERS = SENTENCES["answers"]
 READ_AGAIN = (("captured", "hidden", "If replies were hidden"),
               ("deaf", "deaf", "If the reader went deaf"))
 STILL_COMPLETE, MAY_BE_HERE = "still complete", "others may be here"
+TAGS_MAY_BE_HERE = "tags may be here"
 
 
 def headline(told: Told) -> str:
@@ -90,13 +91,16 @@ def lights(told: Told) -> Iterator[tuple[str, str]]:
         "yes" if told.settles("captured") else "not known yet")
     yield "List", _list(told)
     if is_complete:
-        yield "Each other tag was asked", f"{count(told.said['margin'], 'time')} or more"
+        name = "Each other tag was asked" if told.answer.count else "Each tag was asked"
+        yield name, f"{count(told.said['margin'], 'time')} or more"
     for reading, _, name in READ_AGAIN:
         if is_complete and told.holds(reading):
             yield name, STILL_COMPLETE if told.answer.count else "still empty"
         elif told.is_shaken(reading):
             of_others = is_complete or not told.session.listed
-            yield name, MAY_BE_HERE if of_others else "the answer may be wrong"
+            is_empty = is_complete and not told.answer.count
+            yield name, (TAGS_MAY_BE_HERE if is_empty else MAY_BE_HERE if of_others else
+                         "the answer may be wrong")
 
 
 def _list(told: Told) -> str:

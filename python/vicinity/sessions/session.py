@@ -14,8 +14,8 @@ from typing import Container, Iterable, NamedTuple, Optional, Sequence
 from .._answers import Mask
 from .._objects import UID_BITS
 from .._sentences import Advice, advice
-from ..frames import (Request, read_request, read_response, slot_mask, write_inventory,
-                      write_line)
+from ..frames import (Request, read_request, read_response, slot_mask, write_inventory, write_line,
+                      write_stay_quiet)
 
 FIRST_REQUEST = re.compile(rb"^T ([0-9A-Fa-f]{2})", re.MULTILINE)
 #: The UID of a Stay Quiet.
@@ -134,10 +134,18 @@ class Session:
         return not self.text.startswith(b"vicinity-log 1")
 
     def ask(self, mask: Mask, slots: int = 1) -> str:
-        """The line that asks a mask, with the link of the log's requests."""
+        """The line that asks a mask."""
+        return write_line("T", write_inventory(self._link, slots, mask)).decode().rstrip()
+
+    def silence(self, uid: int) -> str:
+        """The line that silences a tag."""
+        return write_line("T", write_stay_quiet(self._link, uid)).decode().rstrip()
+
+    @property
+    def _link(self) -> int:
+        """The link of the log's requests."""
         first = FIRST_REQUEST.search(self.text)
-        link = int(first[1], 16) & LINK if first else ANY_LINK
-        return write_line("T", write_inventory(link, slots, mask)).decode().rstrip()
+        return int(first[1], 16) & LINK if first else ANY_LINK
 
     def cut_short(self, masks: Sequence[Mask]) -> list[Mask]:
         """What the last rounds asked that lack slots, if it has all these masks; else nothing."""

@@ -20,11 +20,14 @@ from .words import count, ending, meaning, span
 
 #: What replaces a sign outside ASCII.
 ASCII = {ord("·"): ".", ord("╳"): "X", ord("⋮"): ":"}
-ANSWER_COLOURS = ("1;32", "1;33", "1;31", "1;35")
+#: By the status of an answer; green is a list of which nothing is in doubt.
+ANSWER_COLOURS = ("1;34", "1;33", "1;31", "1;35")
+GREEN = "1;32"
 NAMED = "7"
 #: How many lines a picture has at most, what is found, what to send where rounds take the rest, and
-#: what signs mean.
+#: what signs mean; and how many tags are silenced in these lines.
 MOST, MOST_FOUND, MOST_SENT, MOST_LEGEND = 24, 6, 6, 2
+MOST_SILENCED = 3
 NO_BREAK = "\u00a0"
 #: The slots of a round, and how many columns each takes.
 SLOTS, CELL = 16, 3
@@ -60,7 +63,7 @@ class Look(NamedTuple):
 def show(told: Told, look: Look = Look()) -> Iterator[str]:
     """The lines of a picture: the page's headline and lights, the answer, findings, requests, and
     rounds with a legend."""
-    answer, colour = told.answer, ANSWER_COLOURS[told.answer.status]
+    answer, colour = told.answer, _colour(told)
     known = [f"{name}: {value}" for name, value in (*lights(told), ("Answer", answer.text))]
     head = [*(look.painted(line, colour) for line in look.wrapped(headline(told))),
             *look.joined(known, "; ")]
@@ -72,6 +75,13 @@ def show(told: Told, look: Look = Look()) -> Iterator[str]:
     parts = [head, findings, _few(sent, left - len(rounds) - 1), rounds, last]
     lines = "\n\n".join("\n".join(part) for part in parts if part).split("\n")
     yield from (line if look.utf8 else line.translate(ASCII) for line in lines)
+
+
+def _colour(told: Told) -> str:
+    """The colour of an answer: green only where its page is, for a list that stays complete if
+    replies were hidden and if the reader went deaf."""
+    is_sure = told.answer.is_complete and told.holds("captured") and told.holds("deaf")
+    return GREEN if is_sure and told.answer.count else ANSWER_COLOURS[told.answer.status]
 
 
 def _few(lines: Iterable[str], most: int) -> list[str]:
@@ -192,12 +202,22 @@ def _sent(told: Told, look: Look) -> Iterator[str]:
     elif left["count"] or told.answer.status > 1:
         return
     elif not told.settles("captured"):
-        yield from [*look.wrapped(REQUESTS["hidden"]), session.ask(Mask(0, 0))]
+        yield from [*look.wrapped(REQUESTS["hidden"]), *_silencing(told),
+                    session.ask(Mask(0, 0))]
     elif told.is_shaken("deaf") and certain["count"]:
         why = "" if session.has_cycles else f" {REQUESTS['noCycles']}"
         yield from look.wrapped(REQUESTS["heard"] + why)
         heard = Mask(UID_BITS, int(certain["uids"][0][2:], 16))
         yield from ["F", session.ask(heard)] if session.has_cycles else ()
+
+
+def _silencing(told: Told) -> Iterator[str]:
+    """The Stay Quiets for the tags that are certain, or that each of these is to get one."""
+    certain = told.said["certain"]
+    if certain["count"] > MOST_SILENCED:
+        yield f"(a Stay Quiet to each of {certain['count']:,} tags)"
+    else:
+        yield from (told.session.silence(int(uid, 16)) for uid in certain["uids"])
 
 
 def _asking(lines: Iterable[str], look: Look) -> Iterator[str]:
