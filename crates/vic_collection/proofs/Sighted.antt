@@ -1,7 +1,7 @@
 -- The sightings of one UID.
 use Rattle.std.proofs.Common.{Bool, List, [], ap, arith, cond, drop, false, get_or, length, map, nat_eq, refl, sym, take, true, ℕ, ◌++◌, ◌+◌, ◌-◌, ◌<◌, ◌∙◌, ◌∷◌, ◌≡◌, ◌≤◌, zero, suc, ◌&&◌, not}
-use Rattle.std.proofs.Common.{ltb, leb, inl, inr}
-use Rattle.std.proofs.lemmas.Bool.{cases_lt, ltb-true, ltb-false, leb-true, leb-false, ne_eqb, eq-eqb}
+use Rattle.std.proofs.Common.{ltb, inl, inr}
+use Rattle.std.proofs.lemmas.Bool.{cases_lt, ltb-true, ltb-false, ne_eqb, eq-eqb}
 use Rattle.std.proofs.lemmas.Bool.Decides.{nat_tests}
 use Rattle.std.specs.List.{filter}
 use Rattle.std.specs.List.Sorted.{IsPartitionPoint, ties}
@@ -61,18 +61,20 @@ module _ {X : Type 0} (n : X → ℕ) (u : ℕ) where
       skipped x xs (ne_eqb u (n x) (λ e. omega (arith, e, first)))
       ∙ stand xs zero zero (omega arith) (λ k d l. absurd (omega (arith, l))) (λ k d l h. absurd (omega (arith, h))) (λ k d l h. high (suc k) d (omega arith) (omega (arith, h)))
 
-  -- where two searches end: behind those below the number, and behind those up to it
-  pub found_between : (xs : List X) (from to : ℕ) (e : X) → IsPartitionPoint (λ y. ltb (n y) u ≡ true) (λ y. ltb (n y) u ≡ false) xs from → IsPartitionPoint (λ y. leb (n y) u ≡ true) (λ y. leb (n y) u ≡ false) xs to → from ≤ length xs → to ≤ length xs
+  -- where the numbers below one end, as a search tells it
+  pub below_from_search : (xs : List X) (from : ℕ) → IsPartitionPoint (λ y. ltb (n y) u ≡ true) (λ y. ltb (n y) u ≡ false) xs from → IsPartitionPoint (λ y. n y < u) (λ y. u ≤ n y) xs from
+  below_from_search xs from below = (λ k d l h. ltb-true _ _ (below.0 k d l h), λ k d l h. ltb-false _ _ (below.1 k d l h))
+
+  -- between the end of the numbers below one, and that of those up to it
+  pub found_between : (xs : List X) (from to : ℕ) → IsPartitionPoint (λ y. n y < u) (λ y. u ≤ n y) xs from → IsPartitionPoint (λ y. n y ≤ u) (λ y. u < n y) xs to → from ≤ length xs → to ≤ length xs → (e : X)
       → (from ≤ to) × (take (to - from) (drop from xs) ≡ filter (λ x. nat_eq u (n x)) xs)
-  found_between xs from to e below upto within bound =
-      let low : (k : ℕ) (d : X) → k < from → n (get_or xs k d) < u = λ k d l. ltb-true _ _ (below.0 k d (omega arith) l) in
-      let high : (k : ℕ) (d : X) → to ≤ k → k < length xs → u < n (get_or xs k d) = λ k d l h. leb-false _ _ (upto.1 k d l h) in
+  found_between xs from to below upto within bound e =
       let mid : (k : ℕ) (d : X) → from ≤ k → k < to → n (get_or xs k d) ≡ u = λ k d l h.
-      let least = ltb-false _ _ (below.1 k d l (omega (arith, h, bound))) in
-      let most = leb-true _ _ (upto.0 k d (omega arith) h) in
+      let least = below.1 k d l (omega (arith, h, bound)) in
+      let most = upto.0 k d (omega arith) h in
       omega (arith, least, most) in
       let order : from ≤ to = elim (cases_lt to from) [
-        | inl l ↦ let one = low to e l in let other = high to e (omega arith) (omega (arith, l, within)) in absurd (omega (arith, one, other))
+        | inl l ↦ let one = below.0 to e (omega arith) l in let other = upto.1 to e (omega arith) (omega (arith, l, within)) in absurd (omega (arith, one, other))
         | inr l ↦ l
       ] in
-      (order, sym (stand xs from (to - from) (omega (arith, order, bound)) low (λ k d l h. mid k d l (omega (arith, h, order))) (λ k d l h. high k d (omega (arith, l, order)) h)))
+      (order, sym (stand xs from (to - from) (omega (arith, order, bound)) (λ k d l. below.0 k d (omega arith) l) (λ k d l h. mid k d l (omega (arith, h, order))) (λ k d l h. upto.1 k d (omega (arith, l, order)) h)))

@@ -1,8 +1,9 @@
 //! In which logs UIDs are certain.
 
-ghost use Rattle.std.specs.Prelude.{◌≡◌, ◌≤◌, ℕ, length, map, nat_eq, slice_range, IfOk};
+ghost use Rattle.std.specs.Prelude.{◌≡◌, ◌≤◌, ◌<◌, ℕ, length, map, nat_eq, slice_range, IfOk};
 ghost use Rattle.std.specs.List.{filter};
-ghost use Rattle.std.specs.List.Sorted.{IsNonDecreasingBy};
+ghost use Rattle.std.specs.List.{AllWithin};
+ghost use Rattle.std.specs.List.Sorted.{IsNonDecreasingBy, IsPartitionPoint};
 ghost use Rattle.vic_collection.specs.inner.Told.{logs_with};
 
 use std::alloc::{AllocError, Global};
@@ -69,8 +70,26 @@ fn bounds(sightings: &[Sighting], uid: Uid) -> (usize, usize)
         ≡ filter (λ s. nat_eq uid s.uid) sightings.now }
 {
     let from = sightings.partition_point(|sighting| sighting.uid < uid);
-    let to = sightings.partition_point(|sighting| sighting.uid <= uid);
-    (from, to)
+    (from, end_of(sightings, uid, from))
+}
+
+/// Up to which index the sightings of a UID stand, from an index on before which all are lower.
+/// Mostly there is one, or none, so they are counted and not searched.
+fn end_of(sightings: &[Sighting], uid: Uid, from: usize) -> usize
+    requires rising { IsNonDecreasingBy (λ s. s.uid) sightings.now }
+    requires bound { from ≤ length sightings.now }
+    requires before { AllWithin (λ s. s.uid ≤ uid) sightings.now 0 from }
+    ensures bound { result ≤ length sightings.now }
+    ensures end { IsPartitionPoint (λ s. s.uid ≤ uid) (λ s. uid < s.uid) sightings.now result }
+{
+    let number = uid.number();
+    for index in from..sightings.len() {
+        let other = sightings[index].uid.number();
+        if other > number {
+            return index;
+        }
+    }
+    sightings.len()
 }
 
 /// The log of each sighting.
