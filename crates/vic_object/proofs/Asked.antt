@@ -1,8 +1,9 @@
 -- What asks for masks, step by step.
-use Rattle.std.proofs.Common.{◌≡◌, ◌∙◌, ℕ, zero, suc, ◌+◌, ◌-◌, ◌*◌, ◌%◌, ◌^◌, ◌<◌, ◌==◌, ◌&&◌, ◌||◌, ◌++◌, ◌∷◌, [], Bool, true, false, Option, Some, List, add-one, ap, refl, sym, subst, arith, get_or, slice_get, inl, inr, if◌then◌else◌}
+use Rattle.std.proofs.Common.{◌≡◌, ◌∙◌, ℕ, zero, suc, ◌+◌, ◌-◌, ◌*◌, ◌%◌, ◌^◌, ◌<◌, ◌==◌, ◌&&◌, ◌||◌, ◌++◌, ◌∷◌, [], Bool, true, false, Option, Some, None, List, length, add-one, ap, refl, sym, subst, arith, get_or, slice_get, inl, inr, if◌then◌else◌}
 use Rattle.std.specs.List.{Contains}
 use Rattle.std.proofs.Common.{add_comm, eq-eqb, eqb-true, pow-add}
 use Rattle.std.proofs.lemmas.Bool.{cases_lt}
+use Rattle.std.proofs.lemmas.Bool.Decides.{nat_tests}
 use Rattle.std.proofs.lemmas.Nat.{mod_low, mul-le}
 use Rattle.vic_frame.proofs.MaskLaws.{mod_mod_pow}
 use Rattle.std.proofs.lemmas.List.Elements.{Contains-append_cases}
@@ -11,7 +12,7 @@ use Rattle.vic_frame.specs.declared.request.Request.{Request}
 use Rattle.vic_frame.specs.declared.request.Request.TheVariants.{Inventory}
 use Rattle.vic_log.specs.Rounds.{mask_at}
 use Rattle.vic_log.specs.declared.entry.Entry.{Entry}
-use Rattle.vic_object.specs.Asking.{asks_in, collided_before, has_collided, has_collided_below, is_collision, is_mask_of, of_slots}
+use Rattle.vic_object.specs.Asking.{asks_in, collided_before, collided_within_before, has_collided, has_collided_below, has_collided_within, is_collision, is_mask_of, is_one_within, is_same, is_within, of_slots}
 
 -- ---- where tags collided
 
@@ -43,6 +44,27 @@ no_slot es m (suc n) k h lt =
           subst (λ j. has_collided es (slot_of_sixteen m j) ≡ false) same both.0
     ]
 
+-- where tags collided in a mask, they did within it
+same_within : (m n : BitMask) → is_same n m ≡ true → is_within m n ≡ true
+same_within m n h = grind (arith, nat_tests)
+
+one_within : (o : Option BitMask) (m : BitMask) → is_mask_of o m ≡ true → is_one_within o m ≡ true
+one_within None m h = absurd (cc h)
+one_within (Some n) m h = same_within m n h
+
+within_or : (a b c d x : Bool) → (b ≡ true → c ≡ true) → (d ≡ true → x ≡ true) → ((a && c) || x) ≡ false → ((a && b) || d) ≡ false
+within_or a b c d x one rest h = grind (arith, nat_tests)
+
+none_before : (es : List Entry) (i : ℕ) (m : BitMask) → collided_within_before es i m ≡ false → collided_before es i m ≡ false
+none_before es zero m h = refl
+none_before es (suc i) m h = let here = one_within (mask_at es i) m in let earlier = none_before es i m in grind (arith, nat_tests, here, earlier)
+
+pub none_within : (es : List Entry) (m : BitMask) → has_collided_within es m ≡ false → has_collided es m ≡ false
+none_within es m h = none_before es (length es) m h
+
+pub within_more : (es : List Entry) (i : ℕ) (e : Entry) (n : Option BitMask) (m : BitMask) (new old : Bool) → slice_get es i ≡ Some e → n ≡ mask_at es i → new ≡ ((is_collision (Some e) && is_one_within n m) || old) → old ≡ collided_within_before es i m → new ≡ collided_within_before es (i + 1) m
+within_more es i e n m new old here mask is before = is ∙ rw (add-one, here, mask, before) refl
+
 -- ---- what asks for a mask
 
 pub no_slots : (f : BitMask → List Request) (m : BitMask) → of_slots f m 0 ≡ []
@@ -59,7 +81,7 @@ asks_parted es (suc n) link m some h =
     let back : suc n - 1 ≡ n = omega arith in
     rw (h, back) refl
 
-pub asks_one : (es : List Entry) (t link : ℕ) (m : BitMask) → 0 < t → has_collided_below es m 16 ≡ false → asks_in es t link m ≡ Inventory link (m.len == 0 || has_collided es m) m ∷ []
+pub asks_one : (es : List Entry) (t link : ℕ) (m : BitMask) → 0 < t → has_collided_below es m 16 ≡ false → asks_in es t link m ≡ Inventory link (m.len == 0 || has_collided_within es m) m ∷ []
 asks_one es zero link m some h = absurd (omega (arith, some))
 asks_one es (suc n) link m some h = rw h refl
 
@@ -103,13 +125,13 @@ pub record IsAsk (es : List Entry) (m : BitMask) (q : Request) : Type 0 where
   pub mask : BitMask
   pub is : q ≡ Inventory link sixteen mask
   pub parts : sixteen ≡ true → has_collided_below es mask 16 ≡ false
-  pub one : sixteen ≡ false → has_collided es mask ≡ false
+  pub one : sixteen ≡ false → has_collided_within es mask ≡ false
   pub within : Fits m → Fits mask × ((u : ℕ) → lies_in mask u ≡ true → lies_in m u ≡ true)
 
 pub asked_is : (es : List Entry) (n link : ℕ) (m : BitMask) (q : Request) → Contains (asks_in es n link m) q → IsAsk es m q
 asked_is es zero link m q c = absurd (omega (arith, c.1))
 asked_is es (suc n) link m q c = by_test (λ m' h. asked_is es n link m' q h) (has_collided_below es m 16) refl c where
-  by_test : ((m' : BitMask) → Contains (asks_in es n link m') q → IsAsk es m' q) → (b : Bool) → has_collided_below es m 16 ≡ b → Contains (if b then of_slots (asks_in es n link) m 16 else Inventory link (m.len == 0 || has_collided es m) m ∷ []) q → IsAsk es m q
+  by_test : ((m' : BitMask) → Contains (asks_in es n link m') q → IsAsk es m' q) → (b : Bool) → has_collided_below es m 16 ≡ b → Contains (if b then of_slots (asks_in es n link) m 16 else Inventory link (m.len == 0 || has_collided_within es m) m ∷ []) q → IsAsk es m q
   by_test each true e c =
       let s = slot_has (asks_in es n link) m 16 q c in
       let r = each (slot_of_sixteen m s.0) s.2 in
@@ -126,10 +148,10 @@ asked_is es (suc n) link m q c = by_test (λ m' h. asked_is es n link m' q h) (h
       }
   by_test each false e c = record {
     link = link;
-    sixteen = m.len == 0 || has_collided es m;
+    sixteen = m.len == 0 || has_collided_within es m;
     mask = m;
     is = only _ q c;
     parts = λ t. e;
-    one = λ f. (neither (m.len == 0) (has_collided es m) f).1;
+    one = λ f. (neither (m.len == 0) (has_collided_within es m) f).1;
     within = λ fits. (fits, λ u h. h);
   }

@@ -1,5 +1,5 @@
 -- What asks for open masks asks only open UIDs.
-use Rattle.std.proofs.Common.{◌≡◌, ◌∙◌, ℕ, ◌-◌, ◌/◌, ◌<◌, Bool, true, false, List, ap, refl, sym, subst, arith, map, take, length-take, get_or}
+use Rattle.std.proofs.Common.{rules, ◌≡◌, ◌∙◌, ℕ, ◌-◌, ◌/◌, ◌<◌, Bool, true, false, List, ap, refl, sym, subst, arith, map, take, length-take, get_or}
 use Rattle.std.specs.List.{Contains}
 use Rattle.std.proofs.lemmas.List.{get_or-map, get_or-take, length-map}
 use Rattle.std.proofs.lemmas.List.Elements.{All-contains}
@@ -13,9 +13,9 @@ use Rattle.vic_tree.specs.OpenMasks.{IsOpenMask}
 use Rattle.vic_verdict.specs.Possible.{IsPossible}
 use Rattle.vic_log.specs.declared.entry.Entry.{Entry}
 use Rattle.vic_frame.specs.declared.request.Request.{Request}
-use Rattle.vic_object.specs.Asking.{AsksNoneAgain, AsksOnlyOpen, asks_for, has_collided, has_collided_below}
+use Rattle.vic_object.specs.Asking.{AsksNoneAgain, AsksNoneInVain, AsksOnlyOpen, asks_for, has_collided, has_collided_below, has_collided_within}
 use Rattle.vic_object.specs.Told.{IsFieldTold, link_of}
-use Rattle.vic_object.proofs.Asked.{Fits, IsAsk, asked_is, no_slot, slot_within}
+use Rattle.vic_object.proofs.Asked.{Fits, IsAsk, asked_is, no_slot, none_within, slot_within}
 use Rattle.vic_object.specs.declared.told.AskedMask.{AskedMask}
 use Rattle.vic_object.specs.declared.told.FieldTold.{FieldTold}
 
@@ -50,9 +50,9 @@ in_slot link false m k u fits h = h
 
 pub asked_open : (lines : List LogLine) (f : FieldTold) (a : AskedMask) → IsPossible (entries lines) → IsFieldTold lines f → Contains f.asked.items a → AsksOnlyOpen (entries lines) a.requests.items
 asked_open lines f a possible told c q k u of k_in i h =
-    let there : Contains f.«open».items a.mask = of_first 1000 f.«open».items a.mask (subst (λ ms. Contains ms a.mask) told.asked (mapped (λ (x : AskedMask). x.mask) f.asked.items a c)) in
-    let masks = told.masks.0 possible in
-    let is = All-contains (IsOpenMask masks.set) f.«open».items a.mask masks.all.wanted there in
+    let there : Contains told.all a.mask = of_first 1000 told.all a.mask (subst (λ ms. Contains ms a.mask) told.asked (mapped (λ (x : AskedMask). x.mask) f.asked.items a c)) in
+    let masks = told.are_all.0 possible in
+    let is = All-contains (IsOpenMask masks.set) told.all a.mask masks.all.wanted there in
     let one = asked_of lines f a q told c of in
     let part = one.within is.is_mask.1 in
     let inside : lies_in a.mask u ≡ true = part.1 u (in_slot one.link one.sixteen one.mask k u part.0 (subst (λ r. lies_in (mask_in r k) u ≡ true) one.is h)) in
@@ -67,4 +67,16 @@ pub asked_new : (lines : List LogLine) (f : FieldTold) (a : AskedMask) → IsFie
 asked_new lines f a told c q k of lt =
     let one = asked_of lines f a q told c of in
     subst (λ r. has_collided (entries lines) (mask_in r k) ≡ false) (sym one.is)
-    (no_slot_of (entries lines) one.link one.sixteen one.mask k one.parts one.one (subst (λ r. k < slot_count r) one.is lt))
+    (no_slot_of (entries lines) one.link one.sixteen one.mask k one.parts (λ f. none_within (entries lines) one.mask (one.one f)) (subst (λ r. k < slot_count r) one.is lt))
+
+-- no one slot has a collision within its mask
+one_slot_of : (es : List Entry) (l link : ℕ) (b : Bool) (x m : BitMask) → (b ≡ false → has_collided_within es x ≡ false) → Inventory link false m ≡ Inventory l b x → has_collided_within es m ≡ false
+one_slot_of es l link b x m one e =
+    let same : m ≡ x = search rules in
+    let none : b ≡ false = search rules in
+    rw same (one none)
+
+pub asked_hopeful : (lines : List LogLine) (f : FieldTold) (a : AskedMask) → IsFieldTold lines f → Contains f.asked.items a → AsksNoneInVain (entries lines) a.requests.items
+asked_hopeful lines f a told c link m of =
+    let one = asked_of lines f a (Inventory link false m) told c of in
+    one_slot_of (entries lines) one.link link one.sixteen one.mask m one.one one.is

@@ -4,3 +4,6 @@ mod Measured
 mod FieldMade
 mod Asked
 mod AskingLaws
+mod Completes
+mod Within
+mod Searched

@@ -1,5 +1,5 @@
 -- What asks for open masks, and what requests ask.
-use Rattle.std.specs.Prelude.{◌≡◌, ℕ, zero, suc, ◌-◌, ◌/◌, ◌<◌, ◌==◌, ◌&&◌, ◌||◌, ◌++◌, ◌∷◌, [], Bool, true, false, Option, Some, None, List, length, slice_get, if◌then◌else◌}
+use Rattle.std.specs.Prelude.{◌≡◌, ℕ, zero, suc, ◌-◌, ◌/◌, ◌%◌, ◌^◌, ◌<◌, ◌==◌, ◌&&◌, ◌||◌, ◌++◌, ◌∷◌, [], Bool, true, false, Option, Some, None, List, length, nat_lt, slice_get, if◌then◌else◌}
 use Rattle.std.specs.List.{Contains}
 use Rattle.vic_frame.specs.Masks.{BitMask, lies_in, slot_of_sixteen}
 use Rattle.vic_frame.specs.Slots.{mask_in, slot_count}
@@ -32,6 +32,25 @@ collided_before es zero m = false
 collided_before es (suc i) m =
     (is_collision (slice_get es i) && is_mask_of (mask_at es i) m) || collided_before es i m
 
+-- the second mask lies within the first: it is the same, or it has more bits, and ends in its bits
+abbrev pub is_within : BitMask → BitMask → Bool
+is_within m n = is_same m n || (nat_lt m.len n.len && (n.value % 2 ^ m.len == m.value))
+
+abbrev pub is_one_within : Option BitMask → BitMask → Bool
+is_one_within (Some n) m = is_within m n
+is_one_within None m = false
+
+-- before a position tags collided in a slot whose mask lies within this one
+abbrev pub collided_within_before : List Entry → ℕ → BitMask → Bool
+collided_within_before es zero m = false
+collided_within_before es (suc i) m =
+    (is_collision (slice_get es i) && is_one_within (mask_at es i) m)
+    || collided_within_before es i m
+
+-- tags collided in a slot whose mask lies within this one
+abbrev pub has_collided_within : List Entry → BitMask → Bool
+has_collided_within es m = collided_within_before es (length es) m
+
 -- tags collided in a slot with this mask
 abbrev pub has_collided : List Entry → BitMask → Bool
 has_collided es m = collided_before es (length es) m
@@ -51,12 +70,12 @@ of_slots asks m (suc k) = of_slots asks m k ++ asks (slot_of_sixteen m k)
 
 -- what asks for a mask, which sixteen slots part so often at most: the same for each of these, if
 -- tags collided in one of them; sixteen slots for the mask of all tags, and where tags collided in
--- one slot; else one slot
+-- it or within it; else one slot
 abbrev pub asks_in : List Entry → ℕ → ℕ → BitMask → List Request
 asks_in es zero link m = []
 asks_in es (suc n) link m =
     if has_collided_below es m 16 then of_slots (asks_in es n link) m 16
-    else Inventory link (m.len == 0 || has_collided es m) m ∷ []
+    else Inventory link (m.len == 0 || has_collided_within es m) m ∷ []
 
 -- what asks for an open mask: its UIDs are apart once 56 bits are known
 abbrev pub asks_for : List Entry → ℕ → BitMask → List Request
@@ -75,3 +94,9 @@ abbrev pub AsksNoneAgain : List Entry → List Request → Type 0
 AsksNoneAgain es qs =
     (q : Request) (k : ℕ) → Contains qs q → k < slot_count q
     → has_collided es (mask_in q k) ≡ false
+
+-- in no request of one slot tags are sure to collide: they didn't in its mask, nor within it
+abbrev pub AsksNoneInVain : List Entry → List Request → Type 0
+AsksNoneInVain es qs =
+    (link : ℕ) (m : BitMask) → Contains qs (Inventory link false m)
+    → has_collided_within es m ≡ false

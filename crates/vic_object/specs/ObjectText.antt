@@ -71,7 +71,7 @@ reread_object asked r = reread_members r ++ settled_member asked r.settled
 
 -- that is asked where there are findings, and no UID is open
 abbrev pub has_no_open : LogReport → FieldTold → Bool
-has_no_open (report.NotWhole f) field = length field.«open».items == 0
+has_no_open (report.NotWhole f) field = field.masks == 0
 has_no_open (report.Impossible c) field = false
 has_no_open (report.Complete count) field = false
 
@@ -128,8 +128,8 @@ certain_object us =
 
 abbrev pub open_object : FieldTold → List ℕ
 open_object f =
-    codes "{\"count\":" ++ decimal (length f.«open».items) ++ codes ",\"uids\":\""
-    ++ decimal f.uids ++ codes "\",\"masks\":" ++ json_list (map asked_object f.asked.items)
+    codes "{\"count\":" ++ decimal f.masks ++ codes ",\"uids\":\"" ++ decimal f.uids
+    ++ codes "\",\"masks\":" ++ json_list (map asked_object f.asked.items)
     ++ codes "}"
 
 abbrev pub field_members : FieldTold → List ℕ

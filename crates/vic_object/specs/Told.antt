@@ -1,7 +1,6 @@
 -- What the object of a log tells: the report on the log, what its two cautious readings say of the
 -- same list, and what it says of its field, whatever it lists.
-use Rattle.std.specs.Prelude.{◌≡◌, ◌↔◌, ℕ, ◌%◌, ◌-◌, ◌^◌, Bool, true, Option, Some, None, List, [], ◌∷◌, ⊤, map, sum, take}
-use Rattle.vic_frame.specs.declared.uid.TheConstants.{UID_BITS}
+use Rattle.std.specs.Prelude.{◌≡◌, ◌↔◌, ℕ, ◌%◌, Bool, true, Option, Some, None, List, [], ◌∷◌, ⊤, length, map, sum, take}
 use Rattle.vic_frame.specs.declared.request.Request.{Request}
 use Rattle.vic_frame.specs.declared.request.Request.TheVariants.{Inventory, StayQuiet}
 use Rattle.vic_frame.specs.Masks.{BitMask, least_uid_in}
@@ -11,6 +10,7 @@ use Rattle.vic_log.specs.Order.{entries, numbers}
 use Rattle.vic_log.specs.declared.entry.Entry.{Entry}
 use Rattle.vic_log.specs.declared.entry.Entry.TheVariants.{Sent}
 use Rattle.vic_log.specs.declared.entry.LogLine.{LogLine}
+use Rattle.vic_tree.specs.Counted.{size_of}
 use Rattle.vic_tree.specs.OpenMasks.{AreAll, IsOpenMask}
 use Rattle.vic_verdict.specs.Differences.{IsUndecided}
 use Rattle.vic_verdict.specs.Possible.{IsCertainUid, IsPossible, IsPossibleUid}
@@ -77,10 +77,6 @@ pub record AreAllOpen (lines : List LogLine) (ms : List BitMask) : Type 0 where
 abbrev pub AreOpenIn : List LogLine → List BitMask → Type 0
 AreOpenIn lines ms = WherePossible lines (AreAllOpen lines ms) (ms ≡ [])
 
--- how many UIDs a mask of at most 56 bits has
-abbrev pub size_of : BitMask → ℕ
-size_of m = 2 ^ (UID_BITS - m.len)
-
 -- the link of a request, and that of the first request of entries; 2, high data rate and one
 -- sub-carrier, if there is none
 abbrev pub link_in : Request → ℕ
@@ -92,16 +88,17 @@ link_of [] = 2
 link_of (Sent q ∷ es) = link_in q
 link_of (e ∷ es) = link_of es
 
--- what a log says of its field, nothing if it is impossible: its certain UIDs, its open masks, how
--- many UIDs these have, and what asks for the first of them
+-- what a log says of its field, nothing if it is impossible: its certain UIDs, how many masks are
+-- open and how many UIDs these have, and what asks for the first of them
 pub record IsFieldTold (lines : List LogLine) (f : FieldTold) : Type 0 where
   pub certain : AreCertainIn lines f.certain.items
-  pub masks : AreOpenIn lines f.«open».items
-  pub uids : f.uids ≡ sum (map size_of f.«open».items)
-  pub asked : map (λ a. a.mask) f.asked.items ≡ take MOST_TOLD f.«open».items
+  pub all : List BitMask
+  pub are_all : AreOpenIn lines all
+  pub masks : f.masks ≡ length all
+  pub uids : f.uids ≡ sum (map size_of all)
+  pub asked : map (λ a. a.mask) f.asked.items ≡ take MOST_TOLD all
   pub requests : map (λ a. a.requests.items) f.asked.items
-      ≡ map (asks_for (entries lines) (link_of (entries lines)))
-      (take MOST_TOLD f.«open».items)
+      ≡ map (asks_for (entries lines) (link_of (entries lines))) (take MOST_TOLD all)
 
 -- ---- all of it
 

@@ -1,3 +1,5 @@
 -- Definitions that private contracts alone cite.
 pub mod Certain
 pub mod Collided
+pub mod Reading
+pub mod Middles

@@ -1,148 +1,128 @@
-//! What a log says of its field, and its margin.
+//! What a log says itself: its report, its field, and its margin.
 
-ghost use Rattle.std.specs.Prelude.{◌≡◌, ◌≤◌, ◌+◌, [], IfOk, IfSome, List, None, map, sum};
+ghost use Rattle.std.specs.Prelude.{◌≡◌, ◌≤◌, [], IfOk, List, map};
 ghost use Rattle.vic_log.specs.Order.{entries};
+ghost use Rattle.vic_tree.specs.Keys.{AreKeysOf};
 ghost use Rattle.vic_tree.specs.Ranges.{is_open_in};
 ghost use Rattle.vic_walk.specs.Steps.{AreLogParts};
 ghost use Rattle.vic_verdict.specs.Facts.{AreFactsOf};
-ghost use Rattle.vic_verdict.specs.Possible.{IsPossible};
-ghost use Rattle.vic_verdict.specs.Verdict.{IsVerdict};
+ghost use Rattle.vic_report.specs.Reports.{IsReport, verdict_of};
 ghost use Rattle.vic_object.specs.Told as spec;
 ghost use Rattle.vic_object.specs.Asking.{asks_for};
 ghost use Rattle.vic_object.specs.inner.Certain.{AreCertainKeys};
 ghost use Rattle.vic_object.specs.inner.Collided.{AreCollided};
 ghost use Rattle.vic_log.specs.declared.entry.Entry.{Entry as EntryValue};
 
-use crate::asking::{collided_masks, push_asks};
-use crate::finding::{MOST_TOLD, first_of};
+use crate::asking::{Collisions, push_asks};
+use crate::finding::MOST_TOLD;
 use crate::reading::weakest_if_complete;
 use crate::told::{AskedMask, FieldTold};
 use std::alloc::{AllocError, Global};
-use std::collections::BTreeSet;
-use vic_frame::{MAX_MASK_LEN_OF_SIXTEEN, Mask, Request, UID_BITS};
+use vic_frame::{MAX_MASK_LEN_OF_SIXTEEN, Mask, Request};
 use vic_log::{Entry, Log, PackedLine};
 use vic_margin::Weakest;
-use vic_tree::{RangeSet, SortedKeys};
-use vic_verdict::{Facts, Verdict, facts_and_parts_of};
+use vic_report::{LogReport, find_conflict, report_of_facts};
+use vic_tree::{CountedMasks, RangeSet, SortedKeys};
+use vic_verdict::{Facts, facts_and_parts_of};
 use vic_walk::LogParts;
 
-/// What a log says of its field, the keys of its certain UIDs, and its margin.
+/// The report on a log, what it says of its field, the keys of its certain UIDs, and its margin.
 #[derive(Drop)]
 pub(crate) struct Own {
+    pub report: LogReport,
     pub field: FieldTold,
     pub keys: Option<SortedKeys>,
     pub weakest: Option<Weakest>,
 }
 
-/// What a log with this verdict says itself. It judges once, an impossible log not at all.
-pub(crate) fn own_of(alloc: Global, log: &Log, verdict: &Verdict) -> Result<Own, AllocError>
-    requires { IsVerdict log.now.lines verdict.now }
+/// What a log says itself. It judges once, and where the log is impossible once more, to try the
+/// lines of the conflict.
+pub(crate) fn own_of(alloc: Global, log: &Log) -> Result<Own, AllocError>
+    ensures report { IfOk result (λ own. IsReport log.now.lines own.report) }
     ensures field { IfOk result (λ own. spec.IsFieldTold log.now.lines own.field) }
     ensures keys { IfOk result (λ own. AreCertainKeys log.now.lines own.keys) }
-    ensures weakest { IfOk result (λ own.
-        spec.IsWeakestIfComplete (entries log.now.lines) verdict.now own.weakest) }
-{
-    let _lines = log.lines();
-    match *verdict {
-        Verdict::Impossible { .. } => Ok(nothing(alloc)),
-        Verdict::Absent(_)
-        | Verdict::Unlisted(_)
-        | Verdict::Unsettled(_)
-        | Verdict::Doubtful(_)
-        | Verdict::Complete { .. } => own_if_possible(alloc, log, verdict),
-    }
-}
-
-/// What an impossible log says.
-fn nothing(alloc: Global) -> Own
-    ensures certain { result.field.certain.items ≡ [] }
-    ensures masks { result.field.«open».items ≡ [] }
-    ensures uids { result.field.uids ≡ 0 }
-    ensures asked { result.field.asked.items ≡ [] }
-    ensures keys { result.keys ≡ None }
-    ensures weakest { result.weakest ≡ None }
-{
-    Own {
-        field: FieldTold {
-            certain: Vec::new(alloc),
-            open: Vec::new(alloc),
-            uids: 0,
-            asked: Vec::new(alloc),
-        },
-        keys: None,
-        weakest: None,
-    }
-}
-
-/// What a possible log with this verdict says.
-fn own_if_possible(alloc: Global, log: &Log, verdict: &Verdict) -> Result<Own, AllocError>
-    requires { IsPossible (entries log.now.lines) }
-    ensures field { IfOk result (λ own. spec.IsFieldTold log.now.lines own.field) }
-    ensures keys { IfOk result (λ own. AreCertainKeys log.now.lines own.keys) }
-    ensures weakest { IfOk result (λ own.
-        spec.IsWeakestIfComplete (entries log.now.lines) verdict.now own.weakest) }
+    ensures weakest { IfOk result (λ own. spec.IsWeakestIfComplete (entries log.now.lines)
+        (verdict_of own.report) own.weakest) }
 {
     match facts_and_parts_of::<RangeSet>(alloc, log)? {
-        Ok((facts, log_parts)) => own_of_facts(alloc, log, verdict, facts, log_parts),
-        Err(_) => unreachable!(),
+        Ok((facts, log_parts)) => own_of_facts(alloc, log, facts, log_parts),
+        Err(line) => {
+            let conflict = find_conflict(alloc, log, line)?;
+            Ok(Own {
+                report: LogReport::Impossible(conflict),
+                field: nothing(alloc),
+                keys: None,
+                weakest: None,
+            })
+        }
     }
 }
 
-/// The same, by its facts.
+/// What an impossible log says of its field.
+fn nothing(alloc: Global) -> FieldTold
+    ensures certain { result.certain.items ≡ [] }
+    ensures masks { result.masks ≡ 0 }
+    ensures uids { result.uids ≡ 0 }
+    ensures asked { result.asked.items ≡ [] }
+{
+    FieldTold {
+        certain: Vec::new(alloc),
+        masks: 0,
+        uids: 0,
+        asked: Vec::new(alloc),
+    }
+}
+
+/// What a possible log says, by its facts.
 fn own_of_facts(
     alloc: Global,
     log: &Log,
-    verdict: &Verdict,
     facts: Facts<RangeSet>,
     log_parts: LogParts,
 ) -> Result<Own, AllocError>
     requires facts { AreFactsOf (entries log.now.lines) (is_open_in facts.«open») facts.met
         facts.certain }
     requires parts { AreLogParts (entries log.now.lines) log_parts }
+    ensures report { IfOk result (λ own. IsReport log.now.lines own.report) }
     ensures field { IfOk result (λ own. spec.IsFieldTold log.now.lines own.field) }
     ensures keys { IfOk result (λ own. AreCertainKeys log.now.lines own.keys) }
-    ensures weakest { IfOk result (λ own.
-        spec.IsWeakestIfComplete (entries log.now.lines) verdict.now own.weakest) }
+    ensures weakest { IfOk result (λ own. spec.IsWeakestIfComplete (entries log.now.lines)
+        (verdict_of own.report) own.weakest) }
 {
-    let weakest = weakest_if_complete(alloc, verdict, log, log_parts)?;
     let keys = SortedKeys::of(alloc, facts.certain.as_slice())?;
-    let left = facts.open.besides(alloc, &keys)?;
-    let open = left.all_open_masks_besides(alloc, &SortedKeys::none(alloc))?;
-    let collided = collided_masks(alloc, log)?;
-    let link = link_of(log.lines());
-    let asked = asked_masks(alloc, &collided, link, first_of(&open, MOST_TOLD))?;
+    let field = field_told(alloc, log, &facts, &keys)?;
+    let report = report_of_facts(alloc, facts, log)?;
+    let weakest = weakest_if_complete(alloc, &report.verdict(), log, log_parts)?;
     Ok(Own {
-        field: FieldTold {
-            certain: facts.certain.into_vec(),
-            uids: size_of_all(&open)?,
-            open,
-            asked,
-        },
+        report,
+        field,
         keys: Some(keys),
         weakest,
     })
 }
 
-/// How many UIDs masks have together.
-fn size_of_all(masks: &[Mask]) -> Result<u64, AllocError>
-    ensures { IfOk result (λ size. size ≡ sum (map spec.size_of masks.now)) }
+/// What a possible log says of its field, by its facts, and the keys of its certain UIDs.
+fn field_told(
+    alloc: Global,
+    log: &Log,
+    facts: &Facts<RangeSet>,
+    keys: &SortedKeys,
+) -> Result<FieldTold, AllocError>
+    requires facts { AreFactsOf (entries log.now.lines) (is_open_in facts.now.«open»)
+        facts.now.met facts.now.certain }
+    requires keys { AreKeysOf keys.now facts.now.certain }
+    ensures { IfOk result (spec.IsFieldTold log.now.lines) }
 {
-    let mut size: u64 = 0;
-    for mask in masks {
-        // open masks are apart, and have at most 56 bits: this only spares the proof of it
-        size = more(size, mask).ok_or(AllocError)?;
-    }
-    Ok(size)
-}
-
-/// A size, and that of a mask of at most 56 bits more, if it fits.
-fn more(size: u64, mask: &Mask) -> Option<u64>
-    ensures { IfSome result (λ n. n ≡ size + spec.size_of mask.now) }
-{
-    if mask.len() > UID_BITS {
-        return None;
-    }
-    size.checked_add(1 << (UID_BITS - mask.len()))
+    let CountedMasks { masks, count, uids } = facts
+        .open
+        .counted_masks_besides(alloc, keys, MOST_TOLD)?;
+    let collided = Collisions::of(alloc, log)?;
+    Ok(FieldTold {
+        certain: Vec::from_slice(alloc, facts.certain.as_slice())?,
+        masks: count,
+        uids,
+        asked: asked_masks(alloc, &collided, link_of(log.lines()), &masks)?,
+    })
 }
 
 /// The link of the first request of a log.
@@ -171,7 +151,7 @@ fn link_in(request: &Request) -> u8
 /// Open masks, each with what asks for it.
 fn asked_masks(
     alloc: Global,
-    collided: &BTreeSet<Mask>,
+    collided: &Collisions,
     link: u8,
     masks: &[Mask],
 ) -> Result<Vec<AskedMask>, AllocError>
@@ -191,7 +171,7 @@ fn asked_masks(
 /// An open mask with what asks for it.
 fn asked_mask(
     alloc: Global,
-    collided: &BTreeSet<Mask>,
+    collided: &Collisions,
     link: u8,
     mask: Mask,
 ) -> Result<AskedMask, AllocError>

@@ -11,14 +11,13 @@ ghost use Rattle.vic_object.specs.Told as spec;
 
 use crate::field::{Own, own_of};
 use crate::finding::findings_in;
-use crate::reading::reread;
+use crate::reading::rereads;
 use crate::text::push_object;
 use crate::told::LogTold;
 use std::alloc::{AllocError, Global};
 use vic_answer::{HasVerdict, Judgement, WrittenText, answer_of, answer_status, answer_text};
 use vic_frame::Uid;
 use vic_log::Log;
-use vic_report::report;
 use vic_verdict::Verdict;
 
 impl HasVerdict for LogTold {
@@ -40,8 +39,9 @@ impl Judgement for LogTold {
     ghost tells = { λ lines t h. report_begins lines t.report h.report };
 }
 
-/// The object of the text of a log, and the status of `check`. The log is judged at most four
-/// times. It fails only if memory is refused.
+/// The object of the text of a log, and the status of `check`. The log is judged once, and
+/// once more in each of its two cautious readings; these are walked over together if its list is
+/// complete. It fails only if memory is refused.
 pub fn object_of(alloc: Global, text: &[u8]) -> Result<WrittenText, AllocError>
     ensures { IfOk result (λ w. IsObjectOf text.now w.text.items w.status) }
 {
@@ -58,18 +58,15 @@ pub fn object_of(alloc: Global, text: &[u8]) -> Result<WrittenText, AllocError>
 fn told_of_log(alloc: Global, log: Log) -> Result<LogTold, AllocError>
     ensures { IfOk result (spec.IsTold log.lines) }
 {
-    let report = report(alloc, &log)?;
-    let verdict = report.verdict();
-    let findings = findings_in(alloc, &log, &report)?;
     let Own {
+        report,
         field,
         keys,
         weakest,
-    } = own_of(alloc, &log, &verdict)?;
-    let log = log.into_hidden();
-    let hidden = reread(alloc, &log, &verdict, &keys)?;
-    let log = log.into_deaf();
-    let deaf = reread(alloc, &log, &verdict, &keys)?;
+    } = own_of(alloc, &log)?;
+    let verdict = report.verdict();
+    let findings = findings_in(alloc, &log, &report)?;
+    let (hidden, deaf) = rereads(alloc, log, &verdict, &keys)?;
     Ok(LogTold {
         report,
         findings,

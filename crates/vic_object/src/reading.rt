@@ -1,26 +1,139 @@
-//! What another reading of a log tells against the same list.
+//! What the cautious readings of a log tell against the same list.
 
 ghost use Rattle.std.specs.Prelude.{◌≡◌, ◌↔◌, ℕ, IfOk, List, MatchOption, true, false};
+ghost use Rattle.vic_log.specs.Deaf.{deaf_entries, hidden_entries};
 ghost use Rattle.vic_log.specs.Order.{entries};
 ghost use Rattle.vic_log.specs.declared.entry.LogLine.{LogLine as LogLineValue};
 ghost use Rattle.vic_tree.specs.OpenSet.{SameUids, without_keys};
 ghost use Rattle.vic_tree.specs.Ranges.{is_open_in};
 ghost use Rattle.vic_walk.specs.Steps.{AreLogParts};
 ghost use Rattle.vic_verdict.specs.Facts.{AreFactsOf};
-ghost use Rattle.vic_object.specs.Told.{IsRereadBy, IsWeakestIfComplete};
+ghost use Rattle.vic_verdict.specs.Verdict.{IsVerdict};
+ghost use Rattle.vic_verdict.specs.declared.judging.Verdict.TheVariants.{Complete};
+ghost use Rattle.vic_margin.specs.Margins.{IsWeakest};
+ghost use Rattle.vic_margin.specs.Readings.{IsFirstOpened};
+ghost use Rattle.vic_object.specs.Told.{IsReread, IsRereadBy, IsWeakestIfComplete};
 ghost use Rattle.vic_object.specs.inner.Certain.{AreCertainKeys};
+ghost use Rattle.vic_object.specs.inner.Reading.{IsReadingOf};
 
 use crate::told::Reread;
 use std::alloc::{AllocError, Global};
+use vic_frame::Mask;
 use vic_log::Log;
-use vic_margin::{Weakest, weakest_besides};
+use vic_margin::{Weakest, readings_of_complete, weakest_besides};
 use vic_tree::{OpenSet, RangeSet, SortedKeys};
 use vic_verdict::{Facts, Verdict, facts_and_parts_of, listed_uids, verdict_of_facts};
-use vic_walk::LogParts;
+use vic_walk::{LogLines, LogParts};
+
+/// What the hidden and the deaf reading of a log tell, where the log itself has this verdict and
+/// these certain UIDs.
+pub(crate) fn rereads(
+    alloc: Global,
+    log: Log,
+    verdict: &Verdict,
+    certain: &Option<SortedKeys>,
+) -> Result<(Reread, Reread), AllocError>
+    requires verdict { IsVerdict log.lines verdict.now }
+    requires certain { AreCertainKeys log.lines certain.now }
+    ensures hidden { IfOk result (λ r.
+        IsReread log.lines (hidden_entries (entries log.lines)) verdict.now r.0) }
+    ensures deaf { IfOk result (λ r.
+        IsReread log.lines (deaf_entries (entries log.lines)) verdict.now r.1) }
+{
+    match *verdict {
+        Verdict::Complete { count } => rereads_of_complete(alloc, log, count),
+        Verdict::Impossible { .. }
+        | Verdict::Absent(_)
+        | Verdict::Unlisted(_)
+        | Verdict::Unsettled(_)
+        | Verdict::Doubtful(_) => rereads_of_other(alloc, log, verdict, certain),
+    }
+}
+
+/// The same, by a judging of each. It is one, if no silent slot comes behind the last answer.
+fn rereads_of_other(
+    alloc: Global,
+    log: Log,
+    verdict: &Verdict,
+    certain: &Option<SortedKeys>,
+) -> Result<(Reread, Reread), AllocError>
+    requires { AreCertainKeys log.lines certain.now }
+    ensures hidden { IfOk result (λ r.
+        IsReread log.lines (hidden_entries (entries log.lines)) verdict.now r.0) }
+    ensures deaf { IfOk result (λ r.
+        IsReread log.lines (deaf_entries (entries log.lines)) verdict.now r.1) }
+{
+    let falls_silent = log.ends_silent();
+    let hidden_log = log.into_hidden();
+    let hidden = reread(alloc, &hidden_log, verdict, certain)?;
+    if !falls_silent {
+        return Ok((hidden, hidden));
+    }
+    let deaf = reread(alloc, &hidden_log.into_deaf(), verdict, certain)?;
+    Ok((hidden, deaf))
+}
+
+/// The same, if the list of the log is complete, and has so many UIDs. It walks over both readings
+/// at once.
+fn rereads_of_complete(alloc: Global, log: Log, count: u32) -> Result<(Reread, Reread), AllocError>
+    requires { IsVerdict log.lines (Complete count) }
+    ensures hidden { IfOk result (λ r.
+        IsReread log.lines (hidden_entries (entries log.lines)) (Complete count) r.0) }
+    ensures deaf { IfOk result (λ r.
+        IsReread log.lines (deaf_entries (entries log.lines)) (Complete count) r.1) }
+{
+    let falls_silent = log.ends_silent();
+    let listed = listed_uids(alloc, log.lines())?;
+    let keys = SortedKeys::of(alloc, listed.as_slice())?;
+    let (hidden_log, readings) = readings_of_complete(alloc, log, &keys)?;
+    let hidden = reread_by(alloc, &hidden_log, count, readings.hidden)?;
+    if !falls_silent {
+        return Ok((hidden, hidden));
+    }
+    let deaf = reread_by(alloc, &hidden_log.into_deaf(), count, readings.deaf)?;
+    Ok((hidden, deaf))
+}
+
+/// What a reading of a log with a complete list tells, by the first mask of UIDs that it leaves
+/// open beside the log.
+fn reread_by(
+    alloc: Global,
+    log: &Log,
+    count: u32,
+    opened: Option<Mask>,
+) -> Result<Reread, AllocError>
+    ensures { IfOk result (λ r. (lines : List LogLineValue)
+        → IsReadingOf (entries log.now.lines) (entries lines) → IsVerdict lines (Complete count)
+        → IsFirstOpened (entries log.now.lines) (entries lines) opened
+        → IsRereadBy lines log.now.lines (Complete count) r) }
+{
+    match opened {
+        Some(mask) => Ok(Reread {
+            verdict: Verdict::Unsettled(mask),
+            holds: false,
+            weakest: None,
+            settled: false,
+        }),
+        None => Ok(Reread {
+            verdict: Verdict::Complete { count },
+            holds: true,
+            weakest: Some(weakest_in(alloc, log)?),
+            settled: true,
+        }),
+    }
+}
+
+/// The margin of a log, and the first mask of UIDs that have it.
+fn weakest_in(alloc: Global, log: &Log) -> Result<Weakest, AllocError>
+    ensures { IfOk result (IsWeakest (entries log.now.lines)) }
+{
+    let log_parts = LogParts::of(alloc, &LogLines::of(log))?;
+    weakest_of(alloc, log, log_parts)
+}
 
 /// What a reading of a log tells, where the log itself has this verdict and these certain UIDs. It
 /// judges once.
-pub(crate) fn reread(
+fn reread(
     alloc: Global,
     log: &Log,
     verdict: &Verdict,
@@ -116,14 +229,20 @@ pub(crate) fn weakest_if_complete(
     ensures { IfOk result (IsWeakestIfComplete (entries log.now.lines) verdict.now) }
 {
     match *verdict {
-        Verdict::Complete { .. } => {
-            let listed = listed_uids(alloc, log.lines())?;
-            Ok(Some(weakest_besides(alloc, log, log_parts, listed.as_slice())?))
-        }
+        Verdict::Complete { .. } => Ok(Some(weakest_of(alloc, log, log_parts)?)),
         Verdict::Impossible { .. }
         | Verdict::Absent(_)
         | Verdict::Unlisted(_)
         | Verdict::Unsettled(_)
         | Verdict::Doubtful(_) => Ok(None),
     }
+}
+
+/// The same of any log, by its parts.
+fn weakest_of(alloc: Global, log: &Log, log_parts: LogParts) -> Result<Weakest, AllocError>
+    requires { AreLogParts (entries log.now.lines) log_parts }
+    ensures { IfOk result (IsWeakest (entries log.now.lines)) }
+{
+    let listed = listed_uids(alloc, log.lines())?;
+    weakest_besides(alloc, log, log_parts, listed.as_slice())
 }

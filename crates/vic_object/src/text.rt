@@ -96,7 +96,7 @@ fn has_no_open(report: &LogReport, field: &FieldTold) -> bool
     ensures { result ≡ spec.has_no_open report.now field.now }
 {
     match report {
-        LogReport::NotWhole(_) => field.open.as_slice().is_empty(),
+        LogReport::NotWhole(_) => field.masks == 0,
         LogReport::Impossible(_) | LogReport::Complete { .. } => false,
     }
 }
@@ -256,7 +256,8 @@ fn push_certain(text: &mut Vec<u8>, uids: &[Uid]) -> Result<(), AllocError>
 fn push_open(text: &mut Vec<u8>, field: &FieldTold) -> Result<(), AllocError>
     ensures { OnOk result (text.new.items ≡ text.old.items ++ spec.open_object field.now) }
 {
-    push_count(text, b"{\"count\":", field.open.as_slice().len())?;
+    text.extend_from_slice(b"{\"count\":")?;
+    push_decimal(text, field.masks)?;
     text.extend_from_slice(b",\"uids\":\"")?;
     push_decimal(text, field.uids)?;
     text.extend_from_slice(b"\",\"masks\":")?;

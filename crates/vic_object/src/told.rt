@@ -47,11 +47,11 @@ pub struct Reread {
 pub struct FieldTold {
     /// The UIDs that must be there, in rising order.
     pub certain: Vec<Uid>,
-    /// All open masks, by length, then by value.
-    pub open: Vec<Mask>,
+    /// How many masks are open.
+    pub masks: u64,
     /// How many UIDs these have.
     pub uids: u64,
-    /// The first of them, with what asks for them.
+    /// The first of them, by length, then by value, with what asks for them.
     pub asked: Vec<AskedMask>,
 }
 

@@ -12,7 +12,7 @@ pub loop-k-preserved : goal.loop-k-preserved
 loop-k-preserved c es a =
     let m = c.args.mask.now in
     let k = c.loop-k.k in
-    let here = sym (a (slot_of_sixteen m k)) ∙ sym c.has_slot.ensures in
+    let here = sym (a.masks (slot_of_sixteen m k)) ∙ sym c.has_slot.ensures in
     let next = one_below es m k in
     elim c.if-has_slot.branch [
       | then-has_slot w ↦ w.found-is ∙ w.if-has_slot.true ∙ sym (next ∙ ap (λ (b : Bool). b || has_collided_below es m k) (here ∙ w.if-has_slot.true))

@@ -1,28 +1,29 @@
-use Rattle.std.proofs.Common.{refl, subst}
+use Rattle.std.proofs.Common.{[], refl}
 use Rattle.vic_log.specs.Order.{entries}
-use Rattle.vic_walk.proofs.LineLaws.{first_lines}
-use Rattle.vic_walk.specs.LogLines.{AreLogLines}
 use Rattle.vic_verdict.specs.Possible.{IsPossible}
 use Rattle.vic_verdict.proofs.Verdicts.{possible_to}
 use Rattle.vic_object.proofs.field.own_of.Goals as goal
 
-pub returns-in-Impossible-clause-field : goal.returns-in-Impossible-clause-field
-returns-in-Impossible-clause-field c =
+pub find_conflict-requires : goal.find_conflict-requires
+find_conflict-requires c = rw c.in-Err.is at c.in_ok-facts_and_parts_of.ensures.facts
+
+pub returns-in_ok-conflict-in-Err-clause-field : goal.returns-in_ok-conflict-in-Err-clause-field
+returns-in_ok-conflict-in-Err-clause-field c =
     let lines = c.args.log.now.lines in
-    let own : AreLogLines lines = subst AreLogLines c.lines-lines.ensures.value (first_lines _ c.lines-lines.result.now c.lines-lines.ensures.log) in
-    let told = rw c.in-Impossible.is at c.requires in
-    let never : IsPossible (entries lines) → ⊥ = λ p. told.0 (possible_to lines own.rising p c.in-Impossible.line) in
+    let told = rw c.in-Err.is at c.in_ok-facts_and_parts_of.ensures.facts in
+    let never : IsPossible (entries lines) → ⊥ = λ p. told.0 (possible_to lines c.in_ok-facts_and_parts_of.ensures.log.rising p c.in-Err.line) in
+    let none = c.nothing.ensures in
     record {
-      certain = (λ p. absurd (never p), λ n. c.nothing.ensures.certain);
-      masks = (λ p. absurd (never p), λ n. c.nothing.ensures.masks);
-      uids = rw (c.nothing.ensures.uids, c.nothing.ensures.masks) refl;
-      asked = rw (c.nothing.ensures.asked, c.nothing.ensures.masks) refl;
-      requests = rw (c.nothing.ensures.asked, c.nothing.ensures.masks) refl;
+      certain = (λ p. absurd (never p), λ n. none.certain);
+      all = [];
+      are_all = (λ p. absurd (never p), λ n. refl);
+      masks = none.masks;
+      uids = none.uids;
+      asked = rw none.asked refl;
+      requests = rw none.asked refl;
     }
 
-pub returns-in-Impossible-clause-keys : goal.returns-in-Impossible-clause-keys
-returns-in-Impossible-clause-keys c =
-    let lines = c.args.log.now.lines in
-    let own : AreLogLines lines = subst AreLogLines c.lines-lines.ensures.value (first_lines _ c.lines-lines.result.now c.lines-lines.ensures.log) in
-    let told = rw c.in-Impossible.is at c.requires in
-    rw c.nothing.ensures.keys (λ p. told.0 (possible_to lines own.rising p c.in-Impossible.line))
+pub returns-in_ok-conflict-in-Err-clause-keys : goal.returns-in_ok-conflict-in-Err-clause-keys
+returns-in_ok-conflict-in-Err-clause-keys c =
+    let told = rw c.in-Err.is at c.in_ok-facts_and_parts_of.ensures.facts in
+    λ p. told.0 (possible_to c.args.log.now.lines c.in_ok-facts_and_parts_of.ensures.log.rising p c.in-Err.line)

@@ -1,0 +1,87 @@
+-- What a cautious reading of a log with a complete list tells, by what it leaves open beside the log.
+use Rattle.std.proofs.Common.{◌≡◌, ◌∙◌, ℕ, true, false, List, Some, None, length, refl, sym, subst, ap, inl, inr}
+use Rattle.vic_frame.specs.Masks.{BitMask}
+use Rattle.vic_frame.specs.Uids.{has}
+use Rattle.vic_log.proofs.Cautious.{deaf_weaker_self, hidden_weaker}
+use Rattle.vic_log.proofs.Weaker.{weaker_given, weaker_listed}
+use Rattle.vic_log.specs.Order.{entries, listed}
+use Rattle.vic_log.specs.Populations.{CouldHaveGiven, IsPopulation}
+use Rattle.vic_log.specs.Weaker.{AreWeaker}
+use Rattle.vic_log.specs.declared.entry.Entry.{Entry}
+use Rattle.vic_log.specs.declared.entry.LogLine.{LogLine}
+use Rattle.vic_verdict.proofs.Verdicts.{complete_whole, unsettled_iff, whole_complete}
+use Rattle.vic_verdict.specs.Possible.{IsPossible}
+use Rattle.vic_verdict.specs.Verdict.{IsVerdict, IsWhole}
+use Rattle.vic_verdict.specs.declared.judging.Verdict.TheVariants.{Complete, Unsettled}
+use Rattle.vic_margin.proofs.Opened.{first_unsettled}
+use Rattle.vic_margin.proofs.SamePopulations.{same_deaf, same_hidden}
+use Rattle.vic_margin.specs.Margins.{IsWeakest}
+use Rattle.vic_margin.specs.Readings.{IsFirstOpened}
+use Rattle.vic_margin.specs.declared.answer.Weakest.{Weakest}
+use Rattle.vic_object.specs.Told.{IsRereadBy}
+use Rattle.vic_object.specs.inner.Reading.{IsReadingOf}
+
+reading_weaker : (ds es : List Entry) → IsReadingOf ds es → AreWeaker ds es
+reading_weaker ds es (inl e) = subst (λ xs. AreWeaker xs es) (sym e) (hidden_weaker es)
+reading_weaker ds es (inr e) = subst (λ xs. AreWeaker xs es) (sym e) (deaf_weaker_self es)
+
+-- where it opens no UID, the same populations could have given it
+reading_given : (ds es : List Entry) → IsReadingOf ds es → IsPossible es → IsFirstOpened ds es None → (p : List ℕ) → IsPopulation p → CouldHaveGiven p ds → CouldHaveGiven p es
+reading_given ds es (inl e) possible none p pop given = (same_hidden es possible (subst (λ xs. IsFirstOpened xs es None) e none) p pop).0 (subst (λ xs. CouldHaveGiven p xs) e given)
+reading_given ds es (inr e) possible none p pop given = (same_deaf es possible (subst (λ xs. IsFirstOpened xs es None) e none) p pop).0 (subst (λ xs. CouldHaveGiven p xs) e given)
+
+-- what the entries list, the reading lists
+has_same : (ds es : List Entry) (u : ℕ) → AreWeaker ds es → has (listed ds) u ≡ has (listed es) u
+has_same ds es u w = ap (λ us. has us u) (weaker_listed ds es w)
+
+still_possible : (ds es : List Entry) → AreWeaker ds es → IsPossible es → IsPossible ds
+still_possible ds es w p = (p.0, p.1, weaker_given ds es w p.0 p.2)
+
+still_whole : (ds es : List Entry) → IsReadingOf ds es → IsWhole es → IsFirstOpened ds es None → IsWhole ds
+still_whole ds es r whole none =
+    let w = reading_weaker ds es r in (
+      still_possible ds es w whole.0,
+      λ p pop given u.
+          let it = whole.1 p pop (reading_given ds es r whole.0 none p pop given) u in
+          (λ h. has_same ds es u w ∙ it.0 h, λ h. it.1 (sym (has_same ds es u w) ∙ h)),
+    )
+
+pub read_same : (lines read : List LogLine) (count : ℕ) (w : Weakest) → IsReadingOf (entries read) (entries lines) → IsVerdict lines (Complete count) → IsFirstOpened (entries read) (entries lines) None → IsWeakest (entries read) w → IsRereadBy lines read (Complete count) (record { verdict = Complete count; holds = true; weakest = Some w; settled = true })
+read_same lines read count w r v none weakest =
+    let ds = entries read in
+    let es = entries lines in
+    let whole = complete_whole lines count v in
+    let size : length (listed ds) ≡ count = ap length (weaker_listed ds es (reading_weaker ds es r)) ∙ sym v.5 in
+    record {
+      verdict = subst (λ n. IsVerdict read (Complete n)) size (whole_complete read (still_whole ds es r whole none));
+      holds = (λ e. refl, λ e. refl);
+      weakest = weakest;
+      settled = (λ e u may p pop given. (whole.1 p pop given u).1 ((whole.1 may.0 may.1 (reading_given ds es r whole.0 none may.0 may.1 may.2) u).0 may.3), λ all. refl);
+    }
+
+pub read_more : (lines read : List LogLine) (count : ℕ) (m : BitMask) → IsReadingOf (entries read) (entries lines) → IsVerdict lines (Complete count) → IsFirstOpened (entries read) (entries lines) (Some m) → IsRereadBy lines read (Complete count) (record { verdict = Unsettled m; holds = false; weakest = None; settled = false })
+read_more lines read count m r v more =
+    let ds = entries read in
+    let es = entries lines in
+    let w = reading_weaker ds es r in
+    let whole = complete_whole lines count v in
+    let first = first_unsettled lines count ds (Some m) (weaker_listed ds es w) v more in
+    let one = (unsettled_iff ds).0 (m, first.0) in
+    record {
+      verdict = (
+        still_possible ds es w v.0,
+        λ u a. v.1 u (sym (has_same ds es u w) ∙ a.0, λ may. a.1 (may.0, may.1, weaker_given ds es w may.0 may.2, may.3)),
+        λ u a. v.2 u (λ p pop given. a.0 p pop (weaker_given ds es w p given), sym (has_same ds es u w) ∙ a.1),
+        first,
+      );
+      holds = (λ e. absurd (cc e), λ e. absurd (cc e));
+      weakest = tt;
+      settled = (
+        λ e. absurd (cc e),
+        λ all.
+            let sure = all one.0 one.1 v.0.0 v.0.1 v.0.2 in
+            let there = (whole.1 v.0.0 v.0.1 v.0.2 one.0).0 sure in
+            let out = sym (has_same ds es one.0 w) ∙ one.2 in
+            absurd (cc (there, out)),
+      );
+    }
