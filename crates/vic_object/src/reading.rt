@@ -67,7 +67,8 @@ fn rereads_of_other(
     let hidden_log = log.into_hidden();
     let hidden = reread(alloc, &hidden_log, verdict, certain)?;
     if !falls_silent {
-        return Ok((hidden, hidden));
+        let deaf = hidden;
+        return Ok((hidden, deaf));
     }
     let deaf = reread(alloc, &hidden_log.into_deaf(), verdict, certain)?;
     Ok((hidden, deaf))
@@ -88,7 +89,8 @@ fn rereads_of_complete(alloc: Global, log: Log, count: u32) -> Result<(Reread, R
     let (hidden_log, readings) = readings_of_complete(alloc, log, &keys)?;
     let hidden = reread_by(alloc, &hidden_log, count, readings.hidden)?;
     if !falls_silent {
-        return Ok((hidden, hidden));
+        let deaf = hidden;
+        return Ok((hidden, deaf));
     }
     let deaf = reread_by(alloc, &hidden_log.into_deaf(), count, readings.deaf)?;
     Ok((hidden, deaf))
