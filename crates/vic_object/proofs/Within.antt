@@ -1,5 +1,5 @@
 -- Which masks lie within a mask, by the middles of their keys.
-use Rattle.std.proofs.Common.{◌≡◌, ◌∙◌, ℕ, zero, suc, ◌+◌, ◌-◌, ◌*◌, ◌^◌, ◌%◌, ◌<◌, ◌≤◌, ◌==◌, ◌&&◌, ◌||◌, ◌++◌, ◌∷◌, [], Bool, true, false, Option, Some, None, List, nat_le, nat_lt, length, get_or, refl, sym, ap, subst, arith, inl, inr, pow-add, add-one, lt_of_mul-lt-mul_right, mul-le-mul_right, pow_pos, pow_mono, mod-eq_of_lt}
+use Rattle.std.proofs.Common.{◌≡◌, ◌∙◌, ℕ, suc, ◌+◌, ◌-◌, ◌*◌, ◌^◌, ◌%◌, ◌<◌, ◌≤◌, ◌==◌, ◌&&◌, ◌||◌, ◌++◌, ◌∷◌, [], Bool, true, false, List, nat_le, nat_lt, refl, sym, ap, subst, arith, inl, inr, pow-add, lt_of_mul-lt-mul_right, mul-le-mul_right, pow_pos, pow_mono, mod-eq_of_lt}
 use Rattle.std.proofs.Math.Nat.{mul_assoc}
 use Rattle.std.proofs.lemmas.Bool.{cases_lt, cases_eq}
 use Rattle.std.proofs.lemmas.Bool.Decides.{nat_tests}

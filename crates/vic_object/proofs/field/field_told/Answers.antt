@@ -14,7 +14,7 @@ returns c =
     let first = c.deref.ensures.value ∙ counted.first in
     let link = c.link_of.ensures.link ∙ ap (λ ls. link_of (entries ls)) c.lines.ensures.value in
     record {
-      certain = certain_are lines facts.«open» facts.certain c.in_ok-from_slice.from_slice.items told (c.in_ok-from_slice.ensures.items ∙ c.as_slice.ensures.value);
+      certain = certain_are lines facts.«open» facts.certain _ told (c.in_ok-from_slice.ensures.items ∙ c.as_slice.ensures.value);
       all = counted.all;
       are_all = masks_are lines facts.«open» facts.certain c.args.keys.now counted.all told c.requires.keys counted.are_all;
       masks = counted.count;

@@ -5,13 +5,13 @@ use Rattle.vic_verdict.proofs.Verdicts.{possible_to}
 use Rattle.vic_object.proofs.field.own_of.Goals as goal
 
 pub find_conflict-requires : goal.find_conflict-requires
-find_conflict-requires c = rw c.in-Err.is at c.in_ok-facts_and_parts_of.ensures.facts
+find_conflict-requires c = rw c.in-Err.is at c.in_ok-facts.ensures.facts
 
 pub returns-in_ok-conflict-in-Err-clause-field : goal.returns-in_ok-conflict-in-Err-clause-field
 returns-in_ok-conflict-in-Err-clause-field c =
     let lines = c.args.log.now.lines in
-    let told = rw c.in-Err.is at c.in_ok-facts_and_parts_of.ensures.facts in
-    let never : IsPossible (entries lines) → ⊥ = λ p. told.0 (possible_to lines c.in_ok-facts_and_parts_of.ensures.log.rising p c.in-Err.line) in
+    let told = rw c.in-Err.is at c.in_ok-facts.ensures.facts in
+    let never : IsPossible (entries lines) → ⊥ = λ p. told.0 (possible_to lines c.in_ok-facts.ensures.log.rising p c.in-Err.line) in
     let none = c.nothing.ensures in
     record {
       certain = (λ p. absurd (never p), λ n. none.certain);
@@ -25,5 +25,5 @@ returns-in_ok-conflict-in-Err-clause-field c =
 
 pub returns-in_ok-conflict-in-Err-clause-keys : goal.returns-in_ok-conflict-in-Err-clause-keys
 returns-in_ok-conflict-in-Err-clause-keys c =
-    let told = rw c.in-Err.is at c.in_ok-facts_and_parts_of.ensures.facts in
-    λ p. told.0 (possible_to c.args.log.now.lines c.in_ok-facts_and_parts_of.ensures.log.rising p c.in-Err.line)
+    let told = rw c.in-Err.is at c.in_ok-facts.ensures.facts in
+    λ p. told.0 (possible_to c.args.log.now.lines c.in_ok-facts.ensures.log.rising p c.in-Err.line)

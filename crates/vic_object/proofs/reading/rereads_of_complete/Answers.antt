@@ -1,9 +1,8 @@
-use Rattle.std.proofs.Common.{◌≡◌, ◌∙◌, List, Some, ap, inl, inr, sym, subst}
+use Rattle.std.proofs.Common.{◌≡◌, ◌∙◌, List, ap, inl, inr, sym, subst}
 use Rattle.vic_log.proofs.Cautious.{deaf_of_hidden, deaf_same}
 use Rattle.vic_log.specs.Deaf.{deaf_entries, hidden_entries}
-use Rattle.vic_log.specs.Order.{entries, listed}
+use Rattle.vic_log.specs.Order.{entries}
 use Rattle.vic_log.specs.declared.entry.Entry.{Entry}
-use Rattle.vic_tree.specs.Keys.{AreKeysOf}
 use Rattle.vic_margin.proofs.Telling.{keys_listed}
 use Rattle.vic_margin.specs.Readings.{IsFirstOpened}
 use Rattle.vic_object.proofs.reading.rereads_of_complete.Goals as goal
