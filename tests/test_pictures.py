@@ -383,7 +383,7 @@ def test_page_of_a_collection(reconciled):
 
 
 def test_page_of_a_collection_that_is_not_sure_enough(run, browser, tmp_path):
-    """Shelf A alone, of which more misses were wanted than its log bears. Its reader may have gone deaf."""
+    """Shelf A alone, of which more misses were wanted than its log bears."""
     uids = [line[2:] for line in SHELVES[0].read_bytes().splitlines() if line[:1] == b"U"]
     (tmp_path / "expected.csv").write_bytes(b"\n".join([b"uid", *uids, b""]))
     words = "collection", "--page", tmp_path / "expected.csv", SHELVES[0]
