@@ -695,7 +695,7 @@ def test_a_long_judging_is_stopped(page, million):
 
 def test_slots_answer_to_the_keyboard(page):
     """Arrows lead along a row, and down a column; a slot that is pressed shows its line."""
-    page.drop(log=log_of("I16 S RA RB S13 M4 S16"))
+    page.drop(log=log_of("I16 S RA RB S13 QA QB I16 S16"))
     page.until(".rounds", "A1")
     page.run("document.querySelector('.rounds tbody .to-line').focus()")
 
@@ -704,7 +704,7 @@ def test_slots_answer_to_the_keyboard(page):
             page.driver.switch_to.active_element.send_keys(key)
         return page.run("return document.activeElement.closest('td, th')?.dataset.line ?? ''")
     assert press(Keys.ARROW_RIGHT, Keys.ARROW_RIGHT) == "4"
-    assert press(Keys.ARROW_DOWN) == "21" and press(Keys.ARROW_UP) == "4"
+    assert press(Keys.ARROW_DOWN) == "23" and press(Keys.ARROW_UP) == "4"
     assert page.run("return document.querySelectorAll('.rounds [tabindex=\"0\"]').length") == 1
     press(Keys.ENTER)
     assert page.run(CHOSEN).startswith("R 0000A1")
@@ -1320,9 +1320,14 @@ def test_what_is_pasted_beside_the_field(page):
     for into, path in ("#text", ""), ("body", "/home/emma/one.log"):
         assert not page.run(PASTES, [["one.log", log_of("I1 S UA").decode()]], path, into)
         page.until(".banner code", "absent")
-    assert page.run(PASTES, [["image.png", ""]], "vicinity-log 1", "#text")
     assert page.run(PASTES, [], "", "body") and page.texts(".banner code") == [
         "absent E0040100000000A1"]
+    assert not page.run(PASTES, [["image.png", ""]], "vicinity-log 1\n", "#text")
+    page.until(".banner code", "unsettled 0 -")
+    # an empty field takes it in
+    page.press("#close")
+    page.until("h1", "Did the RFID reader find every tag?")
+    assert page.run(PASTES, [["image.png", ""]], "vicinity-log 1\n", "#text")
 
 
 def test_what_is_pasted_where_a_log_is_too_long_to_be_shown(page):

@@ -383,7 +383,7 @@ def test_page_of_a_collection(reconciled):
 
 
 def test_page_of_a_collection_that_is_not_sure_enough(run, browser, tmp_path):
-    """Shelf A alone, of which more misses were wanted than its log bears. It isn't green."""
+    """Shelf A alone, of which more misses were wanted than its log bears."""
     uids = [line[2:] for line in SHELVES[0].read_bytes().splitlines() if line[:1] == b"U"]
     (tmp_path / "expected.csv").write_bytes(b"\n".join([b"uid", *uids, b""]))
     words = "collection", "--page", tmp_path / "expected.csv", SHELVES[0]
@@ -396,7 +396,7 @@ def test_page_of_a_collection_that_is_not_sure_enough(run, browser, tmp_path):
         (tmp_path / "page.html").write_bytes(done.stdout)
         page.open(tmp_path / "page.html")
         page.until("header h1", headline)
-        assert (done.returncode, bool(page.texts(".banner.yes"))) == (status, status == 0)
+        assert (done.returncode, bool(page.texts(".banner.read"))) == (status, status == 0)
         where = ("in the field of shelf-a.log; that is enough for UIDs ending in an even digit, "
                  "for example.")
         assert f"To go unnoticed, {missed} {where}" in page.texts(".holds p")
