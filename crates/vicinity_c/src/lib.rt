@@ -38,5 +38,5 @@ pub extern "C" fn vicinity_interface() -> u32
 pub extern "C" fn vicinity_version() -> u32
     ensures { result ≡ 20002 }
 {
-    20_001
+    20_002
 }
