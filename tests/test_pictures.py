@@ -199,7 +199,7 @@ def test_report_as_json(run):
 def test_random_pictures(vicinity):
     """Every log has a picture: random ones, possible and impossible, each with a sentence and what
     was found."""
-    from vicinity.pages import log
+    from vicinity.pages import document
     from vicinity.sessions import findings, headline, report, show
 
     rng, kinds = random.Random(1), set()
@@ -215,7 +215,7 @@ def test_random_pictures(vicinity):
         absent = [it["uid"] for it in told["findings"] if it["kind"] == "absent"]
         wanted = [vicinity.uid_text(it.uid) for it in found.of(vicinity.FindingKind.ABSENT)]
         assert absent == wanted, text
-        json.dumps(log.page_object("log", found))
+        json.dumps(document.page_object("log", found))
         assert all(parts[:2]), text
         for columns in 80, rng.randint(40, 100):
             picture = list(show.show(found, show.Look(columns=columns)))
