@@ -774,6 +774,37 @@ def test_an_older_file_that_replaces_a_newer_one_is_not_green(page):
     assert look(page) == "yes"
 
 
+IS_OLDER = ["All 2 expected items are in some log; but the log of B is older than the one it "
+            "replaced."]
+
+
+def test_it_stays_in_question_what_was_replaced_first(page):
+    """Also if the older file is opened once more, or another one that is older than the first."""
+    drop(page, {**COMPLETE, "B.log": field()}, {name: NOON for name in COMPLETE})
+    for asks, early in (1, 2 * HOUR), (1, 2 * HOUR), (2, HOUR):
+        drop(page, {"B.log": field(UID_B, asks=asks)}, {"B.log": NOON - early})
+        assert page.texts("h1") == IS_OLDER
+
+
+def test_an_answer_is_about_two_files(page):
+    """That a file is of this count doesn't say that it counts in place of a newer one."""
+    drop(page, COMPLETE, {"books.csv": NOON, "A.log": NOON, "B.log": NOON - DAY - HOUR})
+    page.press(".doubts button", 1)
+    page.until(".banner.yes h1", "All 2 expected items are here, and no others.")
+    drop(page, {"B.log": field()}, {"B.log": NOON})
+    page.until("h1", "1 item missing")
+    drop(page, {"B.log": field(UID_B)}, {"B.log": NOON - DAY - HOUR})
+    assert page.texts("h1") == IS_OLDER
+
+
+def test_logs_before_their_catalogue_are_asked_about_too(page):
+    drop(page, {"B.log": field()}, {"B.log": NOON})
+    drop(page, {"A.log": field(UID_A), "B.log": field(UID_B)},
+         {"A.log": NOON, "B.log": NOON - HOUR})
+    drop(page, {"books.csv": BOTH}, {"books.csv": NOON})
+    assert page.texts("h1") == IS_OLDER
+
+
 @pytest.mark.parametrize(("late", "answer"), [(DAY, True), (DAY + HOUR, False)])
 def test_a_log_of_another_day_is_not_green(page, late, answer):
     """Until it is said that it is of this count: its file may only have been copied."""

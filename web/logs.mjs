@@ -132,7 +132,7 @@ function leftOver({ logs, items, without_log, files, file }, asked) {
  * @returns {Doubt[]}
  */
 const older = ({ logs, both = [] }, shelves) => logs.flatMap(({ newer, changed, name }, at) => {
-  const key = `${name} of ${changed}`;
+  const key = `${name} of ${changed}, not of ${newer}`;
   return !newer || both.includes(key) ? [] : [{ short: `the log of ${shelves.name(at)} is older than the one it replaced`, mayNotCount: true,
     words: `${nameOf(name)} of ${dated(changed)} is older than the file that it replaced, of ${dated(newer)}.`,
     cure: COUNTS, logs: [name], buttons: [["It is the one that counts", { "data-both": key }]] }];

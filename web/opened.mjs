@@ -66,6 +66,17 @@ const isPasted = ({ name }) => [PASTED, EXAMPLE].includes(name);
 const joins = (entry) => kindOf(entry) !== "other" && (isATable(entry) || !isPasted(entry));
 
 /**
+ * When the newest file of its name was changed that a log replaces, also one that was replaced before; none if it is the newest itself.
+ * @param {Entry} log
+ * @param {Entry[]} replaced
+ */
+function newerThan(log, replaced) {
+  const those = replaced.filter(({ name }) => stemOf(name) === stemOf(log.name));
+  const newest = Math.max(0, ...those.flatMap(({ changed = 0, newer = 0 }) => [changed, newer]));
+  return newest > (log.changed ?? newest) ? newest : undefined;
+}
+
+/**
  * What was opened, as it is judged. Tables, or logs beside a collection that is here, belong to what is here; a catalogue
  * with its logs is a collection of its own. A log that was pasted belongs to none.
  * @param {Entry[]} taken
@@ -78,16 +89,14 @@ export function gathered(taken, entries) {
   const names = (/** @type {Entry[]} */ list) => listing(list.map(({ name }) => printable(name)));
   const isOther = taken.every((it) => kindOf(it) === "other" && !isPasted(it)), no = taken.length > 1 ? "aren't logs" : "isn't a log";
   if (isOther && entries[0]?.collection) return [{ ...entries[0], note: `${names(taken)} ${no}; the collection is still here.` }];
-  if (!tables.length && !(isJoining && earlier)) return taken;
+  if (!tables.length && !(isJoining && earlier)) return taken.map((log) => ({ ...log, newer: newerThan(log, entries) }));
   const here = isJoining && earlier || { tables: [], logs: isJoining ? entries.filter((it) => !isPasted(it)) : [], both: [], left: [] };
   const stems = new Set(logs.map(({ name }) => stemOf(name))), replaced = here.logs.filter(({ name }) => stems.has(stemOf(name)));
-  const newerThan = (/** @type {Entry} */ log) => replaced.find(({ name, changed = 0 }) =>
-    stemOf(name) === stemOf(log.name) && changed > (log.changed ?? changed))?.changed;
-  const left = here.logs.filter((log) => !replaced.includes(log)), all = [...left, ...logs.map((log) => ({ ...log, newer: newerThan(log) }))];
+  const left = here.logs.filter((log) => !replaced.includes(log)), all = [...left, ...logs.map((log) => ({ ...log, newer: newerThan(log, replaced) }))];
   const kept = here.tables.filter((table) => !tables.some((other) => isPlaces(other) === isPlaces(table)));
   const was = (/** @type {Entry[]} */ list, /** @type {string} */ how) => list.length ? `${names(list)} ${list.length > 1 ? "were" : "was"} ${how}. ` : "";
   const gone = here.tables.filter((table) => !kept.includes(table)), [old] = gone.filter(isCatalogue), items = entries[0]?.collection?.items.length;
-  const isOlder = replaced.length === 1 && logs.some(newerThan), joined = left.length ? [...logs, ...gone.length ? [] : tables.filter(isPasted)] : [];
+  const isOlder = replaced.length === 1 && logs.some((log) => newerThan(log, replaced)), joined = left.length ? [...logs, ...gone.length ? [] : tables.filter(isPasted)] : [];
   const note = was(gone.filter(isPlaces), `replaced by ${names(tables.filter(isPlaces))}`) +
     was(isJoining && !earlier ? entries.filter(isPasted) : [], "left out: what is pasted has no name") +
     (was(replaced, `replaced by ${isOlder ? "an older file of" : "what you opened under"} the same name`) || (joined.length ? `${names(joined)} joined the logs that were here.` : ""));
