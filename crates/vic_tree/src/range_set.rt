@@ -157,8 +157,8 @@ impl RangeSet {
         open_masks_between(&self.in_order(), keys)
     }
 
-    /// The first open masks of the set without the UIDs with some keys, `most` at most, and how many
-    /// there are, found without a list of all.
+    /// The first open masks of the set without the UIDs with some keys, `most` at most, and how
+    /// many there are, found without a list of all.
     pub fn counted_masks_besides(
         &self,
         alloc: Global,
